@@ -1,0 +1,3 @@
+pub mod LastName
+pub mod Numbers
+pub mod Utf8

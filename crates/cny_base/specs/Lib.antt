@@ -1,0 +1,11 @@
+pub mod Path
+pub mod Joins
+pub mod Below
+pub mod Parent
+pub mod Reserved
+pub mod Target
+pub mod Name
+pub mod Number
+pub mod Utf8
+pub mod Stop
+pub mod Count

@@ -1,0 +1,32 @@
+//! Paths, names, link targets, modes and numbers with their texts, nodes of a tree, and why a call stops.
+#![tactic(auto)]
+
+mod bytes;
+mod lists;
+mod mode;
+mod name;
+mod node;
+mod number;
+mod options;
+mod path;
+mod path_grammar;
+mod refusal;
+mod stop;
+mod target;
+#[cfg(test)]
+mod tests;
+mod text;
+
+pub use bytes::Bytes;
+pub use lists::{Fails, Names, Paths};
+pub use mode::{Mode, octal, read_octal};
+pub use name::{Name, NameKind, is_word};
+pub use node::Node;
+pub use number::{decimal, read_decimal};
+pub use options::Options;
+pub use path::Path;
+pub use path_grammar::{last_name, parent_of};
+pub use refusal::{Fault, Refusal, What};
+pub use stop::Stop;
+pub use target::Target;
+pub use text::{OutOfMemory, Text, TextFault};

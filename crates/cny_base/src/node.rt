@@ -1,0 +1,36 @@
+//! The nodes of a tree.
+ghost use Rattle.std.specs.Prelude.{◌≡◌, IfOk};
+
+use crate::bytes::Bytes;
+use crate::mode::Mode;
+use crate::target::Target;
+use crate::text::OutOfMemory;
+
+/// What stands at a path.
+#[derive(Debug, Drop)]
+pub enum Node {
+    /// A directory.
+    Dir { mode: Mode },
+    /// A regular file with its contents.
+    File { mode: Mode, bytes: Bytes },
+    /// A symbolic link, which has no mode.
+    Link { target: Target },
+}
+
+impl Node {
+    /// An equal node.
+    pub fn copy(&self) -> Result<Self, OutOfMemory>
+        ensures { IfOk result (λ made. made ≡ self.now) }
+    {
+        Ok(match self {
+            Node::Dir { mode } => Node::Dir { mode: *mode },
+            Node::File { mode, bytes } => Node::File {
+                mode: *mode,
+                bytes: bytes.copy()?,
+            },
+            Node::Link { target } => Node::Link {
+                target: target.copy()?,
+            },
+        })
+    }
+}

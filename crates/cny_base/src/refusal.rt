@@ -1,0 +1,216 @@
+//! Why a command is refused.
+ghost use Rattle.std.specs.Prelude.{◌≡◌, IfOk};
+ghost use Rattle.cny_base.specs.declared.refusal.Fault.TheVariants as fault;
+
+use crate::text::{OutOfMemory, Text};
+use std::alloc::{AllocError, AllocFailed};
+
+/// A quantity that has a limit.
+#[derive(Clone, Copy, Debug, PartialEq, Eq)]
+pub enum What {
+    /// The whole input of a command.
+    Input,
+    /// One content of a manifest or change set.
+    Content,
+    /// A file of the tree that a job replaces or that is to be carried.
+    Local,
+    /// The database file.
+    Database,
+    /// The configuration file.
+    Config,
+    /// The number of commits.
+    Commits,
+    /// A part of a revision's count.
+    Count,
+    /// The text of a version.
+    Version,
+    /// A change set that is written.
+    ChangeSet,
+}
+
+/// Why a command is refused. A refusal leaves everything as it was.
+#[derive(Debug, Drop)]
+pub enum Refusal {
+    /// The input isn't in its grammar; `at` is the byte at which that shows.
+    Malformed {
+        at: u64,
+    },
+    /// A quantity passes its limit; `size` is its size, in the quantity's unit.
+    TooLarge {
+        what: What,
+        size: u64,
+    },
+    /// The trove is there already.
+    Exists {
+        trove: Text,
+    },
+    /// Nothing resolves the specification.
+    MissingTrove {
+        spec: Text,
+    },
+    /// The trove on which a relative trove is based isn't there.
+    MissingBase {
+        trove: Text,
+    },
+    /// A needed content is found nowhere; `name` is its SHA-1.
+    MissingContent {
+        name: [u8; 20],
+    },
+    /// Two different contents have one name; `at` is their first difference.
+    Collision {
+        name: [u8; 20],
+        at: u64,
+    },
+    /// A committed trove refers to one that is neither committed nor in the input.
+    MissingRef {
+        name: Text,
+    },
+    /// The named trove isn't installed.
+    NotInstalled {
+        name: Text,
+    },
+    /// The first requirement that nothing satisfies.
+    Unmet {
+        name: Text,
+        dep: Text,
+    },
+    /// Two troves have one path that isn't a directory in both.
+    Owned {
+        path: Text,
+        first: Text,
+        second: Text,
+    },
+    /// Something that no trove has stands at the path.
+    Unowned {
+        path: Text,
+    },
+    /// What stands at the path was changed since it was installed.
+    Edited {
+        path: Text,
+    },
+    /// The parent of the path isn't a directory.
+    Parent {
+        path: Text,
+    },
+    /// There is no job to roll back.
+    StackEmpty,
+    /// There is no room for one more job.
+    StackFull,
+    /// The path is kept for the program itself.
+    Reserved {
+        path: Text,
+    },
+    /// A specification without label or version meets an empty label path.
+    NoLabel,
+    /// A trove that is to be shadowed or branched is on that label.
+    SameLabel {
+        label: Text,
+    },
+    /// A line of the configuration file isn't in its grammar; lines count from 1.
+    BadConfig {
+        line: u32,
+    },
+    /// A command, option or manifest word that isn't built yet.
+    NotBuilt {
+        word: Text,
+    },
+}
+
+impl Refusal {
+    /// An equal refusal.
+    pub fn copy(&self) -> Result<Self, OutOfMemory>
+        ensures { IfOk result (λ made. made ≡ self.now) }
+    {
+        Ok(match self {
+            Refusal::Malformed { at } => Refusal::Malformed { at: *at },
+            Refusal::TooLarge { what, size } => Refusal::TooLarge {
+                what: *what,
+                size: *size,
+            },
+            Refusal::Exists { trove } => Refusal::Exists {
+                trove: trove.copy()?,
+            },
+            Refusal::MissingTrove { spec } => Refusal::MissingTrove { spec: spec.copy()? },
+            Refusal::MissingBase { trove } => Refusal::MissingBase {
+                trove: trove.copy()?,
+            },
+            Refusal::MissingContent { name } => Refusal::MissingContent { name: *name },
+            Refusal::Collision { name, at } => Refusal::Collision {
+                name: *name,
+                at: *at,
+            },
+            Refusal::MissingRef { name } => Refusal::MissingRef { name: name.copy()? },
+            Refusal::NotInstalled { name } => Refusal::NotInstalled { name: name.copy()? },
+            Refusal::Unmet { name, dep } => Refusal::Unmet {
+                name: name.copy()?,
+                dep: dep.copy()?,
+            },
+            Refusal::Owned {
+                path,
+                first,
+                second,
+            } => Refusal::Owned {
+                path: path.copy()?,
+                first: first.copy()?,
+                second: second.copy()?,
+            },
+            Refusal::Unowned { path } => Refusal::Unowned { path: path.copy()? },
+            Refusal::Edited { path } => Refusal::Edited { path: path.copy()? },
+            Refusal::Parent { path } => Refusal::Parent { path: path.copy()? },
+            Refusal::StackEmpty => Refusal::StackEmpty,
+            Refusal::StackFull => Refusal::StackFull,
+            Refusal::Reserved { path } => Refusal::Reserved { path: path.copy()? },
+            Refusal::NoLabel => Refusal::NoLabel,
+            Refusal::SameLabel { label } => Refusal::SameLabel {
+                label: label.copy()?,
+            },
+            Refusal::BadConfig { line } => Refusal::BadConfig { line: *line },
+            Refusal::NotBuilt { word } => Refusal::NotBuilt { word: word.copy()? },
+        })
+    }
+}
+
+/// A refusal, or want of memory.
+#[derive(Debug, Drop)]
+pub enum Fault {
+    /// The command is refused.
+    Refused(Refusal),
+    /// No memory was left.
+    Memory,
+}
+
+impl Fault {
+    /// An equal fault.
+    pub fn copy(&self) -> Result<Self, OutOfMemory>
+        ensures { IfOk result (λ made. made ≡ self.now) }
+    {
+        Ok(match self {
+            Fault::Refused(refusal) => Fault::Refused(refusal.copy()?),
+            Fault::Memory => Fault::Memory,
+        })
+    }
+}
+
+impl From<OutOfMemory> for Fault {
+    ghost from_gives = { λ _ e. e ≡ fault.Memory };
+
+    fn from(_: OutOfMemory) -> Self {
+        Fault::Memory
+    }
+}
+
+impl From<AllocError> for Fault {
+    ghost from_gives = { λ _ e. e ≡ fault.Memory };
+
+    fn from(_: AllocError) -> Self {
+        Fault::Memory
+    }
+}
+
+impl<T: Drop> From<AllocFailed<T>> for Fault {
+    ghost from_gives = { λ _ e. e ≡ fault.Memory };
+
+    fn from(_: AllocFailed<T>) -> Self {
+        Fault::Memory
+    }
+}

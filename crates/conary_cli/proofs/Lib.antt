@@ -1,0 +1,14 @@
+pub mod Reading
+pub mod TextBytes
+pub mod ItemList
+pub mod Digits
+pub mod Takes
+pub mod Again
+pub mod ValueTexts
+pub mod MadeDirs
+pub mod FirstNames
+pub mod WithItems
+pub mod ItemParents
+pub mod MakingItems
+pub mod RootSteps
+pub mod CallEnds

@@ -1,0 +1,11 @@
+use Rattle.std.proofs.Common.{◌≡◌, refl, true, false, ap, sym}
+use Rattle.std.specs.Str.{is_utf8}
+use Rattle.std.proofs.lemmas.Str.{is_utf8-from_IsUtf8, IsUtf8-from_is_utf8}
+use Rattle.conary_cli.proofs.TextBytes.{not_utf8}
+use Rattle.conary_cli.proofs.manifest.fields.text_of.Goals as goal
+
+pub returns-in-Ok : goal.returns-in-Ok
+returns-in-Ok c = rw (is_utf8-from_IsUtf8 c.args.bytes.now c.in-Ok.ensures.cases.1, c.in-Ok.ensures.cases.0) refl
+
+pub returns-in-Err : goal.returns-in-Err
+returns-in-Err c = rw (not_utf8 c.args.bytes.now c.in-Err.ensures.cases.0) refl

@@ -1,0 +1,132 @@
+-- What `install` means.
+use Rattle.std.specs.Prelude.{◌≡◌, ℕ, Bool, true, false, ◌&&◌, ◌||◌, not, List, [], ◌∷◌, ◌++◌, Option, Some, None, Result, Ok, Err, if◌then◌else◌, ◌==◌, codes}
+use Rattle.std.specs.List.{find, list_any}
+use Rattle.std.specs.Str.{bytes_eq}
+use Rattle.std.specs.FinMap.{get, keys}
+use Rattle.cny_base.specs.Path.{parent}
+use Rattle.cny_base.specs.Reserved.{is_reserved, is_pinned}
+use Rattle.cny_base.specs.declared.node.Node.{Node}
+use Rattle.cny_base.specs.declared.node.Node.TheVariants as node
+use Rattle.cny_base.specs.declared.refusal.Refusal.{Refusal}
+use Rattle.cny_base.specs.declared.refusal.Refusal.TheVariants as refusal
+use Rattle.tree_disk.specs.Rows.{is_dir_at}
+use Rattle.tree_disk.specs.Tree.{Name, Tree, same_name, put, is_dir, AgreesOutside}
+use Rattle.conary_cli.specs.declared.manifest.types.Item.{Item}
+use Rattle.conary_cli.specs.declared.manifest.types.Manifest.{Manifest}
+use Rattle.conary_cli.specs.Input.{within_limit, left_after_reading}
+use Rattle.conary_cli.specs.ReadManifest.{manifest_in}
+use Rattle.conary_cli.specs.Call.{Effect, Meaning}
+
+infixl 10 ◌>>=◌
+abbrev pub ◌>>=◌ : {A B : Type 0} → Result A Refusal → (A → Result B Refusal) → Result B Refusal
+(Ok x) >>= f = f x
+(Err e) >>= f = Err e
+
+-- refused for what was found
+abbrev pub none_of : {A : Type 0} → (A → Refusal) → Option A → Result (Unit {0}) Refusal
+none_of refuse None = Ok tt
+none_of refuse (Some x) = Err (refuse x)
+
+-- ---- the fixed directories
+
+abbrev pub dir_at : Tree → Name → Result (Unit {0}) Refusal
+dir_at tree path = if is_dir_at tree path then Ok tt else Err (refusal.Parent path)
+
+-- `/`, `/var` and `/var/lib` are directories; the first that isn't is the refusal
+abbrev pub fixed_dirs : Tree → Result (Unit {0}) Refusal
+fixed_dirs tree = dir_at tree (codes "/") >>= λ _. dir_at tree (codes "/var") >>= λ _. dir_at tree (codes "/var/lib")
+
+-- ---- the manifest on the input
+
+abbrev pub read_manifest : List ℕ → Result Manifest Refusal
+read_manifest input = do
+  bytes ← within_limit input
+  manifest_in bytes
+
+-- ---- the tests of a manifest's items, which are in path order
+
+-- an item at a reserved path, or at the path of a fixed directory without being a directory
+abbrev pub is_forbidden : Item → Bool
+is_forbidden item = is_reserved item.path || (is_pinned item.path && not (is_dir (Some item.node)))
+
+abbrev pub reserved : List Item → Result (Unit {0}) Refusal
+reserved items = none_of (λ item. refusal.Reserved item.path) (find is_forbidden items)
+
+-- A node is already what an item wants. Of a directory the mode doesn't count.
+abbrev pub matches : Node → Node → Bool
+matches (node.Dir a) (node.Dir b) = true
+matches (node.File a xs) (node.File b ys) = a == b && bytes_eq xs ys
+matches (node.Link xs) (node.Link ys) = bytes_eq xs ys
+matches (node.Dir a) (node.File b ys) = false
+matches (node.Dir a) (node.Link ys) = false
+matches (node.File a xs) (node.Dir b) = false
+matches (node.File a xs) (node.Link ys) = false
+matches (node.Link xs) (node.Dir b) = false
+matches (node.Link xs) (node.File b ys) = false
+
+abbrev pub clashes_with : Option Node → Node → Bool
+clashes_with None wanted = false
+clashes_with (Some stands) wanted = not (matches stands wanted)
+
+-- something else stands where the item is to stand
+abbrev pub clashes : Tree → Item → Bool
+clashes tree item = clashes_with (get tree item.path) item.node
+
+abbrev pub unowned : Tree → List Item → Result (Unit {0}) Refusal
+unowned tree items = none_of (λ item. refusal.Unowned item.path) (find (clashes tree) items)
+
+-- ---- the tree with the items
+
+abbrev pub with_item_at : Option Node → Tree → Item → Tree
+with_item_at None tree item = put tree item.path (Some item.node)
+with_item_at (Some stands) tree item = tree
+
+-- the tree with an item, where nothing stands in its place
+abbrev pub with_item : Tree → Item → Tree
+with_item tree item = with_item_at (get tree item.path) tree item
+
+abbrev pub with_items : Tree → List Item → Tree
+with_items tree [] = tree
+with_items tree (item ∷ items) = with_items (with_item tree item) items
+
+-- a path whose parent isn't a directory
+abbrev pub lacks_parent : Tree → Name → Bool
+lacks_parent tree path = not (is_dir_at tree (parent path))
+
+-- the first path of a tree whose parent isn't a directory is the refusal
+abbrev pub parents : Tree → Result (Unit {0}) Refusal
+parents tree = none_of (λ path. refusal.Parent path) (find (lacks_parent tree) (keys tree))
+
+-- all tests, in their order; the last is of the tree with the items
+abbrev pub checks : Tree → List Item → Result (Unit {0}) Refusal
+checks tree items = reserved items >>= λ _. unowned tree items >>= λ _. parents (with_items tree items)
+
+-- ---- the whole
+
+abbrev pub installed_line : Manifest → List ℕ
+installed_line m = codes "installed " ++ m.name ++ codes "=" ++ m.version ++ codes "\n"
+
+abbrev pub installs : Manifest → Tree → Result Effect Refusal
+installs m tree = checks tree m.items >>= λ _. Ok (record { tree = with_items tree m.items; out = installed_line m })
+
+-- the paths of items
+abbrev pub is_named : List Item → Name → Bool
+is_named items path = list_any (λ item. same_name path item.path) items
+
+abbrev pub names_in : Result Manifest Refusal → Name → Bool
+names_in (Ok m) path = is_named m.items path
+names_in (Err r) path = false
+
+-- the input is read once the fixed directories stand
+abbrev pub left_by : Result (Unit {0}) Refusal → List ℕ → List ℕ
+left_by (Ok _) input = left_after_reading input
+left_by (Err r) input = input
+
+-- The fixed directories, the input within its limit, the manifest, the tests, and then the tree with the items and one line.
+-- A fault or want of memory leaves every path that the manifest doesn't name.
+abbrev pub install : Meaning
+install = record {
+  outcome = λ tree input. fixed_dirs tree >>= λ _. read_manifest input >>= λ m. installs m tree;
+  left = λ tree input. left_by (fixed_dirs tree) input;
+  cut_short = λ tree input after. AgreesOutside (names_in (read_manifest input)) after tree;
+}

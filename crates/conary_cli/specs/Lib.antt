@@ -1,0 +1,14 @@
+pub mod Words
+pub mod Input
+pub mod Call
+pub mod Texts
+pub mod Report
+pub mod ManifestForm
+pub mod ManifestReading
+pub mod ReadManifest
+pub mod Install
+pub mod Seen
+pub mod Parents
+pub mod Making
+pub mod OnRoot
+pub mod Run

@@ -1,0 +1,14 @@
+//! The commands of the program, over a source, two sinks and two disks.
+#![tactic(auto)]
+
+mod failure;
+mod input;
+mod install;
+mod manifest;
+mod on_root;
+mod program;
+mod report;
+mod texts;
+mod words;
+
+pub use program::run;

@@ -1,0 +1,85 @@
+//! The words of the command line.
+ghost use Rattle.std.specs.Prelude.{◌≡◌, string_bytes, map};
+ghost use Rattle.conary_cli.specs.Words.{is_planned_command, is_planned_option, command_of, install_of, ReadsWords, not_built};
+
+use crate::failure::Failure;
+use cny_base::{Refusal, Text};
+use std::alloc::Global;
+
+/// A command with its options.
+#[derive(Clone, Copy, Debug)]
+pub enum Command {
+    /// Puts the files of a manifest's component into the root.
+    Install,
+}
+
+/// Whether the word is a command that isn't built yet.
+#[tactic(auto, unfolding(crate::specs::Words::is_planned_command))]
+fn is_planned(word: &str) -> bool
+    ensures { result ≡ is_planned_command word.now }
+{
+    matches!(
+        word,
+        "cook"
+            | "commit"
+            | "shadow"
+            | "branch"
+            | "rq"
+            | "changeset"
+            | "showcs"
+            | "update"
+            | "erase"
+            | "rollback"
+            | "rblist"
+            | "q"
+            | "verify"
+            | "localcs"
+            | "batch"
+            | "demo"
+    )
+}
+
+/// Whether the word is an option of `install` that isn't built yet.
+#[tactic(auto, unfolding(crate::specs::Words::is_planned_option))]
+fn is_install_option(word: &str) -> bool
+    ensures { result ≡ is_planned_option word.now }
+{
+    matches!(word, "--replace" | "--keep")
+}
+
+// The refusal of a word that isn't built yet.
+fn not_built_yet(alloc: Global, word: &str) -> Result<Command, Failure>
+    ensures { ReadsWords (Err (not_built word.now)) result }
+{
+    let word = Text::new(alloc, word)?;
+    Err(Failure::Refused(Refusal::NotBuilt { word }))
+}
+
+// The words after `install`.
+fn read_install(alloc: Global, words: &[String]) -> Result<Command, Failure>
+    ensures { ReadsWords (install_of (map string_bytes words.now)) result }
+{
+    let [word, ..] = words else {
+        return Ok(Command::Install);
+    };
+    if is_install_option(word.as_str()) {
+        return not_built_yet(alloc, word.as_str());
+    }
+    Err(Failure::Usage)
+}
+
+/// The command that the words are, or why they are none.
+pub fn read_words(alloc: Global, words: &[String]) -> Result<Command, Failure>
+    ensures { ReadsWords (command_of (map string_bytes words.now)) result }
+{
+    let [word, rest @ ..] = words else {
+        return Err(Failure::Usage);
+    };
+    if word.as_str() == "install" {
+        return read_install(alloc, rest);
+    }
+    if is_planned(word.as_str()) {
+        return not_built_yet(alloc, word.as_str());
+    }
+    Err(Failure::Usage)
+}

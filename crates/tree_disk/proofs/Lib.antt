@@ -1,0 +1,3 @@
+pub mod ReadAll
+pub mod NewFile
+pub mod Clearing

@@ -1,0 +1,13 @@
+pub mod Tree
+pub mod Rows
+pub mod Disk
+pub mod Laws
+pub mod Allowed
+pub mod Moments
+pub mod Confined
+pub mod ConfinedLaws
+pub mod Steps
+pub mod StepLaws
+pub mod Untold
+pub mod Whole
+pub mod Clear

@@ -1,0 +1,16 @@
+//! A disk that holds one tree of directories, files and links.
+#![tactic(auto)]
+
+mod clear;
+mod disk;
+pub mod steps;
+mod whole;
+mod write;
+
+pub use clear::clear_tree;
+pub use disk::{DiskStop, Look, TreeDisk};
+pub use whole::read_whole;
+pub use write::{make_file, write_file};
+
+#[cfg(test)]
+mod tests;

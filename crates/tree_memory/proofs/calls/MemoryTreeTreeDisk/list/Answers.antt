@@ -1,0 +1,9 @@
+use Rattle.std.proofs.Common.{sym, subst}
+use Rattle.tree_disk.specs.Disk.{NamesOf}
+use Rattle.tree_disk.specs.Laws.{children_paths}
+use Rattle.tree_memory.proofs.calls.MemoryTreeTreeDisk.list.Goals as goal
+
+pub returns-clause-names : goal.returns-clause-names
+returns-clause-names c =
+    subst (NamesOf c.args.path.now) (sym c.in_ok-children.ensures)
+    (children_paths c.fails_read.new.tree.nodes c.args.path.now c.fails_read.new.tree.well_formed)

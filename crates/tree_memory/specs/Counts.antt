@@ -1,0 +1,24 @@
+-- Numbers of calls, and which of them fail.
+use Rattle.std.specs.Prelude.{ℕ, Bool, true, false, List, Option, Some, None, Result, Ok, Err, ◌==◌, ◌-◌}
+use Rattle.std.specs.List.{list_any}
+use Rattle.tree_disk.specs.declared.disk.DiskStop.{DiskStop}
+use Rattle.tree_disk.specs.declared.disk.DiskStop.TheVariants.{Failed}
+
+-- whether a number is on the list
+abbrev pub is_listed : List ℕ → ℕ → Bool
+is_listed fails number = list_any (λ n. n == number) fails
+
+-- whether the stop has come: no call is left before it
+abbrev pub is_stopped : Option ℕ → Bool
+is_stopped None = false
+is_stopped (Some left) = left == 0
+
+-- how many calls are left before the stop, after one call more
+abbrev pub one_less : Option ℕ → Option ℕ
+one_less None = None
+one_less (Some left) = Some (left - 1)
+
+abbrev pub is_failed : {T : Type 0} → Result T DiskStop → Bool
+is_failed (Ok _) = false
+is_failed (Err Failed) = true
+is_failed (Err _) = false

@@ -1,0 +1,5 @@
+pub mod State
+pub mod Replay
+pub mod Counts
+pub mod Memory
+pub mod Calls

@@ -1,0 +1,11 @@
+//! A disk in memory, which tells its tree and all that a crash may leave of it.
+#![tactic(auto)]
+
+mod attempt;
+mod calls;
+mod change;
+mod memory;
+mod schedule;
+
+pub use memory::{MemoryTree, TreeFault};
+pub use tree_nodes::Nodes;

@@ -1,0 +1,146 @@
+// A tree in memory.
+ghost use Rattle.std.specs.Prelude.{◌≡◌, ◌++◌, ◌∷◌, [], OnOk, OnErr};
+ghost use Rattle.tree_disk.specs.Tree.{WellFormed};
+ghost use Rattle.tree_nodes.specs.Codes.{WellFormed-prop, tree_set};
+ghost use Rattle.tree_memory.specs.declared.change.Change.TheVariants.{Sync};
+ghost use Rattle.tree_memory.specs.State.{state_of, tree_after};
+
+use crate::change::Change;
+use crate::schedule::Schedule;
+use cny_base::{Fails, Node, OutOfMemory, Path};
+use std::alloc::Global;
+use tree_nodes::{NodeMap, Nodes};
+
+/// A disk in memory.
+#[derive(Drop)]
+pub struct MemoryTree {
+    pub(crate) first: Nodes,
+    pub(crate) changes: Vec<Change>,
+    pub(crate) nodes: NodeMap,
+    pub(crate) schedule: Schedule,
+    ghost told: { nodes ≡ (state_of first changes.items).reads } by { tree_set _ _ },
+    ghost well_formed: { WellFormed nodes } by { WellFormed-prop nodes },
+}
+
+// Does a change. Where no memory is left for it, it does nothing.
+pub(crate) fn apply(alloc: Global, nodes: &mut NodeMap, change: &Change) -> Result<(), OutOfMemory>
+    ensures ok { OnOk result (nodes.new ≡ tree_after change.now nodes.old) }
+    ensures err { OnErr result (nodes.new ≡ nodes.old) }
+{
+    match change {
+        Change::Append { path, bytes } => nodes.append(alloc, path, bytes.get()),
+        Change::Put { path, node } => nodes.set(alloc, path, node),
+        Change::SetMode { path, mode } => {
+            nodes.set_mode(path, *mode);
+            Ok(())
+        }
+        Change::Rename { from, to } => nodes.rename(alloc, from, to),
+        Change::Edit { path, node } => nodes.set(alloc, path, node),
+        _ => Ok(()),
+    }
+}
+
+impl MemoryTree {
+    // Does a change and keeps it.
+    pub(crate) fn record(&mut self, alloc: Global, change: Change) -> Result<(), OutOfMemory>
+        requires { WellFormed (tree_after change (state_of self.old.first self.old.changes.items).reads) }
+        ensures ok { OnOk result (self.new.changes.items ≡ self.old.changes.items ++ change ∷ []) }
+        ensures err { OnErr result (self.new.changes.items ≡ self.old.changes.items) }
+        ensures first { self.new.first ≡ self.old.first }
+        ensures schedule { self.new.schedule ≡ self.old.schedule }
+    {
+        self.changes.reserve(1)?;
+        apply(alloc, &mut self.nodes, &change)?;
+        self.changes.push(change)?;
+        Ok(())
+    }
+
+    // Keeps that all counts as synced.
+    pub(crate) fn settle(&mut self) -> Result<(), OutOfMemory>
+        ensures ok { OnOk result (self.new.changes.items ≡ self.old.changes.items ++ Sync ∷ []) }
+        ensures err { OnErr result (self.new.changes.items ≡ self.old.changes.items) }
+        ensures first { self.new.first ≡ self.old.first }
+        ensures schedule { self.new.schedule ≡ self.old.schedule }
+    {
+        self.changes.push(Change::Sync)?;
+        Ok(())
+    }
+}
+
+/// Why a disk isn't made, or an edit isn't.
+#[derive(Clone, Copy, Debug, PartialEq, Eq)]
+pub enum TreeFault {
+    /// The result wouldn't be a tree.
+    NotATree,
+    /// No memory was left.
+    Memory,
+}
+
+impl From<OutOfMemory> for TreeFault {
+    ghost use Rattle.tree_memory.specs.declared.memory.TreeFault.TheVariants.{Memory};
+
+    ghost from_gives = { λ _ e. e ≡ Memory };
+
+    fn from(_: OutOfMemory) -> Self {
+        TreeFault::Memory
+    }
+}
+
+impl MemoryTree {
+    ghost use Rattle.std.specs.Prelude.{IfOk, IsErrOf, Some};
+    ghost use Rattle.std.specs.FinMap.{get, from_entries};
+    ghost use Rattle.std.specs.Option.{option_copied};
+    ghost use Rattle.tree_nodes.specs.Start.{IsTree};
+    ghost use Rattle.tree_disk.specs.Tree.{put};
+    ghost use Rattle.tree_memory.specs.Memory.{state, calls_of, fails_of, faults_of, stop_of, Begins, IsEdited, IsSame};
+
+    /// A disk with these nodes, all synced. Its calls fail at these numbers, the first being 1.
+    /// `NotATree` comes exactly where the paths don't strictly rise, `/` isn't a directory, or a parent isn't one.
+    pub fn new(alloc: Global, nodes: Nodes, fails: Fails) -> Result<Self, TreeFault>
+        ensures value { IfOk result (Begins (from_entries nodes) fails) }
+        ensures ok { OnOk result (IsTree nodes) }
+        ensures not_a_tree { IsErrOf result TreeFault.NotATree → ¬ (IsTree nodes) }
+    {
+        let Some(map) = NodeMap::from_tree(alloc, &nodes)? else {
+            return Err(TreeFault::NotATree);
+        };
+        Ok(MemoryTree {
+            first: nodes,
+            changes: Vec::new(alloc),
+            nodes: map,
+            schedule: Schedule::new(fails),
+        })
+    }
+
+    /// What stands at a path.
+    pub fn node(&self, path: &Path) -> Option<&Node>
+        ensures { option_copied result ≡ get (state self.now).reads path.now }
+    {
+        self.nodes.node(path.text())
+    }
+
+    /// Puts a node, or takes away what stands, and lets all that the disk then reads count as synced.
+    /// It is no call. `NotATree` comes exactly where the result wouldn't be a tree; after an error nothing has changed.
+    pub fn edit(&mut self, alloc: Global, path: &Path, node: Option<Node>) -> Result<(), TreeFault>
+        ensures ok { OnOk result (IsEdited (put (state self.old).reads path.now node) self.old self.new) }
+        ensures tree { OnOk result (WellFormed (put (state self.old).reads path.now node)) }
+        ensures err { OnErr result (IsSame self.old self.new) }
+        ensures not_a_tree { IsErrOf result TreeFault.NotATree → ¬ (WellFormed (put (state self.old).reads path.now node)) }
+    {
+        if !self.nodes.can_edit(alloc, path, &node)? {
+            return Err(TreeFault::NotATree);
+        }
+        let path = path.copy()?;
+        self.record(alloc, Change::Edit { path, node })?;
+        Ok(())
+    }
+
+    /// After so many further calls each call fails and changes nothing that is read; a stop set before is forgotten.
+    pub fn stop_after(&mut self, calls: u32)
+        ensures stop { stop_of self.new ≡ Some calls }
+        ensures state { state self.new ≡ state self.old }
+        ensures counts { (calls_of self.new ≡ calls_of self.old) × (fails_of self.new ≡ fails_of self.old) × (faults_of self.new ≡ faults_of self.old) }
+    {
+        self.schedule.left = Some(calls);
+    }
+}

@@ -1,0 +1,72 @@
+-- When a list of nodes is a tree.
+use Rattle.std.proofs.Common.{◌≡◌, Bool, true, false, ◌&&◌, ◌||◌, List, [], ◌∷◌, map, refl, sym, ◌∙◌, ap, subst, ⊎_elim}
+use Rattle.std.proofs.lemmas.Bool.{cases_Bool}
+use Rattle.std.specs.Option.{is_some}
+use Rattle.std.specs.List.{list_all, list_any}
+use Rattle.std.specs.Ordering.{nat_cmp, eq_by_cmp}
+use Rattle.std.specs.Cmp.Lexicographic.{slice_cmp, nat_list_cmp_total}
+use Rattle.std.specs.FinMap.{get, from_entries, get-from_entries}
+use Rattle.std.specs.FinMap.Entries as Entries
+use Rattle.cny_base.specs.Path.{is_path, root, parent}
+use Rattle.cny_base.specs.declared.node.Node.{Node}
+use Rattle.tree_disk.specs.Tree.{Name, Tree, same_name, is_dir, WellFormed}
+use Rattle.tree_disk.specs.Laws.{same_means, same_itself}
+use Rattle.tree_nodes.specs.Start.{stands_right}
+
+abbrev listed : Name → List (Name × Node) → Bool
+listed q es = list_any (eq_by_cmp (slice_cmp nat_cmp) q) (map (λ e. e.0) es)
+
+left_true : (x y : Bool) → (x && y) ≡ true → x ≡ true
+left_true true y h = refl
+left_true false y h = h
+
+right_true : (x y : Bool) → (x && y) ≡ true → y ≡ true
+right_true true y h = h
+right_true false y h = absurd (cc h)
+
+both : (x y : Bool) → x ≡ true → y ≡ true → (x && y) ≡ true
+both true y h k = k
+both false y h k = h
+
+stands : (es : List (Name × Node)) (q : Name) → is_some (get (from_entries {R = slice_cmp nat_cmp} es) q) ≡ listed q es
+stands es q = ap is_some (get-from_entries nat_list_cmp_total es q) ∙ Entries.is_some-find (slice_cmp nat_cmp) q es
+
+-- what holds of each entry holds at a listed name
+at_listed : (Q : Name → Bool) (es : List (Name × Node)) (q : Name) → list_all (λ e. Q e.0) es ≡ true → listed q es ≡ true → Q q ≡ true
+at_listed Q [] q all any = absurd (cc any)
+at_listed Q (e ∷ es) q all any = ⊎_elim
+    (λ h. ap Q (same_means q e.0 h) ∙ left_true (Q e.0) _ all)
+    (λ h. at_listed Q es q (right_true (Q e.0) _ all) (ap (λ b. b || listed q es) (sym h) ∙ any))
+    (cases_Bool (same_name q e.0))
+
+all_listed : (Q : Name → Bool) (es : List (Name × Node)) → ((q : Name) → listed q es ≡ true → Q q ≡ true) → list_all (λ e. Q e.0) es ≡ true
+all_listed Q [] each = refl
+all_listed Q (e ∷ es) each =
+    both (Q e.0) _ (each e.0 (ap (λ b. b || listed e.0 es) (same_itself e.0))) (all_listed Q es (λ q h. each q (or_right (same_name q e.0) _ h)))
+  where
+    or_right : (x y : Bool) → y ≡ true → (x || y) ≡ true
+    or_right true y h = refl
+    or_right false y h = h
+
+module _ (es : List (Name × Node)) (t : Tree) (same : t ≡ from_entries es) where
+  abbrev Q : Name → Bool
+  Q q = is_path q && is_dir (get t (parent q))
+
+  pub tree_from : (top parents : Bool) → top ≡ is_dir (get t root) → top ≡ true → parents ≡ list_all (stands_right t) es → parents ≡ true → WellFormed (from_entries es)
+  tree_from top parents is there all good =
+      subst WellFormed same (record {
+        paths = λ q h. left_true (is_path q) _ (at q h);
+        root_stands = sym is ∙ there;
+        parents = λ q h. right_true (is_path q) _ (at q h);
+      })
+    where
+      at : (q : Name) → is_some (get t q) ≡ true → Q q ≡ true
+      at q h = at_listed Q es q (sym all ∙ good) (sym (stands es q) ∙ ap (λ (u : Tree). is_some (get u q)) (sym same) ∙ h)
+
+  pub no_tree_from : (parents : Bool) → parents ≡ list_all (stands_right t) es → parents ≡ false → WellFormed (from_entries es) → ⊥
+  no_tree_from parents all bad well =
+      let tree : WellFormed t = subst WellFormed (sym same) well in
+      let good : list_all (stands_right t) es ≡ true = all_listed Q es (λ q h.
+      let here : is_some (get t q) ≡ true = ap (λ (u : Tree). is_some (get u q)) same ∙ stands es q ∙ h in
+      both _ _ (tree.paths q here) (tree.parents q here)) in
+      absurd (cc (bad, all, good))

@@ -1,0 +1,20 @@
+-- The names below a directory, in the order of all names.
+use Rattle.std.specs.Prelude.{ℕ, Bool, cond, List, [], ◌∷◌, ◌++◌, String, string_bytes}
+use Rattle.std.specs.declared.alloc.Global.{Global}
+use Rattle.std.specs.List.{filter}
+use Rattle.cny_base.specs.Path.{root}
+use Rattle.cny_base.specs.Below.{begins_with}
+use Rattle.cny_base.specs.declared.node.Node.{Node}
+use Rattle.tree_disk.specs.Tree.{Name, same_name}
+
+-- what stands before the slash in the names below a directory: nothing for `/`
+abbrev pub front : Name → List ℕ
+front p = cond (same_name p root) [] p
+
+-- whether a name begins with a directory's path and a slash
+abbrev pub is_beyond : Name → Name → Bool
+is_beyond p q = begins_with (front p ++ 47 ∷ []) q
+
+-- the entries with such names
+abbrev pub entries_beyond : Name → List (String Global × Node) → List (String Global × Node)
+entries_beyond p entries = filter (λ e. is_beyond p (string_bytes e.0)) entries

@@ -1,0 +1,5 @@
+pub mod Stored
+pub mod Codes
+pub mod Start
+pub mod Below
+pub mod Edit

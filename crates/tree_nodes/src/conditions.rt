@@ -1,0 +1,185 @@
+// In which trees each changing call is allowed.
+ghost use Rattle.std.specs.Prelude.{◌≡◌, ℕ, List, IsTrue, IfOk, Some, true, false};
+ghost use Rattle.std.specs.FinMap.{get};
+ghost use Rattle.cny_base.specs.declared.node.Node.{Node};
+ghost use Rattle.cny_base.specs.Path.{is_path, root};
+ghost use Rattle.tree_disk.specs.Tree as names;
+ghost use Rattle.tree_disk.specs.Tree.{WellFormed, put, is_link};
+ghost use Rattle.tree_disk.specs.Rows as rows;
+ghost use Rattle.tree_disk.specs.Rows.{with_append, with_node, with_mode, with_rename, without};
+ghost use Rattle.tree_nodes.specs.Edit.{can_edit};
+
+use crate::map::NodeMap;
+use cny_base::{Node, OutOfMemory, Path, parent_of};
+use std::alloc::Global;
+
+// Whether two texts are equal.
+pub(crate) fn same_name(a: &str, b: &str) -> bool
+    ensures { result ≡ names.same_name a.now b.now }
+{
+    a.cmp(b).is_eq()
+}
+
+impl NodeMap {
+    /// Whether a directory stands at a path.
+    pub fn is_dir_at(&self, path: &str) -> bool
+        ensures { result ≡ rows.is_dir_at self.now path.now }
+    {
+        matches!(self.node(path), Some(Node::Dir { .. }))
+    }
+
+    fn is_file_at(&self, path: &str) -> bool
+        ensures { result ≡ rows.is_file_at self.now path.now }
+    {
+        matches!(self.node(path), Some(Node::File { .. }))
+    }
+
+    fn is_link_at(&self, path: &str) -> bool
+        ensures { result ≡ is_link (get self.now path.now) }
+    {
+        matches!(self.node(path), Some(Node::Link { .. }))
+    }
+
+    fn is_empty_at(&self, path: &str) -> bool
+        ensures { result ≡ rows.is_empty_at self.now path.now }
+    {
+        self.node(path).is_none()
+    }
+
+    fn allows_append(&self, path: &str) -> bool
+        ensures { result ≡ rows.can_append self.now path.now }
+    {
+        let dir = self.is_dir_at(parent_of(path));
+        let empty = self.is_empty_at(path);
+        let file = self.is_file_at(path);
+        dir && (empty || file)
+    }
+
+    fn allows_make(&self, path: &str) -> bool
+        ensures { result ≡ rows.can_make self.now path.now }
+    {
+        let dir = self.is_dir_at(parent_of(path));
+        let empty = self.is_empty_at(path);
+        dir && empty
+    }
+
+    fn allows_set_mode(&self, path: &str) -> bool
+        ensures { result ≡ rows.can_set_mode self.now path.now }
+    {
+        let dir = self.is_dir_at(path);
+        let file = self.is_file_at(path);
+        dir || file
+    }
+
+    fn allows_rename(&self, from: &str, to: &str) -> bool
+        ensures { result ≡ rows.can_rename self.now from.now to.now }
+    {
+        let same = same_name(from, to);
+        let file = self.is_file_at(from);
+        let link = self.is_link_at(from);
+        let dir = self.is_dir_at(parent_of(to));
+        let empty = self.is_empty_at(to);
+        let over_file = self.is_file_at(to);
+        let over_link = self.is_link_at(to);
+        !same && (file || link) && dir && (empty || over_file || over_link)
+    }
+
+    /// Whether an append is allowed; it then leaves a tree.
+    pub fn can_append(&self, path: &Path) -> bool
+        requires { WellFormed self.now }
+        ensures value { result ≡ rows.can_append self.now path.now }
+        ensures keeps { IsTrue result → (bytes : List ℕ) → WellFormed (with_append self.now path.now bytes) }
+    {
+        self.allows_append(path.text())
+    }
+
+    /// Whether a directory or a link may be made; it then leaves a tree.
+    pub fn can_make(&self, path: &Path) -> bool
+        requires { WellFormed self.now }
+        ensures value { result ≡ rows.can_make self.now path.now }
+        ensures keeps { IsTrue result → (node : Node) → WellFormed (with_node self.now path.now node) }
+    {
+        self.allows_make(path.text())
+    }
+
+    /// Whether a mode may be set; it then leaves a tree.
+    pub fn can_set_mode(&self, path: &Path) -> bool
+        requires { WellFormed self.now }
+        ensures value { result ≡ rows.can_set_mode self.now path.now }
+        ensures keeps { IsTrue result → (mode : ℕ) → WellFormed (with_mode self.now path.now mode) }
+    {
+        self.allows_set_mode(path.text())
+    }
+
+    /// Whether a rename is allowed; it then leaves a tree.
+    pub fn can_rename(&self, from: &Path, to: &Path) -> bool
+        requires { WellFormed self.now }
+        ensures value { result ≡ rows.can_rename self.now from.now to.now }
+        ensures keeps { IsTrue result → WellFormed (with_rename self.now from.now to.now) }
+    {
+        self.allows_rename(from.text(), to.text())
+    }
+
+    fn allows_remove(&self, alloc: Global, path: &Path) -> Result<bool, OutOfMemory>
+        requires { WellFormed self.now }
+        ensures { IfOk result (λ can. can ≡ rows.can_remove self.now path.now) }
+    {
+        if same_name(path.text(), "/") {
+            return Ok(false);
+        }
+        let file = self.is_file_at(path.text());
+        let link = self.is_link_at(path.text());
+        let dir = self.is_dir_at(path.text());
+        let bare = dir && self.is_childless(alloc, path)?;
+        Ok(file || link || bare)
+    }
+
+    /// Whether a removal is allowed; it then leaves a tree.
+    pub fn can_remove(&self, alloc: Global, path: &Path) -> Result<bool, OutOfMemory>
+        requires { WellFormed self.now }
+        ensures value { IfOk result (λ can. can ≡ rows.can_remove self.now path.now) }
+        ensures keeps { IfOk result (λ can. IsTrue can → WellFormed (without self.now path.now)) }
+    {
+        let can = self.allows_remove(alloc, path)?;
+        Ok(can)
+    }
+
+    fn allows_edit(
+        &self,
+        alloc: Global,
+        path: &Path,
+        node: &Option<Node>,
+    ) -> Result<bool, OutOfMemory>
+        requires { WellFormed self.now }
+        ensures value { IfOk result (λ can. can ≡ can_edit self.now path.now node.now) }
+        ensures path { IfOk result (λ _. IsTrue (is_path path.now)) }
+    {
+        let dir = self.is_dir_at(parent_of(path.text()));
+        if let Some(Node::Dir { .. }) = node {
+            return Ok(dir);
+        }
+        if same_name(path.text(), "/") {
+            return Ok(false);
+        }
+        let childless = self.is_childless(alloc, path)?;
+        match node {
+            None => Ok(childless),
+            Some(_) => Ok(dir && childless),
+        }
+    }
+
+    /// Whether the nodes are still a tree with this node, or with none, at a path.
+    pub fn can_edit(
+        &self,
+        alloc: Global,
+        path: &Path,
+        node: &Option<Node>,
+    ) -> Result<bool, OutOfMemory>
+        requires { WellFormed self.now }
+        ensures tree { IfOk result (λ can. IsTrue can → WellFormed (put self.now path.now node.now)) }
+        ensures no_tree { IfOk result (λ can. can ≡ false → ¬ (WellFormed (put self.now path.now node.now))) }
+    {
+        let can = self.allows_edit(alloc, path, node)?;
+        Ok(can)
+    }
+}

@@ -1,0 +1,169 @@
+// What the changing calls of a disk do to the nodes. Without memory each of them does nothing.
+ghost use Rattle.std.specs.Prelude.{◌≡◌, OnOk, OnErr, IfOk, Some, None, is_some, true, false};
+ghost use Rattle.std.specs.Option.{option_copied};
+ghost use Rattle.std.specs.FinMap.{get};
+ghost use Rattle.tree_disk.specs.Tree.{Name, put};
+ghost use Rattle.tree_disk.specs.Tree as names;
+ghost use Rattle.tree_nodes.specs.Stored.{tree_of};
+ghost use Rattle.tree_disk.specs.Rows.{grown, of_mode, with_append, with_mode, with_rename};
+
+use crate::map::{NodeMap, put_at};
+use cny_base::{Bytes, Mode, Node, OutOfMemory, Path};
+use std::alloc::Global;
+use std::collections::BTreeMap;
+
+// A file of mode 0600.
+fn new_file(alloc: Global, bytes: &[u8]) -> Result<Node, OutOfMemory>
+    ensures { IfOk result (λ node. node ≡ grown None bytes.now) }
+{
+    let bytes = Bytes::new(alloc, bytes)?;
+    let mode = Mode::owner_only();
+    Ok(Node::File { mode, bytes })
+}
+
+// Adds bytes to a file; in the place of another node it makes a new one.
+fn grow(alloc: Global, node: &mut Node, more: &[u8]) -> Result<(), OutOfMemory>
+    ensures ok { OnOk result (node.new ≡ grown (Some node.old) more.now) }
+    ensures err { OnErr result (node.new ≡ node.old) }
+{
+    match node {
+        Node::File { bytes, .. } => bytes.push_slice(more),
+        _ => {
+            *node = new_file(alloc, more)?;
+            Ok(())
+        }
+    }
+}
+
+// Another mode for a directory or a file.
+fn change_mode(node: &mut Node, mode: Mode)
+    ensures { Some node.new ≡ of_mode (Some node.old) mode }
+{
+    match node {
+        Node::Dir { mode: old } => *old = mode,
+        Node::File { mode: old, .. } => *old = mode,
+        Node::Link { .. } => {}
+    }
+}
+
+// Adds bytes to the file at a path, or makes one.
+fn append_at(
+    alloc: Global,
+    nodes: &mut BTreeMap<String, Node>,
+    path: &str,
+    bytes: &[u8],
+) -> Result<(), OutOfMemory>
+    ensures ok { OnOk result (tree_of nodes.new.entries ≡ with_append (tree_of nodes.old.entries) path.now bytes.now) }
+    ensures err { OnErr result (tree_of nodes.new.entries ≡ tree_of nodes.old.entries) }
+{
+    if let Some(node) = nodes.get_mut(path) {
+        return grow(alloc, node, bytes);
+    }
+    let node = new_file(alloc, bytes)?;
+    put_at(alloc, nodes, path, node)
+}
+
+// Sets the mode of the directory or file at a path.
+fn set_mode_at(nodes: &mut BTreeMap<String, Node>, path: &str, mode: Mode)
+    ensures { tree_of nodes.new.entries ≡ with_mode (tree_of nodes.old.entries) path.now mode }
+{
+    if let Some(node) = nodes.get_mut(path) {
+        change_mode(node, mode);
+    }
+}
+
+fn overwrite(place: &mut Node, node: Node)
+    ensures { place.new ≡ node }
+{
+    *place = node;
+}
+
+// Puts a node in the place of the one at a path.
+fn replace_at(nodes: &mut BTreeMap<String, Node>, path: &str, node: Node)
+    requires { is_some (get (tree_of nodes.old.entries) path.now) ≡ true }
+    ensures { tree_of nodes.new.entries ≡ put (tree_of nodes.old.entries) path.now (Some node) }
+{
+    if let Some(place) = nodes.get_mut(path) {
+        overwrite(place, node);
+    }
+}
+
+impl NodeMap {
+    /// Puts a copy of a node at a path, or takes away what stands there.
+    pub fn set(
+        &mut self,
+        alloc: Global,
+        path: &Path,
+        node: &Option<Node>,
+    ) -> Result<(), OutOfMemory>
+        ensures ok { OnOk result (self.new ≡ put self.old path.now node.now) }
+        ensures err { OnErr result (self.new ≡ self.old) }
+    {
+        match node {
+            Some(node) => {
+                let node = node.copy()?;
+                self.put(alloc, path.text(), node)
+            }
+            None => {
+                let _ = self.take(path.text());
+                Ok(())
+            }
+        }
+    }
+
+    /// Adds bytes at the end of a file, or makes one of mode 0600.
+    pub fn append(&mut self, alloc: Global, path: &Path, bytes: &[u8]) -> Result<(), OutOfMemory>
+        ensures ok { OnOk result (self.new ≡ with_append self.old path.now bytes.now) }
+        ensures err { OnErr result (self.new ≡ self.old) }
+    {
+        append_at(alloc, &mut self.nodes, path.text(), bytes)
+    }
+
+    /// Sets the mode of a directory or a file.
+    pub fn set_mode(&mut self, path: &Path, mode: Mode)
+        ensures { self.new ≡ with_mode self.old path.now mode }
+    {
+        set_mode_at(&mut self.nodes, path.text(), mode);
+    }
+
+    /// Moves what stands at a path to another; the node itself isn't copied.
+    pub fn rename(&mut self, alloc: Global, from: &Path, to: &Path) -> Result<(), OutOfMemory>
+        ensures ok { OnOk result (self.new ≡ with_rename self.old from.now to.now) }
+        ensures err { OnErr result (self.new ≡ self.old) }
+    {
+        if from.cmp(to).is_eq() {
+            let _ = self.take(from.text());
+            return Ok(());
+        }
+        // The place comes first: it may find no memory, and moving a node into it takes none.
+        self.make_place(alloc, to.text())?;
+        let node = self.take(from.text());
+        self.fill_place(to.text(), node);
+        Ok(())
+    }
+
+    // Lets some node stand at a path.
+    fn make_place(&mut self, alloc: Global, path: &str) -> Result<(), OutOfMemory>
+        ensures stands { OnOk result (is_some (get self.new path.now) ≡ true) }
+        ensures others { OnOk result ((q : Name) → names.same_name q path.now ≡ false → get self.new q ≡ get self.old q) }
+        ensures err { OnErr result (self.new ≡ self.old) }
+    {
+        if self.node(path).is_some() {
+            return Ok(());
+        }
+        let mode = Mode::owner_only();
+        self.put(alloc, path, Node::Dir { mode })
+    }
+
+    // Puts a node where one stands, or takes that one away.
+    fn fill_place(&mut self, path: &str, node: Option<Node>)
+        requires { is_some (get self.old path.now) ≡ true }
+        ensures { self.new ≡ put self.old path.now node }
+    {
+        let Some(node) = node else {
+            let _ = self.take(path);
+            return;
+        };
+        replace_at(&mut self.nodes, path, node);
+    }
+}
