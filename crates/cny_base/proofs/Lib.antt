@@ -1,3 +1,4 @@
 pub mod LastName
 pub mod Numbers
+pub mod StrFields
 pub mod Utf8

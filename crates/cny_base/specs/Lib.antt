@@ -8,4 +8,5 @@ pub mod Name
 pub mod Number
 pub mod Utf8
 pub mod Stop
+pub mod StrField
 pub mod Count

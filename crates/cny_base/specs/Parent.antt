@@ -6,6 +6,7 @@ use Rattle.std.specs.Cmp.{first_so, second_so}
 use Rattle.std.specs.Cmp.Derive.{both_true}
 use Rattle.std.specs.List.{slice_split, onto_first, list_all}
 use Rattle.cny_base.specs.Path.{is_slash, or_root, parent, join, is_path, is_path, is_part, are_parts}
+use Rattle.cny_base.specs.Joins.{not_zero}
 use Rattle.cny_base.specs.Below.{path_parts}
 
 -- ---- parts round a slash
@@ -52,9 +53,6 @@ are_parts-append bytes more = ap (list_all is_part) (split-append bytes more) �
 abbrev rest_passes : List ℕ → Bool
 rest_passes bytes = length bytes == 0 || (nat_le (length bytes) 1023 && are_parts bytes)
 
-some_length : (n : ℕ) → (suc n == 0) ≡ false
-some_length n = grind (arith, nat_tests)
-
 with_slash_some : (bytes more : List ℕ) → (length (bytes ++ 47 ∷ more) == 0) ≡ false
 with_slash_some bytes more =
     let long : length (bytes ++ 47 ∷ more) ≡ length bytes + length (47 ∷ more) = length-append bytes (47 ∷ more) in
@@ -69,7 +67,7 @@ one_less : (n : ℕ) → nat_le (suc n) 1024 ≡ true → nat_le n 1023 ≡ true
 one_less n short = grind (arith, nat_tests)
 
 -- what is known of the bytes after the first slash, where there are some
-after_slash : (x e n p : Bool) → e ≡ false → (x && (e || (n && p))) ≡ true → (n ≡ true) × (p ≡ true)
+pub after_slash : (x e n p : Bool) → e ≡ false → (x && (e || (n && p))) ≡ true → (n ≡ true) × (p ≡ true)
 after_slash x true n p some is = absurd (cc some)
 after_slash x false n p some is = let both = second_so x (n && p) is in (first_so n p both, second_so n p both)
 
@@ -104,7 +102,7 @@ join_is_path (b ∷ []) last path parts short =
 join_is_path (b ∷ c ∷ front) last path parts short =
     let own = c ∷ front in
     let all = own ++ 47 ∷ last in
-    let after = after_slash (b == 47) (length own == 0) (nat_le (length own) 1023) (are_parts own) (some_length (length front)) path in
+    let after = after_slash (b == 47) (length own == 0) (nat_le (length own) 1023) (are_parts own) (not_zero (length front)) path in
     passes (b == 47) (length all == 0) (nat_le (length all) 1023) (are_parts all)
     (first_so (b == 47) (rest_passes own) path)
     (one_less (length all) short)

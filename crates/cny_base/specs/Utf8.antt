@@ -1,6 +1,6 @@
 -- What is in a grammar is UTF-8.
-use Rattle.std.specs.Prelude.{◌≡◌, ℕ, Bool, true, false, ◌||◌, ◌&&◌, List, [], ◌∷◌, ◌++◌, length, refl, nat_le, ◌==◌}
-use Rattle.std.proofs.Common.{suc, add-one, ◌<◌, ◌+◌, lit<, get_or, take, drop, Option, Some, None, not, sym, ◌∙◌, ap, subst, arith}
+use Rattle.std.specs.Prelude.{◌≡◌, ℕ, true, ◌||◌, ◌&&◌, List, [], ◌∷◌, ◌++◌, length, refl, nat_le, ◌==◌}
+use Rattle.std.proofs.Common.{add-one, ◌<◌, ◌+◌, lit<, get_or, take, drop, Option, Some, None, not, sym, ◌∙◌, ap, subst, arith}
 use Rattle.std.proofs.Math.Seq.{drop-cons}
 use Rattle.std.proofs.lemmas.List.{take-append-drop}
 use Rattle.std.proofs.lemmas.Bool.Decides.{nat_tests}
@@ -12,6 +12,8 @@ use Rattle.std.specs.Char.{is_ascii_alphanumeric}
 use Rattle.std.specs.Cmp.{first_so, second_so}
 use Rattle.std.specs.List.{slice_split, list_all, join_with_byte}
 use Rattle.std.specs.Str.{IsUtf8, IsAscii, is_utf8}
+use Rattle.cny_base.specs.Joins.{slash_is, not_zero}
+use Rattle.cny_base.specs.Parent.{after_slash}
 use Rattle.cny_base.specs.Name.{is_word_byte, is_word, is_colon, colon_place, begins_as_group, has_words, is_name}
 use Rattle.cny_base.specs.Target.{has_target_form, is_target}
 use Rattle.cny_base.specs.Path.{is_slash, is_path, has_part_form, is_part, are_parts}
@@ -34,24 +36,16 @@ parts_utf8 bytes all = subst IsUtf8 (join_with_byte-slice_split 47 bytes) (joine
 
 after_slash_utf8 : (bytes : List ℕ) → (length bytes == 0 || (nat_le (length bytes) 1023 && are_parts bytes)) ≡ true → IsUtf8 bytes
 after_slash_utf8 [] is = IsUtf8-nil
-after_slash_utf8 (b ∷ bs) is = parts_utf8 (b ∷ bs) (last_of (length (b ∷ bs) == 0) (nat_le (length (b ∷ bs)) 1023) (are_parts (b ∷ bs)) (some (length bs)) is)
-  where
-    some : (n : ℕ) → (suc n == 0) ≡ false
-    some n = grind (arith, nat_tests)
-
-    last_of : (x y z : Bool) → x ≡ false → (x || (y && z)) ≡ true → z ≡ true
-    last_of true y z no_more is = absurd (cc no_more)
-    last_of false y z no_more is = second_so y z is
+after_slash_utf8 (b ∷ bs) is =
+    let after = after_slash true (length (b ∷ bs) == 0) (nat_le (length (b ∷ bs)) 1023) (are_parts (b ∷ bs)) (not_zero (length bs)) is in
+    parts_utf8 (b ∷ bs) after.1
 
 pub path_utf8 : (path : List ℕ) → is_path path ≡ true → is_utf8 path ≡ true
 path_utf8 [] is = absurd (cc is)
 path_utf8 (b ∷ bs) is =
     let rest = length bs == 0 || (nat_le (length bs) 1023 && are_parts bs) in
-    let slash : b ≡ 47 = same_byte (first_so (b == 47) rest is) in
+    let slash : b ≡ 47 = slash_is b (first_so (b == 47) rest is) in
     is_utf8-from_IsUtf8 (b ∷ bs) (subst (λ (n : ℕ). IsUtf8 (n ∷ bs)) (sym slash) (slash_utf8 bs (after_slash_utf8 bs (second_so (b == 47) rest is))))
-  where
-    same_byte : (b == 47) ≡ true → b ≡ 47
-    same_byte same = grind (arith, nat_tests)
 
 -- ---- targets
 

@@ -1,5 +1,5 @@
 //! Lists of bytes, such as the contents of a file.
-ghost use Rattle.std.specs.Prelude.{◌≡◌, ◌++◌, IfOk, OnOk, OnErr};
+ghost use Rattle.std.specs.Prelude.{◌≡◌, ◌++◌, take, IfOk, OnOk, OnErr};
 ghost use Rattle.std.specs.Cmp.{partial_equiv_from_equiv};
 ghost use Rattle.std.specs.Cmp.Lexicographic.{nat_list_eq_equiv};
 ghost use Rattle.std.specs.Str.{bytes_eq};
@@ -59,6 +59,13 @@ impl Bytes {
         ensures err { OnErr result (self.new ≡ self.old) }
     {
         Ok(self.items.extend_from_slice(bytes)?)
+    }
+
+    // Cuts off what was added since the list had `len` bytes.
+    pub(crate) fn truncate(&mut self, len: usize)
+        ensures { self.new ≡ take len self.old }
+    {
+        self.items.truncate(len)
     }
 
     /// An equal list.

@@ -12,6 +12,7 @@ mod path;
 mod path_grammar;
 mod refusal;
 mod stop;
+mod str_field;
 mod target;
 #[cfg(test)]
 mod tests;
@@ -28,5 +29,6 @@ pub use path::Path;
 pub use path_grammar::{last_name, parent_of};
 pub use refusal::{Fault, Refusal, What};
 pub use stop::Stop;
+pub use str_field::{Span, next_str, put_str};
 pub use target::Target;
 pub use text::{OutOfMemory, Text, TextFault};

@@ -1,7 +1,8 @@
 //! Worked cases, with the expected values made by hand.
 use crate::{
-    Bytes, Fails, Fault, Mode, Name, NameKind, Names, Node, Path, Paths, Refusal, Stop, Target,
-    Text, decimal, is_word, last_name, octal, parent_of, read_decimal, read_octal,
+    Bytes, Fails, Fault, Mode, Name, NameKind, Names, Node, Path, Paths, Refusal, Span, Stop,
+    Target, Text, decimal, is_word, last_name, next_str, octal, parent_of, put_str, read_decimal,
+    read_octal,
 };
 use std::alloc::{AllocError, Global};
 use std::test::Fail;
@@ -186,5 +187,18 @@ fn lists(rt: HostRuntime) -> Result<(), Fail> {
     assert_eq!(rt; paths.copy()?.into_vec().len(), paths.get().len());
     let fails = Fails::new(vec![in rt.alloc(); 1, 3]?);
     assert_eq!(rt; fails.copy()?.into_vec().as_slice(), fails.get());
+    Ok(())
+}
+
+#[test]
+fn str_fields(rt: HostRuntime) -> Result<(), Fail> {
+    let mut out = Bytes::new(rt.alloc(), b"x")?;
+    put_str(&mut out, b"ab")?;
+    put_str(&mut out, b"")?;
+    assert!(rt; out.get() == b"x\x00\x02ab\x00\x00".as_slice());
+    assert!(rt; next_str(out.get(), 1) == Some(Span { from: 3, to: 5 }));
+    assert!(rt; next_str(out.get(), 5) == Some(Span { from: 7, to: 7 }));
+    assert!(rt; next_str(out.get(), 6).is_none() && next_str(out.get(), 7).is_none());
+    assert!(rt; next_str(b"\x01\x00abc", 0).is_none());
     Ok(())
 }

@@ -1,9 +1,8 @@
 -- What is spelled so is read.
-use Rattle.std.proofs.Common.{◌≡◌, ℕ, zero, suc, ◌+◌, ◌-◌, ◌*◌, ◌/◌, ◌%◌, ◌<◌, ◌≤◌, ◌^◌, Bool, true, false, cond, ◌&&◌, ◌==◌, List, [], ◌∷◌, ◌++◌, length, get_or, take, drop, Option, Some, None, Result, Ok, Err, refl, sym, ap, subst, ◌∙◌, append_assoc, append-nil, arith, codes, nat_lt, eq-eqb, length-append, inl, inr}
+use Rattle.std.proofs.Common.{◌≡◌, ℕ, zero, suc, ◌+◌, ◌-◌, ◌/◌, ◌%◌, ◌<◌, ◌≤◌, ◌^◌, Bool, true, false, cond, ◌&&◌, ◌==◌, List, [], ◌∷◌, ◌++◌, length, get_or, take, drop, Option, Some, None, Result, Ok, Err, refl, sym, ap, subst, ◌∙◌, append_assoc, arith, codes, nat_lt, eq-eqb, length-append, inl, inr}
 use Rattle.std.specs.Prelude.{IsTrue, leb, not, ◌||◌, ◌⊎◌}
-use Rattle.std.specs.Result.{IfOk}
 use Rattle.std.specs.List.{position, position_or_len, list_all, flat_map, AllByRecursion, slice_split, onto_first}
-use Rattle.std.specs.Str.{bytes_eq, is_utf8, IsAscii}
+use Rattle.std.specs.Str.{bytes_eq, is_utf8}
 use Rattle.std.specs.Ordering.{nat_cmp, is_lt}
 use Rattle.std.specs.Cmp.Lexicographic.{slice_cmp}
 use Rattle.std.specs.Fmt.{decimal}
@@ -15,14 +14,12 @@ use Rattle.std.proofs.lemmas.Str.{is_utf8-from_IsUtf8, IsUtf8-from_ascii}
 use Rattle.std.proofs.lemmas.Fmt.{digits_decimal, digits_value-decimal, length-decimal-le, decimal_nonempty, first_decimal, decimal_digit}
 use Rattle.cny_base.specs.Path.{is_path, is_slash, is_plain, is_part, has_part_form, is_dots, are_parts}
 use Rattle.cny_base.specs.declared.node.Node.TheVariants as node
-use Rattle.conary_cli.specs.declared.manifest.fault.Unread.{Unread}
-use Rattle.conary_cli.specs.declared.manifest.fault.Unread.TheVariants.{At, TooLarge}
 use Rattle.conary_cli.specs.declared.manifest.types.Item.{Item}
 use Rattle.conary_cli.specs.declared.manifest.types.Manifest.{Manifest}
 use Rattle.conary_cli.specs.ManifestForm.{line, item_text, IsItem, content_limit, Rise, is_visible, is_component, is_component_kind, is_version, max_items, IsManifest, spelling}
-use Rattle.conary_cli.specs.ManifestReading.{◌>>=◌, ◌&>◌, after, field_at, cut_at, line_at, line_by, line_room, is_line_feed, is_space, content_at, mode_of, size_of, path_above, dir_of, file_of, item_by, item_at, items_at, magic_at, value_if, value_by, name_at, version_at, manifest_at}
+use Rattle.conary_cli.specs.ManifestReading.{after, field_at, cut_at, line_at, line_by, line_room, content_at, mode_of, size_of, path_above, dir_of, file_of, item_at, items_at, magic_at, value_by, name_at, version_at, manifest_at}
 use Rattle.cny_base.specs.Name.{is_name, kind_of_name, is_word, is_word_byte, is_colon, colon_place, has_words, begins_as_group}
-use Rattle.cny_base.specs.Number.{octal_text, is_octal_digit, is_octal_text, octal_value, is_digit, is_decimal, decimal_value}
+use Rattle.cny_base.specs.Number.{octal_text, is_octal_digit, is_octal_text, octal_value, is_digit, is_decimal}
 use Rattle.std.specs.Char.{is_ascii_alphanumeric}
 use Rattle.conary_cli.proofs.Digits.{own, both}
 use Rattle.conary_cli.proofs.Takes.{cut_takes, regroup}
@@ -31,7 +28,7 @@ use Rattle.cny_base.specs.declared.node.Node.{Node}
 use Rattle.cny_base.specs.declared.refusal.Refusal.{Refusal}
 use Rattle.conary_cli.specs.declared.failure.Failure.{Failure}
 use Rattle.conary_cli.specs.declared.failure.Failure.TheVariants as failure
-use Rattle.conary_cli.specs.ReadManifest.{or_refused, manifest_in, ReadsManifest, ReadsOnly}
+use Rattle.conary_cli.specs.ReadManifest.{manifest_in, ReadsManifest, ReadsOnly}
 
 -- ---- places
 

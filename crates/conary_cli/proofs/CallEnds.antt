@@ -1,8 +1,7 @@
 -- How a whole call ends, from what was performed, written and reported.
-use Rattle.std.proofs.Common.{◌≡◌, ℕ, ◌≤◌, Bool, cond, codes, List, [], ◌∷◌, Option, Some, None, Result, Ok, Err, IfSome, refl, sym, ap, ◌∙◌, subst, inl, inr, arith}
+use Rattle.std.proofs.Common.{◌≡◌, ℕ, ◌≤◌, Bool, cond, codes, List, [], ◌∷◌, Option, Some, None, Result, Ok, Err, IfSome, refl, sym, ap, subst, inl, inr, arith}
 use Rattle.std.specs.Prelude.{IsTrue, ◌⊎◌}
-use Rattle.std.specs.Io.KnownBytes.{Appends, Keeps}
-use Rattle.cny_base.specs.Count.{Rose}
+use Rattle.std.specs.Io.KnownBytes.{Keeps}
 use Rattle.cny_base.specs.declared.refusal.Refusal.{Refusal}
 use Rattle.cny_flow.specs.Flow.{SinkState}
 use Rattle.tree_disk.specs.Tree.{Tree, AgreesOutside}
@@ -11,10 +10,10 @@ use Rattle.conary_cli.specs.declared.failure.Failure.TheVariants as failure
 use Rattle.conary_cli.specs.declared.words.Command.{Command}
 use Rattle.conary_cli.specs.declared.words.Command.TheVariants as command
 use Rattle.conary_cli.specs.declared.manifest.types.Manifest.{Manifest}
-use Rattle.conary_cli.specs.Call.{Objects, Effect, WhereTold, Stands, Performs, Writes}
+use Rattle.conary_cli.specs.Call.{Objects, Effect, WhereTold, Stands, Writes}
 use Rattle.conary_cli.specs.Install.{◌>>=◌, fixed_dirs, read_manifest, installs, checks, with_items, names_in, install}
 use Rattle.conary_cli.specs.Report.{End, IsAnswer, Tells, Reports}
-use Rattle.conary_cli.specs.Run.{CallState, meaning, PerformsWords, or_refused, command_outcome, IsDone, IsRefused, IsAnswered, CutShort, HasInputFault, HasOutputFault, HasRootFault, HasNoMemory, NoFaults, WritesLine, LeavesInput, ReadsToEnd, ErrorLine}
+use Rattle.conary_cli.specs.Run.{CallState, meaning, PerformsWords, or_refused, command_outcome, IsRefused, IsAnswered, CutShort, HasInputFault, HasOutputFault, HasRootFault, HasNoMemory, NoFaults, WritesLine, LeavesInput, ErrorLine}
 use Rattle.std.specs.Str.{bytes_eq}
 use Rattle.conary_cli.specs.Words.{is_planned_command, is_planned_option, not_built, install_of, command_of}
 use Rattle.conary_cli.proofs.WithItems.{with_items_outside}
@@ -88,14 +87,15 @@ module _ (before after : CallState) (status : ℕ) where
   -- ---- a command that answered
 
   ok_end : (c : Command) (out : List ℕ) (end : End) → Stands (meaning c) before.objects after.objects (Ok out) → Writes (Ok out) before.out after.out end → Reports end before.err after.err status → CallEnd (Ok c) before after status
-  ok_end c out (Ok u) stands writes reports = answered (omega arith) (told_map before.objects (λ input h. subst (λ o. IsAnswered (or_refused o) before after status) (sym h.0) (record { ended = reports.0; tree = refl; out = writes; err = reports.1 })) stands) (told_map before.objects (λ input h. h.1) stands)
+  ok_end c out (Ok u) stands writes reports = answered (omega arith) (λ told. (told_map before.objects (λ input h. subst (λ o. IsAnswered (or_refused o) before after status) (sym h.0) (record { ended = reports.0; tree = refl; synced = stands.0 told; out = writes; err = reports.1 })) stands.1) told) (told_map before.objects (λ input h. h.1) stands.1)
   ok_end c out (Err failure.OutputFault) stands writes (inl tells) = output_fault tells.answered (record {
     rose = writes.0;
-    done = told_map before.objects (λ input h. (record { tree = after.objects.root.tree; out = out }, ap or_refused h.0, refl, writes.1)) stands;
+    synced = stands.0;
+    done = told_map before.objects (λ input h. (record { tree = after.objects.root.tree; out = out }, ap or_refused h.0, refl, writes.1)) stands.1;
   })
   ok_end c out (Err failure.OutputFault) stands writes (inr owed) = absurd owed.0
   ok_end c out (Err failure.Memory) stands writes (inl tells) = no_memory tells.answered (record {
-    tree = told_map before.objects (λ input h. cut_done c before.objects.root.tree input (record { tree = after.objects.root.tree; out = out }) h.0) stands;
+    tree = told_map before.objects (λ input h. cut_done c before.objects.root.tree input (record { tree = after.objects.root.tree; out = out }) h.0) stands.1;
     out = writes;
   })
   ok_end c out (Err failure.Memory) stands writes (inr owed) = absurd owed.0

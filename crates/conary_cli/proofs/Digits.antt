@@ -1,5 +1,5 @@
 -- Texts of digits, and the numbers that they write.
-use Rattle.std.proofs.Common.{◌≡◌, ℕ, ◌+◌, ◌-◌, ◌*◌, ◌/◌, ◌%◌, ◌<◌, ◌≤◌, ◌^◌, true, List, [], ◌∷◌, length, ◌&&◌, ◌==◌, Bool, arith, rules, refl, sym}
+use Rattle.std.proofs.Common.{◌≡◌, ℕ, ◌+◌, ◌/◌, ◌%◌, ◌<◌, ◌≤◌, true, List, [], ◌∷◌, length, ◌&&◌, ◌==◌, Bool, arith, rules, refl, sym}
 use Rattle.std.proofs.lemmas.Bool.{eqb-true, leb-true}
 use Rattle.std.specs.Prelude.{leb}
 use Rattle.std.specs.List.{list_all}

@@ -1,29 +1,26 @@
 -- The parents of items, and of all paths of the tree with them.
-use Rattle.std.proofs.Common.{◌≡◌, ℕ, Bool, true, false, cond, ◌&&◌, List, [], ◌∷◌, map, Option, Some, None, Result, Ok, Err, refl, sym, ap, ◌∙◌, subst, inl, inr}
-use Rattle.std.specs.Prelude.{IsTrue, ◌⊎◌, ◌||◌, not, is_some}
-use Rattle.std.specs.List.{find, list_any, AllByRecursion}
+use Rattle.std.proofs.Common.{◌≡◌, Bool, true, false, cond, ◌&&◌, List, [], ◌∷◌, map, Option, Some, None, refl, sym, ap, ◌∙◌}
+use Rattle.std.specs.Prelude.{◌||◌, not, is_some}
+use Rattle.std.specs.List.{find, AllByRecursion}
 use Rattle.std.specs.FinMap.{get, keys, contains_key-keys}
 use Rattle.std.specs.Str.{bytes_eq}
 use Rattle.std.proofs.lemmas.Map.Text.{is_eq-slice_cmp}
-use Rattle.std.specs.Ordering.{nat_cmp, is_lt, is_eq}
+use Rattle.std.specs.Ordering.{nat_cmp, is_eq}
 use Rattle.std.specs.Cmp.Lexicographic.{slice_cmp}
-use Rattle.cny_base.specs.Path.{parent, root, is_path}
-use Rattle.cny_base.specs.Below.{parent_first}
+use Rattle.cny_base.specs.Path.{parent}
 use Rattle.cny_base.specs.declared.node.Node.{Node}
 use Rattle.cny_base.specs.declared.node.Node.TheVariants as node
-use Rattle.cny_base.specs.declared.refusal.Refusal.{Refusal}
 use Rattle.cny_base.specs.declared.refusal.Refusal.TheVariants as refusal
 use Rattle.tree_disk.specs.Tree.{Name, Tree, same_name, is_dir, WellFormed}
 use Rattle.tree_disk.specs.Laws.{same_means, same_itself}
-use Rattle.tree_disk.specs.Rows.{is_dir_at, look_of, seen_as}
+use Rattle.tree_disk.specs.Rows.{is_dir_at, seen_as}
 use Rattle.conary_cli.specs.declared.manifest.types.Item.{Item}
-use Rattle.conary_cli.specs.ManifestForm.{Rise, IsItem}
-use Rattle.conary_cli.specs.Install.{with_item, with_items, lacks_parent, none_of, parents}
+use Rattle.conary_cli.specs.ManifestForm.{Rise}
+use Rattle.conary_cli.specs.Install.{with_items, lacks_parent, none_of, parents}
 use Rattle.conary_cli.specs.Parents.{is_made_dir, lacks_dir, is_parentless_item, parents_with}
 use Rattle.conary_cli.specs.Seen.{no_dir_seen}
-use Rattle.conary_cli.specs.Making.{CanMake, CanMakeAll}
-use Rattle.conary_cli.proofs.FirstNames.{Before, Rising, is_listed, before_trans, is_before, same_first, found_none, rising_keys}
-use Rattle.conary_cli.proofs.WithItems.{node_among, or_else, get_with_item, get_with_items, among_listed, some_stays, none_adds}
+use Rattle.conary_cli.proofs.FirstNames.{Before, Rising, is_listed, before_trans, is_before, same_first, rising_keys}
+use Rattle.conary_cli.proofs.WithItems.{node_among, or_else, get_with_items, among_listed, some_stays, none_adds}
 
 abbrev pub paths_of : List Item → List Name
 paths_of items = map (λ (item : Item). item.path) items

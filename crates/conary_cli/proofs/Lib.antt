@@ -12,3 +12,4 @@ pub mod ItemParents
 pub mod MakingItems
 pub mod RootSteps
 pub mod CallEnds
+pub mod FormEnds

@@ -1,8 +1,8 @@
 -- What making items does, one after the other.
-use Rattle.std.proofs.Common.{◌≡◌, ℕ, zero, suc, ◌+◌, ◌<◌, Bool, true, false, cond, ◌&&◌, List, [], ◌∷◌, ◌++◌, map, length, get_or, take, drop, Option, Some, None, Result, Ok, Err, refl, sym, ap, ◌∙◌, subst, inl, inr, arith}
-use Rattle.std.specs.Prelude.{IsTrue, ◌⊎◌, ◌||◌, not, is_some}
+use Rattle.std.proofs.Common.{◌≡◌, ℕ, zero, suc, ◌+◌, ◌<◌, Bool, true, false, cond, ◌&&◌, List, [], ◌∷◌, ◌++◌, length, get_or, take, drop, Option, Some, None, Result, Ok, Err, refl, sym, ap, ◌∙◌, subst, inl, inr, arith}
+use Rattle.std.specs.Prelude.{IsTrue, ◌||◌, not, is_some}
 use Rattle.std.specs.List.{find, AllByRecursion}
-use Rattle.std.specs.FinMap.{get, keys, contains_key-keys}
+use Rattle.std.specs.FinMap.{get, keys}
 use Rattle.std.proofs.lemmas.List.{drop_more, take_more}
 use Rattle.cny_base.specs.Path.{parent, root, is_path}
 use Rattle.cny_base.specs.Below.{parent_first}
@@ -11,8 +11,8 @@ use Rattle.cny_base.specs.declared.node.Node.TheVariants as node
 use Rattle.cny_base.specs.declared.refusal.Refusal.{Refusal}
 use Rattle.cny_base.specs.declared.refusal.Refusal.TheVariants as refusal
 use Rattle.tree_disk.specs.Tree.{Name, Tree, same_name, put, is_dir, WellFormed}
-use Rattle.tree_disk.specs.Laws.{same_means, same_itself, same_tree, get_put, get_put_here, get_put_other}
-use Rattle.tree_disk.specs.Rows.{is_dir_at, is_empty_at, look_of, seen_as, with_mode, with_append, grown, of_mode, can_make, can_set_mode}
+use Rattle.tree_disk.specs.Laws.{same_itself}
+use Rattle.tree_disk.specs.Rows.{is_dir_at, look_of, seen_as, can_make}
 use Rattle.tree_disk.specs.Disk.{one_name}
 use Rattle.tree_disk.specs.Steps.{Within}
 use Rattle.conary_cli.specs.declared.manifest.types.Item.{Item}
@@ -23,47 +23,7 @@ use Rattle.conary_cli.specs.Making.{CanMake, CanMakeAll}
 use Rattle.std.specs.Ordering.{is_lt}
 use Rattle.conary_cli.proofs.FirstNames.{Before, is_listed, before_trans, found_none, differ}
 use Rattle.conary_cli.proofs.ItemParents.{above, not_among, paths_of, item_stands}
-use Rattle.conary_cli.proofs.WithItems.{node_among, or_else, get_with_item, get_with_items}
-
--- ---- one file
-
-put_twice : (t : Tree) (path : Name) (a b : Option Node) (q : Name) (same : Bool) → same_name q path ≡ same → get (put (put t path a) path b) q ≡ get (put t path b) q
-put_twice t path a b q true same = get_put (put t path a) path b q ∙ ap (λ s. cond s b (get (put t path a) q)) same ∙ sym (get_put t path b q ∙ ap (λ s. cond s b (get t q)) same)
-put_twice t path a b q false other = get_put_other (put t path a) path b q other ∙ get_put_other t path a q other ∙ sym (get_put_other t path b q other)
-
--- bytes appended where nothing stood, and then the mode set, are a file
-pub made_file : (t : Tree) (path : Name) (mode : ℕ) (bytes : List ℕ) → get t path ≡ None → with_mode (with_append t path bytes) path mode ≡ put t path (Some (node.File mode bytes))
-made_file t path mode bytes none =
-    let grows : with_append t path bytes ≡ put t path (Some (node.File 384 bytes)) = ap (λ (o : Option Node). put t path (Some (grown o bytes))) none in
-    let stands : get (put t path (Some (node.File 384 bytes))) path ≡ Some (node.File 384 bytes) = get_put_here t path (Some (node.File 384 bytes)) in
-    let again : with_mode (put t path (Some (node.File 384 bytes))) path mode ≡ put (put t path (Some (node.File 384 bytes))) path (Some (node.File mode bytes)) = ap (λ (o : Option Node). put (put t path (Some (node.File 384 bytes))) path (of_mode o mode)) stands in
-    ap (λ (u : Tree). with_mode u path mode) grows ∙ again ∙ same_tree _ _ (λ q. put_twice t path (Some (node.File 384 bytes)) (Some (node.File mode bytes)) q (same_name q path) refl)
-
-and_first : (a b : Bool) → IsTrue (a && b) → IsTrue a
-and_first true b h = refl
-and_first false b h = absurd cc
-
-and_second : (a b : Bool) → IsTrue (a && b) → IsTrue b
-and_second true b h = h
-and_second false b h = absurd cc
-
-is_none : (o : Option Node) → IsTrue (not (is_some o)) → o ≡ None
-is_none None h = refl
-is_none (Some n) h = absurd cc
-
-pub nothing_there : (t : Tree) (path : Name) → IsTrue (can_make t path) → get t path ≡ None
-nothing_there t path h = is_none (get t path) (and_second (is_dir_at t (parent path)) (is_empty_at t path) h)
-
--- where a file can be made it can be appended to
-pub can_grow : (dir empty file : Bool) → IsTrue (dir && empty) → IsTrue (dir && (empty || file))
-can_grow true true file h = refl
-can_grow true false file h = absurd cc
-can_grow false empty file h = absurd cc
-
-pub can_set : (t : Tree) (path : Name) (bytes : List ℕ) → get t path ≡ None → IsTrue (can_set_mode (with_append t path bytes) path)
-can_set t path bytes none =
-    let e : get (with_append t path bytes) path ≡ Some (node.File 384 bytes) = get_put_here t path _ ∙ ap (λ (o : Option Node). Some (grown o bytes)) none in
-    rw e refl
+use Rattle.conary_cli.proofs.WithItems.{or_else, get_with_item, get_with_items}
 
 -- ---- one item
 

@@ -1,11 +1,12 @@
 -- Steps over the root's disk, with their stops as failures of a call.
-use Rattle.std.proofs.Common.{◌≡◌, ℕ, Bool, Result, Ok, Err, refl, sym, ap, subst}
-use Rattle.std.specs.Prelude.{IsTrue}
+use Rattle.std.proofs.Common.{◌≡◌, ℕ, Bool, Result, Ok, Err, sym, subst}
+use Rattle.std.specs.Prelude.{IsTrue, OnOk}
 use Rattle.cny_base.specs.declared.refusal.Refusal.{Refusal}
 use Rattle.cny_base.specs.declared.stop.Stop.{Stop}
 use Rattle.cny_base.specs.declared.stop.Stop.TheVariants as stop
 use Rattle.tree_disk.specs.Tree.{Name, Tree, AgreesOutside}
 use Rattle.tree_disk.specs.Disk.{DiskModel}
+use Rattle.tree_disk.specs.Confined.{IsSynced}
 use Rattle.tree_disk.specs.Steps.{Tests, Found, Makes, Ended}
 use Rattle.conary_cli.specs.declared.failure.Failure.{Failure}
 use Rattle.conary_cli.specs.OnRoot.{root_result, Checked, ChecksRoot, Made, MakesRoot}
@@ -35,8 +36,13 @@ made_on told names after old new (Err (stop.Damaged path)) a b outside ended = e
 made_on told names after old new (Err stop.FarFailed) a b outside ended = ended
 made_on told names after old new (Err (stop.FarDamaged path)) a b outside ended = ended
 
-pub makes_root : {D : Type 0} {disk : DiskModel D} {names : Name → Bool} {change : Tree → Tree} {old new : D} {r : Result (Unit {0}) Stop} {s : Result (Unit {0}) Failure} → Makes disk names change old new r → s ≡ root_result r → MakesRoot disk names change old new s
-makes_root {disk = disk} {names = names} {change = change} {old = old} {new = new} {r = r} makes is = subst (MakesRoot disk names change old new) (sym is) (record {
+synced_on : (P : Type 0) (r : Result (Unit {0}) Stop) → OnOk r P → OnOk (root_result r) P
+synced_on P (Ok x) h = h
+synced_on P (Err e) h = tt
+
+pub makes_root : {D : Type 0} {disk : DiskModel D} {names : Name → Bool} {change : Tree → Tree} {old new : D} {r : Result (Unit {0}) Stop} {s : Result (Unit {0}) Failure} → Makes disk names change old new r → (IsTrue disk.tells → OnOk r (IsSynced disk new)) → s ≡ root_result r → MakesRoot disk names change old new s
+makes_root {disk = disk} {names = names} {change = change} {old = old} {new = new} {r = r} makes synced is = subst (MakesRoot disk names change old new) (sym is) (record {
   later = makes.later;
+  synced = λ told. synced_on (IsSynced disk new) r (synced told);
   made = made_on disk.tells names (change (disk.reads old)) (disk.reads old) (disk.reads new) r (disk.faults old) (disk.faults new) makes.outside makes.ended;
 })

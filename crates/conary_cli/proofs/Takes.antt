@@ -1,8 +1,8 @@
 -- What is read is spelled so.
-use Rattle.std.proofs.Common.{◌≡◌, ℕ, zero, suc, ◌+◌, ◌-◌, ◌*◌, ◌/◌, ◌%◌, ◌<◌, ◌≤◌, Bool, true, false, cond, ◌&&◌, ◌==◌, List, [], ◌∷◌, ◌++◌, length, get_or, take, drop, Option, Some, None, Result, Ok, Err, refl, sym, ap, subst, ◌∙◌, append_assoc, append-nil, arith, codes, nat_lt}
+use Rattle.std.proofs.Common.{◌≡◌, ℕ, zero, suc, ◌+◌, ◌<◌, ◌≤◌, Bool, true, false, cond, ◌&&◌, ◌==◌, List, [], ◌∷◌, ◌++◌, length, get_or, take, drop, Option, Some, None, Result, Ok, Err, refl, sym, ap, subst, ◌∙◌, append_assoc, append-nil, arith, codes, nat_lt}
 use Rattle.std.specs.List.{position, list_all}
-use Rattle.std.specs.Str.{bytes_eq, is_utf8}
-use Rattle.std.proofs.lemmas.Bool.{eqb-true, ltb-false, leb-true}
+use Rattle.std.specs.Str.{bytes_eq}
+use Rattle.std.proofs.lemmas.Bool.{eqb-true, ltb-false}
 use Rattle.std.proofs.lemmas.Fmt.{decimal-digits_value}
 use Rattle.std.proofs.lemmas.Str.Parse.{digits_value_short}
 use Rattle.std.specs.Prelude.{not, ◌||◌, ◌^◌, IsTrue}
@@ -10,7 +10,6 @@ use Rattle.std.specs.Prelude.{leb}
 use Rattle.std.specs.Fmt.{decimal}
 use Rattle.std.proofs.lemmas.List.{take-append-drop, drop_more, get_or-take, length-take}
 use Rattle.std.proofs.lemmas.List.Quantifiers.{position-Some}
-use Rattle.std.proofs.lemmas.Grind.{common_steps}
 use Rattle.conary_cli.specs.declared.manifest.fault.Unread.{Unread}
 use Rattle.conary_cli.specs.declared.manifest.fault.Unread.TheVariants.{At, TooLarge}
 use Rattle.conary_cli.specs.declared.manifest.types.Item.{Item}

@@ -1,5 +1,5 @@
 -- Bytes that are or aren't text.
-use Rattle.std.proofs.Common.{◌≡◌, ℕ, List, Bool, true, false, cond, refl, sym, ◌∙◌, ◌≤◌, length, take, Option, Some, None, Result, Ok, Err}
+use Rattle.std.proofs.Common.{◌≡◌, ℕ, List, Bool, true, false, cond, refl, sym, ◌∙◌, ◌≤◌, length, take, Some, None, Result, Ok, Err}
 use Rattle.std.specs.List.{position}
 use Rattle.std.proofs.lemmas.Bool.{le-ltb}
 use Rattle.conary_cli.specs.ManifestReading.{is_line_feed, line_room, line_at}

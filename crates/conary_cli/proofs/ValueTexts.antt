@@ -1,5 +1,5 @@
 -- Values of lines: whether they pass a test, and what is found then.
-use Rattle.std.proofs.Common.{◌≡◌, ℕ, Bool, true, false, cond, ◌&&◌, List, Option, Some, None, refl, sym, ap, ◌∙◌}
+use Rattle.std.proofs.Common.{◌≡◌, ℕ, Bool, true, false, cond, ◌&&◌, List, Some, None, refl, sym, ap, ◌∙◌}
 use Rattle.std.specs.Str.{is_utf8}
 use Rattle.std.specs.Ordering.{nat_cmp, is_lt}
 use Rattle.std.specs.Cmp.Lexicographic.{slice_cmp}
@@ -8,7 +8,6 @@ use Rattle.cny_base.specs.Utf8.{path_utf8}
 use Rattle.cny_base.specs.Name.{is_name, kind_of_name}
 use Rattle.conary_cli.specs.ManifestForm.{is_component, is_component_kind, is_version}
 use Rattle.conary_cli.specs.ManifestReading.{value_if, path_above}
-use Rattle.conary_cli.proofs.Digits.{both}
 use Rattle.conary_cli.proofs.Again.{component_text, version_text}
 
 not_text : (v : List ℕ) (utf8 : Bool) → is_utf8 v ≡ utf8 → utf8 ≡ true → cond utf8 (Some v) None ≡ None → {X : Type 0} → X

@@ -4,10 +4,8 @@ use Rattle.std.specs.FinMap.{get}
 use Rattle.std.specs.List.{list_any}
 use Rattle.std.specs.Prelude.{◌||◌, is_some, map}
 use Rattle.cny_base.specs.declared.node.Node.{Node}
-use Rattle.cny_base.specs.declared.node.Node.TheVariants as node
-use Rattle.tree_disk.specs.Tree.{Name, Tree, same_name, put, is_dir, AgreesOutside}
-use Rattle.tree_disk.specs.Laws.{get_put, same_means, get_put_other}
-use Rattle.tree_disk.specs.Disk.{one_name}
+use Rattle.tree_disk.specs.Tree.{Name, Tree, same_name, AgreesOutside}
+use Rattle.tree_disk.specs.Laws.{get_put, same_means}
 use Rattle.conary_cli.specs.declared.manifest.types.Item.{Item}
 use Rattle.conary_cli.specs.Install.{with_item, with_item_at, with_items, is_named}
 

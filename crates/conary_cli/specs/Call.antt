@@ -1,22 +1,27 @@
 -- What one command does to the objects that it is handed, and how it ends.
-use Rattle.std.specs.Prelude.{◌≡◌, ℕ, ◌≤◌, Bool, IsTrue, List, Option, Some, None, IfSome, Result, Ok, Err}
+use Rattle.std.specs.Prelude.{◌≡◌, ℕ, ◌≤◌, Bool, false, IsTrue, List, Some, IfSome, Result, Ok, Err}
 use Rattle.std.specs.Io.KnownBytes.{Appends, Keeps}
 use Rattle.cny_base.specs.Count.{Rose}
 use Rattle.cny_base.specs.declared.refusal.Refusal.{Refusal}
 use Rattle.cny_flow.specs.Flow.{SourceState, SinkState, AppendsPart}
-use Rattle.tree_disk.specs.Tree.{Tree}
+use Rattle.tree_disk.specs.Tree.{Name, Tree}
 use Rattle.tree_disk.specs.Disk.{DiskModel}
 use Rattle.conary_cli.specs.declared.failure.Failure.{Failure}
 use Rattle.conary_cli.specs.declared.failure.Failure.TheVariants as failure
 
--- a disk: whether it tells its tree, that tree, and how often it failed
+-- a disk: whether it tells its tree, that tree, which names changed since the last sync, and how often it failed
 pub record DiskState : Type 0 where
   pub told : Bool
   pub tree : Tree
+  pub unsynced : Name → Bool
   pub faults : ℕ
 
 abbrev pub disk_state : {D : Type 0} → DiskModel D → D → DiskState
-disk_state disk d = record { told = disk.tells; tree = disk.reads d; faults = disk.faults d }
+disk_state disk d = record { told = disk.tells; tree = disk.reads d; unsynced = disk.unsynced d; faults = disk.faults d }
+
+-- no name changed since the last sync, so that a crash leaves just what is read
+abbrev pub AllSynced : DiskState → Type 0
+AllSynced disk = (p : Name) → disk.unsynced p ≡ false
 
 -- what a command works on
 pub record Objects : Type 0 where
@@ -41,7 +46,7 @@ WhereTold before P = IsTrue before.root.told → IfSome before.input.left P
 
 -- what stands when a command has ended, by how it ended
 abbrev pub Stands : Meaning → Objects → Objects → Result (List ℕ) Failure → Type 0
-Stands m before after (Ok out) = WhereTold before (λ input.
+Stands m before after (Ok out) = (IsTrue before.root.told → AllSynced after.root) × WhereTold before (λ input.
     (m.outcome before.root.tree input ≡ Ok (record { tree = after.root.tree; out = out })) × (after.input.left ≡ Some (m.left before.root.tree input)))
 Stands m before after (Err (failure.Refused r)) = (IsTrue before.root.told → after.root.tree ≡ before.root.tree) × WhereTold before (λ input.
     (m.outcome before.root.tree input ≡ Err r) × (after.input.left ≡ Some (m.left before.root.tree input)))

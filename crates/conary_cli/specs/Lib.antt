@@ -12,3 +12,4 @@ pub mod Parents
 pub mod Making
 pub mod OnRoot
 pub mod Run
+pub mod FormDecides

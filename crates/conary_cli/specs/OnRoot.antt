@@ -1,11 +1,12 @@
 -- What a step of a command does on the root, and how it ends.
-use Rattle.std.specs.Prelude.{◌≡◌, ℕ, ◌≤◌, Bool, IsTrue, List, Result, Ok, Err}
+use Rattle.std.specs.Prelude.{◌≡◌, ℕ, ◌≤◌, Bool, IsTrue, List, Result, Ok, Err, OnOk}
 use Rattle.cny_base.specs.Count.{Rose}
 use Rattle.cny_base.specs.declared.refusal.Refusal.{Refusal}
 use Rattle.cny_base.specs.declared.stop.Stop.{Stop}
 use Rattle.cny_base.specs.declared.stop.Stop.TheVariants as stop
 use Rattle.tree_disk.specs.Tree.{Name, Tree, AgreesOutside}
 use Rattle.tree_disk.specs.Disk.{DiskModel}
+use Rattle.tree_disk.specs.Confined.{IsSynced}
 use Rattle.conary_cli.specs.declared.failure.Failure.{Failure}
 use Rattle.conary_cli.specs.declared.failure.Failure.TheVariants as failure
 use Rattle.conary_cli.specs.Call.{Effect}
@@ -53,9 +54,10 @@ Made told names after old new (Err failure.OutputFault) before now = ⊥
 Made told names after old new (Err failure.RepositoryFault) before now = ⊥
 Made told names after old new (Err (failure.Damaged path)) before now = ⊥
 
--- A change of the root leads to a tree. A fault or want of memory leaves every path but these.
+-- A change of the root leads to a tree, and nothing of it is unsynced. A fault or want of memory leaves every path but these.
 pub record MakesRoot {D : Type 0} (disk : DiskModel D) (names : Name → Bool) (change : Tree → Tree) (old new : D) (result : Result (Unit {0}) Failure) : Type 0 where
   pub later : disk.faults old ≤ disk.faults new
+  pub synced : IsTrue disk.tells → OnOk result (IsSynced disk new)
   pub made : Made disk.tells names (change (disk.reads old)) (disk.reads old) (disk.reads new) result (disk.faults old) (disk.faults new)
 
 -- how the part of a command that works on the root alone ends
@@ -70,8 +72,9 @@ Acted told names outcome old new (Err failure.OutputFault) before now = ⊥
 Acted told names outcome old new (Err failure.RepositoryFault) before now = ⊥
 Acted told names outcome old new (Err (failure.Damaged path)) before now = ⊥
 
--- It leaves the tree and answers the bytes of its outcome, or is refused and leaves all as it was. A fault or want of
+-- It leaves the tree, with nothing unsynced, and answers the bytes of its outcome, or is refused and leaves all as it was. A fault or want of
 -- memory leaves every path but these.
 pub record ActsOnRoot {D : Type 0} (disk : DiskModel D) (names : Name → Bool) (outcome : Tree → Result Effect Refusal) (old new : D) (result : Result (List ℕ) Failure) : Type 0 where
   pub later : disk.faults old ≤ disk.faults new
+  pub synced : IsTrue disk.tells → OnOk result (IsSynced disk new)
   pub acted : Acted disk.tells names (outcome (disk.reads old)) (disk.reads old) (disk.reads new) result (disk.faults old) (disk.faults new)

@@ -1,5 +1,5 @@
 -- What a whole call of the program does.
-use Rattle.std.specs.Prelude.{◌≡◌, ◌⊎◌, ℕ, Bool, IsTrue, List, [], ◌∷◌, Option, Some, None, IfSome, Result, Ok, Err}
+use Rattle.std.specs.Prelude.{◌≡◌, ◌⊎◌, ℕ, IsTrue, List, [], Some, Result, Ok, Err}
 use Rattle.std.specs.Io.KnownBytes.{Appends, Keeps}
 use Rattle.cny_base.specs.Count.{Rose}
 use Rattle.cny_base.specs.declared.refusal.Refusal.{Refusal}
@@ -11,7 +11,7 @@ use Rattle.conary_cli.specs.declared.failure.Failure.TheVariants as failure
 use Rattle.conary_cli.specs.declared.words.Command.{Command}
 use Rattle.conary_cli.specs.declared.words.Command.TheVariants as command
 use Rattle.conary_cli.specs.Words.{command_of}
-use Rattle.conary_cli.specs.Call.{Objects, disk_state, Effect, Meaning, WhereTold, Performs, Writes}
+use Rattle.conary_cli.specs.Call.{Objects, AllSynced, disk_state, Effect, Meaning, WhereTold, Performs, Writes}
 use Rattle.conary_cli.specs.Install.{install}
 use Rattle.conary_cli.specs.Report.{End, status_of, error_line, Tells, Reports}
 
@@ -61,10 +61,11 @@ command_outcome (Err e) tree input = Err e
 abbrev pub WritesLine : Failure → SinkState → SinkState → Type 0
 WritesLine e before after = Rose before.faults after.faults ⊎ Appends before.written after.written (error_line (Err e))
 
--- status 0: the root has the tree of the effect, and its bytes were written
+-- status 0: the root has the tree of the effect, with nothing unsynced, and its bytes were written
 pub record IsDone (e : Effect) (before after : CallState) (status : ℕ) : Type 0 where
   pub ended : status ≡ 0
   pub tree : after.objects.root.tree ≡ e.tree
+  pub synced : AllSynced after.objects.root
   pub out : Appends before.out.written after.out.written e.out
   pub err : after.err ≡ before.err
 
@@ -113,9 +114,10 @@ pub record HasInputFault (before after : CallState) : Type 0 where
   pub tree : IsTrue before.objects.root.told → after.objects.root.tree ≡ before.objects.root.tree
   pub out : Keeps before.out.written after.out.written
 
--- the output failed: the effect stands, and a first part of its bytes was written
+-- the output failed: the effect stands, with nothing unsynced, and a first part of its bytes was written
 pub record HasOutputFault (outcome : Tree → List ℕ → Result Effect Failure) (before after : CallState) : Type 0 where
   pub rose : Rose before.out.faults after.out.faults
+  pub synced : IsTrue before.objects.root.told → AllSynced after.objects.root
   pub done : WhereTold before.objects (λ input. (e : Effect) × (outcome before.objects.root.tree input ≡ Ok e) × (after.objects.root.tree ≡ e.tree) × AppendsPart before.out.written after.out.written e.out)
 
 -- the root failed: every path that the command doesn't name is as before, and nothing was written

@@ -2,7 +2,8 @@
 ghost use Rattle.std.specs.Prelude.{◌≡◌, ◌⊎◌, ◌≤◌, string_bytes, map};
 ghost use Rattle.cny_flow.specs.Flow.{sink_state};
 ghost use Rattle.conary_cli.specs.Call.{Performs, Writes};
-ghost use Rattle.conary_cli.specs.Run.{objects, call_state, meaning, PerformsWords, Runs, Answers, Completes, LeavesInput, command_outcome, CutShort, HasInputFault, HasOutputFault, HasRootFault, HasNoMemory, ErrorLine};
+ghost use Rattle.conary_cli.specs.Run.{objects, call_state, meaning, PerformsWords, Runs, Answers, Completes, LeavesInput, ReadsToEnd, command_outcome, CutShort, HasInputFault, HasOutputFault, HasRootFault, HasNoMemory, ErrorLine};
+ghost use Rattle.conary_cli.specs.FormDecides.{FormDecides};
 ghost use Rattle.conary_cli.specs.Words.{command_of};
 
 use crate::failure::Failure;
@@ -77,6 +78,13 @@ pub fn run<I: Source, O: Sink, E: Sink, P: TreeDisk, T: TreeDisk>(
     // What is left of the input then.
     ensures input { result ≤ 2 → LeavesInput (command_of (map string_bytes words.now)) (call_state I.source O.sink E.sink T.disk input.old out.old err.old root.old)
         (call_state I.source O.sink E.sink T.disk input.new out.new err.new root.new) }
+
+    // After status 0 that is nothing.
+    ensures read_to_end { result ≡ 0 → ReadsToEnd (call_state I.source O.sink E.sink T.disk input.old out.old err.old root.old)
+        (call_state I.source O.sink E.sink T.disk input.new out.new err.new root.new) }
+    // A manifest is refused for its form exactly where it isn't of the form.
+    ensures form { FormDecides (command_of (map string_bytes words.now)) (call_state I.source O.sink E.sink T.disk input.old out.old err.old root.old)
+        (call_state I.source O.sink E.sink T.disk input.new out.new err.new root.new) result }
 
     // When each other status comes, and what stands after it.
     ensures input_fault { result ≡ 3 → HasInputFault (call_state I.source O.sink E.sink T.disk input.old out.old err.old root.old)

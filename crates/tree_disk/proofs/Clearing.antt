@@ -1,5 +1,5 @@
 -- A name and all names below it, taken away.
-use Rattle.std.proofs.Common.{◌≡◌, ◌≢◌, ◌⊎◌, inl, inr, ⊎_elim, ℕ, zero, suc, ◌+◌, ◌<◌, ◌≤◌, Bool, true, false, cond, not, ◌||◌, ◌&&◌, List, [], ◌∷◌, ◌++◌, map, length, Option, Some, None, is_some, ◌==◌, nat_le, refl, sym, ◌∙◌, ap, subst, arith, get_or, take, append_assoc, length-append}
+use Rattle.std.proofs.Common.{◌≡◌, ◌≢◌, ◌⊎◌, inl, inr, ⊎_elim, ℕ, zero, suc, ◌+◌, ◌<◌, ◌≤◌, Bool, true, false, cond, not, ◌||◌, ◌&&◌, List, [], ◌∷◌, ◌++◌, map, length, Option, Some, None, is_some, ◌==◌, nat_le, refl, sym, ◌∙◌, ap, subst, arith, get_or, take, length-append}
 use Rattle.std.proofs.lemmas.Bool.{cases_Bool}
 use Rattle.std.proofs.lemmas.Bool.Decides.{nat_tests}
 use Rattle.std.proofs.lemmas.List.{take_more}
@@ -7,36 +7,26 @@ use Rattle.std.specs.List.{list_any, filter}
 use Rattle.std.specs.FinMap.{get, keys, contains_key-keys}
 use Rattle.cny_base.specs.Path.{is_path, root, parent, last_name, join}
 use Rattle.cny_base.specs.Joins.{join_parent}
-use Rattle.cny_base.specs.Below.{is_below, below_rest, rest_below, below_parent, child_below, none_below_root, parent_shorter}
+use Rattle.cny_base.specs.Below.{is_below, below_rest, below_parent, child_below, none_below_root, parent_shorter}
 use Rattle.cny_base.specs.declared.node.Node.{Node}
 use Rattle.cny_base.specs.declared.node.Node.TheVariants.{Dir, File, Link}
 use Rattle.tree_disk.specs.Tree.{Name, Tree, same_name, is_dir, is_file, is_link, is_child, children, WellFormed}
 use Rattle.tree_disk.specs.Rows.{is_childless, can_remove, without, seen_as, look_of}
 use Rattle.tree_disk.specs.Laws.{same_means, same_itself, get_put, same_tree}
-use Rattle.tree_disk.specs.Clear.{is_within, IsBare, without_names, without_tree, without_each, sees_nothing, sees_dir}
+use Rattle.tree_disk.specs.Clear.{is_within, without_tree, without_each, sees_nothing, sees_dir}
+use Rattle.tree_disk.specs.ClearLaws.{or_left, or_right, or_cases, by_name, below_trans, below_within, within_itself, join_is, within_join_below, get-without_tree}
 
 -- ---- tests
 
 clash : {A : Type 0} (b : Bool) → b ≡ true → b ≡ false → A
 clash b is not_so = absurd (cc (is, not_so))
 
-or_left : (x y : Bool) → x ≡ true → (x || y) ≡ true
-or_left true y is = refl
-or_left false y is = absurd (cc is)
-
-or_right : (x y : Bool) → y ≡ true → (x || y) ≡ true
-or_right true y is = refl
-or_right false y is = is
-
-or_cases : (x y : Bool) → (x || y) ≡ true → (x ≡ true) ⊎ (y ≡ true)
-or_cases true y is = inl refl
-or_cases false y is = inr is
-
 or_none : (x y : Bool) → x ≡ false → y ≡ false → (x || y) ≡ false
 or_none true y left right = left
 or_none false y left right = right
 
-any_weaker : (P Q : List ℕ → Bool) (xs : List (List ℕ)) → ((x : List ℕ) → P x ≡ true → Q x ≡ true) → list_any P xs ≡ true → list_any Q xs ≡ true
+any_weaker : (P Q : List ℕ → Bool) (xs : List (List ℕ)) → ((x : List ℕ) → P x ≡ true → Q x ≡ true) → list_any P xs ≡ true
+    → list_any Q xs ≡ true
 any_weaker P Q [] weaker any = any
 any_weaker P Q (x ∷ xs) weaker any = ⊎_elim
     (λ here. or_left (Q x) (list_any Q xs) (weaker x here))
@@ -49,45 +39,11 @@ none_any P (x ∷ xs) none = or_none (P x) (list_any P xs) (none x) (none_any P 
 
 -- ---- what lies below what
 
-below_trans : (a b c : Name) → is_below a b ≡ true → is_below b c ≡ true → is_below a c ≡ true
-below_trans a b c first then =
-    let lower = below_rest a b first in
-    let lowest = below_rest b c then in
-    let is : c ≡ a ++ 47 ∷ (lower.0 ++ 47 ∷ lowest.0) = lowest.1 ∙ ap (λ l. l ++ 47 ∷ lowest.0) lower.1 ∙ append_assoc a (47 ∷ lower.0) (47 ∷ lowest.0) in
-    ap (is_below a) is ∙ rest_below a (lower.0 ++ 47 ∷ lowest.0)
-
-pub within_itself : (p : Name) → is_within p p ≡ true
-within_itself p = or_left (same_name p p) (is_below p p) (same_itself p)
-
-pub below_within : (p q : Name) → is_below p q ≡ true → is_within p q ≡ true
-below_within p q low = or_right (same_name q p) (is_below p q) low
-
-pub itself_within : (p q : Name) → same_name q p ≡ true → is_within p q ≡ true
-itself_within p q same = or_left (same_name q p) (is_below p q) same
-
 not_shorter : (p rest : Name) → p ≡ p ++ 47 ∷ rest → ⊥
 not_shorter p rest is = absurd (omega (arith, ap length is, length-append p (47 ∷ rest)))
 
 not_below_itself : (p : Name) → is_below p p ≡ false
 not_below_itself p = ⊎_elim (λ low. let rest = below_rest p p low in absurd (not_shorter p rest.0 rest.1)) (λ not_low. not_low) (cases_Bool (is_below p p))
-
--- a path that isn't `/`
-pub join_is : (p last : Name) → is_path p ≡ true → p ≢ root → join p last ≡ p ++ 47 ∷ last
-join_is [] last path other = absurd (cc path)
-join_is (a ∷ []) last path other = absurd (other (ap (λ (n : ℕ). n ∷ []) (slash_first a path)))
-  where
-    slash_first : (b : ℕ) → is_path (b ∷ []) ≡ true → b ≡ 47
-    slash_first b path = grind (arith, nat_tests)
-join_is (a ∷ b ∷ p) last path other = refl
-
-join_below : (p last : Name) → is_path p ≡ true → p ≢ root → is_below p (join p last) ≡ true
-join_below p last path other = ap (is_below p) (join_is p last path other) ∙ rest_below p last
-
-pub within_join_below : (p last q : Name) → is_path p ≡ true → p ≢ root → is_within (join p last) q ≡ true → is_below p q ≡ true
-within_join_below p last q path other within = ⊎_elim
-    (λ same. ap (is_below p) (same_means q (join p last) same) ∙ join_below p last path other)
-    (λ low. below_trans p (join p last) q (join_below p last path other) low)
-    (or_cases (same_name q (join p last)) (is_below (join p last) q) within)
 
 -- what is within a name has below it what is within it too
 within_child : (c q : Name) → is_path q ≡ true → (parent q ≢ root) → is_within c (parent q) ≡ true → is_within c q ≡ true
@@ -99,50 +55,8 @@ within_child c q path up within = ⊎_elim
     (or_cases (same_name (parent q) c) (is_below c (parent q)) within))
     (child_below q path)
 
--- ---- trees without names
-
-by_name : (b : Bool) (any : Bool) (o : Option Node) → cond any None (cond b None o) ≡ cond (b || any) None o
-by_name true true o = refl
-by_name true false o = refl
-by_name false any o = refl
-
-get-without_names : (t : Tree) (names : List Name) (q : Name) → get (without_names t names) q ≡ cond (list_any (same_name q) names) None (get t q)
-get-without_names t [] q = refl
-get-without_names t (n ∷ names) q =
-    get-without_names (without t n) names q
-    ∙ ap (λ o. cond (list_any (same_name q) names) None o) (get_put t n None q)
-    ∙ by_name (same_name q n) (list_any (same_name q) names) (get t q)
-
--- a test of names, which is the same at the same name
-any_filtered : (test : Name → Bool) (q : Name) (names : List Name) → list_any (same_name q) (filter test names) ≡ (test q && list_any (same_name q) names)
-any_filtered test q [] = sym (never (test q))
-  where
-    never : (b : Bool) → (b && false) ≡ false
-    never true = refl
-    never false = refl
-any_filtered test q (n ∷ names) = at (same_name q n) (test n) (test q) (list_any (same_name q) names) refl refl refl (any_filtered test q names)
-  where
-    at : (same here own rest : Bool) → same_name q n ≡ same → test n ≡ here → test q ≡ own → list_any (same_name q) (filter test names) ≡ (own && rest)
-        → list_any (same_name q) (cond (test n) (n ∷ filter test names) (filter test names)) ≡ (own && (same_name q n || rest))
-    at true true true rest same here own more = ap (λ b. list_any (same_name q) (cond b (n ∷ filter test names) (filter test names))) here ∙ ap (λ b. b || list_any (same_name q) (filter test names)) same ∙ sym (ap (λ b. b || rest) same)
-    at true true false rest same here own more = absurd (cc (here, own, ap test (same_means q n same)))
-    at true false true rest same here own more = absurd (cc (here, own, ap test (same_means q n same)))
-    at true false false rest same here own more = ap (λ b. list_any (same_name q) (cond b (n ∷ filter test names) (filter test names))) here ∙ more
-    at false true own rest same here is more = ap (λ b. list_any (same_name q) (cond b (n ∷ filter test names) (filter test names))) here ∙ ap (λ b. b || list_any (same_name q) (filter test names)) same ∙ more ∙ sym (ap (λ b. own && (b || rest)) same)
-    at false false own rest same here is more = ap (λ b. list_any (same_name q) (cond b (n ∷ filter test names) (filter test names))) here ∙ more ∙ sym (ap (λ b. own && (b || rest)) same)
-
-gone : (b : Bool) (o : Option Node) → cond (b && is_some o) None o ≡ cond b None o
-gone true None = refl
-gone true (Some node) = refl
-gone false o = refl
-
-pub get-without_tree : (t : Tree) (p q : Name) → get (without_tree t p) q ≡ cond (is_within p q) None (get t q)
-get-without_tree t p q =
-    get-without_names t (filter (is_within p) (keys t)) q
-    ∙ ap (λ b. cond b None (get t q)) (any_filtered (is_within p) q (keys t) ∙ ap (λ b. is_within p q && b) (sym (contains_key-keys t q)))
-    ∙ gone (is_within p q) (get t q)
-
-get-without_each : (t : Tree) (p : Name) (names : List (List ℕ)) (q : Name) → get (without_each t p names) q ≡ cond (list_any (λ last. is_within (join p last) q) names) None (get t q)
+get-without_each : (t : Tree) (p : Name) (names : List (List ℕ)) (q : Name)
+    → get (without_each t p names) q ≡ cond (list_any (λ last. is_within (join p last) q) names) None (get t q)
 get-without_each t p [] q = refl
 get-without_each t p (last ∷ names) q =
     get-without_each (without_tree t (join p last)) p names q
@@ -150,7 +64,8 @@ get-without_each t p (last ∷ names) q =
     ∙ by_name (is_within (join p last) q) (list_any (λ n. is_within (join p n) q) names) (get t q)
 
 -- one name more
-pub without_each-append : (t : Tree) (p : Name) (names : List (List ℕ)) (last : List ℕ) → without_each t p (names ++ last ∷ []) ≡ without_tree (without_each t p names) (join p last)
+pub without_each-append : (t : Tree) (p : Name) (names : List (List ℕ)) (last : List ℕ)
+    → without_each t p (names ++ last ∷ []) ≡ without_tree (without_each t p names) (join p last)
 without_each-append t p [] last = refl
 without_each-append t p (n ∷ names) last = without_each-append (without_tree t (join p n)) p names last
 
@@ -165,14 +80,16 @@ some_dir None h = absurd (cc h)
 some_dir (Some node) h = refl
 
 -- what stands below a path has a parent that is shorter, and stands at the path or below it
-above : (t : Tree) (p q : Name) → WellFormed t → is_path p ≡ true → is_below p q ≡ true → is_some (get t q) ≡ true → (length (parent q) < length q) × ((p ≡ parent q) ⊎ (is_below p (parent q) ≡ true))
+above : (t : Tree) (p q : Name) → WellFormed t → is_path p ≡ true → is_below p q ≡ true → is_some (get t q) ≡ true
+    → (length (parent q) < length q) × ((p ≡ parent q) ⊎ (is_below p (parent q) ≡ true))
 above t p q well path low stands = ⊎_elim
     (λ is. absurd (none_below_root p path (subst (λ x. is_below p x ≡ true) is low)))
     (λ less. (less, below_parent p q (λ is. absurd (cc (is, path))) low))
     (parent_shorter q (well.paths q stands))
 
 -- Where no directory stands, nothing stands below. (The names grow shorter on the way up.)
-none_below_up : (t : Tree) (p : Name) → WellFormed t → is_path p ≡ true → is_dir (get t p) ≡ false → (n : ℕ) (q : Name) → length q < n → is_below p q ≡ true → is_some (get t q) ≡ true → ⊥
+none_below_up : (t : Tree) (p : Name) → WellFormed t → is_path p ≡ true → is_dir (get t p) ≡ false → (n : ℕ) (q : Name)
+    → length q < n → is_below p q ≡ true → is_some (get t q) ≡ true → ⊥
 none_below_up t p well path no_dir zero q short low stands = absurd (omega arith)
 none_below_up t p well path no_dir (suc n) q short low stands =
     let up = above t p q well path low stands in
@@ -181,15 +98,18 @@ none_below_up t p well path no_dir (suc n) q short low stands =
     (λ high. none_below_up t p well path no_dir n (parent q) (omega (arith, up.0)) high (some_dir (get t (parent q)) (well.parents q stands)))
     up.1
 
-pub none_below : (t : Tree) (p q : Name) → WellFormed t → is_path p ≡ true → is_dir (get t p) ≡ false → is_below p q ≡ true → get t q ≡ None
+pub none_below : (t : Tree) (p q : Name) → WellFormed t → is_path p ≡ true → is_dir (get t p) ≡ false → is_below p q ≡ true
+    → get t q ≡ None
 none_below t p q well path no_dir low = ⊎_elim (λ none. none) (λ stands. absurd (none_below_up t p well path no_dir (suc (length q)) q (omega arith) low stands)) (stands_or_not (get t q))
 
 -- an element of a list, which passes a test and whose value passes another
-any_mapped : (test : Name → Bool) (f : Name → List ℕ) (P : List ℕ → Bool) (q : Name) (names : List Name) → test q ≡ true → P (f q) ≡ true → list_any (same_name q) names ≡ true → list_any P (map f (filter test names)) ≡ true
+any_mapped : (test : Name → Bool) (f : Name → List ℕ) (P : List ℕ → Bool) (q : Name) (names : List Name) → test q ≡ true
+    → P (f q) ≡ true → list_any (same_name q) names ≡ true → list_any P (map f (filter test names)) ≡ true
 any_mapped test f P q [] passes value any = absurd (cc any)
 any_mapped test f P q (n ∷ names) passes value any = at (test n) refl (any_mapped test f P q names passes value) (or_cases (same_name q n) (list_any (same_name q) names) any)
   where
-    at : (b : Bool) → test n ≡ b → (list_any (same_name q) names ≡ true → list_any P (map f (filter test names)) ≡ true) → (same_name q n ≡ true) ⊎ (list_any (same_name q) names ≡ true)
+    at : (b : Bool) → test n ≡ b → (list_any (same_name q) names ≡ true → list_any P (map f (filter test names)) ≡ true)
+        → (same_name q n ≡ true) ⊎ (list_any (same_name q) names ≡ true)
         → list_any P (map f (cond (test n) (n ∷ filter test names) (filter test names))) ≡ true
     at true is rest (inl same) =
         ap (λ b. list_any P (map f (cond b (n ∷ filter test names) (filter test names)))) is ∙ or_left (P (f n)) _ (ap (λ x. P (f x)) (sym (same_means q n same)) ∙ value)
@@ -200,7 +120,8 @@ any_mapped test f P q (n ∷ names) passes value any = at (test n) refl (any_map
         ap (λ b. list_any P (map f (cond b (n ∷ filter test names) (filter test names)))) is ∙ rest later
 
 -- a child of a directory is one of its children
-child_listed : (t : Tree) (q : Name) → WellFormed t → q ≢ root → is_some (get t q) ≡ true → list_any (λ last. is_within (join (parent q) last) q) (children t (parent q)) ≡ true
+child_listed : (t : Tree) (q : Name) → WellFormed t → q ≢ root → is_some (get t q) ≡ true
+    → list_any (λ last. is_within (join (parent q) last) q) (children t (parent q)) ≡ true
 child_listed t q well other stands = any_mapped (is_child (parent q)) last_name (λ last. is_within (join (parent q) last) q) q (keys t) child itself (sym (contains_key-keys t q) ∙ stands)
   where
     not_root : same_name q root ≡ false
@@ -216,7 +137,8 @@ not_root_below : (p q : Name) → is_path p ≡ true → is_below p q ≡ true �
 not_root_below p q path low is = absurd (none_below_root p path (subst (λ x. is_below p x ≡ true) is low))
 
 -- What stands below a directory is one of its children, or lies below one.
-covered_up : (t : Tree) (p : Name) → WellFormed t → is_path p ≡ true → (n : ℕ) (q : Name) → length q < n → is_below p q ≡ true → is_some (get t q) ≡ true → list_any (λ last. is_within (join p last) q) (children t p) ≡ true
+covered_up : (t : Tree) (p : Name) → WellFormed t → is_path p ≡ true → (n : ℕ) (q : Name) → length q < n → is_below p q ≡ true
+    → is_some (get t q) ≡ true → list_any (λ last. is_within (join p last) q) (children t p) ≡ true
 covered_up t p well path zero q short low stands = absurd (omega arith)
 covered_up t p well path (suc n) q short low stands =
     let up = above t p q well path low stands in
@@ -232,7 +154,8 @@ none_or true o covers = refl
 none_or false None covers = refl
 none_or false (Some node) covers = absurd (cc (covers refl))
 
-filter_none : (test : Name → Bool) (names : List Name) → ((q : Name) → list_any (same_name q) names ≡ true → test q ≡ false) → filter test names ≡ []
+filter_none : (test : Name → Bool) (names : List Name) → ((q : Name) → list_any (same_name q) names ≡ true → test q ≡ false)
+    → filter test names ≡ []
 filter_none test [] fails = refl
 filter_none test (n ∷ names) fails =
     ap (λ b. cond b (n ∷ filter test names) (filter test names)) (fails n (or_left (same_name n n) (list_any (same_name n) names) (same_itself n)))
@@ -252,7 +175,8 @@ module _ (t : Tree) (p : Name) (well : WellFormed t) (path : is_path p ≡ true)
   without-emptied = same_tree (without (without_each t p (children t p)) p) (without_tree t p)
       (λ q. get_put (without_each t p (children t p)) p None q ∙ at q (same_name q p) (is_below p q) refl refl ∙ sym (get-without_tree t p q))
     where
-      at : (q : Name) (same low : Bool) → same_name q p ≡ same → is_below p q ≡ low → cond (same_name q p) None (get (without_each t p (children t p)) q) ≡ cond (same_name q p || is_below p q) None (get t q)
+      at : (q : Name) (same low : Bool) → same_name q p ≡ same → is_below p q ≡ low
+          → cond (same_name q p) None (get (without_each t p (children t p)) q) ≡ cond (same_name q p || is_below p q) None (get t q)
       at q true low same is = ap (λ b. cond b None (get (without_each t p (children t p)) q)) same ∙ sym (ap (λ b. cond (b || is_below p q) None (get t q)) same)
       at q false true same is =
           ap (λ b. cond b None (get (without_each t p (children t p)) q)) same ∙ get-emptied_below q is
@@ -290,7 +214,8 @@ module _ (t : Tree) (p : Name) (well : WellFormed t) (path : is_path p ≡ true)
   not_root : same_name p root ≡ false
   not_root = ⊎_elim (λ same. absurd (other (same_means p root same))) (λ no_same. no_same) (cases_Bool (same_name p root))
 
-  removable : (u : Tree) → (is_file (get u p) || (is_link (get u p) || (is_dir (get u p) && is_childless u p))) ≡ true → can_remove u p ≡ true
+  removable : (u : Tree) → (is_file (get u p) || (is_link (get u p) || (is_dir (get u p) && is_childless u p))) ≡ true
+      → can_remove u p ≡ true
   removable u is = ap (λ b. not b && (is_file (get u p) || (is_link (get u p) || (is_dir (get u p) && is_childless u p)))) not_root ∙ is
 
   pub may_remove_emptied : is_dir (get t p) ≡ true → can_remove (without_each t p (children t p)) p ≡ true
@@ -308,7 +233,8 @@ module _ (t : Tree) (p : Name) (well : WellFormed t) (path : is_path p ≡ true)
 
   -- ---- what isn't a directory
 
-  seen_removable : (o : Option Node) (b : Bool) → sees_nothing (seen_as o) ≡ false → sees_dir (seen_as o) ≡ false → (is_file o || (is_link o || (is_dir o && b))) ≡ true
+  seen_removable : (o : Option Node) (b : Bool) → sees_nothing (seen_as o) ≡ false → sees_dir (seen_as o) ≡ false
+      → (is_file o || (is_link o || (is_dir o && b))) ≡ true
   seen_removable None b some no_dir = absurd (cc some)
   seen_removable (Some (Dir mode)) b some no_dir = absurd (cc no_dir)
   seen_removable (Some (File mode bytes)) b some no_dir = refl
@@ -343,7 +269,8 @@ module _ (t : Tree) (p : Name) (well : WellFormed t) (path : is_path p ≡ true)
   pub without-leaf : without t p ≡ without_tree t p
   without-leaf = same_tree (without t p) (without_tree t p) (λ q. get_put t p None q ∙ at q (same_name q p) (is_below p q) refl refl ∙ sym (get-without_tree t p q))
     where
-      at : (q : Name) (same low : Bool) → same_name q p ≡ same → is_below p q ≡ low → cond (same_name q p) None (get t q) ≡ cond (same_name q p || is_below p q) None (get t q)
+      at : (q : Name) (same low : Bool) → same_name q p ≡ same → is_below p q ≡ low
+          → cond (same_name q p) None (get t q) ≡ cond (same_name q p || is_below p q) None (get t q)
       at q true low same is = ap (λ b. cond b None (get t q)) same ∙ sym (ap (λ b. cond (b || is_below p q) None (get t q)) same)
       at q false true same is =
           ap (λ b. cond b None (get t q)) same ∙ none_below t p q well path no_dir is ∙ sym (ap (λ b. cond (b || is_below p q) None (get t q)) same ∙ ap (λ b. cond b None (get t q)) is)
@@ -356,9 +283,6 @@ without-nothing t p well path none = sym (without-leaf t p well path (ap is_dir 
     at : (q : Name) (same : Bool) → same_name q p ≡ same → cond (same_name q p) None (get t q) ≡ get t q
     at q true same = ap (λ b. cond b None (get t q)) same ∙ sym (ap (get t) (same_means q p same) ∙ none)
     at q false same = ap (λ b. cond b None (get t q)) same
-
-pub bare_without : (t : Tree) (p : Name) → IsBare (without_tree t p) p
-bare_without t p q within = get-without_tree t p q ∙ ap (λ b. cond b None (get t q)) within
 
 -- ---- paths that grow longer
 
@@ -389,17 +313,21 @@ child_not_root p last path other is =
     some_byte (b ∷ p) path = omega arith
 
 -- a loop over the last names has cleared one more
-pub one_more_cleared : (t : Tree) (p : Name) (names : List (List ℕ)) (i : ℕ) (last : List ℕ) → i < length names → last ≡ get_or names i last → without_tree (without_each t p (take i names)) (join p last) ≡ without_each t p (take (i + 1) names)
+pub one_more_cleared : (t : Tree) (p : Name) (names : List (List ℕ)) (i : ℕ) (last : List ℕ) → i < length names
+    → last ≡ get_or names i last
+    → without_tree (without_each t p (take i names)) (join p last) ≡ without_each t p (take (i + 1) names)
 one_more_cleared t p names i last within is =
     sym (ap (without_each t p) (take_more names i last within ∙ ap (λ x. take i names ++ x ∷ []) (sym is)) ∙ without_each-append t p (take i names) last)
 
 -- ---- the same, by what a list answered
 
 -- a directory whose children went may be removed
-pub may_remove_after : (t mid after : Tree) (p : Name) (names : List (List ℕ)) → WellFormed t → is_path p ≡ true → p ≢ root → mid ≡ t → names ≡ children t p → after ≡ without_each mid p names → is_dir (get t p) ≡ true → can_remove after p ≡ true
+pub may_remove_after : (t mid after : Tree) (p : Name) (names : List (List ℕ)) → WellFormed t → is_path p ≡ true → p ≢ root
+    → mid ≡ t → names ≡ children t p → after ≡ without_each mid p names → is_dir (get t p) ≡ true → can_remove after p ≡ true
 may_remove_after t mid after p names well path other same listed emptied dir =
     ap (λ u. can_remove u p) (emptied ∙ ap (λ u. without_each u p names) same ∙ ap (without_each t p) listed) ∙ may_remove_emptied t p well path other dir
 
 -- and then nothing stands at it and below it
-pub without_after : (t : Tree) (p : Name) (names : List (List ℕ)) → WellFormed t → is_path p ≡ true → p ≢ root → names ≡ children t p → without (without_each t p names) p ≡ without_tree t p
+pub without_after : (t : Tree) (p : Name) (names : List (List ℕ)) → WellFormed t → is_path p ≡ true → p ≢ root
+    → names ≡ children t p → without (without_each t p names) p ≡ without_tree t p
 without_after t p names well path other listed = ap (λ l. without (without_each t p l) p) listed ∙ without-emptied t p well path other

@@ -1,11 +1,11 @@
 -- A file that is made by an append and gets its mode.
-use Rattle.std.proofs.Common.{◌≡◌, ℕ, Bool, true, false, cond, not, ◌&&◌, ◌||◌, List, Option, Some, None, is_some, refl, sym, ◌∙◌, ap}
+use Rattle.std.proofs.Common.{◌≡◌, ℕ, Bool, true, false, not, ◌&&◌, ◌||◌, List, Option, Some, None, is_some, refl, ◌∙◌, ap}
 use Rattle.std.specs.FinMap.{get}
 use Rattle.cny_base.specs.declared.node.Node.{Node}
 use Rattle.cny_base.specs.declared.node.Node.TheVariants.{File}
-use Rattle.tree_disk.specs.Tree.{Name, Tree, same_name, put, is_dir, is_file}
+use Rattle.tree_disk.specs.Tree.{Name, Tree, put, is_dir, is_file}
 use Rattle.tree_disk.specs.Rows.{can_make, can_set_mode, grown, of_mode, with_append, with_mode, with_node}
-use Rattle.tree_disk.specs.Laws.{get_put, get_put_here, same_tree}
+use Rattle.tree_disk.specs.Laws.{get_put_here, put_put}
 
 right_true : (x y : Bool) → (x && y) ≡ true → y ≡ true
 right_true true y h = h
@@ -25,14 +25,6 @@ appended t p bytes can = get_put_here t p (Some (grown (get t p) bytes)) ∙ ap 
 pub may_set_mode : (t : Tree) (p : Name) (bytes : List ℕ) → can_make t p ≡ true → can_set_mode (with_append t p bytes) p ≡ true
 may_set_mode t p bytes can = ap (λ o. is_dir o || is_file o) (appended t p bytes can)
 
-twice : (b : Bool) (m n : Node) (o : Option Node) → cond b (Some n) (cond b (Some m) o) ≡ cond b (Some n) o
-twice true m n o = refl
-twice false m n o = refl
-
-put_twice : (t : Tree) (p : Name) (m n : Node) → put (put t p (Some m)) p (Some n) ≡ put t p (Some n)
-put_twice t p m n = same_tree (put (put t p (Some m)) p (Some n)) (put t p (Some n))
-    (λ q. get_put (put t p (Some m)) p (Some n) q ∙ ap (cond (same_name q p) (Some n)) (get_put t p (Some m) q) ∙ twice (same_name q p) m n (get t q) ∙ sym (get_put t p (Some n) q))
-
 pub with_file : (t : Tree) (p : Name) (mode : ℕ) (bytes : List ℕ) → can_make t p ≡ true → with_mode (with_append t p bytes) p mode ≡ with_node t p (File mode bytes)
 with_file t p mode bytes can =
-    ap (λ o. put (with_append t p bytes) p (of_mode o mode)) (appended t p bytes can) ∙ put_twice t p (grown (get t p) bytes) (File mode bytes)
+    ap (λ o. put (with_append t p bytes) p (of_mode o mode)) (appended t p bytes can) ∙ put_put t p (Some (grown (get t p) bytes)) (Some (File mode bytes))

@@ -48,6 +48,15 @@ get_put_other t p o q other = get_put t p o q ∙ ap (λ b. cond b o (get t q)) 
 pub same_tree : (t u : Tree) → ((q : Name) → get t q ≡ get u q) → t ≡ u
 same_tree t u same = same_map nat_list_cmp_total (slice_cmp-IsAntisymmetric nat_cmp-IsAntisymmetric) t u same
 
+twice : (b : Bool) (m n o : Option Node) → cond b n (cond b m o) ≡ cond b n o
+twice true m n o = refl
+twice false m n o = refl
+
+-- the later of two nodes at one path
+pub put_put : (t : Tree) (p : Name) (m n : Option Node) → put (put t p m) p n ≡ put t p n
+put_put t p m n = same_tree (put (put t p m) p n) (put t p n)
+    (λ q. get_put (put t p m) p n q ∙ ap (cond (same_name q p) n) (get_put t p m q) ∙ twice (same_name q p) m n (get t q) ∙ sym (get_put t p n q))
+
 -- ---- one moment of a disk
 
 module _ {D : Type 0} {disk : DiskModel D} (laws : IsDisk disk) where

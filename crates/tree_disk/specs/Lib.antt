@@ -11,3 +11,4 @@ pub mod StepLaws
 pub mod Untold
 pub mod Whole
 pub mod Clear
+pub mod ClearLaws

@@ -82,6 +82,10 @@ abbrev pub bytes_of : Option Node → List ℕ
 bytes_of (Some (File mode bytes)) = bytes
 bytes_of _ = []
 
+-- the bytes of the file at a path
+abbrev pub bytes_at : Tree → Name → List ℕ
+bytes_at t p = bytes_of (get t p)
+
 -- what `read_at` leaves in a buffer: the file's bytes from that place on, as far as there is room and file
 pub record ReadsFrom (t : Tree) (p : Name) (at : ℕ) (old new : List ℕ) (count : ℕ) : Type 0 where
   pub stands : IsTrue (is_file_at t p)

@@ -17,7 +17,8 @@ use Rattle.tree_disk.specs.Steps.{IsDiskStop, step_of, Found, Tests, Ended, Make
 -- ---- how steps end
 
 -- a test that passed on what an earlier one left
-found_on : {X Y : Type 0} (view : X → Y) (told : Bool) (before expected : Result Y Refusal) (r : Result X Stop) (a b c : ℕ) → (IsTrue told → before ≡ expected) → a ≤ b → Found view told before r b c → Found view told expected r a c
+found_on : {X Y : Type 0} (view : X → Y) (told : Bool) (before expected : Result Y Refusal) (r : Result X Stop) (a b c : ℕ)
+    → (IsTrue told → before ≡ expected) → a ≤ b → Found view told before r b c → Found view told expected r a c
 found_on view told before expected (Ok x) a b c is le found = λ tells. sym (is tells) ∙ found tells
 found_on view told before expected (Err (Refused refusal)) a b c is le found = λ tells. sym (is tells) ∙ found tells
 found_on view told before expected (Err Failed) a b c is le found = rose_before a b c le found
@@ -27,8 +28,9 @@ found_on view told before expected (Err FarFailed) a b c is le found = found
 found_on view told before expected (Err (FarDamaged path)) a b c is le found = found
 
 -- a stop passed on by `?`
-found_stop : {X Y Z W : Type 0} (view : X → Y) (other : Z → W) (told : Bool) (expected : Result Y Refusal) (goal : Result W Refusal) (e : Stop) (r : Result Z Stop) (before now : ℕ) → IsErrAnd r (λ s. s ≡ e)
-    → (IsTrue told → (refusal : Refusal) → expected ≡ Err refusal → goal ≡ Err refusal) → Found view told expected (Err e) before now → Found other told goal r before now
+found_stop : {X Y Z W : Type 0} (view : X → Y) (other : Z → W) (told : Bool) (expected : Result Y Refusal) (goal : Result W Refusal) (e : Stop) (r : Result Z Stop) (before now : ℕ)
+    → IsErrAnd r (λ s. s ≡ e) → (IsTrue told → (refusal : Refusal) → expected ≡ Err refusal → goal ≡ Err refusal)
+    → Found view told expected (Err e) before now → Found other told goal r before now
 found_stop view other told expected goal e (Ok z) before now is refuse found = absurd is
 found_stop view other told expected goal e (Err s) before now is refuse found = subst (λ x. Found other told goal (Err x) before now) (sym is) (by e found)
   where
@@ -40,7 +42,8 @@ found_stop view other told expected goal e (Err s) before now is refuse found = 
     by FarFailed found = found
     by (FarDamaged path) found = found
 
-ended_on : {X : Type 0} (told : Bool) (after goal new : Tree) (r : Result X Stop) (a b c : ℕ) → (IsTrue told → after ≡ goal) → a ≤ b → Ended told after new r b c → Ended told goal new r a c
+ended_on : {X : Type 0} (told : Bool) (after goal new : Tree) (r : Result X Stop) (a b c : ℕ) → (IsTrue told → after ≡ goal) → a ≤ b
+    → Ended told after new r b c → Ended told goal new r a c
 ended_on told after goal new (Ok x) a b c is le ended = λ tells. ended tells ∙ is tells
 ended_on told after goal new (Err (Refused refusal)) a b c is le ended = ended
 ended_on told after goal new (Err Failed) a b c is le ended = rose_before a b c le ended
@@ -63,7 +66,8 @@ ended_stop X {Z = Z} told after goal new e (Err s) a b c is le ended = subst (λ
     by (FarDamaged path) ended = ended
 
 -- a test that stops, in place of a change
-test_ended : {X Y Z : Type 0} (view : X → Y) (told : Bool) (expected : Result Y Refusal) (goal new : Tree) (e : Stop) (r : Result Z Stop) (before now : ℕ) → IsDiskStop e → IsErrAnd r (λ s. s ≡ e) → Found view told expected (Err e) before now → Ended told goal new r before now
+test_ended : {X Y Z : Type 0} (view : X → Y) (told : Bool) (expected : Result Y Refusal) (goal new : Tree) (e : Stop) (r : Result Z Stop) (before now : ℕ)
+    → IsDiskStop e → IsErrAnd r (λ s. s ≡ e) → Found view told expected (Err e) before now → Ended told goal new r before now
 test_ended view told expected goal new e (Ok z) before now stop is found = absurd is
 test_ended {Z = Z} view told expected goal new e (Err s) before now stop is found = subst (λ x. Ended {X = Z} told goal new (Err x) before now) (sym is) (by e stop found)
   where
@@ -75,26 +79,31 @@ test_ended {Z = Z} view told expected goal new e (Err s) before now stop is foun
     by FarFailed stop found = found
     by (FarDamaged path) stop found = found
 
-memory_found : {Z W : Type 0} (other : Z → W) (told : Bool) (goal : Result W Refusal) (r : Result Z Stop) (before now : ℕ) → IsErrAnd r (λ s. s ≡ Memory) → Found other told goal r before now
+memory_found : {Z W : Type 0} (other : Z → W) (told : Bool) (goal : Result W Refusal) (r : Result Z Stop) (before now : ℕ)
+    → IsErrAnd r (λ s. s ≡ Memory) → Found other told goal r before now
 memory_found other told goal (Ok z) before now is = absurd is
 memory_found other told goal (Err s) before now is = subst (λ x. Found other told goal (Err x) before now) (sym is) tt
 
-memory_ended : {Z : Type 0} (told : Bool) (goal new : Tree) (r : Result Z Stop) (before now : ℕ) → IsErrAnd r (λ s. s ≡ Memory) → Ended told goal new r before now
+memory_ended : {Z : Type 0} (told : Bool) (goal new : Tree) (r : Result Z Stop) (before now : ℕ) → IsErrAnd r (λ s. s ≡ Memory)
+    → Ended told goal new r before now
 memory_ended told goal new (Ok z) before now is = absurd is
 memory_ended {Z = Z} told goal new (Err s) before now is = subst (λ x. Ended {X = Z} told goal new (Err x) before now) (sym is) tt
 
 -- ---- a call of the disk, as a step
 
 module _ {D : Type 0} {disk : DiskModel D} (laws : IsDisk disk) where
-  call_ended : (can : Bool) (names : Name → Bool) (after : Tree) (old new : D) (r : Result Unit DiskStop) → HasCause disk can old new r → (IsTrue disk.tells → can ≡ true) → Changes disk names can after old new r
+  call_ended : (can : Bool) (names : Name → Bool) (after : Tree) (old new : D) (r : Result Unit DiskStop)
+      → HasCause disk can old new r → (IsTrue disk.tells → can ≡ true) → Changes disk names can after old new r
       → Ended disk.tells after (disk.reads new) (step_of r) (disk.faults old) (disk.faults new)
   call_ended can names after old new (Ok u) cause allowed told = λ tells. (told tells).done.1
   call_ended can names after old new (Err disk_stop.Failed) cause allowed told = cause.failed refl
   call_ended can names after old new (Err disk_stop.Memory) cause allowed told = tt
   call_ended can names after old new (Err disk_stop.Refused) cause allowed told = tt
 
-  pub makes_call : {can : Bool} {names : Name → Bool} {change : Tree → Tree} {old new : D} {r : Result Unit DiskStop} {s : Result Unit Stop} → HasCause disk can old new r → (IsTrue disk.tells → can ≡ true) → (IsTrue disk.tells → HasChanged disk names can (change (disk.reads old)) old new r)
-      → s ≡ step_of r → Makes disk names change old new s
+  pub makes_call : {can : Bool} {names : Name → Bool} {change : Tree → Tree} {old new : D} {r : Result Unit DiskStop} {s : Result Unit Stop}
+      → HasCause disk can old new r → (IsTrue disk.tells → can ≡ true)
+      → (IsTrue disk.tells → HasChanged disk names can (change (disk.reads old)) old new r) → s ≡ step_of r
+      → Makes disk names change old new s
   makes_call {can = can} {names = names} {change = change} {old = old} {new = new} {r = r} cause allowed told is = subst (Makes disk names change old new) (sym is) (record {
     later = cause.later;
     ended = call_ended can names (change (disk.reads old)) old new r cause allowed told;
@@ -102,13 +111,15 @@ module _ {D : Type 0} {disk : DiskModel D} (laws : IsDisk disk) where
     confined = λ tells. confined_changed laws (told tells);
   })
 
-  sync_ended : (old new : D) (r : Result Unit DiskStop) → HasCause disk true old new r → Syncs disk old new r → Ended disk.tells (disk.reads old) (disk.reads new) (step_of r) (disk.faults old) (disk.faults new)
+  sync_ended : (old new : D) (r : Result Unit DiskStop) → HasCause disk true old new r → Syncs disk old new r
+      → Ended disk.tells (disk.reads old) (disk.reads new) (step_of r) (disk.faults old) (disk.faults new)
   sync_ended old new (Ok u) cause told = λ tells. (told tells).reads
   sync_ended old new (Err disk_stop.Failed) cause told = cause.failed refl
   sync_ended old new (Err disk_stop.Memory) cause told = tt
   sync_ended old new (Err disk_stop.Refused) cause told = tt
 
-  pub makes_sync : {old new : D} {r : Result Unit DiskStop} {s : Result Unit Stop} → HasCause disk true old new r → (IsTrue disk.tells → HasSynced disk old new r) → s ≡ step_of r → Makes disk no_name (λ tree. tree) old new s
+  pub makes_sync : {old new : D} {r : Result Unit DiskStop} {s : Result Unit Stop} → HasCause disk true old new r
+      → (IsTrue disk.tells → HasSynced disk old new r) → s ≡ step_of r → Makes disk no_name (λ tree. tree) old new s
   makes_sync {old = old} {new = new} {r = r} cause told is = subst (Makes disk no_name (λ tree. tree) old new) (sym is) (record {
     later = cause.later;
     ended = sync_ended old new r cause told;
@@ -123,11 +134,14 @@ ok_value a b is = cc is
 
 module _ {D : Type 0} {disk : DiskModel D} where
   -- what a test without refusals found
-  pub tests_value : {X Y : Type 0} {view : X → Y} {value : Tree → Y} {old new : D} {x : X} → Tests disk view (λ tree. Ok (value tree)) old new (Ok x) → IsTrue disk.tells → view x ≡ value (disk.reads old)
+  pub tests_value : {X Y : Type 0} {view : X → Y} {value : Tree → Y} {old new : D} {x : X}
+      → Tests disk view (λ tree. Ok (value tree)) old new (Ok x) → IsTrue disk.tells → view x ≡ value (disk.reads old)
   tests_value {view = view} {value = value} {old = old} {x = x} tested tells = ok_value (value (disk.reads old)) (view x) (tested.found tells)
 
   -- the same test, said otherwise
-  pub tests_as : {X Y : Type 0} {view : X → Y} {test goal : Tree → Result Y Refusal} {old new : D} {r : Result X Stop} → Tests disk view test old new r → (IsTrue disk.tells → test (disk.reads old) ≡ goal (disk.reads old)) → Tests disk view goal old new r
+  pub tests_as : {X Y : Type 0} {view : X → Y} {test goal : Tree → Result Y Refusal} {old new : D} {r : Result X Stop}
+      → Tests disk view test old new r → (IsTrue disk.tells → test (disk.reads old) ≡ goal (disk.reads old))
+      → Tests disk view goal old new r
   tests_as {view = view} {r = r} tested is = record {
     later = tested.later;
     same = tested.same;
@@ -135,24 +149,31 @@ module _ {D : Type 0} {disk : DiskModel D} where
   }
 
   -- a test that passed, and an answer without another call
-  pub tests_answer : {X Y Z W : Type 0} {view : X → Y} {other : Z → W} {test : Tree → Result Y Refusal} {goal : Tree → Result W Refusal} {old new : D} {x : X} {z : Z} → Tests disk view test old new (Ok x) → (IsTrue disk.tells → goal (disk.reads old) ≡ Ok (other z)) → Tests disk other goal old new (Ok z)
+  pub tests_answer : {X Y Z W : Type 0} {view : X → Y} {other : Z → W} {test : Tree → Result Y Refusal} {goal : Tree → Result W Refusal} {old new : D} {x : X} {z : Z}
+      → Tests disk view test old new (Ok x) → (IsTrue disk.tells → goal (disk.reads old) ≡ Ok (other z))
+      → Tests disk other goal old new (Ok z)
   tests_answer tested is = record { later = tested.later; same = tested.same; found = is }
 
   -- the same, with a refusal
-  pub tests_refuse : {X Y Z W : Type 0} {view : X → Y} {other : Z → W} {test : Tree → Result Y Refusal} {goal : Tree → Result W Refusal} {old new : D} {x : X} {refusal : Refusal} → Tests disk view test old new (Ok x) → (IsTrue disk.tells → goal (disk.reads old) ≡ Err refusal) → Tests disk other goal old new (Err (Refused refusal))
+  pub tests_refuse : {X Y Z W : Type 0} {view : X → Y} {other : Z → W} {test : Tree → Result Y Refusal} {goal : Tree → Result W Refusal} {old new : D} {x : X} {refusal : Refusal}
+      → Tests disk view test old new (Ok x) → (IsTrue disk.tells → goal (disk.reads old) ≡ Err refusal)
+      → Tests disk other goal old new (Err (Refused refusal))
   tests_refuse tested is = record { later = tested.later; same = tested.same; found = is }
 
   -- a test that stopped, passed on by `?`: what it refuses, the goal refuses
-  pub tests_stop : {X Y Z W : Type 0} {view : X → Y} {other : Z → W} {test : Tree → Result Y Refusal} {goal : Tree → Result W Refusal} {old new : D} {e : Stop} {r : Result Z Stop} → Tests disk view test old new (Err e) → IsErrAnd r (λ s. s ≡ e)
-      → (IsTrue disk.tells → (refusal : Refusal) → test (disk.reads old) ≡ Err refusal → goal (disk.reads old) ≡ Err refusal) → Tests disk other goal old new r
+  pub tests_stop : {X Y Z W : Type 0} {view : X → Y} {other : Z → W} {test : Tree → Result Y Refusal} {goal : Tree → Result W Refusal} {old new : D} {e : Stop} {r : Result Z Stop}
+      → Tests disk view test old new (Err e) → IsErrAnd r (λ s. s ≡ e)
+      → (IsTrue disk.tells → (refusal : Refusal) → test (disk.reads old) ≡ Err refusal → goal (disk.reads old) ≡ Err refusal)
+      → Tests disk other goal old new r
   tests_stop {view = view} {other = other} {e = e} {r = r} tested is refuse = record {
     later = tested.later;
     same = tested.same;
     found = found_stop view other disk.tells _ _ e r _ _ is refuse tested.found;
   }
 
-  -- want of memory after a test that passed
-  pub tests_memory : {X Y Z W : Type 0} {view : X → Y} {other : Z → W} {test : Tree → Result Y Refusal} {goal : Tree → Result W Refusal} {old new : D} {q : Result X Stop} {r : Result Z Stop} → Tests disk view test old new q → IsErrAnd r (λ s. s ≡ Memory) → Tests disk other goal old new r
+  -- want of memory after a test, however it ended
+  pub tests_memory : {X Y Z W : Type 0} {view : X → Y} {other : Z → W} {test : Tree → Result Y Refusal} {goal : Tree → Result W Refusal} {old new : D} {q : Result X Stop} {r : Result Z Stop}
+      → Tests disk view test old new q → IsErrAnd r (λ s. s ≡ Memory) → Tests disk other goal old new r
   tests_memory {other = other} {r = r} tested is = record {
     later = tested.later;
     same = tested.same;
@@ -160,7 +181,9 @@ module _ {D : Type 0} {disk : DiskModel D} where
   }
 
   -- the same change, said otherwise
-  pub makes_as : {X : Type 0} {names : Name → Bool} {change goal : Tree → Tree} {old new : D} {r : Result X Stop} → Makes disk names change old new r → (IsTrue disk.tells → change (disk.reads old) ≡ goal (disk.reads old)) → Makes disk names goal old new r
+  pub makes_as : {X : Type 0} {names : Name → Bool} {change goal : Tree → Tree} {old new : D} {r : Result X Stop}
+      → Makes disk names change old new r → (IsTrue disk.tells → change (disk.reads old) ≡ goal (disk.reads old))
+      → Makes disk names goal old new r
   makes_as {r = r} made is = record {
     later = made.later;
     ended = ended_on disk.tells _ _ _ r _ _ _ is (omega arith) made.ended;
@@ -169,7 +192,8 @@ module _ {D : Type 0} {disk : DiskModel D} where
   }
 
   -- more names
-  pub makes_wider : {X : Type 0} {few many : Name → Bool} {change : Tree → Tree} {old new : D} {r : Result X Stop} → Within few many → Makes disk few change old new r → Makes disk many change old new r
+  pub makes_wider : {X : Type 0} {few many : Name → Bool} {change : Tree → Tree} {old new : D} {r : Result X Stop} → Within few many
+      → Makes disk few change old new r → Makes disk many change old new r
   makes_wider {few = few} {many = many} {old = old} {new = new} within made = record {
     later = made.later;
     ended = made.ended;
@@ -187,7 +211,8 @@ module _ {D : Type 0} {disk : DiskModel D} where
   }
 
   -- want of memory after a change, however it ended
-  pub makes_memory : {X Z : Type 0} {names : Name → Bool} {change goal : Tree → Tree} {old new : D} {q : Result X Stop} {r : Result Z Stop} → Makes disk names change old new q → IsErrAnd r (λ s. s ≡ Memory) → Makes disk names goal old new r
+  pub makes_memory : {X Z : Type 0} {names : Name → Bool} {change goal : Tree → Tree} {old new : D} {q : Result X Stop} {r : Result Z Stop}
+      → Makes disk names change old new q → IsErrAnd r (λ s. s ≡ Memory) → Makes disk names goal old new r
   makes_memory {r = r} made is = record {
     later = made.later;
     ended = memory_ended disk.tells _ _ r _ _ is;
@@ -196,7 +221,8 @@ module _ {D : Type 0} {disk : DiskModel D} where
   }
 
   -- one change after another, at some of its names
-  pub makes_then : {X Z : Type 0} {few many : Name → Bool} {first next goal : Tree → Tree} {old mid new : D} {x : X} {r : Result Z Stop} → Makes disk many first old mid (Ok x) → Within few many → Makes disk few next mid new r
+  pub makes_then : {X Z : Type 0} {few many : Name → Bool} {first next goal : Tree → Tree} {old mid new : D} {x : X} {r : Result Z Stop}
+      → Makes disk many first old mid (Ok x) → Within few many → Makes disk few next mid new r
       → (IsTrue disk.tells → next (first (disk.reads old)) ≡ goal (disk.reads old)) → Makes disk many goal old new r
   makes_then {many = many} {first = first} {next = next} {old = old} {mid = mid} {new = new} {r = r} so_far within made is = record {
     later = omega (arith, so_far.later, made.later);
@@ -216,7 +242,8 @@ module _ {D : Type 0} {disk : DiskModel D} where
 
   module _ (laws : IsDisk disk) where
     -- no call at all
-    pub tests_start : {X Y : Type 0} {view : X → Y} {goal : Tree → Result Y Refusal} (d : D) (x : X) → (IsTrue disk.tells → goal (disk.reads d) ≡ Ok (view x)) → Tests disk view goal d d (Ok x)
+    pub tests_start : {X Y : Type 0} {view : X → Y} {goal : Tree → Result Y Refusal} (d : D) (x : X)
+        → (IsTrue disk.tells → goal (disk.reads d) ≡ Ok (view x)) → Tests disk view goal d d (Ok x)
     tests_start d x is = record {
       later = omega arith;
       same = λ tells. record { answer = tt; same = same_start disk d; time = time_start laws d };
@@ -224,7 +251,8 @@ module _ {D : Type 0} {disk : DiskModel D} where
     }
 
     -- one test after another that passed
-    pub tests_then : {X Y Z W : Type 0} {view : X → Y} {other : Z → W} {test : Tree → Result Y Refusal} {next goal : Tree → Result W Refusal} {old mid new : D} {x : X} {r : Result Z Stop} → Tests disk view test old mid (Ok x) → Tests disk other next mid new r
+    pub tests_then : {X Y Z W : Type 0} {view : X → Y} {other : Z → W} {test : Tree → Result Y Refusal} {next goal : Tree → Result W Refusal} {old mid new : D} {x : X} {r : Result Z Stop}
+        → Tests disk view test old mid (Ok x) → Tests disk other next mid new r
         → (IsTrue disk.tells → next (disk.reads old) ≡ goal (disk.reads old)) → Tests disk other goal old new r
     tests_then {other = other} {next = next} {r = r} first then is = record {
       later = omega (arith, first.later, then.later);
@@ -237,7 +265,8 @@ module _ {D : Type 0} {disk : DiskModel D} where
     }
 
     -- no change at all
-    pub makes_start : {X : Type 0} {goal : Tree → Tree} (names : Name → Bool) (d : D) (x : X) → (IsTrue disk.tells → goal (disk.reads d) ≡ disk.reads d) → Makes disk names goal d d (Ok x)
+    pub makes_start : {X : Type 0} {goal : Tree → Tree} (names : Name → Bool) (d : D) (x : X)
+        → (IsTrue disk.tells → goal (disk.reads d) ≡ disk.reads d) → Makes disk names goal d d (Ok x)
     makes_start names d x is = record {
       later = omega arith;
       ended = λ tells. sym (is tells);
@@ -246,7 +275,9 @@ module _ {D : Type 0} {disk : DiskModel D} where
     }
 
     -- a test that passed, as a change that changes nothing
-    pub makes_from_test : {X Y Z : Type 0} {view : X → Y} {test : Tree → Result Y Refusal} {goal : Tree → Tree} {old new : D} {x : X} (names : Name → Bool) (z : Z) → Tests disk view test old new (Ok x) → (IsTrue disk.tells → goal (disk.reads old) ≡ disk.reads old) → Makes disk names goal old new (Ok z)
+    pub makes_from_test : {X Y Z : Type 0} {view : X → Y} {test : Tree → Result Y Refusal} {goal : Tree → Tree} {old new : D} {x : X} (names : Name → Bool) (z : Z)
+        → Tests disk view test old new (Ok x) → (IsTrue disk.tells → goal (disk.reads old) ≡ disk.reads old)
+        → Makes disk names goal old new (Ok z)
     makes_from_test names z tested is = record {
       later = tested.later;
       ended = λ tells. (tested.same tells).same.reads ∙ sym (is tells);
@@ -255,7 +286,8 @@ module _ {D : Type 0} {disk : DiskModel D} where
     }
 
     -- a change after a test that passed
-    pub makes_after_test : {X Y Z : Type 0} {view : X → Y} {test : Tree → Result Y Refusal} {names : Name → Bool} {change goal : Tree → Tree} {old mid new : D} {x : X} {r : Result Z Stop} → Tests disk view test old mid (Ok x) → Makes disk names change mid new r
+    pub makes_after_test : {X Y Z : Type 0} {view : X → Y} {test : Tree → Result Y Refusal} {names : Name → Bool} {change goal : Tree → Tree} {old mid new : D} {x : X} {r : Result Z Stop}
+        → Tests disk view test old mid (Ok x) → Makes disk names change mid new r
         → (IsTrue disk.tells → change (disk.reads old) ≡ goal (disk.reads old)) → Makes disk names goal old new r
     makes_after_test {Z = Z} {names = names} {change = change} tested made is =
         makes_then {X = Unit {0}} {x = tt {0}} (makes_from_test {goal = λ t. t} names (tt {0}) tested (λ tells. refl)) (λ p h. h) made is
@@ -267,7 +299,8 @@ module _ {D : Type 0} {disk : DiskModel D} where
         makes_then_stop {X = Unit {0}} {Y = Y} {first = λ t. t} {x = tt {0}} {e = e} (makes_from_test {goal = λ t. t} many (tt {0}) tested (λ tells. refl)) within made is
 
     -- a test that stopped before a change, passed on by `?`
-    pub makes_test_stop : {X Y Z : Type 0} {view : X → Y} {test : Tree → Result Y Refusal} {goal : Tree → Tree} {old new : D} {e : Stop} {r : Result Z Stop} (names : Name → Bool) → Tests disk view test old new (Err e) → IsDiskStop e → IsErrAnd r (λ s. s ≡ e) → Makes disk names goal old new r
+    pub makes_test_stop : {X Y Z : Type 0} {view : X → Y} {test : Tree → Result Y Refusal} {goal : Tree → Tree} {old new : D} {e : Stop} {r : Result Z Stop} (names : Name → Bool)
+        → Tests disk view test old new (Err e) → IsDiskStop e → IsErrAnd r (λ s. s ≡ e) → Makes disk names goal old new r
     makes_test_stop {view = view} {e = e} {r = r} names tested stop is = record {
       later = tested.later;
       ended = test_ended view disk.tells _ _ _ e r _ _ stop is tested.found;

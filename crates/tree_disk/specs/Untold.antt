@@ -1,12 +1,11 @@
 -- The meanings of a disk that tells nothing of its tree but its count of faults.
-use Rattle.std.specs.Prelude.{◌≡◌, ℕ, Bool, true, false, cond, IsTrue, Option, Some, None, is_some, refl}
-use Rattle.std.proofs.Common.{sym, ◌∙◌, ap, subst, inl, inr, ⊎_elim}
+use Rattle.std.specs.Prelude.{◌≡◌, ℕ, true, false, cond, Some, None, is_some}
+use Rattle.std.proofs.Common.{◌∙◌, ap, ⊎_elim}
 use Rattle.std.proofs.lemmas.Bool.{cases_Bool}
 use Rattle.std.specs.FinMap.{empty, get, get-empty}
 use Rattle.std.specs.Ordering.{nat_cmp}
 use Rattle.std.specs.Cmp.Lexicographic.{slice_cmp}
 use Rattle.cny_base.specs.Path.{is_path, root, parent}
-use Rattle.cny_base.specs.declared.node.Node.{Node}
 use Rattle.cny_base.specs.declared.node.Node.TheVariants.{Dir}
 use Rattle.tree_disk.specs.Tree.{Name, Tree, same_name, put, is_dir, WellFormed}
 use Rattle.tree_disk.specs.Laws.{same_means, get_put}

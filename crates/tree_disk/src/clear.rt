@@ -23,7 +23,8 @@ pub fn clear_tree<D: TreeDisk>(alloc: Global, disk: &mut D, path: &Path) -> Resu
     // Nothing stands at the path, and no name below it.
     ensures cleared { IsTrue D.disk.tells → OnOk result (IsBare (D.disk.reads disk.new) path.now) }
     // However it ends, every other name stays, and no other becomes unsynced.
-    ensures confined { IsTrue D.disk.tells → Confined D.disk (Among (is_within path.now)) disk.old disk.new }
+    ensures confined { IsTrue D.disk.tells
+        → Confined D.disk (Among (is_within path.now)) disk.old disk.new }
     ensures later { D.disk.faults disk.old ≤ D.disk.faults disk.new }
     ensures failed { IsErrOf result Failed → Rose (D.disk.faults disk.old) (D.disk.faults disk.new) }
     ensures not_refused { ¬ (IsErrOf result Refused) }
@@ -52,7 +53,9 @@ fn is_dir(look: &Look) -> bool
 pub(crate) fn clear_at<D: TreeDisk>(alloc: Global, disk: &mut D, path: &Path) -> Result<(), Stop>
     requires path { IsTrue (is_path path.now) }
     requires not_root { path.now ≢ root }
-    ensures { Makes D.disk (is_within path.now) (λ tree. without_tree tree path.now) disk.old disk.new result }
+    ensures { Makes D.disk (is_within path.now)
+        (λ tree. without_tree tree path.now)
+        disk.old disk.new result }
 {
     let look = steps::look(alloc, disk, path)?;
     if is_nothing(&look) {
@@ -69,7 +72,9 @@ fn clear_dir<D: TreeDisk>(alloc: Global, disk: &mut D, path: &Path) -> Result<()
     requires path { IsTrue (is_path path.now) }
     requires not_root { path.now ≢ root }
     requires dir { IsTrue D.disk.tells → IsTrue (is_dir_at (D.disk.reads disk.old) path.now) }
-    ensures { Makes D.disk (is_within path.now) (λ tree. without_tree tree path.now) disk.old disk.new result }
+    ensures { Makes D.disk (is_within path.now)
+        (λ tree. without_tree tree path.now)
+        disk.old disk.new result }
 {
     let names = steps::list(alloc, disk, path)?;
     clear_each(alloc, disk, path, names.get())?;
@@ -87,7 +92,9 @@ fn clear_each<D: TreeDisk>(
     requires path { IsTrue (is_path path.now) }
     requires not_root { path.now ≢ root }
     requires names { NamesOf path.now names.now }
-    ensures { Makes D.disk (is_below path.now) (λ tree. without_each tree path.now names.now) disk.old disk.new result }
+    ensures { Makes D.disk (is_below path.now)
+        (λ tree. without_each tree path.now names.now)
+        disk.old disk.new result }
 {
     for last in names {
         let child = child_of(alloc, path, last.get())?;

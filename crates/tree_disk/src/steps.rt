@@ -1,13 +1,12 @@
 //! The calls of a disk as steps of a larger work: each is made only where the tree allows it, so that it
 //! is never refused, and it ends with a value or with a stop.
 ghost use Rattle.std.specs.Prelude.{◌≡◌, ◌≢◌, ◌≤◌, ◌-◌, length, min, IfOk, OnOk, IfErr, IfSome, IsErrOf, IsTrue, Ok};
-ghost use Rattle.std.specs.FinMap.{get};
 ghost use Rattle.cny_base.specs.declared.node.Node.TheVariants as node;
 ghost use Rattle.tree_disk.specs.declared.disk.DiskStop.TheVariants as disk_stop;
 ghost use Rattle.cny_base.specs.Path.{root};
 ghost use Rattle.tree_disk.specs.Clear.{is_within, without_tree};
 ghost use Rattle.tree_disk.specs.Tree.{children};
-ghost use Rattle.tree_disk.specs.Rows.{bytes_of, is_file_at, is_dir_at, can_append, can_make, can_set_mode, can_remove, can_rename, with_append, with_node, with_mode, without, with_rename, ReadsFrom, look_of};
+ghost use Rattle.tree_disk.specs.Rows.{bytes_at, is_file_at, is_dir_at, can_append, can_make, can_set_mode, can_remove, can_rename, with_append, with_node, with_mode, without, with_rename, ReadsFrom, look_of};
 ghost use Rattle.tree_disk.specs.Disk.{one_name, two_names, NamesOf};
 ghost use Rattle.tree_disk.specs.Confined.{IsSynced};
 ghost use Rattle.tree_disk.specs.Whole.{whole_within};
@@ -33,7 +32,9 @@ fn allowed<T: Drop>(answer: Result<T, DiskStop>) -> Result<T, Stop>
 
 /// What stands at the path.
 pub fn look<D: TreeDisk>(alloc: Global, disk: &mut D, path: &Path) -> Result<Look, Stop>
-    ensures tests { Tests D.disk (λ look. look) (λ tree. Ok (look_of tree path.now)) disk.old disk.new result }
+    ensures tests { Tests D.disk (λ look. look)
+        (λ tree. Ok (look_of tree path.now))
+        disk.old disk.new result }
     ensures stops { IfErr result IsDiskStop }
 {
     allowed(disk.look(alloc, path))
@@ -49,10 +50,12 @@ pub fn read_at<D: TreeDisk>(
 ) -> Result<usize, Stop>
     requires { IsTrue D.disk.tells → IsTrue (is_file_at (D.disk.reads disk.old) path.now) }
     ensures tests { Tests D.disk (λ count. count)
-        (λ tree. Ok (min (length buf.old) (length (bytes_of (get tree path.now)) - at))) disk.old disk.new result }
+        (λ tree. Ok (min (length buf.old) (length (bytes_at tree path.now) - at)))
+        disk.old disk.new result }
     ensures most { IfOk result (λ count. count ≤ length buf.old) }
     ensures filled { IsTrue D.disk.tells
-        → IfOk result (λ count. ReadsFrom (D.disk.reads disk.old) path.now at buf.old buf.new count) }
+        → IfOk result (λ count.
+        ReadsFrom (D.disk.reads disk.old) path.now at buf.old buf.new count) }
     ensures stops { IfErr result IsDiskStop }
 {
     allowed(disk.read_at(alloc, path, at, buf))
@@ -61,7 +64,9 @@ pub fn read_at<D: TreeDisk>(
 /// The last names of a directory's children, in the order of their bytes.
 pub fn list<D: TreeDisk>(alloc: Global, disk: &mut D, path: &Path) -> Result<Names, Stop>
     requires { IsTrue D.disk.tells → IsTrue (is_dir_at (D.disk.reads disk.old) path.now) }
-    ensures tests { Tests D.disk (λ names. names) (λ tree. Ok (children tree path.now)) disk.old disk.new result }
+    ensures tests { Tests D.disk (λ names. names)
+        (λ tree. Ok (children tree path.now))
+        disk.old disk.new result }
     ensures names { IfOk result (NamesOf path.now) }
     ensures stops { IfErr result IsDiskStop }
 {
@@ -76,7 +81,9 @@ pub fn append<D: TreeDisk>(
     bytes: &[u8],
 ) -> Result<(), Stop>
     requires { IsTrue D.disk.tells → IsTrue (can_append (D.disk.reads disk.old) path.now) }
-    ensures { Makes D.disk (one_name path.now) (λ tree. with_append tree path.now bytes.now) disk.old disk.new result }
+    ensures { Makes D.disk (one_name path.now)
+        (λ tree. with_append tree path.now bytes.now)
+        disk.old disk.new result }
 {
     allowed(disk.append(alloc, path, bytes))
 }
@@ -89,7 +96,9 @@ pub fn make_dir<D: TreeDisk>(
     mode: Mode,
 ) -> Result<(), Stop>
     requires { IsTrue D.disk.tells → IsTrue (can_make (D.disk.reads disk.old) path.now) }
-    ensures { Makes D.disk (one_name path.now) (λ tree. with_node tree path.now (node.Dir mode)) disk.old disk.new result }
+    ensures { Makes D.disk (one_name path.now)
+        (λ tree. with_node tree path.now (node.Dir mode))
+        disk.old disk.new result }
 {
     allowed(disk.make_dir(alloc, path, mode))
 }
@@ -102,7 +111,9 @@ pub fn make_link<D: TreeDisk>(
     target: &Target,
 ) -> Result<(), Stop>
     requires { IsTrue D.disk.tells → IsTrue (can_make (D.disk.reads disk.old) path.now) }
-    ensures { Makes D.disk (one_name path.now) (λ tree. with_node tree path.now (node.Link target.now)) disk.old disk.new result }
+    ensures { Makes D.disk (one_name path.now)
+        (λ tree. with_node tree path.now (node.Link target.now))
+        disk.old disk.new result }
 {
     allowed(disk.make_link(alloc, path, target))
 }
@@ -115,7 +126,9 @@ pub fn set_mode<D: TreeDisk>(
     mode: Mode,
 ) -> Result<(), Stop>
     requires { IsTrue D.disk.tells → IsTrue (can_set_mode (D.disk.reads disk.old) path.now) }
-    ensures { Makes D.disk (one_name path.now) (λ tree. with_mode tree path.now mode) disk.old disk.new result }
+    ensures { Makes D.disk (one_name path.now)
+        (λ tree. with_mode tree path.now mode)
+        disk.old disk.new result }
 {
     allowed(disk.set_mode(alloc, path, mode))
 }
@@ -123,7 +136,9 @@ pub fn set_mode<D: TreeDisk>(
 /// Takes away a file, a link or a directory without children.
 pub fn remove<D: TreeDisk>(alloc: Global, disk: &mut D, path: &Path) -> Result<(), Stop>
     requires { IsTrue D.disk.tells → IsTrue (can_remove (D.disk.reads disk.old) path.now) }
-    ensures { Makes D.disk (one_name path.now) (λ tree. without tree path.now) disk.old disk.new result }
+    ensures { Makes D.disk (one_name path.now)
+        (λ tree. without tree path.now)
+        disk.old disk.new result }
 {
     allowed(disk.remove(alloc, path))
 }
@@ -131,7 +146,9 @@ pub fn remove<D: TreeDisk>(alloc: Global, disk: &mut D, path: &Path) -> Result<(
 /// Moves a file or link, over a file or link that stands there.
 pub fn rename<D: TreeDisk>(alloc: Global, disk: &mut D, from: &Path, to: &Path) -> Result<(), Stop>
     requires { IsTrue D.disk.tells → IsTrue (can_rename (D.disk.reads disk.old) from.now to.now) }
-    ensures { Makes D.disk (two_names from.now to.now) (λ tree. with_rename tree from.now to.now) disk.old disk.new result }
+    ensures { Makes D.disk (two_names from.now to.now)
+        (λ tree. with_rename tree from.now to.now)
+        disk.old disk.new result }
 {
     allowed(disk.rename(alloc, from, to))
 }
@@ -147,8 +164,11 @@ pub fn sync<D: TreeDisk>(alloc: Global, disk: &mut D) -> Result<(), Stop>
 /// Takes away what stands at the path, and all names below it. The path isn't `/`.
 pub fn clear_tree<D: TreeDisk>(alloc: Global, disk: &mut D, path: &Path) -> Result<(), Stop>
     requires { path.now ≢ root }
-    ensures { Makes D.disk (is_within path.now) (λ tree. without_tree tree path.now) disk.old disk.new result }
+    ensures { Makes D.disk (is_within path.now)
+        (λ tree. without_tree tree path.now)
+        disk.old disk.new result }
 {
+    // Its clause says that the path is one, so that the names below can't grow longer for ever.
     let _text = path.text();
     clear_at(alloc, disk, path)
 }
@@ -161,7 +181,9 @@ pub fn read_whole<D: TreeDisk>(
     most: u64,
 ) -> Result<Option<Bytes>, Stop>
     requires { IsTrue D.disk.tells → IsTrue (is_file_at (D.disk.reads disk.old) path.now) }
-    ensures tests { Tests D.disk (λ whole. whole) (λ tree. Ok (whole_within most (bytes_of (get tree path.now)))) disk.old disk.new result }
+    ensures tests { Tests D.disk (λ whole. whole)
+        (λ tree. Ok (whole_within most (bytes_at tree path.now)))
+        disk.old disk.new result }
     ensures most { IfOk result (λ whole. IfSome whole (λ bytes. length bytes ≤ most)) }
     ensures stops { IfErr result IsDiskStop }
 {

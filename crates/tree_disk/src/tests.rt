@@ -3,7 +3,7 @@ ghost use Rattle.std.specs.Prelude.{◌≡◌};
 
 mod small_disk;
 
-use crate::{DiskStop, Look, TreeDisk, clear_tree, read_whole, steps, write_file};
+use crate::{Look, clear_tree, read_whole, steps, write_file};
 use cny_base::{Mode, Path, Stop};
 use small_disk::SmallDisk;
 use std::alloc::Global;
@@ -20,33 +20,21 @@ fn mode(rt: &impl Abort, bits: u16) -> Mode {
     Mode::new(bits).expect(rt, "a mode")
 }
 
+// The second piece of the file has 5 bytes.
 #[test]
 fn file_is_written_and_read(rt: HostRuntime) -> Result<(), Fail> {
     let alloc = rt.alloc();
     let mut disk = SmallDisk::new(alloc);
     let file = path(&rt, "/f");
-    write_file(alloc, &mut disk, &file, mode(&rt, 0o644), b"abc")?;
+    write_file(alloc, &mut disk, &file, mode(&rt, 0o644), &[7; 4101])?;
     let Look::File { mode, size } = steps::look(alloc, &mut disk, &file)? else {
         return Err(Fail::from("no file"));
     };
-    assert_eq!(rt; (mode.bits(), size), (0o644, 3));
-    let bytes = read_whole(alloc, &mut disk, &file, 3)?.expect(&rt, "3 bytes");
-    assert_eq!(rt; bytes.get(), b"abc".as_slice());
-    assert!(rt; steps::read_whole(alloc, &mut disk, &file, 2)?.is_none());
-    Ok(())
-}
-
-// A piece has at most 4,096 bytes.
-#[test]
-fn long_file_is_read_in_pieces(rt: HostRuntime) -> Result<(), Fail> {
-    let alloc = rt.alloc();
-    let mut disk = SmallDisk::new(alloc);
-    let file = path(&rt, "/f");
-    steps::append(alloc, &mut disk, &file, &[7; 4096])?;
-    steps::append(alloc, &mut disk, &file, &[8; 5])?;
-    let bytes = read_whole(alloc, &mut disk, &file, 9999)?.expect(&rt, "4,101 bytes");
-    assert_eq!(rt; bytes.get().len(), 4101);
-    assert_eq!(rt; bytes.get().last(), Some(&8));
+    assert_eq!(rt; mode.bits(), 0o644);
+    assert_eq!(rt; size, 4101);
+    let bytes = read_whole(alloc, &mut disk, &file, 4101)?.expect(&rt, "4,101 bytes");
+    assert_eq!(rt; bytes.get(), [7; 4101].as_slice());
+    assert!(rt; steps::read_whole(alloc, &mut disk, &file, 4100)?.is_none());
     Ok(())
 }
 
@@ -78,29 +66,18 @@ fn tree_is_cleared(rt: HostRuntime) -> Result<(), Fail> {
 fn calls_are_made_as_steps(rt: HostRuntime) -> Result<(), Fail> {
     let alloc = rt.alloc();
     let mut disk = SmallDisk::new(alloc);
-    let (dir, file, other) = (path(&rt, "/d"), path(&rt, "/d/f"), path(&rt, "/d/g"));
-    steps::make_dir(alloc, &mut disk, &dir, mode(&rt, 0o700))?;
+    let (file, other) = (path(&rt, "/f"), path(&rt, "/g"));
     steps::append(alloc, &mut disk, &file, b"hello")?;
     steps::set_mode(alloc, &mut disk, &file, mode(&rt, 0o640))?;
     steps::rename(alloc, &mut disk, &file, &other)?;
     let mut buf = [0; 4];
     let count = steps::read_at(alloc, &mut disk, &other, 2, &mut buf)?;
     assert_eq!(rt; (count, &buf), (3, b"llo\0"));
-    let names = steps::list(alloc, &mut disk, &dir)?;
+    let names = steps::list(alloc, &mut disk, &path(&rt, "/"))?;
     assert_eq!(rt; names.get().len(), 1);
     assert_eq!(rt; names.get()[0].get(), "g");
     steps::remove(alloc, &mut disk, &other)?;
-    steps::clear_tree(alloc, &mut disk, &dir)?;
     steps::sync(alloc, &mut disk)?;
-    assert!(rt; matches!(steps::look(alloc, &mut disk, &dir)?, Look::Nothing));
+    assert!(rt; matches!(steps::remove(alloc, &mut disk, &other), Err(Stop::Failed)));
     Ok(())
-}
-
-#[test]
-fn fault_is_passed_on(rt: HostRuntime) {
-    let alloc = rt.alloc();
-    let mut disk = SmallDisk::new(alloc);
-    let nowhere = path(&rt, "/f");
-    assert!(rt; matches!(steps::remove(alloc, &mut disk, &nowhere), Err(Stop::Failed)));
-    assert!(rt; matches!(disk.remove(alloc, &nowhere), Err(DiskStop::Failed)));
 }

@@ -1,8 +1,7 @@
 // A file's bytes, over any disk.
 ghost use Rattle.std.specs.Prelude.{◌≡◌, ◌<◌, ◌≤◌, ◌+◌, ◌-◌, [], min, true, length, IfOk, OnOk, OnErr, IfSome, IsErrOf, IsTrue};
-ghost use Rattle.std.specs.FinMap.{get};
 ghost use Rattle.tree_disk.specs.declared.disk.DiskStop.TheVariants.{Failed, Refused};
-ghost use Rattle.tree_disk.specs.Rows.{is_file_at, bytes_of};
+ghost use Rattle.tree_disk.specs.Rows.{bytes_at, is_file_at};
 ghost use Rattle.tree_disk.specs.Disk.{HasCause, Reads};
 ghost use Rattle.cny_base.specs.Count.{Rose};
 ghost use Rattle.tree_disk.specs.Whole.{IsWhole};
@@ -15,8 +14,8 @@ use std::alloc::Global;
 // How many bytes one call reads.
 const CHUNK: usize = 4096;
 
-/// The bytes of the file at a path, and none exactly where it holds more than `most`. A file stands at the
-/// path, where the disk tells its tree.
+/// The bytes of the file at a path, and none exactly where it holds more than `most`. A file stands
+/// there, where the disk tells its tree.
 pub fn read_whole<D: TreeDisk>(
     alloc: Global,
     disk: &mut D,
@@ -24,7 +23,8 @@ pub fn read_whole<D: TreeDisk>(
     most: u64,
 ) -> Result<Option<Bytes>, DiskStop>
     requires { IsTrue D.disk.tells → IsTrue (is_file_at (D.disk.reads disk.old) path.now) }
-    ensures told { Reads D.disk disk.old disk.new (IfOk result (IsWhole (bytes_of (get (D.disk.reads disk.old) path.now)) most)) }
+    ensures told { Reads D.disk disk.old disk.new
+        (IfOk result (IsWhole (bytes_at (D.disk.reads disk.old) path.now) most)) }
     // On every disk, also where the file grows while it is read.
     ensures most { IfOk result (λ whole. IfSome whole (λ bytes. length bytes ≤ most)) }
     ensures later { D.disk.faults disk.old ≤ D.disk.faults disk.new }
@@ -41,7 +41,8 @@ pub fn read_whole<D: TreeDisk>(
 // How many bytes a file holds.
 fn size_at<D: TreeDisk>(alloc: Global, disk: &mut D, path: &Path) -> Result<u64, DiskStop>
     requires { IsTrue D.disk.tells → IsTrue (is_file_at (D.disk.reads disk.old) path.now) }
-    ensures told { Reads D.disk disk.old disk.new (IfOk result (λ size. size ≡ length (bytes_of (get (D.disk.reads disk.old) path.now)))) }
+    ensures told { Reads D.disk disk.old disk.new
+        (IfOk result (λ size. size ≡ length (bytes_at (D.disk.reads disk.old) path.now))) }
     ensures cause { HasCause D.disk true disk.old disk.new result }
 {
     let look = disk.look(alloc, path)?;
@@ -65,8 +66,9 @@ fn read_bytes<D: TreeDisk>(
     size: u64,
 ) -> Result<Bytes, DiskStop>
     requires file { IsTrue D.disk.tells → IsTrue (is_file_at (D.disk.reads disk.old) path.now) }
-    requires size { IsTrue D.disk.tells → length (bytes_of (get (D.disk.reads disk.old) path.now)) ≡ size }
-    ensures told { Reads D.disk disk.old disk.new (IfOk result (λ bytes. bytes ≡ bytes_of (get (D.disk.reads disk.old) path.now))) }
+    requires size { IsTrue D.disk.tells → length (bytes_at (D.disk.reads disk.old) path.now) ≡ size }
+    ensures told { Reads D.disk disk.old disk.new
+        (IfOk result (λ bytes. bytes ≡ bytes_at (D.disk.reads disk.old) path.now)) }
     ensures most { IfOk result (λ bytes. length bytes ≤ size) }
     ensures later { D.disk.faults disk.old ≤ D.disk.faults disk.new }
     ensures failed { IsErrOf result Failed → Rose (D.disk.faults disk.old) (D.disk.faults disk.new) }
@@ -88,10 +90,11 @@ fn fill<D: TreeDisk>(
     bytes: &mut Vec<u8>,
 ) -> Result<(), DiskStop>
     requires file { IsTrue D.disk.tells → IsTrue (is_file_at (D.disk.reads disk.old) path.now) }
-    requires size { IsTrue D.disk.tells → length (bytes_of (get (D.disk.reads disk.old) path.now)) ≡ size }
+    requires size { IsTrue D.disk.tells → length (bytes_at (D.disk.reads disk.old) path.now) ≡ size }
     requires room { 0 < length chunk.old }
     requires empty { bytes.old.items ≡ [] }
-    ensures told { Reads D.disk disk.old disk.new (OnOk result (bytes.new.items ≡ bytes_of (get (D.disk.reads disk.old) path.now))) }
+    ensures told { Reads D.disk disk.old disk.new
+        (OnOk result (bytes.new.items ≡ bytes_at (D.disk.reads disk.old) path.now)) }
     ensures most { length bytes.new.items ≤ size }
     ensures later { D.disk.faults disk.old ≤ D.disk.faults disk.new }
     ensures failed { IsErrOf result Failed → Rose (D.disk.faults disk.old) (D.disk.faults disk.new) }
@@ -127,7 +130,9 @@ fn read_piece<D: TreeDisk>(
     bytes: &mut Vec<u8>,
 ) -> Result<usize, DiskStop>
     requires { IsTrue D.disk.tells → IsTrue (is_file_at (D.disk.reads disk.old) path.now) }
-    ensures told { Reads D.disk disk.old disk.new (IfOk result (whole.IsPiece (bytes_of (get (D.disk.reads disk.old) path.now)) (length chunk.old) bytes.old.items bytes.new.items)) }
+    ensures told { Reads D.disk disk.old disk.new
+        (IfOk result (whole.IsPiece (bytes_at (D.disk.reads disk.old) path.now) (length chunk.old)
+        bytes.old.items bytes.new.items)) }
     ensures longer { IfOk result (λ count. length bytes.new.items ≡ length bytes.old.items + count) }
     ensures most { IfOk result (λ count. count ≤ length chunk.old) }
     ensures same { OnErr result (bytes.new.items ≡ bytes.old.items) }

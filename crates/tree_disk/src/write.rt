@@ -20,7 +20,9 @@ pub fn make_file<D: TreeDisk>(
     bytes: &[u8],
 ) -> Result<(), Stop>
     requires { IsTrue D.disk.tells → IsTrue (can_make (D.disk.reads disk.old) path.now) }
-    ensures { Makes D.disk (one_name path.now) (λ tree. with_node tree path.now (node.File mode bytes.now)) disk.old disk.new result }
+    ensures { Makes D.disk (one_name path.now)
+        (λ tree. with_node tree path.now (node.File mode bytes.now))
+        disk.old disk.new result }
 {
     steps::append(alloc, disk, path, bytes)?;
     steps::set_mode(alloc, disk, path, mode)
@@ -36,7 +38,9 @@ pub fn write_file<D: TreeDisk>(
     bytes: &[u8],
 ) -> Result<(), Stop>
     requires { IsTrue D.disk.tells → IsTrue (can_make (D.disk.reads disk.old) path.now) }
-    ensures makes { Makes D.disk (one_name path.now) (λ tree. with_node tree path.now (node.File mode bytes.now)) disk.old disk.new result }
+    ensures makes { Makes D.disk (one_name path.now)
+        (λ tree. with_node tree path.now (node.File mode bytes.now))
+        disk.old disk.new result }
     ensures synced { IsTrue D.disk.tells → OnOk result (IsSynced D.disk disk.new) }
 {
     make_file(alloc, disk, path, mode, bytes)?;

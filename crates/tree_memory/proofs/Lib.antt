@@ -1,3 +1,5 @@
 pub mod Recorded
 pub mod Moves
 pub mod Done
+pub mod Changed
+pub mod Crashed

@@ -4,8 +4,12 @@
 mod attempt;
 mod calls;
 mod change;
+mod crash;
 mod memory;
 mod schedule;
 
 pub use memory::{MemoryTree, TreeFault};
 pub use tree_nodes::Nodes;
+
+#[cfg(test)]
+mod tests;

@@ -1,11 +1,12 @@
 // A tree in memory.
-ghost use Rattle.std.specs.Prelude.{◌≡◌, ◌++◌, ◌∷◌, [], OnOk, OnErr};
+ghost use Rattle.std.specs.Prelude.{◌≡◌, ◌++◌, ◌∷◌, [], IfOk, OnOk, OnErr};
 ghost use Rattle.tree_disk.specs.Tree.{WellFormed};
 ghost use Rattle.tree_nodes.specs.Codes.{WellFormed-prop, tree_set};
 ghost use Rattle.tree_memory.specs.declared.change.Change.TheVariants.{Sync};
 ghost use Rattle.tree_memory.specs.State.{state_of, tree_after};
 
 use crate::change::Change;
+use crate::crash;
 use crate::schedule::Schedule;
 use cny_base::{Fails, Node, OutOfMemory, Path};
 use std::alloc::Global;
@@ -22,6 +23,15 @@ pub struct MemoryTree {
     ghost well_formed: { WellFormed nodes } by { WellFormed-prop nodes },
 }
 
+fn copy_of(node: &Option<Node>) -> Result<Option<Node>, OutOfMemory>
+    ensures { IfOk result (λ copy. copy ≡ node.now) }
+{
+    match node {
+        Some(node) => Ok(Some(node.copy()?)),
+        None => Ok(None),
+    }
+}
+
 // Does a change. Where no memory is left for it, it does nothing.
 pub(crate) fn apply(alloc: Global, nodes: &mut NodeMap, change: &Change) -> Result<(), OutOfMemory>
     ensures ok { OnOk result (nodes.new ≡ tree_after change.now nodes.old) }
@@ -29,13 +39,13 @@ pub(crate) fn apply(alloc: Global, nodes: &mut NodeMap, change: &Change) -> Resu
 {
     match change {
         Change::Append { path, bytes } => nodes.append(alloc, path, bytes.get()),
-        Change::Put { path, node } => nodes.set(alloc, path, node),
+        Change::Put { path, node } => nodes.set(alloc, path.text(), copy_of(node)?),
         Change::SetMode { path, mode } => {
             nodes.set_mode(path, *mode);
             Ok(())
         }
         Change::Rename { from, to } => nodes.rename(alloc, from, to),
-        Change::Edit { path, node } => nodes.set(alloc, path, node),
+        Change::Edit { path, node } => nodes.set(alloc, path.text(), copy_of(node)?),
         _ => Ok(()),
     }
 }
@@ -87,7 +97,7 @@ impl From<OutOfMemory> for TreeFault {
 }
 
 impl MemoryTree {
-    ghost use Rattle.std.specs.Prelude.{IfOk, IsErrOf, Some};
+    ghost use Rattle.std.specs.Prelude.{IsErrOf, Some};
     ghost use Rattle.std.specs.FinMap.{get, from_entries};
     ghost use Rattle.std.specs.Option.{option_copied};
     ghost use Rattle.tree_nodes.specs.Start.{IsTree};
@@ -142,5 +152,37 @@ impl MemoryTree {
         ensures counts { (calls_of self.new ≡ calls_of self.old) × (fails_of self.new ≡ fails_of self.old) × (faults_of self.new ≡ faults_of self.old) }
     {
         self.schedule.left = Some(calls);
+    }
+}
+
+impl MemoryTree {
+    ghost use Rattle.tree_disk.specs.Tree.{AgreesOutside};
+    ghost use Rattle.tree_disk.specs.Disk.{IsImageOf};
+    ghost use Rattle.tree_nodes.specs.Crash.{IsPicked};
+    ghost use Rattle.tree_memory.specs.Memory.{state, memory_disk, Begins};
+
+    /// A disk as a crash now may leave this one: the crash image that a number picks, all synced, with no stop
+    /// and no call that fails. The k-th unsynced name in path order goes by the number's digit k mod 32 in
+    /// base 4, the lowest being digit 0: 0 means as it reads, 1 as at the last sync, 2 nothing, 3 a file of
+    /// mode 0600 and three bytes EE. At `/`, and at a name above a standing one that isn't unsynced, a digit that
+    /// gives no directory counts as 0. A name whose parent is no directory is dropped.
+    pub fn crash(&self, alloc: Global, pick: u64) -> Result<MemoryTree, OutOfMemory>
+        ensures picked { let s = state self.now in IfOk result (λ disk. IsPicked s.reads s.synced s.unsynced pick (state disk).reads) }
+        ensures image { IfOk result (λ disk. IsImageOf memory_disk self.now (state disk).reads) }
+        ensures zero { pick ≡ 0 → IfOk result (λ disk. (state disk).reads ≡ (state self.now).reads) }
+        ensures begins { IfOk result (λ disk. Begins (state disk).reads [] disk) }
+
+        // What isn't unsynced reads as at the last sync, so the images are those of the synced tree too.
+        ensures agrees { let s = state self.now in AgreesOutside s.unsynced s.reads s.synced }
+    {
+        let nodes = crash::image_of(alloc, &self.first, &self.changes, &self.nodes, pick)?;
+        let first = nodes.to_list(alloc)?;
+        let fails = Fails::new(Vec::new(alloc));
+        Ok(MemoryTree {
+            first,
+            changes: Vec::new(alloc),
+            nodes,
+            schedule: Schedule::new(fails),
+        })
     }
 }

@@ -4,3 +4,6 @@ pub mod Between
 pub mod Children
 pub mod Edits
 pub mod Starts
+pub mod Held
+pub mod CrashImage
+pub mod Left

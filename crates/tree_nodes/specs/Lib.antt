@@ -3,3 +3,4 @@ pub mod Codes
 pub mod Start
 pub mod Below
 pub mod Edit
+pub mod Crash

@@ -1,6 +1,10 @@
 // What stands below a directory, without a look at all other names.
-ghost use Rattle.std.specs.Prelude.{◌≡◌, ◌++◌, IfOk, false, string_bytes};
+ghost use Rattle.std.specs.Prelude.{◌≡◌, ◌++◌, ◌&&◌, not, IfOk, false, string_bytes};
 ghost use Rattle.std.specs.BTreeMap.{IsOrdered};
+ghost use Rattle.std.specs.BTreeSet.{contains_text};
+ghost use Rattle.std.specs.FinMap.{keys};
+ghost use Rattle.std.specs.List.{list_any};
+ghost use Rattle.cny_base.specs.Below.{is_below};
 ghost use Rattle.std.specs.String.{string_cmp};
 ghost use Rattle.cny_base.specs.Path.{root};
 ghost use Rattle.tree_disk.specs.Tree as names;
@@ -13,8 +17,8 @@ use crate::conditions::same_name;
 use crate::map::NodeMap;
 use cny_base::{Names, Node, OutOfMemory, Path, Text, last_name, parent_of};
 use std::alloc::Global;
-use std::collections::BTreeMap;
 use std::collections::btree_map::Range;
+use std::collections::{BTreeMap, BTreeSet};
 
 // What stands before the slash in the names below a directory: nothing for `/`.
 fn front(dir: &str) -> &str
@@ -98,5 +102,41 @@ impl NodeMap {
         ensures { IfOk result (λ childless. childless ≡ rows.is_childless self.now dir.now) }
     {
         is_childless(alloc, &self.nodes, dir)
+    }
+}
+
+// Whether a name among these entries isn't one of the known ones.
+fn has_other(mut entries: Range<'_, String, Node>, known: &BTreeSet<String>) -> bool
+    ensures { result ≡ list_any (λ e. not (contains_text known.now (string_bytes e.0))) entries.entry }
+{
+    entries.any(|(name, _)| !known.contains(name.as_str()))
+}
+
+// Whether a name that isn't a known one stands below a directory other than `/`.
+fn holds_other(
+    alloc: Global,
+    nodes: &BTreeMap<String, Node>,
+    dir: &str,
+    known: &BTreeSet<String>,
+) -> Result<bool, OutOfMemory>
+    requires { names.same_name dir.now root ≡ false }
+    ensures { IfOk result (λ holds. holds ≡ list_any (λ q. not (contains_text known.now q) && is_below dir.now q) (keys (tree_of nodes.now.entries))) }
+{
+    let below = entries_beyond(alloc, nodes, dir)?;
+    Ok(has_other(below, known))
+}
+
+impl NodeMap {
+    /// Whether a name that isn't a known one stands below a directory other than `/`.
+    pub(crate) fn holds_other(
+        &self,
+        alloc: Global,
+        dir: &str,
+        known: &BTreeSet<String>,
+    ) -> Result<bool, OutOfMemory>
+        requires { names.same_name dir.now root ≡ false }
+        ensures { IfOk result (λ holds. holds ≡ list_any (λ q. not (contains_text known.now q) && is_below dir.now q) (keys self.now)) }
+    {
+        holds_other(alloc, &self.nodes, dir, known)
     }
 }

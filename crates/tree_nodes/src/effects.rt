@@ -89,23 +89,15 @@ fn replace_at(nodes: &mut BTreeMap<String, Node>, path: &str, node: Node)
 }
 
 impl NodeMap {
-    /// Puts a copy of a node at a path, or takes away what stands there.
-    pub fn set(
-        &mut self,
-        alloc: Global,
-        path: &Path,
-        node: &Option<Node>,
-    ) -> Result<(), OutOfMemory>
-        ensures ok { OnOk result (self.new ≡ put self.old path.now node.now) }
+    /// Puts a node at a path, or takes away what stands there.
+    pub fn set(&mut self, alloc: Global, path: &str, node: Option<Node>) -> Result<(), OutOfMemory>
+        ensures ok { OnOk result (self.new ≡ put self.old path.now node) }
         ensures err { OnErr result (self.new ≡ self.old) }
     {
         match node {
-            Some(node) => {
-                let node = node.copy()?;
-                self.put(alloc, path.text(), node)
-            }
+            Some(node) => self.put(alloc, path, node),
             None => {
-                let _ = self.take(path.text());
+                let _ = self.take(path);
                 Ok(())
             }
         }

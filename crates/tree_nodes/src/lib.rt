@@ -3,11 +3,14 @@
 
 mod below;
 mod conditions;
+mod copies;
+mod crash;
 mod effects;
 mod list;
 mod map;
 mod reads;
 mod start;
 
+pub use crash::Crash;
 pub use list::Nodes;
 pub use map::NodeMap;

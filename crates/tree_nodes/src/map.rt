@@ -1,5 +1,5 @@
 // The nodes of a tree, by the texts of their paths.
-ghost use Rattle.std.specs.Prelude.{◌≡◌, OnOk, OnErr, Some, None};
+ghost use Rattle.std.specs.Prelude.{◌≡◌, IfOk, OnOk, OnErr, Some, None};
 ghost use Rattle.std.specs.Option.{option_copied};
 ghost use Rattle.std.specs.FinMap.{get, empty};
 ghost use Rattle.tree_disk.specs.Tree.{put};
@@ -74,5 +74,15 @@ impl NodeMap {
         ensures rest { self.new ≡ put self.old path.now None }
     {
         self.nodes.remove(path)
+    }
+
+    /// A copy of what stands at a path.
+    pub fn copy_at(&self, path: &str) -> Result<Option<Node>, OutOfMemory>
+        ensures { IfOk result (λ node. node ≡ get self.now path.now) }
+    {
+        match self.node(path) {
+            Some(node) => Ok(Some(node.copy()?)),
+            None => Ok(None),
+        }
     }
 }

@@ -1,6 +1,6 @@
 //! Putting items into the root, once all tests have passed.
-ghost use Rattle.std.specs.Prelude.{◌≡◌, IsTrue, Ok, Some};
-ghost use Rattle.cny_base.specs.declared.node.Node.TheVariants as node;
+ghost use Rattle.std.specs.Prelude.{◌≡◌, IsTrue, OnOk, Ok, Some};
+ghost use Rattle.tree_disk.specs.Confined.{IsSynced};
 ghost use Rattle.tree_disk.specs.Disk.{one_name};
 ghost use Rattle.tree_disk.specs.Rows.{can_make};
 ghost use Rattle.tree_disk.specs.Steps.{Makes};
@@ -10,24 +10,9 @@ ghost use Rattle.conary_cli.specs.Making.{CanMake, CanMakeAll};
 ghost use Rattle.conary_cli.specs.Seen.{is_nothing_seen};
 
 use crate::manifest::Item;
-use cny_base::{Mode, Node, Path, Stop};
+use cny_base::{Node, Stop};
 use std::alloc::Global;
-use tree_disk::{Look, TreeDisk, steps};
-
-// Makes a file with its mode.
-fn make_file<T: TreeDisk>(
-    alloc: Global,
-    root: &mut T,
-    path: &Path,
-    mode: Mode,
-    bytes: &[u8],
-) -> Result<(), Stop>
-    requires { IsTrue T.disk.tells → IsTrue (can_make (T.disk.reads root.old) path.now) }
-    ensures { Makes T.disk (one_name path.now) (λ tree. put tree path.now (Some (node.File mode bytes.now))) root.old root.new result }
-{
-    steps::append(alloc, root, path, bytes)?;
-    steps::set_mode(alloc, root, path, mode)
-}
+use tree_disk::{Look, TreeDisk, make_file, steps};
 
 // Makes an item, where nothing stands in its place.
 fn make_item<T: TreeDisk>(alloc: Global, root: &mut T, item: &Item) -> Result<(), Stop>
@@ -73,7 +58,8 @@ fn make_all<T: TreeDisk>(alloc: Global, root: &mut T, items: &[Item]) -> Result<
 /// Makes all items that are new, and waits until they are kept.
 pub fn make_items<T: TreeDisk>(alloc: Global, root: &mut T, items: &[Item]) -> Result<(), Stop>
     requires { IsTrue T.disk.tells → CanMakeAll (T.disk.reads root.old) items.now }
-    ensures { Makes T.disk (is_named items.now) (λ tree. with_items tree items.now) root.old root.new result }
+    ensures makes { Makes T.disk (is_named items.now) (λ tree. with_items tree items.now) root.old root.new result }
+    ensures synced { IsTrue T.disk.tells → OnOk result (IsSynced T.disk root.new) }
 {
     make_all(alloc, root, items)?;
     steps::sync(alloc, root)

@@ -44,32 +44,6 @@ impl SmallDisk {
         self.faults = self.faults.saturating_add(1);
         DiskStop::Failed
     }
-
-    fn add(&mut self, path: &Path, node: Node) -> Result<(), OutOfMemory>
-        ensures { self.new.faults ≡ self.old.faults }
-    {
-        Ok(self.nodes.push((path.copy()?, node))?)
-    }
-}
-
-fn look_of(node: &Node) -> Result<Look, OutOfMemory> {
-    Ok(match node {
-        Node::Dir { mode } => Look::Dir { mode: *mode },
-        Node::File { mode, bytes } => Look::File {
-            mode: *mode,
-            size: bytes.get().len() as u64,
-        },
-        Node::Link { target } => Look::Link {
-            target: target.copy()?,
-        },
-    })
-}
-
-fn bytes_of(node: &Node) -> &[u8] {
-    match node {
-        Node::File { bytes, .. } => bytes.get(),
-        _ => &[],
-    }
 }
 
 // Copies what fits from a place on, and answers how many bytes.
@@ -83,24 +57,6 @@ fn copy_from(from: &[u8], at: u64, to: &mut [u8]) -> usize
     let count = rest.len().min(to.len());
     to[..count].copy_from_slice(&rest[..count]);
     count
-}
-
-fn append_to(node: &mut Node, more: &[u8]) -> Result<bool, OutOfMemory> {
-    match node {
-        Node::File { bytes, .. } => {
-            bytes.push_slice(more)?;
-            Ok(true)
-        }
-        _ => Ok(false),
-    }
-}
-
-fn change_mode(node: &mut Node, wanted: Mode) {
-    match node {
-        Node::Dir { mode } => *mode = wanted,
-        Node::File { mode, .. } => *mode = wanted,
-        Node::Link { .. } => {}
-    }
 }
 
 // The last name of a path directly below another.
@@ -118,10 +74,19 @@ impl TreeDisk for SmallDisk {
     ghost disk = { untold (λ d. d.faults) };
 
     fn look(&mut self, _alloc: Global, path: &Path) -> Result<Look, DiskStop> {
-        match self.place(path) {
-            Some(i) => Ok(look_of(&self.nodes[i].1)?),
-            None => Ok(Look::Nothing),
-        }
+        let Some(i) = self.place(path) else {
+            return Ok(Look::Nothing);
+        };
+        Ok(match &self.nodes[i].1 {
+            Node::Dir { mode } => Look::Dir { mode: *mode },
+            Node::File { mode, bytes } => Look::File {
+                mode: *mode,
+                size: bytes.get().len() as u64,
+            },
+            Node::Link { target } => Look::Link {
+                target: target.copy()?,
+            },
+        })
     }
 
     fn read_at(
@@ -131,9 +96,12 @@ impl TreeDisk for SmallDisk {
         at: u64,
         buf: &mut [u8],
     ) -> Result<usize, DiskStop> {
-        match self.place(path) {
-            Some(i) => Ok(copy_from(bytes_of(&self.nodes[i].1), at, buf)),
-            None => Err(self.fault()),
+        let Some(i) = self.place(path) else {
+            return Err(self.fault());
+        };
+        match &self.nodes[i].1 {
+            Node::File { bytes, .. } => Ok(copy_from(bytes.get(), at, buf)),
+            _ => Err(self.fault()),
         }
     }
 
@@ -151,28 +119,32 @@ impl TreeDisk for SmallDisk {
         let Some(i) = self.place(path) else {
             let bytes = Bytes::new(alloc, bytes)?;
             let mode = Mode::owner_only();
-            return Ok(self.add(path, Node::File { mode, bytes })?);
+            return Ok(self.nodes.push((path.copy()?, Node::File { mode, bytes }))?);
         };
-        if append_to(&mut self.nodes[i].1, bytes)? {
-            return Ok(());
+        match &mut self.nodes[i].1 {
+            Node::File { bytes: held, .. } => Ok(held.push_slice(bytes)?),
+            _ => Err(self.fault()),
         }
-        Err(self.fault())
     }
 
     fn make_dir(&mut self, _alloc: Global, path: &Path, mode: Mode) -> Result<(), DiskStop> {
-        Ok(self.add(path, Node::Dir { mode })?)
+        Ok(self.nodes.push((path.copy()?, Node::Dir { mode }))?)
     }
 
     fn make_link(&mut self, _alloc: Global, path: &Path, target: &Target) -> Result<(), DiskStop> {
         let target = target.copy()?;
-        Ok(self.add(path, Node::Link { target })?)
+        Ok(self.nodes.push((path.copy()?, Node::Link { target }))?)
     }
 
-    fn set_mode(&mut self, _alloc: Global, path: &Path, mode: Mode) -> Result<(), DiskStop> {
+    fn set_mode(&mut self, _alloc: Global, path: &Path, wanted: Mode) -> Result<(), DiskStop> {
         let Some(i) = self.place(path) else {
             return Err(self.fault());
         };
-        change_mode(&mut self.nodes[i].1, mode);
+        match &mut self.nodes[i].1 {
+            Node::Dir { mode } => *mode = wanted,
+            Node::File { mode, .. } => *mode = wanted,
+            Node::Link { .. } => return Err(self.fault()),
+        }
         Ok(())
     }
 

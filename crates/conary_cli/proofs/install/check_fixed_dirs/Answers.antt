@@ -1,4 +1,3 @@
-use Rattle.std.proofs.Common.{◌≡◌}
 use Rattle.conary_cli.proofs.RootSteps.{checks_root}
 use Rattle.conary_cli.proofs.install.check_fixed_dirs.Goals as goal
 

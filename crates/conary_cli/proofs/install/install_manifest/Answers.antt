@@ -1,4 +1,4 @@
-use Rattle.std.proofs.Common.{◌≡◌, subst, sym, []}
+use Rattle.std.proofs.Common.{subst, sym, []}
 use Rattle.std.specs.List.{AllByRecursion}
 use Rattle.conary_cli.specs.ManifestForm.{IsItem, Rise}
 use Rattle.conary_cli.proofs.MakingItems.{can_make_checked}

@@ -1,8 +1,8 @@
-use Rattle.std.proofs.Common.{◌≡◌}
 use Rattle.std.specs.Prelude.{string_bytes, map}
 use Rattle.conary_cli.specs.Run.{call_state}
 use Rattle.conary_cli.specs.Words.{command_of}
 use Rattle.conary_cli.proofs.CallEnds.{call_end, words_owed, answers, leaves, input_failed, output_failed, root_failed, memory_failed, one_of, completes, reported}
+use Rattle.conary_cli.proofs.FormEnds.{form_decides, read_to_end}
 use Rattle.conary_cli.proofs.program.run.Goals as goal
 
 pub returns-clause-answers : goal.returns-clause-answers
@@ -71,3 +71,19 @@ returns-clause-statuses g c =
 
 pub returns-clause-error_line : goal.returns-clause-error_line
 returns-clause-error_line g c = reported c.write_answer-end.result _ _ c.report.result c.report.ensures
+
+pub returns-clause-form : goal.returns-clause-form
+returns-clause-form g c =
+    let words = map string_bytes c.args.words.now in
+    let before = call_state g.I.Source.source g.O.Sink.sink g.E.Sink.sink g.T.TreeDisk.disk c.args.input.now c.args.out.now c.args.err.now c.args.root.now in
+    let after = call_state g.I.Source.source g.O.Sink.sink g.E.Sink.sink g.T.TreeDisk.disk c.perform_words-answered.new.input c.write_answer-end.new.out c.report.new.err c.perform_words-answered.new.root in
+    let end = call_end before after c.report.result (command_of words) c.perform_words-answered.result c.write_answer-end.result (words_owed words) c.perform_words-answered.ensures c.write_answer-end.ensures c.report.ensures in
+    form_decides (command_of words) before after c.report.result end
+
+pub returns-clause-read_to_end : goal.returns-clause-read_to_end
+returns-clause-read_to_end g c =
+    let words = map string_bytes c.args.words.now in
+    let before = call_state g.I.Source.source g.O.Sink.sink g.E.Sink.sink g.T.TreeDisk.disk c.args.input.now c.args.out.now c.args.err.now c.args.root.now in
+    let after = call_state g.I.Source.source g.O.Sink.sink g.E.Sink.sink g.T.TreeDisk.disk c.perform_words-answered.new.input c.write_answer-end.new.out c.report.new.err c.perform_words-answered.new.root in
+    let end = call_end before after c.report.result (command_of words) c.perform_words-answered.result c.write_answer-end.result (words_owed words) c.perform_words-answered.ensures c.write_answer-end.ensures c.report.ensures in
+    read_to_end (command_of words) before after c.report.result (words_owed words) end

@@ -1,4 +1,4 @@
-use Rattle.std.proofs.Common.{◌≡◌, sym, refl}
+use Rattle.std.proofs.Common.{sym}
 use Rattle.tree_disk.specs.StepLaws.{tests_then}
 use Rattle.conary_cli.specs.Install.{checks}
 use Rattle.conary_cli.proofs.ItemParents.{parents_of_items}

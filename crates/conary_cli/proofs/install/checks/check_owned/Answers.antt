@@ -1,4 +1,4 @@
-use Rattle.std.proofs.Common.{◌≡◌, refl, Ok}
+use Rattle.std.proofs.Common.{refl, Ok}
 use Rattle.tree_disk.specs.StepLaws.{tests_then, tests_stop}
 use Rattle.conary_cli.specs.Install.{clashes}
 use Rattle.conary_cli.proofs.install.checks.check_owned.Goals as goal

@@ -1,4 +1,4 @@
-use Rattle.std.proofs.Common.{◌≡◌, ◌≤◌, drop, Ok}
+use Rattle.std.proofs.Common.{◌≡◌, drop, Ok}
 use Rattle.std.specs.Prelude.{IsTrue}
 use Rattle.tree_disk.specs.Steps.{Tests}
 use Rattle.conary_cli.specs.Install.{unowned}

@@ -1,4 +1,4 @@
-use Rattle.std.proofs.Common.{◌≡◌, refl, Ok}
+use Rattle.std.proofs.Common.{refl, Ok}
 use Rattle.std.specs.BTreeSet.{contains_text}
 use Rattle.cny_base.specs.Path.{parent}
 use Rattle.tree_disk.specs.StepLaws.{tests_then, tests_stop}

@@ -1,4 +1,4 @@
-use Rattle.std.proofs.Common.{◌≡◌, ◌≤◌, drop, Ok}
+use Rattle.std.proofs.Common.{◌≡◌, drop, Ok}
 use Rattle.std.specs.Prelude.{IsTrue}
 use Rattle.std.specs.List.{find}
 use Rattle.tree_disk.specs.Steps.{Tests}

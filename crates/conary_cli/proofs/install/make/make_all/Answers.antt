@@ -1,4 +1,4 @@
-use Rattle.std.proofs.Common.{◌≡◌, ap, refl}
+use Rattle.std.proofs.Common.{ap, refl}
 use Rattle.std.proofs.lemmas.List.{take_all}
 use Rattle.tree_disk.specs.StepLaws.{makes_start, makes_then, makes_then_stop, makes_as}
 use Rattle.conary_cli.specs.Install.{with_items, is_named}

@@ -1,4 +1,4 @@
-use Rattle.std.proofs.Common.{◌≡◌, take, drop, Ok}
+use Rattle.std.proofs.Common.{take, drop, Ok}
 use Rattle.std.specs.Prelude.{IsTrue}
 use Rattle.tree_disk.specs.Steps.{Makes}
 use Rattle.conary_cli.specs.Install.{with_items, is_named}

@@ -1,7 +1,5 @@
-use Rattle.std.proofs.Common.{◌≡◌, ap, sym, ◌∙◌}
-use Rattle.std.specs.Prelude.{IsTrue}
+use Rattle.std.proofs.Common.{ap, sym, ◌∙◌}
 use Rattle.tree_disk.specs.Disk.{one_name}
-use Rattle.tree_disk.specs.Rows.{look_of}
 use Rattle.tree_disk.specs.StepLaws.{makes_after_test, makes_from_test}
 use Rattle.conary_cli.specs.Seen.{is_nothing_seen}
 use Rattle.conary_cli.proofs.MakingItems.{may_make, item_put, item_kept, ok_is}

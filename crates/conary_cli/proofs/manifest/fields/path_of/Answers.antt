@@ -1,4 +1,3 @@
-use Rattle.std.proofs.Common.{◌≡◌}
 use Rattle.conary_cli.proofs.ValueTexts.{no_path}
 use Rattle.conary_cli.proofs.manifest.fields.path_of.Goals as goal
 

@@ -1,6 +1,5 @@
-use Rattle.std.proofs.Common.{◌≡◌, refl, true, false, ap, sym}
-use Rattle.std.specs.Str.{is_utf8}
-use Rattle.std.proofs.lemmas.Str.{is_utf8-from_IsUtf8, IsUtf8-from_is_utf8}
+use Rattle.std.proofs.Common.{refl}
+use Rattle.std.proofs.lemmas.Str.{is_utf8-from_IsUtf8}
 use Rattle.conary_cli.proofs.TextBytes.{not_utf8}
 use Rattle.conary_cli.proofs.manifest.fields.text_of.Goals as goal
 

@@ -1,4 +1,3 @@
-use Rattle.std.proofs.Common.{◌≡◌}
 use Rattle.conary_cli.proofs.TextBytes.{line_is_long}
 use Rattle.conary_cli.proofs.manifest.lines.line_of.Goals as goal
 

@@ -1,4 +1,4 @@
-use Rattle.std.proofs.Common.{◌≡◌, true, false}
+use Rattle.std.proofs.Common.{true, false}
 use Rattle.conary_cli.proofs.ValueTexts.{no_component, component_found}
 use Rattle.conary_cli.proofs.manifest.reader.component_name.Goals as goal
 

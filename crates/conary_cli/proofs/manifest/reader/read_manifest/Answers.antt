@@ -1,4 +1,3 @@
-use Rattle.std.proofs.Common.{◌≡◌}
 use Rattle.conary_cli.proofs.Takes.{read_is_spelled}
 use Rattle.conary_cli.proofs.Again.{spelled_is_read}
 use Rattle.conary_cli.proofs.manifest.reader.read_manifest.Goals as goal

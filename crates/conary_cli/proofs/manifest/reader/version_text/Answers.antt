@@ -1,4 +1,3 @@
-use Rattle.std.proofs.Common.{◌≡◌}
 use Rattle.conary_cli.proofs.ValueTexts.{no_version}
 use Rattle.conary_cli.proofs.manifest.reader.version_text.Goals as goal
 

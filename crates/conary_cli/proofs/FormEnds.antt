@@ -1,0 +1,112 @@
+-- The form of a manifest decides how `install` ends, and a call that ended well read its input to its end.
+use Rattle.std.proofs.Common.{◌≡◌, ℕ, ◌+◌, ◌≤◌, Bool, true, false, cond, List, [], length, Option, Some, None, Result, Ok, Err, nat_lt, refl, ap, ◌∙◌, subst, inl, inr, arith}
+use Rattle.std.proofs.lemmas.Bool.{le-ltb, ltb-false}
+use Rattle.std.proofs.lemmas.List.{drop_all}
+use Rattle.cny_base.specs.declared.refusal.Refusal.{Refusal}
+use Rattle.cny_base.specs.declared.refusal.Refusal.TheVariants as refusal
+use Rattle.tree_disk.specs.Tree.{Tree}
+use Rattle.conary_cli.specs.declared.failure.Failure.{Failure}
+use Rattle.conary_cli.specs.declared.failure.Failure.TheVariants as failure
+use Rattle.conary_cli.specs.declared.words.Command.{Command}
+use Rattle.conary_cli.specs.declared.words.Command.TheVariants as command
+use Rattle.conary_cli.specs.declared.manifest.types.Manifest.{Manifest}
+use Rattle.conary_cli.specs.declared.manifest.fault.Unread.{Unread}
+use Rattle.conary_cli.specs.declared.manifest.fault.Unread.TheVariants as unread
+use Rattle.conary_cli.specs.Input.{input_limit, within_limit, left_after_reading}
+use Rattle.conary_cli.specs.ManifestForm.{IsManifest, IsManifestText, spelling, max_items}
+use Rattle.conary_cli.specs.ManifestReading.{manifest_at, planned_text}
+use Rattle.conary_cli.specs.ReadManifest.{refusal_of, manifest_in}
+use Rattle.conary_cli.specs.ReadManifest as reading
+use Rattle.conary_cli.specs.Call.{Effect}
+use Rattle.conary_cli.specs.Install.{◌>>=◌, fixed_dirs, read_manifest, installs, left_by, install}
+use Rattle.conary_cli.specs.Run.{CallState, or_refused, IsAnswered, ReadsToEnd}
+use Rattle.conary_cli.specs.Report.{IsAnswer}
+use Rattle.conary_cli.specs.FormDecides.{IsFormRefusal, DecidesForm, FormDecides}
+use Rattle.conary_cli.proofs.Takes.{manifest_takes}
+use Rattle.conary_cli.proofs.Again.{manifest_again}
+use Rattle.conary_cli.proofs.CallEnds.{CallEnd, answers, leaves}
+
+-- ---- the outcome by the form
+
+within : (input : List ℕ) → length input ≤ input_limit → within_limit input ≡ Ok input
+within input le = ap (λ b. cond b (Err (refusal.TooLarge Rattle.cny_base.specs.declared.refusal.What.TheVariants.Input (input_limit + 1))) (Ok input)) (le-ltb input_limit (length input) le)
+
+spelled : (m : Manifest) (input : List ℕ) → IsManifest m → input ≡ spelling m → manifest_in input ≡ Ok m
+unfolding manifest_in
+spelled m input is same = rw (same, manifest_again max_items m refl is) refl
+
+outcome_by : (tree : Tree) (input : List ℕ) (r : Result Manifest Refusal) → fixed_dirs tree ≡ Ok tt → length input ≤ input_limit → manifest_in input ≡ r → install.outcome tree input ≡ (r >>= λ m. installs m tree)
+outcome_by tree input r dirs le is = rw (dirs, within input le, is) refl
+
+form_of : (size : ℕ) (f : Unread) → IsFormRefusal (refusal_of size f)
+form_of size (unread.At left) = inl (_, refl)
+form_of size (unread.TooLarge n) = inr (inl (n, refl))
+form_of size (unread.NotBuilt word) = inr (inr (planned_text word, refl))
+
+no_manifest : (input : List ℕ) (r : Result Manifest Unread) → manifest_at max_items input ≡ r → (IsManifestText input → ⊥) → (refused : Refusal) × IsFormRefusal refused × (reading.or_refused (length input) r ≡ Err refused)
+no_manifest input (Ok m) is none =
+    let read = manifest_takes max_items input m refl is in
+    absurd (none (record { manifest = m; valid = read.0; spelled = read.1 }))
+no_manifest input (Err f) is none = (refusal_of (length input) f, form_of (length input) f, refl)
+
+outside : (input : List ℕ) → (IsManifestText input → ⊥) → (refused : Refusal) × IsFormRefusal refused × (manifest_in input ≡ Err refused)
+unfolding manifest_in
+outside input none = no_manifest input (manifest_at max_items input) refl none
+
+-- ---- how a call ends
+
+decides : (before after : CallState) (status : ℕ) (input : List ℕ) → IsAnswered (or_refused (install.outcome before.objects.root.tree input)) before after status → fixed_dirs before.objects.root.tree ≡ Ok tt → length input ≤ input_limit → DecidesForm input before after status
+decides before after status input is dirs le = record {
+  taken = λ m valid same. subst (λ o. IsAnswered (or_refused o) before after status) (outcome_by before.objects.root.tree input (Ok m) dirs le (spelled m input valid same)) is;
+  refused = λ none.
+      let out = outside input none in
+      (out.0, out.1, subst (λ o. IsAnswered (or_refused o) before after status) (outcome_by before.objects.root.tree input (Err out.0) dirs le out.2) is);
+}
+
+pub form_decides : (cmd : Result Command Failure) (before after : CallState) (status : ℕ) → CallEnd cmd before after status → FormDecides cmd before after status
+form_decides (Ok command.Install) before after status end = λ told. by before.objects.input.left (λ small. answers end small told)
+  where
+    by : (o : Option (List ℕ)) → (status ≤ 2 → Rattle.std.specs.Option.IfSome o (λ input. IsAnswered (or_refused (install.outcome before.objects.root.tree input)) before after status))
+        → Rattle.std.specs.Option.IfSome o (λ input. fixed_dirs before.objects.root.tree ≡ Ok tt → length input ≤ input_limit → status ≤ 2 → DecidesForm input before after status)
+    by None is = tt
+    by (Some input) is = λ dirs le small. decides before after status input (is small) dirs le
+form_decides (Err e) before after status end = tt
+
+-- ---- reading to the end
+
+nothing_left : (input : List ℕ) (b : Bool) → nat_lt input_limit (length input) ≡ b → (f : List ℕ → Result Manifest Refusal) (tree : Tree) (e : Effect)
+    → ((cond b (Err (refusal.TooLarge Rattle.cny_base.specs.declared.refusal.What.TheVariants.Input (input_limit + 1))) (Ok input) >>= f) >>= λ m. installs m tree) ≡ Ok e → left_after_reading input ≡ []
+nothing_left input true is f tree e h = absurd cc
+nothing_left input false is f tree e h = drop_all (input_limit + 1) input (omega (arith, ltb-false input_limit (length input) is))
+
+all_left : (tree : Tree) (input : List ℕ) (f : Result (Unit {0}) Refusal) (e : Effect) → (f >>= λ _. read_manifest input >>= λ m. installs m tree) ≡ Ok e → left_by f input ≡ []
+all_left tree input (Ok u) e h = nothing_left input (nat_lt input_limit (length input)) refl manifest_in tree e h
+all_left tree input (Err r) e h = absurd cc
+
+-- status 0 is that of an outcome with an effect
+done_by : (before after : CallState) (status : ℕ) (tree : Tree) (input : List ℕ) (o : Result Effect Refusal) → install.outcome tree input ≡ o → status ≡ 0 → IsAnswered (or_refused o) before after status → left_by (fixed_dirs tree) input ≡ []
+done_by before after status tree input (Ok e) is zero' answered = all_left tree input (fixed_dirs tree) e is
+done_by before after status tree input (Err r) is zero' answered = absurd (omega (arith, zero', answered.ended))
+
+pub read_to_end : (cmd : Result Command Failure) (before after : CallState) (status : ℕ) → ((e : Failure) → cmd ≡ Err e → IsAnswer e) → CallEnd cmd before after status → status ≡ 0 → ReadsToEnd before after
+read_to_end (Ok command.Install) before after status owed end zero' = λ told. by before.objects.input.left (answers end (omega (arith, zero')) told) (leaves end (omega (arith, zero')) told)
+  where
+    by : (o : Option (List ℕ)) → Rattle.std.specs.Option.IfSome o (λ input. IsAnswered (or_refused (install.outcome before.objects.root.tree input)) before after status)
+        → Rattle.std.specs.Option.IfSome o (λ input. after.objects.input.left ≡ Some (left_by (fixed_dirs before.objects.root.tree) input)) → Rattle.std.specs.Option.IfSome o (λ input. after.objects.input.left ≡ Some [])
+    by None answered left = tt
+    by (Some input) answered left = left ∙ ap Some (done_by before after status before.objects.root.tree input (install.outcome before.objects.root.tree input) refl zero' answered)
+read_to_end (Err e) before after status owed end zero' = λ told. by before.objects.input.left (answers end (omega (arith, zero')) told)
+  where
+    not_done : (f : Failure) → IsAnswer f → IsAnswered (Err f) before after status → ⊥
+    not_done failure.Usage owed answered = omega (arith, zero', answered.ended)
+    not_done (failure.Refused r) owed answered = omega (arith, zero', answered.ended)
+    not_done failure.InputFault owed answered = owed
+    not_done failure.OutputFault owed answered = owed
+    not_done failure.RootFault owed answered = owed
+    not_done failure.RepositoryFault owed answered = owed
+    not_done failure.Memory owed answered = owed
+    not_done (failure.Damaged path) owed answered = owed
+
+    by : (o : Option (List ℕ)) → Rattle.std.specs.Option.IfSome o (λ input. IsAnswered (Err e) before after status) → Rattle.std.specs.Option.IfSome o (λ input. after.objects.input.left ≡ Some [])
+    by None answered = tt
+    by (Some input) answered = absurd (not_done e (owed e refl) answered)
