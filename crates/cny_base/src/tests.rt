@@ -1,8 +1,8 @@
 //! Worked cases, with the expected values made by hand.
 use crate::{
-    Bytes, Fails, Fault, Mode, Name, NameKind, Names, Node, Path, Paths, Refusal, Span, Stop,
-    Target, Text, decimal, is_word, last_name, next_str, octal, parent_of, put_str, read_decimal,
-    read_octal,
+    Bytes, Fails, Fault, Mode, Name, NameKind, Names, Node, OutOfMemory, Path, Paths, Refusal,
+    Span, Stop, Target, Text, TextFault, decimal, is_word, last_name, next_str, octal, parent_of,
+    put_str, read_decimal, read_octal,
 };
 use std::alloc::{AllocError, Global};
 use std::test::Fail;
@@ -91,18 +91,34 @@ fn targets(rt: HostRuntime) {
     }
 }
 
+fn bits_of(text: &str) -> Option<u16> {
+    match read_octal(text.as_bytes()) {
+        Some(mode) => Some(mode.bits()),
+        None => None,
+    }
+}
+
+fn octal_of(bits: u16) -> Option<[u8; 4]> {
+    match Mode::new(bits) {
+        Some(mode) => Some(octal(mode)),
+        None => None,
+    }
+}
+
 #[test]
 fn modes(rt: HostRuntime) {
-    for (bits, text) in [(0, "0000"), (0o755, "0755"), (0o7777, "7777")] {
-        let mode = read_octal(text.as_bytes()).map(|mode| mode.bits());
-        assert_eq!(rt; mode, Some(bits), "{text:?}");
+    for (text, bits) in [
+        ("0000", Some(0)),
+        ("0755", Some(0o755)),
+        ("7777", Some(0o7777)),
+        ("644", None),
+        ("07777", None),
+        ("0688", None),
+    ] {
+        assert_eq!(rt; bits_of(text), bits, "{text:?}");
     }
-    for text in ["", "644", "07777", "0688", "064a"] {
-        assert!(rt; read_octal(text.as_bytes()).is_none(), "{text:?}");
-    }
-    assert_eq!(rt; octal(Mode::owner_only()), *b"0600");
-    assert_eq!(rt; Mode::new(0o4711).map(octal), Some(*b"4711"));
-    assert!(rt; Mode::new(0o10000).is_none());
+    assert_eq!(rt; octal_of(0o4711), Some(*b"4711"));
+    assert_eq!(rt; octal_of(0o10000), None);
 }
 
 #[test]
@@ -144,7 +160,7 @@ fn reserved_paths(rt: HostRuntime) -> Result<(), Fail> {
 
 #[test]
 fn parents(rt: HostRuntime) -> Result<(), Fail> {
-    let path = Path::read(rt.alloc(), "/usr/lib")?;
+    let path = Path::read(rt.alloc(), "/usr/lib")?.copy()?;
     let above = path.parent_path(rt.alloc())?.ok_or("no parent")?;
     assert!(rt; above.text() == "/usr" && parent_of("/usr") == "/" && last_name("/usr") == "usr");
     assert!(rt; above.join(rt.alloc(), "lib")? == path && above < path);
@@ -152,20 +168,35 @@ fn parents(rt: HostRuntime) -> Result<(), Fail> {
     Ok(())
 }
 
+fn copied_text(alloc: Global) -> Result<bool, OutOfMemory> {
+    let text = Text::from_string(Text::new(alloc, "one")?.into_string());
+    Ok(text.copy()? == text)
+}
+
+fn grown_bytes(alloc: Global) -> Result<Bytes, OutOfMemory> {
+    let mut bytes = Bytes::from_vec(Bytes::new(alloc, b"ab")?.into_vec());
+    bytes.push_slice(b"c")?;
+    bytes.copy()
+}
+
+fn is_file_copied(bytes: Bytes) -> Result<bool, OutOfMemory> {
+    let mode = Mode::owner_only();
+    let file = Node::File { mode, bytes };
+    Ok(matches!(file.copy()?, Node::File { .. }))
+}
+
+fn copied_stop() -> Result<Stop, OutOfMemory> {
+    let fault = Fault::Refused(Refusal::StackEmpty);
+    Stop::from(fault.copy()?).copy()
+}
+
 #[test]
 fn copies(rt: HostRuntime) -> Result<(), Fail> {
-    let text = Text::from_string(Text::new(rt.alloc(), "one")?.into_string());
-    assert!(rt; text.copy()? == text);
-    let mut bytes = Bytes::from_vec(Bytes::new(rt.alloc(), b"ab")?.into_vec());
-    bytes.push_slice(b"c")?;
-    assert!(rt; bytes.copy()?.get() == b"abc".as_slice());
-    let file = Node::File {
-        mode: Mode::owner_only(),
-        bytes,
-    };
-    assert!(rt; matches!(file.copy()?, Node::File { .. }));
-    let stop = Stop::from(Fault::Refused(Refusal::StackEmpty).copy()?);
-    assert!(rt; matches!(stop.copy()?, Stop::Refused(Refusal::StackEmpty)));
+    assert!(rt; copied_text(rt.alloc())?);
+    let bytes = grown_bytes(rt.alloc())?;
+    assert!(rt; bytes.get() == b"abc".as_slice());
+    assert!(rt; is_file_copied(bytes)?);
+    assert!(rt; matches!(copied_stop()?, Stop::Refused(Refusal::StackEmpty)));
     Ok(())
 }
 
@@ -179,14 +210,28 @@ fn names_and_targets(rt: HostRuntime) -> Result<(), Fail> {
     Ok(())
 }
 
+fn copied_names(alloc: Global) -> Result<Names, OutOfMemory> {
+    let mut items = Vec::new(alloc);
+    items.push(Text::new(alloc, "one")?)?;
+    Names::new(Names::new(items).into_vec()).copy()
+}
+
+fn copied_paths(alloc: Global) -> Result<Paths, TextFault> {
+    let mut items = Vec::new(alloc);
+    items.push(Path::read(alloc, "/a")?)?;
+    Ok(Paths::new(Paths::new(items).into_vec()).copy()?)
+}
+
+fn copied_fails(alloc: Global) -> Result<Fails, OutOfMemory> {
+    let items = Fails::new(Vec::from_slice(alloc, &[1, 3])?).into_vec();
+    Fails::new(items).copy()
+}
+
 #[test]
 fn lists(rt: HostRuntime) -> Result<(), Fail> {
-    let names = Names::new(vec![in rt.alloc(); Text::new(rt.alloc(), "one")?]?);
-    assert_eq!(rt; names.copy()?.into_vec().len(), names.get().len());
-    let paths = Paths::new(vec![in rt.alloc(); Path::read(rt.alloc(), "/a")?]?);
-    assert_eq!(rt; paths.copy()?.into_vec().len(), paths.get().len());
-    let fails = Fails::new(vec![in rt.alloc(); 1, 3]?);
-    assert_eq!(rt; fails.copy()?.into_vec().as_slice(), fails.get());
+    assert_eq!(rt; copied_names(rt.alloc())?.get().len(), 1);
+    assert_eq!(rt; copied_paths(rt.alloc())?.get().len(), 1);
+    assert_eq!(rt; copied_fails(rt.alloc())?.get(), [1, 3].as_slice());
     Ok(())
 }
 

@@ -6,6 +6,7 @@ use cny_flow::{StdSink, StdSource};
 use conary_cli::run;
 use std::alloc::Global;
 use std::env;
+use std::io::ErrorKind;
 use std::process::ExitCode;
 use tree_memory::{MemoryTree, Nodes};
 
@@ -39,10 +40,14 @@ fn start(rt: &HostRuntime) -> Result<u8, OutOfMemory> {
 // The words after the program's name. Words that aren't text are none, which is a usage error.
 fn words_of(rt: &HostRuntime) -> Result<Vec<String>, OutOfMemory> {
     let mut words = Vec::new(rt.alloc());
-    if let Ok(args) = env::args(rt) {
-        for word in args.skip(1) {
-            words.push(word)?;
+    match env::args(rt) {
+        Ok(args) => {
+            for word in args.skip(1) {
+                words.push(word)?;
+            }
         }
+        Err(e) if e.kind() == ErrorKind::OutOfMemory => return Err(OutOfMemory),
+        Err(_) => {}
     }
     Ok(words)
 }
