@@ -36,7 +36,7 @@ abbrev pub error_line : End → List ℕ
 error_line (Ok _) = []
 error_line (Err e) = failure_text e ++ 10 ∷ []
 
--- a failure whose line is owed: it may not be left out for want of memory
+-- a failure whose line may not be missing, also for want of memory
 abbrev pub IsAnswer : Failure → Type 0
 IsAnswer failure.Usage = Unit
 IsAnswer (failure.Refused r) = Unit
@@ -47,13 +47,13 @@ IsAnswer failure.RepositoryFault = ⊥
 IsAnswer failure.Memory = ⊥
 IsAnswer (failure.Damaged path) = ⊥
 
--- The failure's status is answered and, unless the standard error failed, its line was written. Where no line is owed,
+-- The failure's status is answered and, unless the standard error failed, its line was written. Where the line may be missing,
 -- none may have been written, for want of memory.
 pub record Tells (e : Failure) (before after : SinkState) (status : ℕ) : Type 0 where
   pub answered : status ≡ status_of (Err e)
   pub line : Rose before.faults after.faults ⊎ Appends before.written after.written (error_line (Err e)) ⊎ ((IsAnswer e → ⊥) × Keeps before.written after.written)
 
--- After Ok nothing is written. Want of memory for a line that is owed ends the call in want of memory.
+-- After Ok nothing is written. Want of memory for a line that may not be missing ends the call in want of memory.
 abbrev pub Reports : End → SinkState → SinkState → ℕ → Type 0
 Reports (Ok _) before after status = (status ≡ 0) × (after ≡ before)
 Reports (Err e) before after status = Tells e before after status ⊎ (IsAnswer e × Tells failure.Memory before after status)

@@ -142,6 +142,6 @@ pub record NoFaults (before after : CallState) : Type 0 where
 abbrev pub Completes : List (List ℕ) → CallState → CallState → ℕ → Type 0
 Completes words before after status = NoFaults before after → (status ≡ 7) ⊎ Answers words before after status
 
--- the bytes on the standard error: by the end that the status is of, and for want of memory nothing where no line is owed
+-- the bytes on the standard error: by the end that the status is of, and for want of memory nothing where the line may be missing
 abbrev pub ErrorLine : SinkState → SinkState → ℕ → Type 0
 ErrorLine before after status = ((status ≡ 0) × (after ≡ before)) ⊎ ((e : Failure) × Tells e before after status)

@@ -53,7 +53,7 @@ fn status(failure: &Failure) -> u8
     }
 }
 
-// Whether the line is owed: a refusal or a usage error may not end without it.
+// Whether the line may not be missing: that of a refusal or a usage error.
 fn is_answer(failure: &Failure) -> bool
     ensures { MatchBool result (IsAnswer failure.now) (IsAnswer failure.now → ⊥) }
 {
