@@ -40,14 +40,14 @@ pub record KeepsNodes (old new : MemoryTree) : Type 0 where
   pub nodes : new.nodes ≡ old.nodes
 
 -- a call that may go on
-pub record IsPassed (old new : MemoryTree) : Type 0 where
+pub record GoesOn (old new : MemoryTree) : Type 0 where
   pub keeps : KeepsNodes old new
   pub counts : CountsCall old new
   pub fails_not : fails_next old ≡ false
   pub faults : faults_of new ≡ faults_of old
 
 -- a call that fails
-pub record IsStruck (old new : MemoryTree) : Type 0 where
+pub record IsFailure (old new : MemoryTree) : Type 0 where
   pub keeps : KeepsNodes old new
   pub counts : CountsCall old new
   pub fails : fails_next old ≡ true

@@ -20,7 +20,7 @@ impl MemoryTree {
     ghost use Rattle.tree_memory.specs.Memory.{state};
     ghost use Rattle.tree_memory.specs.Calls.{IsAttempt};
 
-    pub(crate) fn to_append(
+    pub(crate) fn attempt_append(
         &self,
         alloc: Global,
         path: &Path,
@@ -35,7 +35,7 @@ impl MemoryTree {
         Ok(Attempt { change, allowed })
     }
 
-    pub(crate) fn to_make_dir(&self, path: &Path, mode: Mode) -> Result<Attempt, OutOfMemory>
+    pub(crate) fn attempt_make_dir(&self, path: &Path, mode: Mode) -> Result<Attempt, OutOfMemory>
         ensures { IfOk result (IsAttempt self.now (Put path.now (Some (Dir mode))) (can_make (state self.now).reads path.now)) }
     {
         let allowed = self.nodes.can_make(path);
@@ -45,7 +45,11 @@ impl MemoryTree {
         Ok(Attempt { change, allowed })
     }
 
-    pub(crate) fn to_make_link(&self, path: &Path, target: &Target) -> Result<Attempt, OutOfMemory>
+    pub(crate) fn attempt_make_link(
+        &self,
+        path: &Path,
+        target: &Target,
+    ) -> Result<Attempt, OutOfMemory>
         ensures { IfOk result (IsAttempt self.now (Put path.now (Some (Link target.now))) (can_make (state self.now).reads path.now)) }
     {
         let allowed = self.nodes.can_make(path);
@@ -56,7 +60,7 @@ impl MemoryTree {
         Ok(Attempt { change, allowed })
     }
 
-    pub(crate) fn to_set_mode(&self, path: &Path, mode: Mode) -> Result<Attempt, OutOfMemory>
+    pub(crate) fn attempt_set_mode(&self, path: &Path, mode: Mode) -> Result<Attempt, OutOfMemory>
         ensures { IfOk result (IsAttempt self.now (SetMode path.now mode) (can_set_mode (state self.now).reads path.now)) }
     {
         let allowed = self.nodes.can_set_mode(path);
@@ -65,7 +69,7 @@ impl MemoryTree {
         Ok(Attempt { change, allowed })
     }
 
-    pub(crate) fn to_remove(&self, alloc: Global, path: &Path) -> Result<Attempt, OutOfMemory>
+    pub(crate) fn attempt_remove(&self, alloc: Global, path: &Path) -> Result<Attempt, OutOfMemory>
         ensures { IfOk result (IsAttempt self.now (Put path.now None) (can_remove (state self.now).reads path.now)) }
     {
         let allowed = self.nodes.can_remove(alloc, path)?;
@@ -74,7 +78,7 @@ impl MemoryTree {
         Ok(Attempt { change, allowed })
     }
 
-    pub(crate) fn to_rename(&self, from: &Path, to: &Path) -> Result<Attempt, OutOfMemory>
+    pub(crate) fn attempt_rename(&self, from: &Path, to: &Path) -> Result<Attempt, OutOfMemory>
         ensures { IfOk result (IsAttempt self.now (Rename from.now to.now) (can_rename (state self.now).reads from.now to.now)) }
     {
         let allowed = self.nodes.can_rename(from, to);

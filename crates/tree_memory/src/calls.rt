@@ -9,7 +9,7 @@ ghost use Rattle.tree_disk.specs.Disk.{HasCause, Reads, Changes, Syncs, one_name
 ghost use Rattle.tree_memory.specs.declared.change.Change.{Change};
 ghost use Rattle.tree_memory.specs.State.{settles, tree_after, first_half, failed_change};
 ghost use Rattle.tree_memory.specs.Memory.{memory_disk, memory_laws, state, fails_next, does_part, IsCounted};
-ghost use Rattle.tree_memory.specs.Calls.{IsAttempt, IsDone, IsPassed, IsStruck};
+ghost use Rattle.tree_memory.specs.Calls.{IsAttempt, IsDone, GoesOn, IsFailure};
 
 use crate::attempt::Attempt;
 use crate::change::Change;
@@ -58,9 +58,9 @@ fn perform_sync(tree: &mut MemoryTree) -> Result<(), DiskStop>
 }
 
 // Counts a call that only reads, and says whether it fails.
-fn fails_read(tree: &mut MemoryTree) -> bool
-    ensures passed { result ≡ false → IsPassed tree.old tree.new }
-    ensures struck { result ≡ true → IsStruck tree.old tree.new }
+fn read_fails(tree: &mut MemoryTree) -> bool
+    ensures goes_on { result ≡ false → GoesOn tree.old tree.new }
+    ensures fails { result ≡ true → IsFailure tree.old tree.new }
 {
     let turn = tree.schedule.turn();
     if turn.fails {
@@ -79,7 +79,7 @@ impl TreeDisk for MemoryTree {
         ensures told { Reads memory_disk self.old self.new (IfOk result (λ look. look ≡ look_of (state self.old).reads path.now)) }
         ensures counted { IsCounted self.old self.new result }
     {
-        if fails_read(self) {
+        if read_fails(self) {
             return Err(DiskStop::Failed);
         }
         Ok(self.nodes.look(path)?)
@@ -97,7 +97,7 @@ impl TreeDisk for MemoryTree {
         ensures told { Reads memory_disk self.old self.new (IfOk result (λ count. ReadsFrom (state self.old).reads path.now at buf.old buf.new count)) }
         ensures counted { IsCounted self.old self.new result }
     {
-        if fails_read(self) {
+        if read_fails(self) {
             return Err(DiskStop::Failed);
         }
         match self.nodes.read_at(path, at, buf) {
@@ -112,7 +112,7 @@ impl TreeDisk for MemoryTree {
         ensures told { Reads memory_disk self.old self.new (IfOk result (λ names. IsTrue (is_dir_at (state self.old).reads path.now) × (names ≡ children (state self.old).reads path.now))) }
         ensures counted { IsCounted self.old self.new result }
     {
-        if fails_read(self) {
+        if read_fails(self) {
             return Err(DiskStop::Failed);
         }
         if !self.nodes.is_dir_at(path.text()) {
@@ -130,7 +130,7 @@ impl TreeDisk for MemoryTree {
         ensures left { IsErrOf result Failed → (state self.new).reads
             ≡ (if does_part self.old (can_append (state self.old).reads path.now) then with_append (state self.old).reads path.now (first_half bytes.now) else (state self.old).reads) }
     {
-        let attempt = self.to_append(alloc, path, bytes);
+        let attempt = self.attempt_append(alloc, path, bytes);
         perform(self, alloc, attempt)
     }
 
@@ -141,7 +141,7 @@ impl TreeDisk for MemoryTree {
         ensures counted { IsCounted self.old self.new result }
         ensures left { IsErrOf result Failed → (state self.new).reads ≡ (state self.old).reads }
     {
-        let attempt = self.to_make_dir(path, mode);
+        let attempt = self.attempt_make_dir(path, mode);
         perform(self, alloc, attempt)
     }
 
@@ -152,7 +152,7 @@ impl TreeDisk for MemoryTree {
         ensures counted { IsCounted self.old self.new result }
         ensures left { IsErrOf result Failed → (state self.new).reads ≡ (state self.old).reads }
     {
-        let attempt = self.to_make_link(path, target);
+        let attempt = self.attempt_make_link(path, target);
         perform(self, alloc, attempt)
     }
 
@@ -163,7 +163,7 @@ impl TreeDisk for MemoryTree {
         ensures counted { IsCounted self.old self.new result }
         ensures left { IsErrOf result Failed → (state self.new).reads ≡ (state self.old).reads }
     {
-        let attempt = self.to_set_mode(path, mode);
+        let attempt = self.attempt_set_mode(path, mode);
         perform(self, alloc, attempt)
     }
 
@@ -174,7 +174,7 @@ impl TreeDisk for MemoryTree {
         ensures counted { IsCounted self.old self.new result }
         ensures left { IsErrOf result Failed → (state self.new).reads ≡ (state self.old).reads }
     {
-        let attempt = self.to_remove(alloc, path);
+        let attempt = self.attempt_remove(alloc, path);
         perform(self, alloc, attempt)
     }
 
@@ -185,7 +185,7 @@ impl TreeDisk for MemoryTree {
         ensures counted { IsCounted self.old self.new result }
         ensures left { IsErrOf result Failed → (state self.new).reads ≡ (state self.old).reads }
     {
-        let attempt = self.to_rename(from, to);
+        let attempt = self.attempt_rename(from, to);
         perform(self, alloc, attempt)
     }
 

@@ -4,7 +4,7 @@ use std::alloc::Global;
 
 /// One change. The disk keeps them all, since it tells what a crash at a moment that has passed may have left.
 #[derive(Drop)]
-pub enum Change {
+pub(crate) enum Change {
     /// Adds bytes at the end of a file, or makes one.
     Append { path: Path, bytes: Bytes },
     /// Puts a node, or takes one away.

@@ -103,7 +103,7 @@ impl MemoryTree {
     ghost use Rattle.tree_nodes.specs.Start.{IsTree};
     ghost use Rattle.tree_disk.specs.Tree.{put};
     ghost use Rattle.tree_disk.specs.Disk.{Elapses};
-    ghost use Rattle.tree_memory.specs.Memory.{memory_disk, state, calls_of, fails_of, faults_of, stop_of, Begins, IsEdited, IsSame};
+    ghost use Rattle.tree_memory.specs.Memory.{state, memory_disk, calls_of, fails_of, faults_of, stop_of, Begins, IsEdited, IsSame};
 
     /// A disk with these nodes, all synced. Its calls fail at these numbers, the first being 1.
     /// `NotATree` comes exactly where the paths don't strictly rise, `/` isn't a directory, or a parent isn't one.
@@ -151,7 +151,9 @@ impl MemoryTree {
         ensures stop { stop_of self.new ≡ Some calls }
         ensures state { state self.new ≡ state self.old }
         ensures time { Elapses memory_disk self.old self.new }
-        ensures counts { (calls_of self.new ≡ calls_of self.old) × (fails_of self.new ≡ fails_of self.old) × (faults_of self.new ≡ faults_of self.old) }
+        ensures calls { calls_of self.new ≡ calls_of self.old }
+        ensures fails { fails_of self.new ≡ fails_of self.old }
+        ensures faults { faults_of self.new ≡ faults_of self.old }
     {
         self.schedule.left = Some(calls);
     }

@@ -10,7 +10,7 @@ use Rattle.std.specs.String.{string_cmp}
 use Rattle.cny_base.specs.Below.{begins_with}
 use Rattle.cny_base.specs.declared.node.Node.{Node}
 use Rattle.tree_disk.specs.Tree.{Name}
-use Rattle.tree_nodes.specs.Below.{front, is_beyond, entries_beyond}
+use Rattle.tree_nodes.specs.Below.{front, has_prefix, entries_with_prefix}
 
 abbrev R : Name → Name → Ordering
 R = slice_cmp nat_cmp
@@ -73,7 +73,7 @@ module _ (p : Name) (lower upper : String Global) (low : string_bytes lower ≡ 
   pub forward_at : is_gt (string_cmp lower upper) ≡ false
   forward_at = (λ i. is_gt (R (low i) (high i))) ∙ forward (front p)
 
-  pub beyond_at : (entries : List (String Global × Node)) → filter (λ e. is_le (string_cmp lower e.0) && not (is_le (string_cmp upper e.0))) entries ≡ entries_beyond p entries
-  beyond_at entries =
-      filter_same _ (λ e. is_beyond p (string_bytes e.0)) entries
+  pub prefix_at : (entries : List (String Global × Node)) → filter (λ e. is_le (string_cmp lower e.0) && not (is_le (string_cmp upper e.0))) entries ≡ entries_with_prefix p entries
+  prefix_at entries =
+      filter_same _ (λ e. has_prefix p (string_bytes e.0)) entries
       (λ e. (λ i. is_le (R (low i) (string_bytes e.0)) && not (is_le (R (high i) (string_bytes e.0)))) ∙ within_begins (front p) (string_bytes e.0))

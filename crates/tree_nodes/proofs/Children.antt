@@ -23,7 +23,7 @@ use Rattle.tree_disk.specs.Laws.{same_means, same_itself}
 use Rattle.tree_disk.specs.Allowed.{no_children}
 use Rattle.std.specs.Map.Iter.{TakesFirst}
 use Rattle.tree_nodes.specs.Stored.{by_bytes, tree_of}
-use Rattle.tree_nodes.specs.Below.{is_beyond, entries_beyond}
+use Rattle.tree_nodes.specs.Below.{has_prefix, entries_with_prefix}
 
 abbrev R : Name → Name → Ordering
 R = slice_cmp nat_cmp
@@ -109,15 +109,15 @@ second : (x y : Bool) → (x && y) ≡ true → y ≡ true
 second true y h = h
 second false y h = absurd (cc h)
 
-beyond_by : (p q : Name) (b : Bool) → same_name p root ≡ b → is_path q ≡ true → parent q ≡ p → begins_with (cond b [] p ++ 47 ∷ []) q ≡ true
-beyond_by p q true top path above = starts q path
-beyond_by p q false other path above = ⊎_elim
+prefix_by : (p q : Name) (b : Bool) → same_name p root ≡ b → is_path q ≡ true → parent q ≡ p → begins_with (cond b [] p ++ 47 ∷ []) q ≡ true
+prefix_by p q true top path above = starts q path
+prefix_by p q false other path above = ⊎_elim
     (λ is. clash (same_name p root) (ap (λ (n : Name). same_name n root) (sym above ∙ is) ∙ same_itself root) other)
     (λ below. ap (λ (n : Name). is_below n q) (sym above) ∙ below)
     (child_below q path)
 
-child_beyond : (p q : Name) → is_path q ≡ true → is_child p q ≡ true → is_beyond p q ≡ true
-child_beyond p q path child = beyond_by p q (same_name p root) refl path (same_means (parent q) p (second (not (same_name q root)) _ child))
+child_has_prefix : (p q : Name) → is_path q ≡ true → is_child p q ≡ true → has_prefix p q ≡ true
+child_has_prefix p q path child = prefix_by p q (same_name p root) refl path (same_means (parent q) p (second (not (same_name q root)) _ child))
 
 -- ---- the list of the children
 
@@ -136,15 +136,15 @@ texts_cond : (e : String Global × Node) (es : List (String Global × Node)) (c 
 texts_cond e es true = refl
 texts_cond e es false = refl
 
-beyond_filter : (p : Name) (es : List (String Global × Node)) → AllByRecursion (λ q. is_path q ≡ true) (texts es) → filter (is_child p) (texts (entries_beyond p es)) ≡ filter (is_child p) (texts es)
-beyond_filter p [] paths = refl
-beyond_filter p (e ∷ es) paths =
-    ap (filter (is_child p)) (texts_cond e (entries_beyond p es) (is_beyond p (string_bytes e.0)))
-    ∙ listed_here p (string_bytes e.0) (texts (entries_beyond p es)) (texts es) (is_child p (string_bytes e.0)) (is_beyond p (string_bytes e.0)) refl (child_beyond p (string_bytes e.0) paths.0) (beyond_filter p es paths.1)
+prefix_filter : (p : Name) (es : List (String Global × Node)) → AllByRecursion (λ q. is_path q ≡ true) (texts es) → filter (is_child p) (texts (entries_with_prefix p es)) ≡ filter (is_child p) (texts es)
+prefix_filter p [] paths = refl
+prefix_filter p (e ∷ es) paths =
+    ap (filter (is_child p)) (texts_cond e (entries_with_prefix p es) (has_prefix p (string_bytes e.0)))
+    ∙ listed_here p (string_bytes e.0) (texts (entries_with_prefix p es)) (texts es) (is_child p (string_bytes e.0)) (has_prefix p (string_bytes e.0)) refl (child_has_prefix p (string_bytes e.0) paths.0) (prefix_filter p es paths.1)
 
-pub listed_beyond : (p : Name) (es : List (String Global × Node)) → IsStrictlySortedBy string_cmp (map (λ e. e.0) es) → WellFormed (tree_of es) → listed p (entries_beyond p es) ≡ children (tree_of es) p
-listed_beyond p es sorted well =
-    ap (map last_name) (beyond_filter p es (stored_paths es sorted well)) ∙ ap (λ l. map last_name (filter (is_child p) l)) (sym (names_stored es sorted))
+pub listed_with_prefix : (p : Name) (es : List (String Global × Node)) → IsStrictlySortedBy string_cmp (map (λ e. e.0) es) → WellFormed (tree_of es) → listed p (entries_with_prefix p es) ≡ children (tree_of es) p
+listed_with_prefix p es sorted well =
+    ap (map last_name) (prefix_filter p es (stored_paths es sorted well)) ∙ ap (λ l. map last_name (filter (is_child p) l)) (sym (names_stored es sorted))
 
 -- one entry more
 listed_more : (p : Name) (k j : String Global × Node) (ks : List (String Global × Node)) (b : Bool) → listed p (ks ++ k ∷ []) ≡ listed p ks ++ listed p (k ∷ [])
@@ -194,26 +194,26 @@ child_above (suc n) t p q well path short stands below =
     (parent_shorter q (well.paths q stands)))
     (below_parent p q (no_path p path) below)
 
-first_beyond : (p : Name) (P : Name → Type 0) (e : String Global × Node) (rest es : List (String Global × Node)) → AllByRecursion P (texts es) → entries_beyond p es ≡ e ∷ rest → P (string_bytes e.0) × (is_beyond p (string_bytes e.0) ≡ true)
-first_beyond p P e rest [] all is = absurd (cc is)
-first_beyond p P e rest (f ∷ es) all is = here (is_beyond p (string_bytes f.0)) refl is (λ same. first_beyond p P e rest es all.1 same)
+first_with_prefix : (p : Name) (P : Name → Type 0) (e : String Global × Node) (rest es : List (String Global × Node)) → AllByRecursion P (texts es) → entries_with_prefix p es ≡ e ∷ rest → P (string_bytes e.0) × (has_prefix p (string_bytes e.0) ≡ true)
+first_with_prefix p P e rest [] all is = absurd (cc is)
+first_with_prefix p P e rest (f ∷ es) all is = here (has_prefix p (string_bytes f.0)) refl is (λ same. first_with_prefix p P e rest es all.1 same)
   where
-    here : (b : Bool) → is_beyond p (string_bytes f.0) ≡ b → cond b (f ∷ entries_beyond p es) (entries_beyond p es) ≡ e ∷ rest
-        → (entries_beyond p es ≡ e ∷ rest → P (string_bytes e.0) × (is_beyond p (string_bytes e.0) ≡ true))
-        → P (string_bytes e.0) × (is_beyond p (string_bytes e.0) ≡ true)
+    here : (b : Bool) → has_prefix p (string_bytes f.0) ≡ b → cond b (f ∷ entries_with_prefix p es) (entries_with_prefix p es) ≡ e ∷ rest
+        → (entries_with_prefix p es ≡ e ∷ rest → P (string_bytes e.0) × (has_prefix p (string_bytes e.0) ≡ true))
+        → P (string_bytes e.0) × (has_prefix p (string_bytes e.0) ≡ true)
     here true hit same later =
         let first : f ≡ e = cc same in
-        (subst (λ (x : String Global × Node). P (string_bytes x.0)) first all.0, ap (λ (x : String Global × Node). is_beyond p (string_bytes x.0)) (sym first) ∙ hit)
+        (subst (λ (x : String Global × Node). P (string_bytes x.0)) first all.0, ap (λ (x : String Global × Node). has_prefix p (string_bytes x.0)) (sym first) ∙ hit)
     here false miss same later = later same
 
-childless_none : (p : Name) (es : List (String Global × Node)) → IsStrictlySortedBy string_cmp (map (λ e. e.0) es) → WellFormed (tree_of es) → entries_beyond p es ≡ [] → is_childless (tree_of es) p ≡ true
+childless_none : (p : Name) (es : List (String Global × Node)) → IsStrictlySortedBy string_cmp (map (λ e. e.0) es) → WellFormed (tree_of es) → entries_with_prefix p es ≡ [] → is_childless (tree_of es) p ≡ true
 childless_none p es sorted well none =
-    ap (λ l. length l == 0) (sym (listed_beyond p es sorted well) ∙ ap (listed p) none)
+    ap (λ l. length l == 0) (sym (listed_with_prefix p es sorted well) ∙ ap (listed p) none)
 
 childless_some : (p : Name) (es : List (String Global × Node)) (e : String Global × Node) (rest : List (String Global × Node)) → IsStrictlySortedBy string_cmp (map (λ e. e.0) es) → WellFormed (tree_of es) → is_path p ≡ true → same_name p root ≡ false
-    → entries_beyond p es ≡ e ∷ rest → is_childless (tree_of es) p ≡ false
+    → entries_with_prefix p es ≡ e ∷ rest → is_childless (tree_of es) p ≡ false
 childless_some p es e rest sorted well path other some =
-    let found = first_beyond p (λ q. is_some (get (tree_of es) q) ≡ true) e rest es (each_stored (λ q. is_some (get (tree_of es) q) ≡ true) es sorted (λ q h. h)) some in
+    let found = first_with_prefix p (λ q. is_some (get (tree_of es) q) ≡ true) e rest es (each_stored (λ q. is_some (get (tree_of es) q) ≡ true) es sorted (λ q h. h)) some in
     let below : is_below p (string_bytes e.0) ≡ true = ap (λ b. begins_with (cond b [] p ++ 47 ∷ []) (string_bytes e.0)) (sym other) ∙ found.1 in
     let child = child_above (suc (length (string_bytes e.0))) (tree_of es) p (string_bytes e.0) well path (omega arith) found.0 below in
     ⊎_elim
@@ -222,7 +222,7 @@ childless_some p es e rest sorted well path other some =
     (cases_Bool (is_childless (tree_of es) p))
 
 pub childless_stored : (p : Name) (es range : List (String Global × Node)) (b : Bool) → IsStrictlySortedBy string_cmp (map (λ e. e.0) es) → WellFormed (tree_of es) → is_path p ≡ true → same_name p root ≡ false
-    → range ≡ entries_beyond p es → (range ≡ [] → b ≡ true) → ((e : String Global × Node) (rest : List (String Global × Node)) → range ≡ e ∷ rest → b ≡ false) → b ≡ is_childless (tree_of es) p
+    → range ≡ entries_with_prefix p es → (range ≡ [] → b ≡ true) → ((e : String Global × Node) (rest : List (String Global × Node)) → range ≡ e ∷ rest → b ≡ false) → b ≡ is_childless (tree_of es) p
 childless_stored p es [] b sorted well path other is empty full = empty refl ∙ sym (childless_none p es sorted well (sym is))
 childless_stored p es (e ∷ rest) b sorted well path other is empty full = full e rest refl ∙ sym (childless_some p es e rest sorted well path other (sym is))
 

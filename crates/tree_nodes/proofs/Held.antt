@@ -10,7 +10,7 @@ use Rattle.cny_base.specs.Path.{root}
 use Rattle.cny_base.specs.Below.{begins_with, is_below}
 use Rattle.tree_disk.specs.Tree.{Name, same_name}
 use Rattle.tree_nodes.specs.Stored.{tree_of}
-use Rattle.tree_nodes.specs.Below.{is_beyond, entries_beyond}
+use Rattle.tree_nodes.specs.Below.{has_prefix, entries_with_prefix}
 use Rattle.tree_nodes.proofs.Children.{texts, names_stored}
 
 any_here : (e : String Global × Node) (n : Name → Bool) (rest all : List (String Global × Node)) (ns : List Name) (b : Bool) (test : Name → Bool)
@@ -32,7 +32,7 @@ any_filtered n b [] = refl
 any_filtered n b (e ∷ es) = any_here e n (filter (λ e. b (string_bytes e.0)) es) es (texts es) (b (string_bytes e.0)) (λ q. n q && b q) (any_filtered n b es)
 
 pub other_below : (n : Name → Bool) (p : Name) (es : List (String Global × Node)) (holds : Bool) → same_name p root ≡ false → IsStrictlySortedBy string_cmp (map (λ e. e.0) es)
-    → holds ≡ list_any (λ e. n (string_bytes e.0)) (entries_beyond p es) → holds ≡ list_any (λ q. n q && is_below p q) (fin.keys (tree_of es))
+    → holds ≡ list_any (λ e. n (string_bytes e.0)) (entries_with_prefix p es) → holds ≡ list_any (λ q. n q && is_below p q) (fin.keys (tree_of es))
 other_below n p es holds other sorted is =
-    is ∙ any_filtered n (is_beyond p) es
+    is ∙ any_filtered n (has_prefix p) es
     ∙ (λ i. list_any (λ q. n q && begins_with (cond (other i) [] p ++ 47 ∷ []) q) (sym (names_stored es sorted) i))

@@ -12,9 +12,9 @@ abbrev pub front : Name → List ℕ
 front p = cond (same_name p root) [] p
 
 -- whether a name begins with a directory's path and a slash
-abbrev pub is_beyond : Name → Name → Bool
-is_beyond p q = begins_with (front p ++ 47 ∷ []) q
+abbrev pub has_prefix : Name → Name → Bool
+has_prefix p q = begins_with (front p ++ 47 ∷ []) q
 
 -- the entries with such names
-abbrev pub entries_beyond : Name → List (String Global × Node) → List (String Global × Node)
-entries_beyond p entries = filter (λ e. is_beyond p (string_bytes e.0)) entries
+abbrev pub entries_with_prefix : Name → List (String Global × Node) → List (String Global × Node)
+entries_with_prefix p entries = filter (λ e. has_prefix p (string_bytes e.0)) entries

@@ -36,12 +36,12 @@ fn joined(alloc: Global, front: &str, end: &str) -> Result<String, OutOfMemory>
 }
 
 // The entries whose names begin with a directory's path and a slash.
-fn entries_beyond<'a>(
+fn entries_with_prefix<'a>(
     alloc: Global,
     nodes: &'a BTreeMap<String, Node>,
     dir: &str,
 ) -> Result<Range<'a, String, Node>, OutOfMemory>
-    ensures entries { IfOk result (λ range. range ≡ spec.entries_beyond dir.now nodes.now.entries) }
+    ensures entries { IfOk result (λ range. range ≡ spec.entries_with_prefix dir.now nodes.now.entries) }
     ensures ordered { IfOk result (λ _. IsOrdered string_cmp nodes.now) }
 {
     let front = front(dir);
@@ -69,7 +69,7 @@ fn is_childless(
     requires other { names.same_name dir.now root ≡ false }
     ensures { IfOk result (λ childless. childless ≡ rows.is_childless (tree_of nodes.now.entries) dir.now) }
 {
-    let mut below = entries_beyond(alloc, nodes, dir.text())?;
+    let mut below = entries_with_prefix(alloc, nodes, dir.text())?;
     Ok(below.next().is_none())
 }
 
@@ -78,7 +78,7 @@ fn children(alloc: Global, nodes: &BTreeMap<String, Node>, dir: &str) -> Result<
     ensures { IfOk result (λ found. found ≡ names.children (tree_of nodes.now.entries) dir.now) }
 {
     let mut found = Vec::new(alloc);
-    for (name, _) in entries_beyond(alloc, nodes, dir)? {
+    for (name, _) in entries_with_prefix(alloc, nodes, dir)? {
         if is_child(dir, name.as_str()) {
             found.push(Text::new(alloc, last_name(name.as_str()))?)?;
         }
@@ -122,7 +122,7 @@ fn holds_other(
     requires { names.same_name dir.now root ≡ false }
     ensures { IfOk result (λ holds. holds ≡ list_any (λ q. not (contains_text known.now q) && is_below dir.now q) (keys (tree_of nodes.now.entries))) }
 {
-    let below = entries_beyond(alloc, nodes, dir)?;
+    let below = entries_with_prefix(alloc, nodes, dir)?;
     Ok(has_other(below, known))
 }
 

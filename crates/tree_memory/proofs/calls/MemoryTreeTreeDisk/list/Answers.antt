@@ -6,4 +6,4 @@ use Rattle.tree_memory.proofs.calls.MemoryTreeTreeDisk.list.Goals as goal
 pub returns-clause-names : goal.returns-clause-names
 returns-clause-names c =
     subst (NamesOf c.args.path.now) (sym c.in_ok-children.ensures)
-    (children_paths c.fails_read.new.tree.nodes c.args.path.now c.fails_read.new.tree.well_formed)
+    (children_paths c.read_fails.new.tree.nodes c.args.path.now c.read_fails.new.tree.well_formed)

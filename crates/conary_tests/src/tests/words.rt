@@ -1,0 +1,93 @@
+// The words of the command line.
+use super::call::{Edits, Failing, Stands, call, check, check_refused, joined};
+use super::sources::failing_input;
+use std::test::Fail;
+
+/// The line of status 2.
+pub const USAGE: &str = "usage: conary [--disk ROOT REPO] COMMAND [WORD...]\n";
+
+// There is no `/var`, and each first call would fail.
+const NO_VAR: Edits = &[("/var/lib", Stands::Nothing), ("/var", Stands::Nothing)];
+
+const FIRST_FAILS: Failing = Failing {
+    out: 1,
+    err: 0,
+    root: 1,
+};
+
+// Words that are no command. Each line is a word.
+const USAGE_ERRORS: [&str; 24] = [
+    "",
+    "\n",
+    "frob",
+    "Install",
+    "INSTALL",
+    "install ",
+    " install",
+    "installed",
+    "install\nx",
+    "install\n\n",
+    "install\n-",
+    "install\n--",
+    "install\n--frob",
+    "install\n--keep=1",
+    "install\n--Keep",
+    "install\nx\n--keep",
+    "install\ninstall",
+    "--keep\ninstall",
+    "--disk\nA\nB\ninstall",
+    "--help",
+    "--version",
+    "serve",
+    "sync",
+    "mirror\nask",
+];
+
+// Words that aren't built yet, after the words that they stand in. Of a command that isn't built no other word counts.
+const NOT_BUILT: [(&str, &str); 26] = [
+    ("cook", "cook"),
+    ("cook\n--next\nx", "cook"),
+    ("commit", "commit"),
+    ("shadow", "shadow"),
+    ("branch\nx\ny\nz", "branch"),
+    ("rq", "rq"),
+    ("changeset\nx", "changeset"),
+    ("showcs", "showcs"),
+    ("update\n-", "update"),
+    ("update\n--replace\nx", "update"),
+    ("erase", "erase"),
+    ("rollback\nx", "rollback"),
+    ("rblist", "rblist"),
+    ("q\na\nb\nc", "q"),
+    ("verify\n--full", "verify"),
+    ("localcs", "localcs"),
+    ("batch", "batch"),
+    ("demo\n0", "demo"),
+    ("demo", "demo"),
+    ("install\n--replace", "--replace"),
+    ("install\n--keep", "--keep"),
+    ("install\n--keep\n--replace", "--keep"),
+    ("install\n--replace\n--keep", "--replace"),
+    ("install\n--keep\n--keep", "--keep"),
+    ("install\n--keep\nx", "--keep"),
+    ("install\n--replace\n--frob", "--replace"),
+];
+
+#[test]
+fn usage_errors(rt: HostRuntime) -> Result<(), Fail> {
+    let alloc = rt.alloc();
+    for words in USAGE_ERRORS {
+        let mut input = failing_input(alloc, "x", 1, 1)?;
+        let ended = call(alloc, words, NO_VAR, FIRST_FAILS, &mut input)?;
+        check(&rt, &ended, 2, "", USAGE, words);
+        assert_eq!(rt; (ended.changed.as_str(), input.taken), ("", 0));
+    }
+    for (words, word) in NOT_BUILT {
+        let mut input = failing_input(alloc, "x", 1, 1)?;
+        let ended = call(alloc, words, NO_VAR, FIRST_FAILS, &mut input)?;
+        let says = joined(alloc, &["not built ", word])?;
+        check_refused(&rt, &ended, says.as_str(), words)?;
+        assert_eq!(rt; input.taken, 0, "at {words}");
+    }
+    Ok(())
+}
