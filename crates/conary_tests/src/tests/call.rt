@@ -177,8 +177,10 @@ fn changes(alloc: Global, before: &[String], after: &[String]) -> Result<String,
         let old = before.get(i).ok_or("a text for each path")?;
         let new = after.get(i).ok_or("a text for each path")?;
         if old.as_str() != new.as_str() {
-            let line = joined(alloc, &[path, " ", new.as_str(), "\n"])?;
-            lines.push_str(line.as_str())?;
+            lines.push_str(path)?;
+            lines.push_str(" ")?;
+            lines.push_str(new.as_str())?;
+            lines.push_str("\n")?;
         }
     }
     Ok(lines)
@@ -242,7 +244,7 @@ pub fn check_refused(
     says: &str,
     label: &str,
 ) -> Result<(), Fail> {
-    let err = joined(rt.alloc(), &["conary: ", says, "\n"])?;
+    let err = format!(in rt.alloc(); "conary: {says}\n")?;
     check(rt, ended, 1, "", err.as_str(), label);
     assert_eq!(rt; ended.changed.as_str(), "", "changes at {label:?}");
     Ok(())
@@ -256,7 +258,7 @@ pub fn check_installed(
     changed: &str,
     label: &str,
 ) -> Result<(), Fail> {
-    let out = joined(rt.alloc(), &["installed ", trove, "\n"])?;
+    let out = format!(in rt.alloc(); "installed {trove}\n")?;
     check(rt, ended, 0, out.as_str(), "", label);
     assert_eq!(rt; ended.changed.as_str(), changed, "changes at {label:?}");
     Ok(())

@@ -1,10 +1,9 @@
 // Calls of the objects that fail, one at a time.
-use super::call::{Failing, NONE, call, check};
+use super::call::{Ended, Failing, NONE, call, check};
 use super::examples::{CHANGED, MANIFEST};
 use super::sources::{failing_input, input_of};
 use super::words::USAGE;
 use std::alloc::Global;
-use std::process::Abort;
 use std::test::Fail;
 
 const INPUT_FAULT: &str = "conary: input fault\n";
@@ -43,104 +42,108 @@ fn failing_output(rt: HostRuntime) -> Result<(), Fail> {
     Ok(())
 }
 
-// A fault of the standard error changes no status: refused, usage, a fault, done.
+fn call_with(alloc: Global, words: &str, failing: Failing, manifest: &str) -> Result<Ended, Fail> {
+    let mut input = input_of(alloc, manifest)?;
+    call(alloc, words, &[], failing, &mut input)
+}
+
+// A fault of the standard error changes no status: words, whether the output fails too, the input and the status.
+const STATUSES: [(&str, u64, &str, u8); 4] = [
+    ("install", 0, "x\n", 1),
+    ("x", 0, "", 2),
+    ("install", 1, MANIFEST, 4),
+    ("install", 0, MANIFEST, 0),
+];
+
 #[test]
 fn failing_error_output(rt: HostRuntime) -> Result<(), Fail> {
-    let failing = Failing { err: 1, ..NONE };
-    let alloc = rt.alloc();
-    let refused = call(alloc, "install", &[], failing, &mut input_of(alloc, "x\n")?)?;
-    check(&rt, &refused, 1, "", "", "refused");
-    let usage = call(alloc, "x", &[], failing, &mut input_of(alloc, "")?)?;
-    check(&rt, &usage, 2, "", "", "usage");
-    let both = Failing { out: 1, ..failing };
-    let fault = call(alloc, "install", &[], both, &mut input_of(alloc, MANIFEST)?)?;
-    check(&rt, &fault, 4, "", "", "output fault");
-    let done = call(
-        alloc,
-        "install",
-        &[],
-        failing,
-        &mut input_of(alloc, MANIFEST)?,
-    )?;
-    assert_eq!(rt; (done.status, done.changed.as_str()), (0, CHANGED));
+    for (words, out, manifest, status) in STATUSES {
+        let failing = Failing {
+            out,
+            err: 1,
+            root: 0,
+        };
+        let ended = call_with(rt.alloc(), words, failing, manifest)?;
+        assert_eq!(rt;
+            (ended.status, ended.err.as_str()),
+            (status, ""),
+            "at {words}"
+        );
+    }
     Ok(())
 }
 
-// What a failed call of the root leaves, with the number of the last call that leaves it. The calls are looks at the fixed
-// directories (3), at what stands at each item and at each parent, then a look and the making of each item (a directory by
-// one call, a file by two), and a sync. A failed append leaves the first half of the bytes.
-const STAGES: [(u64, &str); 5] = [
-    (9, ""),
-    (10, "/etc dir 0755\n"),
-    (11, "/etc dir 0755\n/etc/foo file 0600 a\n"),
-    (12, "/etc dir 0755\n/etc/foo file 0600 abc\n"),
-    (13, CHANGED),
+// What a failed call of the root leaves, from the first number of a call that leaves it, up to the next. The calls are
+// looks at the fixed directories (3), at what stands at each item and at each parent, then a look and the making of each
+// item (a directory by one call, a file by two), and a sync. A failed append leaves the first half of the bytes.
+const STAGES: [(u64, u64, &str); 5] = [
+    (1, 10, ""),
+    (10, 11, "/etc dir 0755\n"),
+    (11, 12, "/etc dir 0755\n/etc/foo file 0600 a\n"),
+    (12, 13, "/etc dir 0755\n/etc/foo file 0600 abc\n"),
+    (13, 14, CHANGED),
 ];
 
-const LEVEL_STAGES: [(u64, &str); 9] = [
-    (15, ""),
-    (17, "/a dir 0755\n"),
-    (19, "/a dir 0755\n/a/b dir 0750\n"),
-    (20, "/a dir 0755\n/a/b dir 0750\n/a/b/c dir 0700\n"),
+const LEVEL_STAGES: [(u64, u64, &str); 8] = [
+    (1, 16, ""),
+    (16, 18, "/a dir 0755\n"),
+    (18, 20, "/a dir 0755\n/a/b dir 0750\n"),
+    (20, 21, "/a dir 0755\n/a/b dir 0750\n/a/b/c dir 0700\n"),
     (
         21,
+        22,
         "/a dir 0755\n/a/b dir 0750\n/a/b/c dir 0700\n/a/b/c/f file 0600 wx\n",
     ),
     (
-        23,
+        22,
+        24,
         "/a dir 0755\n/a/b dir 0750\n/a/b/c dir 0700\n/a/b/c/f file 0600 wxyz\n",
     ),
     (
         24,
-        "/a dir 0755\n/a/b dir 0750\n/a/b/c dir 0700\n/a/b/c/f file 0600 wxyz\n/a/x file 0600 \n",
-    ),
-    (
-        25,
+        26,
         "/a dir 0755\n/a/b dir 0750\n/a/b/c dir 0700\n/a/b/c/f file 0600 wxyz\n/a/x file 0600 \n",
     ),
     (
         26,
+        27,
         "/a dir 0755\n/a/b dir 0750\n/a/b/c dir 0700\n/a/b/c/f file 0600 wxyz\n/a/x file 0640 \n",
     ),
 ];
 
-// Each call of the root fails in turn, and then none.
-fn check_stages(
-    rt: &(impl Abort + Alloc<A = Global>),
-    manifest: &str,
-    stages: &[(u64, &str)],
-) -> Result<(), Fail> {
-    let mut number = 1;
-    for (last, changed) in stages {
-        while number <= *last {
-            let failing = Failing {
-                root: number,
-                ..NONE
-            };
-            let mut input = input_of(rt.alloc(), manifest)?;
-            let ended = call(rt.alloc(), "install", &[], failing, &mut input)?;
-            assert_eq!(rt; (number, ended.changed.as_str()), (number, *changed));
-            check(rt, &ended, 5, "", ROOT_FAULT, "a failing root");
-            number += 1;
-        }
-    }
+// This call of the root is to fail.
+fn install_failing(alloc: Global, manifest: &str, number: u64) -> Result<Ended, Fail> {
     let failing = Failing {
         root: number,
         ..NONE
     };
-    let ended = call(
-        rt.alloc(),
-        "install",
-        &[],
-        failing,
-        &mut input_of(rt.alloc(), manifest)?,
-    )?;
-    assert_eq!(rt; (number, ended.status), (number, 0));
+    call_with(alloc, "install", failing, manifest)
+}
+
+#[test]
+fn failing_root(rt: HostRuntime) -> Result<(), Fail> {
+    for (first, end, changed) in STAGES {
+        for number in first..end {
+            let ended = install_failing(rt.alloc(), MANIFEST, number)?;
+            check(&rt, &ended, 5, "", ROOT_FAULT, changed);
+            assert_eq!(rt; ended.changed.as_str(), changed, "changes at {number}");
+        }
+    }
+    let ended = install_failing(rt.alloc(), MANIFEST, 14)?;
+    assert_eq!(rt; ended.status, 0);
     Ok(())
 }
 
 #[test]
-fn failing_roots(rt: HostRuntime) -> Result<(), Fail> {
-    check_stages(&rt, MANIFEST, &STAGES)?;
-    check_stages(&rt, LEVELS, &LEVEL_STAGES)
+fn failing_root_with_levels(rt: HostRuntime) -> Result<(), Fail> {
+    for (first, end, changed) in LEVEL_STAGES {
+        for number in first..end {
+            let ended = install_failing(rt.alloc(), LEVELS, number)?;
+            check(&rt, &ended, 5, "", ROOT_FAULT, changed);
+            assert_eq!(rt; ended.changed.as_str(), changed, "changes at {number}");
+        }
+    }
+    let ended = install_failing(rt.alloc(), LEVELS, 27)?;
+    assert_eq!(rt; ended.status, 0);
+    Ok(())
 }
