@@ -16,29 +16,39 @@ const ROOT_FAULT: &str = "conary: root fault\n";
 const LEVELS: &str =
     "manifest 1\ncomponent a:b\nversion /v\ndir 0755 /a\ndir 0750 /a/b\ndir 0700 /a/b/c\nfile 0600 4 /a/b/c/f\nwxyz\nfile 0640 0 /a/x\n\nend\n";
 
+const LEVELS_CHANGED: &str =
+    "/a dir 0755\n/a/b dir 0750\n/a/b/c dir 0700\n/a/b/c/f file 0600 wxyz\n/a/x file 0640 \n";
+
+// Manifests of 101 to 150 bytes, with what they change.
+const MANIFESTS: [(&str, &str); 2] = [(MANIFEST, CHANGED), (LEVELS, LEVELS_CHANGED)];
+
 // Each call of a source that gives at most 50 bytes at once: three for the bytes, and one that meets the end.
 #[test]
 fn failing_sources(rt: HostRuntime) -> Result<(), Fail> {
-    for number in 1..5 {
-        let mut input = failing_input(rt.alloc(), MANIFEST, 50, number)?;
+    for (manifest, changed) in MANIFESTS {
+        for number in 1..5 {
+            let mut input = failing_input(rt.alloc(), manifest, 50, number)?;
+            let ended = call(rt.alloc(), "install", &[], NONE, &mut input)?;
+            check(&rt, &ended, 3, "", INPUT_FAULT, changed);
+            assert_eq!(rt; ended.changed.as_str(), "", "changes at {number}");
+        }
+        let mut input = failing_input(rt.alloc(), manifest, 50, 5)?;
         let ended = call(rt.alloc(), "install", &[], NONE, &mut input)?;
-        check(&rt, &ended, 3, "", INPUT_FAULT, "a failing source");
-        assert_eq!(rt; ended.changed.as_str(), "", "changes at {number}");
+        assert_eq!(rt; (ended.status, ended.changed.as_str()), (0, changed));
     }
-    let mut input = failing_input(rt.alloc(), MANIFEST, 50, 5)?;
-    let ended = call(rt.alloc(), "install", &[], NONE, &mut input)?;
-    assert_eq!(rt; (ended.status, ended.changed.as_str()), (0, CHANGED));
     Ok(())
 }
 
 // The effect stands, and nothing of the line was written.
 #[test]
 fn failing_output(rt: HostRuntime) -> Result<(), Fail> {
-    let failing = Failing { out: 1, ..NONE };
-    let mut input = input_of(rt.alloc(), MANIFEST)?;
-    let ended = call(rt.alloc(), "install", &[], failing, &mut input)?;
-    check(&rt, &ended, 4, "", OUTPUT_FAULT, "a failing output");
-    assert_eq!(rt; ended.changed.as_str(), CHANGED);
+    for (manifest, changed) in MANIFESTS {
+        let failing = Failing { out: 1, ..NONE };
+        let mut input = input_of(rt.alloc(), manifest)?;
+        let ended = call(rt.alloc(), "install", &[], failing, &mut input)?;
+        check(&rt, &ended, 4, "", OUTPUT_FAULT, changed);
+        assert_eq!(rt; ended.changed.as_str(), changed);
+    }
     Ok(())
 }
 
@@ -47,28 +57,42 @@ fn call_with(alloc: Global, words: &str, failing: Failing, manifest: &str) -> Re
     call(alloc, words, &[], failing, &mut input)
 }
 
-// A fault of the standard error changes no status: words, whether the output fails too, the input and the status.
-const STATUSES: [(&str, u64, &str, u8); 4] = [
-    ("install", 0, "x\n", 1),
-    ("x", 0, "", 2),
-    ("install", 1, MANIFEST, 4),
-    ("install", 0, MANIFEST, 0),
+// A fault of the standard error changes no status: words, whether the output fails too, the input, the status, the output
+// and what is changed.
+const STATUSES: [(&str, u64, &str, u8, &str, &str); 6] = [
+    ("install", 0, "x\n", 1, "", ""),
+    ("x", 0, "", 2, "", ""),
+    ("install", 1, MANIFEST, 4, "", CHANGED),
+    ("install", 1, LEVELS, 4, "", LEVELS_CHANGED),
+    (
+        "install",
+        0,
+        MANIFEST,
+        0,
+        "installed foo:runtime=/conary.example.com@ex:devel/1.0-1-1\n",
+        CHANGED,
+    ),
+    (
+        "install",
+        0,
+        LEVELS,
+        0,
+        "installed a:b=/v\n",
+        LEVELS_CHANGED,
+    ),
 ];
 
 #[test]
 fn failing_error_output(rt: HostRuntime) -> Result<(), Fail> {
-    for (words, out, manifest, status) in STATUSES {
+    for (words, failing_out, manifest, status, out, changed) in STATUSES {
         let failing = Failing {
-            out,
+            out: failing_out,
             err: 1,
             root: 0,
         };
         let ended = call_with(rt.alloc(), words, failing, manifest)?;
-        assert_eq!(rt;
-            (ended.status, ended.err.as_str()),
-            (status, ""),
-            "at {words}"
-        );
+        check(&rt, &ended, status, out, "", manifest);
+        assert_eq!(rt; ended.changed.as_str(), changed, "changes at {words}");
     }
     Ok(())
 }
