@@ -1,0 +1,93 @@
+-- What recovery finds.
+use Rattle.std.specs.Prelude.{◌≡◌, ◌≢◌, ℕ, ◌≤◌, Bool, true, false, IsTrue, List, Option, Some, None, Result, Ok, Err, IfOk, IfErr}
+use Rattle.std.specs.FinMap.{get}
+use Rattle.std.specs.List.{All}
+use Rattle.cny_base.specs.Count.{Rose}
+use Rattle.cny_base.specs.Path.{is_path, join}
+use Rattle.cny_base.specs.Below.{is_below}
+use Rattle.cny_base.specs.declared.node.Node.{Node}
+use Rattle.cny_base.specs.declared.node.Node.TheVariants as node
+use Rattle.cny_base.specs.declared.refusal.Refusal.{Refusal}
+use Rattle.cny_base.specs.declared.refusal.Refusal.TheVariants as refusal
+use Rattle.cny_base.specs.declared.stop.Stop.{Stop}
+use Rattle.cny_base.specs.declared.stop.Stop.TheVariants.{Refused, Memory, Failed, Damaged, FarFailed, FarDamaged}
+use Rattle.tree_disk.specs.declared.disk.Look.{Look}
+use Rattle.tree_disk.specs.declared.disk.Look.TheVariants as look
+use Rattle.tree_disk.specs.Tree.{Name, Tree}
+use Rattle.tree_disk.specs.Rows.{is_dir_at}
+use Rattle.tree_disk.specs.Disk.{DiskModel, HasRead}
+use Rattle.journal_log.specs.declared.put.Put.{Put}
+use Rattle.journal_log.specs.Own.{log}
+use Rattle.journal_log.specs.Targets.{is_target}
+use Rattle.tree_journal.specs.CanBePut.{CanBePut, AllCanBePut}
+use Rattle.tree_journal.specs.Recovery.{HoldsLog, IsFirstBlocked, HasBlockedLog, HasDamagedLog}
+
+-- Why calls of a disk stop: a fault, or want of memory.
+abbrev pub IsFaultOr : Type 0 → Stop → Type 0
+IsFaultOr rose Failed = rose
+IsFaultOr rose Memory = Unit {0}
+IsFaultOr rose (Refused refusal) = ⊥
+IsFaultOr rose (Damaged path) = ⊥
+IsFaultOr rose FarFailed = ⊥
+IsFaultOr rose (FarDamaged path) = ⊥
+
+-- A run of calls that only read, and what it finds in the tree.
+pub record Finds {D X : Type 0} (disk : DiskModel D) (P : Tree → X → Type 0) (old new : D) (result : Result X Stop) : Type 0 where
+  pub later : disk.faults old ≤ disk.faults new
+  pub found : IsTrue disk.tells → HasRead disk old new (IfOk result (P (disk.reads old)))
+  pub stops : IfErr result (IsFaultOr (Rose (disk.faults old) (disk.faults new)))
+
+-- an answer to whether P holds
+pub record IsAnswer (P : Type 0) (answer : Bool) : Type 0 where
+  pub holds : answer ≡ true → P
+  pub fails : answer ≡ false → P → ⊥
+
+-- each path above that isn't a target is a directory
+abbrev pub HasWay : List Put → Tree → Name → Type 0
+HasWay puts tree path = (q : Name) → IsTrue (is_path q) → IsTrue (is_below q path) → is_target puts q ≡ false → IsTrue (is_dir_at tree q)
+
+-- no name that isn't a target stands below
+abbrev pub IsClearBelow : List Put → Tree → Name → Type 0
+IsClearBelow puts tree path = (q : Name) → IsTrue (is_below path q) → is_target puts q ≡ false → get tree q ≡ None
+
+-- these names directly below a path are targets, and no name that isn't one stands below them
+abbrev pub AreClear : List Put → Tree → Name → List (List ℕ) → Type 0
+AreClear puts tree path names = All (λ last. IsTrue (is_target puts (join path last)) × IsClearBelow puts tree (join path last)) names
+
+-- the bytes of a file
+abbrev pub file_bytes : Option Node → Option (List ℕ)
+file_bytes (Some (node.File mode bytes)) = Some bytes
+file_bytes _ = None
+
+-- a file of one byte
+abbrev pub size_seen : Look → Option ℕ
+size_seen (look.File mode size) = Some size
+size_seen _ = None
+
+-- the log, where it is whole
+abbrev pub FindsLog : Name → Tree → Option (List Put) → Type 0
+FindsLog base tree (Some puts) = HoldsLog base puts tree × ((others : List Put) → HoldsLog base others tree → others ≡ puts)
+FindsLog base tree None = (puts : List Put) → HoldsLog base puts tree → ⊥
+
+-- the first write that can't be put
+abbrev pub FindsBlocked : List Put → Tree → Option Name → Type 0
+FindsBlocked puts tree (Some path) = IsFirstBlocked puts tree path
+FindsBlocked puts tree None = AllCanBePut puts tree
+
+-- ---- how a recovery stops
+
+-- a refusal is that of a parent, at a path that has P
+abbrev pub IfParent : (Name → Type 0) → Stop → Type 0
+IfParent P (Refused (refusal.Parent path)) = P path
+IfParent P (Refused _) = ⊥
+IfParent P _ = Unit {0}
+
+abbrev pub IfDamaged : (Name → Type 0) → Stop → Type 0
+IfDamaged P (Damaged path) = P path
+IfDamaged P _ = Unit {0}
+
+-- no stop of a source of contents
+abbrev pub IsNear : Stop → Type 0
+IsNear FarFailed = ⊥
+IsNear (FarDamaged path) = ⊥
+IsNear _ = Unit {0}

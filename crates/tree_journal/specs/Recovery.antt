@@ -1,0 +1,78 @@
+-- What a tree that a crash left recovers to.
+use Rattle.std.specs.Prelude.{◌≡◌, ◌⊎◌, ℕ, Bool, true, false, IsTrue, List, Option, Some, None, codes}
+use Rattle.std.specs.FinMap.{get}
+use Rattle.std.specs.Str.{bytes_eq}
+use Rattle.std.specs.List.{Contains}
+use Rattle.std.specs.Ordering.{nat_cmp}
+use Rattle.std.specs.declared.cmp.Ordering.TheVariants.{Less}
+use Rattle.std.specs.Cmp.Lexicographic.{slice_cmp}
+use Rattle.cny_base.specs.declared.node.Node.{Node}
+use Rattle.cny_base.specs.declared.node.Node.TheVariants as node
+use Rattle.tree_disk.specs.Tree.{Name, Tree}
+use Rattle.tree_disk.specs.Disk.{DiskModel, IsImageOf}
+use Rattle.tree_disk.specs.Confined.{IsSynced}
+use Rattle.journal_log.specs.declared.put.Put.{Put}
+use Rattle.journal_log.specs.Own.{gate, log, StoresSame}
+use Rattle.journal_log.specs.Targets.{with_targets}
+use Rattle.journal_log.specs.LogBytes.{IsLogText}
+use Rattle.tree_journal.specs.CanBePut.{CanBePut, AllCanBePut}
+
+-- a file that holds the one byte `O`
+abbrev pub is_flag : Option Node → Bool
+is_flag (Some (node.File mode bytes)) = bytes_eq bytes (codes "O")
+is_flag _ = false
+
+-- the commit flag is set
+abbrev pub is_committed : Name → Tree → Bool
+is_committed base tree = is_flag (get tree (gate base))
+
+-- the log says that these are to be put
+pub record HoldsLog (base : Name) (puts : List Put) (tree : Tree) : Type 0 where
+  pub mode : ℕ
+  pub bytes : List ℕ
+  pub file : get tree (log base) ≡ Some (node.File mode bytes)
+  pub text : IsLogText base puts bytes
+
+-- A tree that a crash left recovers to another where its commit flag isn't set and it stores the same; or where the flag
+-- is set, the log is whole and can be put, and it stores the same with all targets of the log.
+pub data RecoversTo (base : Name) (image tree : Tree) : Type 0 where
+  at_rest : is_committed base image ≡ false → StoresSame base image tree → RecoversTo base image tree
+  by_log : is_committed base image ≡ true → (puts : List Put) → HoldsLog base puts image → AllCanBePut puts image → StoresSame base (with_targets puts image) tree → RecoversTo base image tree
+
+-- It recovers to all that some crash image of that moment recovers to.
+abbrev pub RecoversAsAt : {D : Type 0} → DiskModel D → Name → D → Tree → Type 0
+RecoversAsAt disk base d image = (entry : Tree) × IsImageOf disk d entry × ((tree : Tree) → RecoversTo base entry tree → RecoversTo base image tree)
+
+-- a whole log that can be put
+pub record HasReplayable (base : Name) (tree : Tree) : Type 0 where
+  pub puts : List Put
+  pub holds : HoldsLog base puts tree
+  pub can : AllCanBePut puts tree
+
+-- After a recovery: the commit flag isn't set, a crash leaves what the disk reads, and that stores the same as all that
+-- the disk recovered to as it read. So a flag that was set had a whole log that could be put.
+pub record IsRecovered {D : Type 0} (disk : DiskModel D) (base : Name) (old new : D) : Type 0 where
+  pub flag_clear : is_committed base (disk.reads new) ≡ false
+  pub synced : IsSynced disk new
+  pub stores : (tree : Tree) → RecoversTo base (disk.reads old) tree → StoresSame base (disk.reads new) tree
+  pub had_log : is_committed base (disk.reads old) ≡ true → HasReplayable base (disk.reads old)
+
+-- the commit flag is set, and the log isn't whole
+pub record HasDamagedLog (base : Name) (tree : Tree) : Type 0 where
+  pub committed : is_committed base tree ≡ true
+  pub no_log : (puts : List Put) → HoldsLog base puts tree → ⊥
+
+-- the first write, in path order, that can't be put, is at this path
+pub record IsFirstBlocked (puts : List Put) (tree : Tree) (path : Name) : Type 0 where
+  pub write : Put
+  pub listed : Contains puts write
+  pub here : path ≡ write.path
+  pub cannot : CanBePut puts tree write → ⊥
+  pub first : (p : Put) → Contains puts p → slice_cmp nat_cmp p.path path ≡ Less → CanBePut puts tree p
+
+-- the commit flag is set, the log is whole, and this is the path of its first write that can't be put
+pub record HasBlockedLog (base : Name) (tree : Tree) (path : Name) : Type 0 where
+  pub committed : is_committed base tree ≡ true
+  pub puts : List Put
+  pub holds : HoldsLog base puts tree
+  pub blocked : IsFirstBlocked puts tree path
