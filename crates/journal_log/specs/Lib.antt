@@ -1,0 +1,3 @@
+pub mod Own
+pub mod WriteSet
+pub mod Targets

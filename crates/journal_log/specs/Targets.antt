@@ -1,0 +1,31 @@
+-- What a write set makes of a tree.
+use Rattle.std.specs.Prelude.{Bool, true, false, ◌||◌, List, [], ◌∷◌, Option, Some, None}
+use Rattle.cny_base.specs.declared.node.Node.{Node}
+use Rattle.cny_base.specs.declared.node.Node.TheVariants as node
+use Rattle.tree_disk.specs.Tree.{Name, Tree, same_name, put}
+use Rattle.journal_log.specs.declared.put.Want.{Want}
+use Rattle.journal_log.specs.declared.put.Want.TheVariants.{Nothing, Dir, File, Link}
+use Rattle.journal_log.specs.declared.put.Put.{Put}
+
+abbrev pub is_dir_want : Want → Bool
+is_dir_want Nothing = false
+is_dir_want (Dir mode) = true
+is_dir_want (File mode bytes) = false
+is_dir_want (Link target) = false
+
+-- what a write leaves at its path
+abbrev pub node_of : Want → Option Node
+node_of Nothing = None
+node_of (Dir mode) = Some (node.Dir mode)
+node_of (File mode bytes) = Some (node.File mode bytes)
+node_of (Link target) = Some (node.Link target)
+
+-- whether one of the writes is at this path
+abbrev pub is_target : List Put → Name → Bool
+is_target [] path = false
+is_target (p ∷ puts) path = same_name path p.path || is_target puts path
+
+-- the tree after each write, from the first to the last
+abbrev pub with_targets : List Put → Tree → Tree
+with_targets [] tree = tree
+with_targets (p ∷ puts) tree = with_targets puts (put tree p.path (node_of p.want))

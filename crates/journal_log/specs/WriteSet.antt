@@ -1,0 +1,48 @@
+-- Which lists of writes are write sets, and which of them a log can hold.
+use Rattle.std.specs.Prelude.{◌≡◌, ◌≢◌, ◌≤◌, ℕ, false, IsTrue, List, [], ◌∷◌, Contains}
+use Rattle.std.specs.Ordering.{nat_cmp}
+use Rattle.std.specs.declared.cmp.Ordering.TheVariants.{Less}
+use Rattle.std.specs.Cmp.Lexicographic.{slice_cmp}
+use Rattle.cny_base.specs.Path.{is_path, root}
+use Rattle.cny_base.specs.Below.{is_below}
+use Rattle.cny_base.specs.Target as base
+use Rattle.tree_disk.specs.Tree.{Name}
+use Rattle.journal_log.specs.declared.put.Want.{Want}
+use Rattle.journal_log.specs.declared.put.Want.TheVariants.{Nothing, Dir, File, Link}
+use Rattle.journal_log.specs.declared.put.Put.{Put}
+use Rattle.journal_log.specs.Own.{is_own}
+use Rattle.journal_log.specs.Targets.{is_dir_want}
+
+-- the path comes before that of the next write
+abbrev pub ComesBefore : Put → List Put → Type 0
+ComesBefore p [] = Unit {0}
+ComesBefore p (q ∷ puts) = slice_cmp nat_cmp p.path q.path ≡ Less
+
+-- the paths strictly rise
+abbrev pub Rises : List Put → Type 0
+Rises [] = Unit {0}
+Rises (p ∷ puts) = ComesBefore p puts × Rises puts
+
+-- what the types of a write hold
+abbrev pub IsFormed : Want → Type 0
+IsFormed Nothing = Unit {0}
+IsFormed (Dir mode) = mode ≤ 4095
+IsFormed (File mode bytes) = mode ≤ 4095
+IsFormed (Link target) = IsTrue (base.is_target target)
+
+-- A path that a log can name: neither `/` nor one of the journal's own.
+pub record CanBeNamed (base path : Name) : Type 0 where
+  pub not_root : path ≢ root
+  pub not_own : is_own base path ≡ false
+
+-- Writes that can be made in one go: their paths strictly rise, and below a target that isn't a directory nothing stands.
+pub record IsWriteSet (puts : List Put) : Type 0 where
+  pub rises : Rises puts
+  pub paths : (p : Put) → Contains puts p → IsTrue (is_path p.path)
+  pub formed : (p : Put) → Contains puts p → IsFormed p.want
+  pub nothing_below : (p q : Put) → Contains puts p → Contains puts q → IsTrue (is_below p.path q.path) → is_dir_want p.want ≡ false → q.want ≡ Nothing
+
+-- A write set that a log can hold.
+pub record IsLoggable (base : Name) (puts : List Put) : Type 0 where
+  pub write_set : IsWriteSet puts
+  pub named : (p : Put) → Contains puts p → CanBeNamed base p.path
