@@ -1,5 +1,6 @@
 -- Which lists of writes are write sets, and which of them a log can hold.
-use Rattle.std.specs.Prelude.{◌≡◌, ◌≢◌, ◌≤◌, ℕ, false, IsTrue, List, [], ◌∷◌, Contains}
+use Rattle.std.specs.Prelude.{◌≡◌, ◌≢◌, ◌≤◌, ℕ, false, IsTrue, List, [], ◌∷◌}
+use Rattle.std.specs.List.{All}
 use Rattle.std.specs.Ordering.{nat_cmp}
 use Rattle.std.specs.declared.cmp.Ordering.TheVariants.{Less}
 use Rattle.std.specs.Cmp.Lexicographic.{slice_cmp}
@@ -38,11 +39,11 @@ pub record CanBeNamed (base path : Name) : Type 0 where
 -- Writes that can be made in one go: their paths strictly rise, and below a target that isn't a directory nothing stands.
 pub record IsWriteSet (puts : List Put) : Type 0 where
   pub rises : Rises puts
-  pub paths : (p : Put) → Contains puts p → IsTrue (is_path p.path)
-  pub formed : (p : Put) → Contains puts p → IsFormed p.want
-  pub nothing_below : (p q : Put) → Contains puts p → Contains puts q → IsTrue (is_below p.path q.path) → is_dir_want p.want ≡ false → q.want ≡ Nothing
+  pub paths : All (λ p. IsTrue (is_path p.path)) puts
+  pub formed : All (λ p. IsFormed p.want) puts
+  pub nothing_below : All (λ p. is_dir_want p.want ≡ false → All (λ q. IsTrue (is_below p.path q.path) → q.want ≡ Nothing) puts) puts
 
 -- A write set that a log can hold.
 pub record IsLoggable (base : Name) (puts : List Put) : Type 0 where
   pub write_set : IsWriteSet puts
-  pub named : (p : Put) → Contains puts p → CanBeNamed base p.path
+  pub named : All (λ p. CanBeNamed base p.path) puts

@@ -15,45 +15,7 @@ use Rattle.tree_disk.specs.Rows.{is_childless, can_remove, without, seen_as, loo
 use Rattle.tree_disk.specs.Laws.{same_means, same_itself, get_put, same_tree}
 use Rattle.tree_disk.specs.Clear.{is_within, without_tree, without_each, sees_nothing, sees_dir}
 use Rattle.tree_disk.specs.ClearLaws.{or_left, or_right, or_cases, by_name, below_trans, below_within, within_itself, join_is, within_join_below, get-without_tree}
-
--- ---- tests
-
-clash : {A : Type 0} (b : Bool) → b ≡ true → b ≡ false → A
-clash b is not_so = absurd (cc (is, not_so))
-
-or_none : (x y : Bool) → x ≡ false → y ≡ false → (x || y) ≡ false
-or_none true y left right = left
-or_none false y left right = right
-
-any_weaker : (P Q : List ℕ → Bool) (xs : List (List ℕ)) → ((x : List ℕ) → P x ≡ true → Q x ≡ true) → list_any P xs ≡ true
-    → list_any Q xs ≡ true
-any_weaker P Q [] weaker any = any
-any_weaker P Q (x ∷ xs) weaker any = ⊎_elim
-    (λ here. or_left (Q x) (list_any Q xs) (weaker x here))
-    (λ later. or_right (Q x) (list_any Q xs) (any_weaker P Q xs weaker later))
-    (or_cases (P x) (list_any P xs) any)
-
-none_any : (P : List ℕ → Bool) (xs : List (List ℕ)) → ((x : List ℕ) → P x ≡ false) → list_any P xs ≡ false
-none_any P [] none = refl
-none_any P (x ∷ xs) none = or_none (P x) (list_any P xs) (none x) (none_any P xs none)
-
--- ---- what lies below what
-
-not_shorter : (p rest : Name) → p ≡ p ++ 47 ∷ rest → ⊥
-not_shorter p rest is = absurd (omega (arith, ap length is, length-append p (47 ∷ rest)))
-
-not_below_itself : (p : Name) → is_below p p ≡ false
-not_below_itself p = ⊎_elim (λ low. let rest = below_rest p p low in absurd (not_shorter p rest.0 rest.1)) (λ not_low. not_low) (cases_Bool (is_below p p))
-
--- what is within a name has below it what is within it too
-within_child : (c q : Name) → is_path q ≡ true → (parent q ≢ root) → is_within c (parent q) ≡ true → is_within c q ≡ true
-within_child c q path up within = ⊎_elim
-    (λ is. absurd (up is))
-    (λ low. ⊎_elim
-    (λ same. below_within c q (subst (λ n. is_below n q ≡ true) (same_means (parent q) c same) low))
-    (λ high. below_within c q (below_trans c (parent q) q high low))
-    (or_cases (same_name (parent q) c) (is_below c (parent q)) within))
-    (child_below q path)
+use Rattle.tree_disk.specs.Children.{clash, none_any, not_below_itself, stands_or_not, some_dir, none_below, covered_up, filter_none}
 
 get-without_each : (t : Tree) (p : Name) (names : List (List ℕ)) (q : Name)
     → get (without_each t p names) q ≡ cond (list_any (λ last. is_within (join p last) q) names) None (get t q)
@@ -69,97 +31,10 @@ pub without_each-append : (t : Tree) (p : Name) (names : List (List ℕ)) (last 
 without_each-append t p [] last = refl
 without_each-append t p (n ∷ names) last = without_each-append (without_tree t (join p n)) p names last
 
--- ---- what stands below a directory
-
-stands_or_not : (o : Option Node) → (o ≡ None) ⊎ (is_some o ≡ true)
-stands_or_not None = inl refl
-stands_or_not (Some node) = inr refl
-
-some_dir : (o : Option Node) → is_dir o ≡ true → is_some o ≡ true
-some_dir None h = absurd (cc h)
-some_dir (Some node) h = refl
-
--- what stands below a path has a parent that is shorter, and stands at the path or below it
-above : (t : Tree) (p q : Name) → WellFormed t → is_path p ≡ true → is_below p q ≡ true → is_some (get t q) ≡ true
-    → (length (parent q) < length q) × ((p ≡ parent q) ⊎ (is_below p (parent q) ≡ true))
-above t p q well path low stands = ⊎_elim
-    (λ is. absurd (none_below_root p path (subst (λ x. is_below p x ≡ true) is low)))
-    (λ less. (less, below_parent p q (λ is. absurd (cc (is, path))) low))
-    (parent_shorter q (well.paths q stands))
-
--- Where no directory stands, nothing stands below. (The names grow shorter on the way up.)
-none_below_up : (t : Tree) (p : Name) → WellFormed t → is_path p ≡ true → is_dir (get t p) ≡ false → (n : ℕ) (q : Name)
-    → length q < n → is_below p q ≡ true → is_some (get t q) ≡ true → ⊥
-none_below_up t p well path no_dir zero q short low stands = absurd (omega arith)
-none_below_up t p well path no_dir (suc n) q short low stands =
-    let up = above t p q well path low stands in
-    ⊎_elim
-    (λ is. clash (is_dir (get t p)) (subst (λ x. is_dir (get t x) ≡ true) (sym is) (well.parents q stands)) no_dir)
-    (λ high. none_below_up t p well path no_dir n (parent q) (omega (arith, up.0)) high (some_dir (get t (parent q)) (well.parents q stands)))
-    up.1
-
-pub none_below : (t : Tree) (p q : Name) → WellFormed t → is_path p ≡ true → is_dir (get t p) ≡ false → is_below p q ≡ true
-    → get t q ≡ None
-none_below t p q well path no_dir low = ⊎_elim (λ none. none) (λ stands. absurd (none_below_up t p well path no_dir (suc (length q)) q (omega arith) low stands)) (stands_or_not (get t q))
-
--- an element of a list, which passes a test and whose value passes another
-any_mapped : (test : Name → Bool) (f : Name → List ℕ) (P : List ℕ → Bool) (q : Name) (names : List Name) → test q ≡ true
-    → P (f q) ≡ true → list_any (same_name q) names ≡ true → list_any P (map f (filter test names)) ≡ true
-any_mapped test f P q [] passes value any = absurd (cc any)
-any_mapped test f P q (n ∷ names) passes value any = at (test n) refl (any_mapped test f P q names passes value) (or_cases (same_name q n) (list_any (same_name q) names) any)
-  where
-    at : (b : Bool) → test n ≡ b → (list_any (same_name q) names ≡ true → list_any P (map f (filter test names)) ≡ true)
-        → (same_name q n ≡ true) ⊎ (list_any (same_name q) names ≡ true)
-        → list_any P (map f (cond (test n) (n ∷ filter test names) (filter test names))) ≡ true
-    at true is rest (inl same) =
-        ap (λ b. list_any P (map f (cond b (n ∷ filter test names) (filter test names)))) is ∙ or_left (P (f n)) _ (ap (λ x. P (f x)) (sym (same_means q n same)) ∙ value)
-    at true is rest (inr later) =
-        ap (λ b. list_any P (map f (cond b (n ∷ filter test names) (filter test names)))) is ∙ or_right (P (f n)) _ (rest later)
-    at false is rest (inl same) = absurd (cc (is, passes, ap test (same_means q n same)))
-    at false is rest (inr later) =
-        ap (λ b. list_any P (map f (cond b (n ∷ filter test names) (filter test names)))) is ∙ rest later
-
--- a child of a directory is one of its children
-child_listed : (t : Tree) (q : Name) → WellFormed t → q ≢ root → is_some (get t q) ≡ true
-    → list_any (λ last. is_within (join (parent q) last) q) (children t (parent q)) ≡ true
-child_listed t q well other stands = any_mapped (is_child (parent q)) last_name (λ last. is_within (join (parent q) last) q) q (keys t) child itself (sym (contains_key-keys t q) ∙ stands)
-  where
-    not_root : same_name q root ≡ false
-    not_root = ⊎_elim (λ same. absurd (other (same_means q root same))) (λ no_same. no_same) (cases_Bool (same_name q root))
-
-    child : is_child (parent q) q ≡ true
-    child = ap (λ b. not b && same_name (parent q) (parent q)) not_root ∙ same_itself (parent q)
-
-    itself : is_within (join (parent q) (last_name q)) q ≡ true
-    itself = ap (λ n. is_within n q) (join_parent q (well.paths q stands)) ∙ within_itself q
-
-not_root_below : (p q : Name) → is_path p ≡ true → is_below p q ≡ true → q ≢ root
-not_root_below p q path low is = absurd (none_below_root p path (subst (λ x. is_below p x ≡ true) is low))
-
--- What stands below a directory is one of its children, or lies below one.
-covered_up : (t : Tree) (p : Name) → WellFormed t → is_path p ≡ true → (n : ℕ) (q : Name) → length q < n → is_below p q ≡ true
-    → is_some (get t q) ≡ true → list_any (λ last. is_within (join p last) q) (children t p) ≡ true
-covered_up t p well path zero q short low stands = absurd (omega arith)
-covered_up t p well path (suc n) q short low stands =
-    let up = above t p q well path low stands in
-    ⊎_elim
-    (λ is. subst (λ x. list_any (λ last. is_within (join x last) q) (children t x) ≡ true) (sym is) (child_listed t q well (not_root_below p q path low) stands))
-    (λ high. any_weaker (λ last. is_within (join p last) (parent q)) (λ last. is_within (join p last) q) (children t p)
-    (λ last within. within_child (join p last) q (well.paths q stands) (not_root_below p (parent q) path high) within)
-    (covered_up t p well path n (parent q) (omega (arith, up.0)) high (some_dir (get t (parent q)) (well.parents q stands))))
-    up.1
-
 none_or : (b : Bool) (o : Option Node) → (is_some o ≡ true → b ≡ true) → cond b None o ≡ None
 none_or true o covers = refl
 none_or false None covers = refl
 none_or false (Some node) covers = absurd (cc (covers refl))
-
-filter_none : (test : Name → Bool) (names : List Name) → ((q : Name) → list_any (same_name q) names ≡ true → test q ≡ false)
-    → filter test names ≡ []
-filter_none test [] fails = refl
-filter_none test (n ∷ names) fails =
-    ap (λ b. cond b (n ∷ filter test names) (filter test names)) (fails n (or_left (same_name n n) (list_any (same_name n) names) (same_itself n)))
-    ∙ filter_none test names (λ q listed. fails q (or_right (same_name q n) (list_any (same_name q) names) listed))
 
 -- ---- a directory without its children
 

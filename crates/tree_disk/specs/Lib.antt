@@ -12,3 +12,4 @@ pub mod Untold
 pub mod Whole
 pub mod Clear
 pub mod ClearLaws
+pub mod Children
