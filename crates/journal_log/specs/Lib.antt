@@ -1,3 +1,4 @@
 pub mod Own
 pub mod WriteSet
 pub mod Targets
+pub mod LogBytes

@@ -1,0 +1,8 @@
+//! Items of a binary stream: how they are written and read, and where a fault lies.
+#![tactic(auto)]
+
+mod item;
+#[cfg(test)]
+mod tests;
+
+pub use item::{Item, next_item, one_item, put_item};
