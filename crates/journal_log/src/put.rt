@@ -1,8 +1,10 @@
 //! What is to be put into a tree.
 ghost use Rattle.std.specs.Prelude.{◌≡◌, IfOk, Contains};
-ghost use Rattle.journal_log.specs.Targets.{is_dir_want};
+ghost use Rattle.journal_log.specs.WriteSet.{Rises};
+ghost use Rattle.journal_log.specs.Targets.{is_dir_want, is_target};
 
 use cny_base::{Bytes, Mode, OutOfMemory, Path, Target};
+use std::cmp::Ord;
 use std::marker::Model;
 
 /// What is to stand at a path.
@@ -85,4 +87,28 @@ impl Model for Puts {
     ghost view = { λ a. a.items.items };
 
     ghost invariant = { λ a. Rises a.items.items };
+}
+
+impl Puts {
+    pub fn get(&self) -> &[Put]
+        ensures value { result.now ≡ self.now }
+        ensures rises { Rises result.now }
+    {
+        self.items.as_slice()
+    }
+
+    pub fn contains(&self, path: &Path) -> bool
+        ensures { result ≡ is_target self.now path.now }
+    {
+        has_target(self.items.as_slice(), path)
+    }
+}
+
+fn has_target(puts: &[Put], path: &Path) -> bool
+    ensures { result ≡ is_target puts.now path.now }
+{
+    match puts {
+        [] => false,
+        [put, rest @ ..] => path.cmp(&put.path).is_eq() || has_target(rest, path),
+    }
 }

@@ -1,0 +1,79 @@
+//! What stands behind the commit flag.
+ghost use Rattle.std.specs.Prelude.{◌≡◌, IfOk, IsTrue, Some};
+ghost use Rattle.std.specs.FinMap.{get};
+ghost use Rattle.cny_base.specs.Path.{join};
+ghost use Rattle.journal_log.specs.Own.{gate, log};
+ghost use Rattle.tree_journal.specs.Found.{file_bytes, size_seen, Finds, FindsLog};
+ghost use Rattle.tree_journal.specs.Recovery.{is_flag};
+
+use cny_base::{Bytes, Path, Stop, TextFault};
+use journal_log::{Puts, decode_log};
+use std::alloc::Global;
+use tree_disk::{Look, TreeDisk, steps};
+
+fn file_size(look: &Look) -> Option<u64>
+    ensures { result ≡ size_seen look.now }
+{
+    match look {
+        Look::File { size, .. } => Some(*size),
+        Look::Nothing | Look::Dir { .. } | Look::Link { .. } => None,
+    }
+}
+
+// The bytes of the file at a path, where one stands.
+fn read_file<D: TreeDisk>(
+    alloc: Global,
+    disk: &mut D,
+    path: &Path,
+) -> Result<Option<Bytes>, Stop>
+    ensures { Finds D.disk (λ tree bytes. bytes ≡ file_bytes (get tree path.now)) disk.old disk.new result }
+{
+    let look = steps::look(alloc, disk, path)?;
+    let Some(size) = file_size(&look) else {
+        return Ok(None);
+    };
+    steps::read_whole(alloc, disk, path, size)
+}
+
+fn is_flag_byte(bytes: &Bytes) -> bool
+    ensures { result ≡ is_flag_text bytes.now }
+{
+    bytes.get() == b"O"
+}
+
+/// Whether the commit flag is set.
+pub fn is_flag_set<D: TreeDisk>(
+    alloc: Global,
+    disk: &mut D,
+    gate_path: &Path,
+) -> Result<bool, Stop>
+    ensures { Finds D.disk (λ tree is. is ≡ is_flag (get tree gate_path.now)) disk.old disk.new result }
+{
+    let look = steps::look(alloc, disk, gate_path)?;
+    if file_size(&look) != Some(1) {
+        return Ok(false);
+    }
+    let mut byte = [0u8; 1];
+    steps::read_at(alloc, disk, gate_path, 0, &mut byte)?;
+    Ok(byte[0] == b'O')
+}
+
+/// The write set of the log, where the log is whole.
+pub fn read_log<D: TreeDisk>(
+    alloc: Global,
+    disk: &mut D,
+    base: &Path,
+    log_path: &Path,
+) -> Result<Option<Puts>, Stop>
+    requires { log_path.now ≡ log base.now }
+    ensures finds { Finds D.disk (FindsLog base.now) disk.old disk.new result }
+{
+    let Some(bytes) = read_file(alloc, disk, log_path)? else {
+        return Ok(None);
+    };
+    match decode_log(alloc, base, bytes.get()) {
+        Ok(puts) => Ok(Some(puts)),
+        Err(TextFault::Bad) => Ok(None),
+        Err(TextFault::Memory) => Err(Stop::Memory),
+    }
+}

@@ -1,0 +1,50 @@
+//! Recovery: what a crash left of an applied write set is brought to its end.
+ghost use Rattle.std.specs.Prelude.{◌≡◌, ◌≤◌, false, IfErr, IfOk, IsErrOf, IsTrue, OnOk};
+ghost use Rattle.cny_base.specs.Count.{Rose};
+ghost use Rattle.cny_base.specs.declared.stop.Stop.TheVariants as stop;
+ghost use Rattle.tree_disk.specs.Confined.{IsSynced, LeavesOnly};
+ghost use Rattle.journal_log.specs.Own.{gate, log};
+ghost use Rattle.tree_journal.specs.Found.{IfDamaged, IfParent, IsNear};
+ghost use Rattle.tree_journal.specs.Recovery.{is_committed, HasBlockedLog, HasDamagedLog, IsRecovered, RecoversAsAt};
+
+use crate::blocked::first_blocked;
+use crate::flag::own_path;
+use crate::found::{is_flag_set, read_log};
+use crate::replay::replay;
+use cny_base::{Path, Refusal, Stop, Text, TextFault};
+use std::alloc::Global;
+use tree_disk::{TreeDisk, steps};
+
+/// Brings to its end what a crash or a fault left of an applied write set, and answers whether its commit flag was set.
+/// The base is the journal's private directory. It begins with a sync, and may itself be cut off at any moment.
+///
+/// `Damaged` names the log: the commit flag is set, and the log isn't in its grammar. `Refused` is `Parent` with the first
+/// path of the log that can't be put. In both cases no node is changed.
+pub fn recover<D: TreeDisk>(alloc: Global, disk: &mut D, base: &Path) -> Result<bool, Stop>
+    // At every moment, also inside each call of the disk and where a call fails, a crash leaves a tree that recovers to
+    // all that some crash image at entry recovers to.
+    ensures any_moment { IsTrue D.disk.tells → LeavesOnly D.disk disk.old disk.new (RecoversAsAt D.disk base.now disk.old) }
+    // Then the commit flag isn't set, a crash leaves what the disk reads, and that stores the same as all that the disk
+    // recovered to as it read.
+    ensures recovered { IsTrue D.disk.tells → OnOk result (IsRecovered D.disk base.now disk.old disk.new) }
+    ensures was_committed { IsTrue D.disk.tells → IfOk result (λ was. was ≡ is_committed base.now (D.disk.reads disk.old)) }
+    // A flag that isn't set is left as it stands, and all else too.
+    ensures kept { IsTrue D.disk.tells → IfOk result (λ was. was ≡ false → D.disk.reads disk.new ≡ D.disk.reads disk.old) }
+    ensures parent { IsTrue D.disk.tells → IfErr result (IfParent (λ path.
+        HasBlockedLog base.now (D.disk.reads disk.old) path × (D.disk.reads disk.new ≡ D.disk.reads disk.old))) }
+    ensures damaged { IsTrue D.disk.tells → IfErr result (IfDamaged (λ path.
+        (path ≡ log base.now) × HasDamagedLog base.now (D.disk.reads disk.old) × (D.disk.reads disk.new ≡ D.disk.reads disk.old))) }
+    ensures later { D.disk.faults disk.old ≤ D.disk.faults disk.new }
+    ensures failed { IsErrOf result stop.Failed → Rose (D.disk.faults disk.old) (D.disk.faults disk.new) }
+    ensures near { IfErr result IsNear }
+{
+    steps::sync(alloc, disk)?;
+    let Some(gate_path) = gate_of(alloc, base)? else {
+        return Ok(false);
+    };
+    if !is_flag_set(alloc, disk, &gate_path)? {
+        return Ok(false);
+    }
+    replay_log(alloc, disk, base, &gate_path)?;
+    Ok(true)
+}
