@@ -1,6 +1,7 @@
 //! Which write of a write set can't be put into the tree as it stands.
-ghost use Rattle.std.specs.Prelude.{◌≡◌, ◌≢◌, IfOk, IsTrue};
-ghost use Rattle.cny_base.specs.Path.{is_path, root};
+ghost use Rattle.std.specs.Prelude.{◌≡◌, ◌≢◌, IfErr, IfOk, IsTrue};
+ghost use Rattle.cny_base.specs.Path.{is_path, join, root};
+ghost use Rattle.cny_base.specs.declared.stop.Stop.TheVariants as stop;
 ghost use Rattle.journal_log.specs.Targets.{is_dir_want};
 ghost use Rattle.journal_log.specs.WriteSet.{IsWriteSet};
 ghost use Rattle.tree_disk.specs.Disk.{NamesOf};

@@ -35,12 +35,6 @@ fn read_file<D: TreeDisk>(
     steps::read_whole(alloc, disk, path, size)
 }
 
-fn is_flag_byte(bytes: &Bytes) -> bool
-    ensures { result ≡ is_flag_text bytes.now }
-{
-    bytes.get() == b"O"
-}
-
 /// Whether the commit flag is set.
 pub fn is_flag_set<D: TreeDisk>(
     alloc: Global,

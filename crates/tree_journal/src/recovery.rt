@@ -1,5 +1,6 @@
 //! Recovery: what a crash left of an applied write set is brought to its end.
-ghost use Rattle.std.specs.Prelude.{◌≡◌, ◌≤◌, false, IfErr, IfOk, IsErrOf, IsTrue, OnOk};
+ghost use Rattle.std.specs.Prelude.{◌≡◌, ◌≤◌, false, true, IfErr, IfNone, IfOk, IfSome, IsErrOf, IsTrue, OnOk};
+ghost use Rattle.cny_base.specs.Path.{is_path};
 ghost use Rattle.cny_base.specs.Count.{Rose};
 ghost use Rattle.cny_base.specs.declared.stop.Stop.TheVariants as stop;
 ghost use Rattle.tree_disk.specs.Confined.{IsSynced, LeavesOnly};
@@ -47,4 +48,48 @@ pub fn recover<D: TreeDisk>(alloc: Global, disk: &mut D, base: &Path) -> Result<
     }
     replay_log(alloc, disk, base, &gate_path)?;
     Ok(true)
+}
+
+// The path of the commit flag's file, where that is a path: with a base so long that it isn't, nothing stands there.
+fn gate_of(alloc: Global, base: &Path) -> Result<Option<Path>, Stop>
+    ensures some { IfOk result (λ found. IfSome found (λ path. path ≡ gate base.now)) }
+    ensures none { IfOk result (λ found. IfNone found (is_path (gate base.now) ≡ false)) }
+    ensures memory { IfErr result (λ e. e ≡ stop.Memory) }
+{
+    match base.join(alloc, "gate") {
+        Ok(path) => Ok(Some(path)),
+        Err(TextFault::Bad) => Ok(None),
+        Err(TextFault::Memory) => Err(Stop::Memory),
+    }
+}
+
+// Replays the log behind a commit flag that is set.
+fn replay_log<D: TreeDisk>(
+    alloc: Global,
+    disk: &mut D,
+    base: &Path,
+    gate_path: &Path,
+) -> Result<(), Stop>
+    requires gate { gate_path.now ≡ gate base.now }
+    requires synced { IsTrue D.disk.tells → IsSynced D.disk disk.old }
+    requires flag_set { IsTrue D.disk.tells → is_committed base.now (D.disk.reads disk.old) ≡ true }
+    ensures any_moment { IsTrue D.disk.tells → LeavesOnly D.disk disk.old disk.new (RecoversAsAt D.disk base.now disk.old) }
+    ensures recovered { IsTrue D.disk.tells → OnOk result (IsRecovered D.disk base.now disk.old disk.new) }
+    ensures parent { IsTrue D.disk.tells → IfErr result (IfParent (λ path.
+        HasBlockedLog base.now (D.disk.reads disk.old) path × (D.disk.reads disk.new ≡ D.disk.reads disk.old))) }
+    ensures damaged { IsTrue D.disk.tells → IfErr result (IfDamaged (λ path.
+        (path ≡ log base.now) × HasDamagedLog base.now (D.disk.reads disk.old) × (D.disk.reads disk.new ≡ D.disk.reads disk.old))) }
+    ensures later { D.disk.faults disk.old ≤ D.disk.faults disk.new }
+    ensures failed { IsErrOf result stop.Failed → Rose (D.disk.faults disk.old) (D.disk.faults disk.new) }
+    ensures near { IfErr result IsNear }
+{
+    let log_path = own_path(alloc, base, "log")?;
+    let Some(puts) = read_log(alloc, disk, base, &log_path)? else {
+        return Err(Stop::Damaged { path: log_path });
+    };
+    if let Some(path) = first_blocked(alloc, disk, &puts)? {
+        let path = Text::new(alloc, path.text())?;
+        return Err(Stop::Refused(Refusal::Parent { path }));
+    }
+    replay(alloc, disk, base, gate_path, puts.get())
 }

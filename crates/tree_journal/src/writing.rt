@@ -1,6 +1,8 @@
 //! A write set, applied as a whole.
 ghost use Rattle.std.specs.Prelude.{◌≡◌, ◌≤◌, IfErr, IsErrOf, IsTrue, OnOk, length};
 ghost use Rattle.cny_base.specs.Count.{Rose};
+ghost use Rattle.cny_base.specs.Path.{parent};
+ghost use Rattle.tree_disk.specs.Rows.{is_dir_at};
 ghost use Rattle.cny_base.specs.declared.stop.Stop.TheVariants as stop;
 ghost use Rattle.tree_disk.specs.Confined.{Among, Confined, IsSynced, LeavesOnly};
 ghost use Rattle.tree_disk.specs.Steps.{IsDiskStop, Makes};

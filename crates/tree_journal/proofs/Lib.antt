@@ -1,0 +1,3 @@
+pub mod WriteSets
+pub mod ClearPass
+pub mod MakePass
