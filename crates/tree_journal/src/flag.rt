@@ -1,7 +1,7 @@
 //! The journal's own files: the base, the log and the commit flag.
 ghost use Rattle.std.specs.Prelude.{◌≡◌, ◌≢◌, ◌≤◌, IfErr, IfOk, IsTrue, OnOk, length};
 ghost use Rattle.std.specs.FinMap.{get};
-ghost use Rattle.cny_base.specs.Path.{are_parts, join, parent, root};
+ghost use Rattle.cny_base.specs.Path.{are_parts, is_path, join, parent, root};
 ghost use Rattle.cny_base.specs.declared.node.Node.TheVariants as node;
 ghost use Rattle.cny_base.specs.declared.stop.Stop.TheVariants as stop;
 ghost use Rattle.tree_disk.specs.Clear.{is_within, sees_nothing};
@@ -22,6 +22,8 @@ pub fn own_path(alloc: Global, base: &Path, last: &str) -> Result<Path, Stop>
     requires part { IsTrue (are_parts last.now) }
     requires short { length (join base.now last.now) ≤ 1024 }
     ensures path { IfOk result (λ path. path ≡ join base.now last.now) }
+    ensures is_path { IfOk result (λ path. IsTrue (is_path path)) }
+    ensures base { IsTrue (is_path base.now) }
     ensures memory { IfErr result (λ e. e ≡ stop.Memory) }
 {
     // Its clause says that the base is a path, so that the joined name is one.
@@ -52,6 +54,7 @@ fn new_base<D: TreeDisk>(alloc: Global, disk: &mut D, base: &Path) -> Result<(),
 
 // Makes the base in place of a file or a link.
 fn replace_base<D: TreeDisk>(alloc: Global, disk: &mut D, base: &Path) -> Result<(), Stop>
+    requires path { IsTrue (is_path base.now) }
     requires parent { IsTrue D.disk.tells → IsTrue (is_dir_at (D.disk.reads disk.old) (parent base.now)) }
     requires stands { IsTrue D.disk.tells → IsOther (get (D.disk.reads disk.old) base.now) }
     ensures { Makes D.disk (one_name base.now) (λ tree. with_node tree base.now (node.Dir 493)) disk.old disk.new result }
@@ -62,7 +65,8 @@ fn replace_base<D: TreeDisk>(alloc: Global, disk: &mut D, base: &Path) -> Result
 
 /// Makes the base a directory, where it isn't one. A file or a link that stands there goes first.
 pub fn make_base<D: TreeDisk>(alloc: Global, disk: &mut D, base: &Path) -> Result<(), Stop>
-    requires { IsTrue D.disk.tells → IsTrue (is_dir_at (D.disk.reads disk.old) (parent base.now)) }
+    requires path { IsTrue (is_path base.now) }
+    requires parent { IsTrue D.disk.tells → IsTrue (is_dir_at (D.disk.reads disk.old) (parent base.now)) }
     ensures { Makes D.disk (one_name base.now) (λ tree. with_base base.now tree) disk.old disk.new result }
 {
     let look = steps::look(alloc, disk, base)?;
@@ -82,6 +86,7 @@ pub fn write_own_file<D: TreeDisk>(
     path: &Path,
     bytes: &[u8],
 ) -> Result<(), Stop>
+    requires path { IsTrue (is_path path.now) }
     requires not_root { path.now ≢ root }
     requires parent { IsTrue D.disk.tells → IsTrue (is_dir_at (D.disk.reads disk.old) (parent path.now)) }
     ensures makes { Makes D.disk (is_within path.now) (λ tree. with_own_file path.now bytes.now tree) disk.old disk.new result }

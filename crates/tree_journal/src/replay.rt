@@ -1,5 +1,6 @@
 //! The replay of a log behind a commit flag that is set.
 ghost use Rattle.std.specs.Prelude.{◌≡◌, IsTrue, OnOk};
+ghost use Rattle.cny_base.specs.Path.{is_path};
 ghost use Rattle.tree_disk.specs.Confined.{IsSynced, LeavesOnly};
 ghost use Rattle.tree_disk.specs.Steps.{Makes};
 ghost use Rattle.journal_log.specs.Own.{gate};
@@ -22,6 +23,7 @@ pub fn replay<D: TreeDisk>(
     gate_path: &Path,
     puts: &[Put],
 ) -> Result<(), Stop>
+    requires base { IsTrue (is_path base.now) }
     requires gate { gate_path.now ≡ gate base.now }
     requires told { IsTrue D.disk.tells → IsCommitted D.disk base.now puts.now disk.old }
     ensures makes { Makes D.disk (is_gate_or_target base.now puts.now) (λ tree. replayed base.now puts.now tree) disk.old disk.new result }

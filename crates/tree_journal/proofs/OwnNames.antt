@@ -1,0 +1,197 @@
+-- The journal's own names, and which of them lie in which.
+use Rattle.std.proofs.Common.{◌≡◌, ◌≢◌, ◌⊎◌, inl, inr, ⊎_elim, ℕ, zero, suc, ◌+◌, ◌<◌, ◌≤◌, Bool, true, false, cond, ◌||◌, ◌&&◌, List, [], ◌∷◌, ◌++◌, length, codes, refl, sym, ◌∙◌, ap, subst, arith, append_assoc, length-append}
+use Rattle.std.proofs.lemmas.Bool.{cases_Bool}
+use Rattle.std.proofs.lemmas.Bool.Decides.{nat_tests}
+use Rattle.std.specs.Prelude.{nat_le, ◌==◌}
+use Rattle.cny_base.specs.Path.{has_slash, before_slash, is_path, join, parent, root, or_root, are_parts}
+use Rattle.cny_base.specs.Below.{is_below, begins_with, below_rest, rest_below, before_join, below_parent}
+use Rattle.cny_base.specs.Parent.{join_is_path}
+use Rattle.tree_disk.specs.Tree.{Name, same_name}
+use Rattle.tree_disk.specs.Laws.{same_means, same_itself}
+use Rattle.tree_disk.specs.Clear.{is_within}
+use Rattle.tree_disk.specs.ClearLaws.{below_trans, below_within, within_itself, itself_within, or_left, or_right, or_cases}
+use Rattle.journal_log.specs.Own.{gate, log, work, staged, is_own_file, is_own}
+use Rattle.tree_journal.specs.Steps.{is_base_or_log}
+use Rattle.tree_journal.proofs.WriteSets.{neither, or_none}
+
+-- ---- joined names
+
+slash_first : (b : ℕ) → is_path (b ∷ []) ≡ true → b ≡ 47
+slash_first b path = grind (arith, nat_tests)
+
+or_root_itself : (b : ℕ) (p : Name) → or_root (b ∷ p) ≡ b ∷ p
+or_root_itself b p = refl
+
+-- a name directly below a path has the path as its parent
+pub parent_join : (p last : Name) → is_path p ≡ true → has_slash last ≡ false → parent (join p last) ≡ p
+parent_join [] last path plain = absurd (cc path)
+parent_join (b ∷ []) last path plain = ap or_root (ap (λ (v : Bool). cond v (b ∷ before_slash last) []) plain) ∙ ap (λ (n : ℕ). n ∷ []) (sym (slash_first b path))
+parent_join (b ∷ c ∷ p) last path plain = ap or_root (before_join (b ∷ c ∷ p) last false plain)
+
+-- and is longer
+pub join_longer : (p last : Name) → is_path p ≡ true → length p + length last ≤ length (join p last)
+join_longer [] last path = absurd (cc path)
+join_longer (b ∷ []) last path = omega arith
+join_longer (b ∷ c ∷ p) last path = omega (arith, length-append (b ∷ c ∷ p) (47 ∷ last))
+
+pub join_short : (p last : Name) → length (join p last) ≤ length p + length last + 1
+join_short [] last = omega arith
+join_short (b ∷ []) last = omega arith
+join_short (b ∷ c ∷ p) last = omega (arith, length-append (b ∷ c ∷ p) (47 ∷ last))
+
+fits : (n : ℕ) → n ≤ 1024 → nat_le n 1024 ≡ true
+fits n le = grind (arith, nat_tests)
+
+-- a name that isn't too long is a path
+pub own_is_path : (p last : Name) → is_path p ≡ true → are_parts last ≡ true → length (join p last) ≤ 1024 → is_path (join p last) ≡ true
+own_is_path p last path parts short = join_is_path p last path parts (fits (length (join p last)) short)
+
+-- ---- lengths
+
+pub below_longer : (p q : Name) → is_below p q ≡ true → length p < length q
+below_longer p q low = let rest = below_rest p q low in omega (arith, ap length rest.1, length-append p (47 ∷ rest.0))
+
+pub not_longer : (p q : Name) → length q ≤ length p → (p ≡ q → ⊥) → is_within p q ≡ false
+not_longer p q le other = or_none (same_name q p) (is_below p q)
+    (⊎_elim (λ same. absurd (other (sym (same_means q p same)))) (λ no_same. no_same) (cases_Bool (same_name q p)))
+    (⊎_elim (λ low. absurd (omega (arith, below_longer p q low))) (λ not_low. not_low) (cases_Bool (is_below p q)))
+
+pub within_longer : (p q : Name) → is_within p q ≡ true → length p ≤ length q
+within_longer p q within = ⊎_elim (λ same. omega (arith, ap length (same_means q p same))) (λ low. omega (arith, below_longer p q low)) (or_cases (same_name q p) (is_below p q) within)
+
+-- what is below something within a name is within it
+pub within_below : (f q p : Name) → is_within f q ≡ true → is_below q p ≡ true → is_within f p ≡ true
+within_below f q p within low = ⊎_elim
+    (λ same. below_within f p (subst (λ (x : Name). is_below x p ≡ true) (same_means q f same) low))
+    (λ lower. below_within f p (below_trans f q p lower low))
+    (or_cases (same_name q f) (is_below f q) within)
+
+-- ---- two names above one
+
+pub data Line (a b : Name) : Type 0 where
+  one : a ≡ b → Line a b
+  first : is_below a b ≡ true → Line a b
+  second : is_below b a ≡ true → Line a b
+
+equal_test : (n : ℕ) → (n == n) ≡ true
+equal_test n = grind (arith, nat_tests)
+
+below_more : (x : ℕ) (a b : Name) → is_below a b ≡ true → is_below (x ∷ a) (x ∷ b) ≡ true
+below_more x a b low = ap (λ (t : Bool). t && is_below a b) (equal_test x) ∙ low
+
+line_more : (x : ℕ) (a b : Name) → Line a b → Line (x ∷ a) (x ∷ b)
+line_more x a b (one is) = one (ap (λ l. x ∷ l) is)
+line_more x a b (first low) = first (below_more x a b low)
+line_more x a b (second low) = second (below_more x b a low)
+
+in_front : (a b r s : Name) → a ++ 47 ∷ r ≡ b ++ 47 ∷ s → Line a b
+in_front [] [] r s is = one refl
+in_front [] (y ∷ b) r s is = first (ap (λ (n : ℕ). is_below [] (n ∷ b)) (let e : 47 ≡ y = cc is in sym e))
+in_front (x ∷ a) [] r s is = second (ap (λ (n : ℕ). is_below [] (n ∷ a)) (let e : x ≡ 47 = cc is in e))
+in_front (x ∷ a) (y ∷ b) r s is =
+    let same : x ≡ y = cc is in
+    let rest : a ++ 47 ∷ r ≡ b ++ 47 ∷ s = cc is in
+    subst (λ (n : ℕ). Line (x ∷ a) (n ∷ b)) same (line_more x a b (in_front a b r s rest))
+
+pub in_line : (a b q : Name) → is_below a q ≡ true → is_below b q ≡ true → Line a b
+in_line a b q high low =
+    let r = below_rest a q high in
+    let s = below_rest b q low in
+    in_front a b r.0 s.0 (sym r.1 ∙ s.1)
+
+-- ---- the journal's files
+
+pub in_gate : (base q : Name) → is_within (gate base) q ≡ true → is_own base q ≡ true
+in_gate base q within = or_right (same_name q base) _ (or_left (is_within (gate base) q) _ within)
+
+pub in_log : (base q : Name) → is_within (log base) q ≡ true → is_own base q ≡ true
+in_log base q within = or_right (same_name q base) _ (or_right (is_within (gate base) q) _ (or_left (is_within (log base) q) _ within))
+
+pub base_own : (base q : Name) → same_name q base ≡ true → is_own base q ≡ true
+base_own base q same = or_left (same_name q base) _ same
+
+pub base_or_log_own : (base q : Name) → is_base_or_log base q ≡ true → is_own base q ≡ true
+base_or_log_own base q h = ⊎_elim (base_own base q) (in_log base q) (or_cases (same_name q base) (is_within (log base) q) h)
+
+-- where a name lies that is one of the journal's own
+pub data OwnPlace (base q : Name) : Type 0 where
+  at_base : q ≡ base → OwnPlace base q
+  in_file : (last : Name) → has_slash last ≡ false → ((x : Name) → is_within (join base last) x ≡ true → is_own base x ≡ true) → is_within (join base last) q ≡ true → OwnPlace base q
+
+pub own_place : (base q : Name) → is_own base q ≡ true → OwnPlace base q
+own_place base q own = ⊎_elim
+    (λ same. at_base (same_means q base same))
+    (λ file. ⊎_elim
+    (λ within. in_file (codes "gate") refl (in_gate base) within)
+    (λ more. ⊎_elim
+    (λ within. in_file (codes "log") refl (in_log base) within)
+    (λ rest. ⊎_elim
+    (λ within. in_file (codes "w") refl (λ x w. or_right (same_name x base) _ (or_right (is_within (gate base) x) _ (or_right (is_within (log base) x) _ (or_left (is_within (work base) x) _ w)))) within)
+    (λ within. in_file (codes "p") refl (λ x w. or_right (same_name x base) _ (or_right (is_within (gate base) x) _ (or_right (is_within (log base) x) _ (or_right (is_within (work base) x) _ w)))) within)
+    (or_cases (is_within (work base) q) (is_within (staged base) q) rest))
+    (or_cases (is_within (log base) q) _ more))
+    (or_cases (is_within (gate base) q) _ file))
+    (or_cases (same_name q base) (is_own_file base q) own)
+
+module _ (base : Name) (path : is_path base ≡ true) where
+  gate_long : length base + 4 ≤ length (gate base)
+  gate_long = join_longer base (codes "gate") path
+
+  log_long : length base + 3 ≤ length (log base)
+  log_long = join_longer base (codes "log") path
+
+  longer_differs : (p q : Name) → length q < length p → p ≡ q → ⊥
+  longer_differs p q less is = absurd (omega (arith, ap length is))
+
+  pub base_not_in_gate : is_within (gate base) base ≡ false
+  base_not_in_gate = not_longer (gate base) base (omega (arith, gate_long)) (longer_differs (gate base) base (omega (arith, gate_long)))
+
+  log_no_longer : length (log base) + 1 ≡ length (gate base)
+  log_no_longer = at base path
+    where
+      at : (p : Name) → is_path p ≡ true → length (log p) + 1 ≡ length (gate p)
+      at [] path = absurd (cc path)
+      at (b ∷ []) path = refl
+      at (b ∷ c ∷ p) path = omega (arith, length-append (b ∷ c ∷ p) (47 ∷ codes "log"), length-append (b ∷ c ∷ p) (47 ∷ codes "gate"))
+
+  pub log_not_in_gate : is_within (gate base) (log base) ≡ false
+  log_not_in_gate = not_longer (gate base) (log base) (omega (arith, log_no_longer)) (longer_differs (gate base) (log base) (omega (arith, log_no_longer)))
+
+  pub gate_not_root : gate base ≢ root
+  gate_not_root is = absurd (omega (arith, gate_long, ap length is, some base path))
+    where
+      some : (p : Name) → is_path p ≡ true → 0 < length p
+      some [] path = absurd (cc path)
+      some (b ∷ p) path = omega arith
+
+  pub log_not_root : log base ≢ root
+  log_not_root is = absurd (omega (arith, log_long, ap length is, some base path))
+    where
+      some : (p : Name) → is_path p ≡ true → 0 < length p
+      some [] path = absurd (cc path)
+      some (b ∷ p) path = omega arith
+
+  not_empty : (p : Name) → 0 < length p → p ≡ [] → ⊥
+  not_empty p some is = absurd (omega (arith, ap length is))
+
+  -- a name below the log lies below the base: it is longer than the gate, or no such name
+  pub gate_not_in_log : is_within (log base) (gate base) ≡ false
+  gate_not_in_log = or_none (same_name (gate base) (log base)) (is_below (log base) (gate base))
+      (⊎_elim (λ same. absurd (omega (arith, log_no_longer, ap length (same_means (gate base) (log base) same)))) (λ other. other) (cases_Bool (same_name (gate base) (log base))))
+      (⊎_elim (λ low. absurd (not_low low)) (λ other. other) (cases_Bool (is_below (log base) (gate base))))
+    where
+      not_low : is_below (log base) (gate base) ≡ true → ⊥
+      not_low low =
+          let up = parent_join base (codes "gate") path refl in
+          ⊎_elim
+          (λ is. absurd (omega (arith, log_long, ap length (is ∙ up))))
+          (λ lower. absurd (omega (arith, log_long, below_longer (log base) base (subst (λ (x : Name). is_below (log base) x ≡ true) up lower))))
+          (below_parent (log base) (gate base) (not_empty (log base) (omega (arith, log_long))) low)
+
+  pub gate_not_written : is_base_or_log base (gate base) ≡ false
+  gate_not_written = or_none (same_name (gate base) base) (is_within (log base) (gate base))
+      (⊎_elim (λ same. absurd (omega (arith, gate_long, ap length (same_means (gate base) base same)))) (λ other. other) (cases_Bool (same_name (gate base) base)))
+      gate_not_in_log
+
+  pub base_not_in_log : is_within (log base) base ≡ false
+  base_not_in_log = not_longer (log base) base (omega (arith, log_long)) (longer_differs (log base) base (omega (arith, log_long)))
