@@ -4,3 +4,4 @@ pub mod MakePass
 pub mod OwnNames
 pub mod OwnFiles
 pub mod ReplayImages
+pub mod Applying

@@ -3,6 +3,10 @@ use Rattle.std.proofs.Common.{◌≡◌, ◌≢◌, ◌⊎◌, inl, inr, ⊎_eli
 use Rattle.std.proofs.lemmas.Bool.{cases_Bool}
 use Rattle.std.proofs.lemmas.Bool.Decides.{nat_tests}
 use Rattle.std.specs.Prelude.{nat_le, ◌==◌}
+use Rattle.std.specs.Str.{is_utf8}
+use Rattle.std.proofs.Common.{lit<}
+use Rattle.std.proofs.lemmas.Str.{IsUtf8-from_ascii, is_utf8-from_IsUtf8}
+use Rattle.std.proofs.lemmas.Str.Ascii.{IsAscii-nil, IsAscii-cons}
 use Rattle.cny_base.specs.Path.{has_slash, before_slash, is_path, join, parent, root, or_root, are_parts}
 use Rattle.cny_base.specs.Below.{is_below, begins_with, below_rest, rest_below, before_join, below_parent}
 use Rattle.cny_base.specs.Parent.{join_is_path}
@@ -195,3 +199,19 @@ module _ (base : Name) (path : is_path base ≡ true) where
 
   pub base_not_in_log : is_within (log base) base ≡ false
   base_not_in_log = not_longer (log base) base (omega (arith, log_long)) (longer_differs (log base) base (omega (arith, log_long)))
+
+-- ---- the last names are parts of a path
+
+gate_utf8 : is_utf8 (codes "gate") ≡ true
+gate_utf8 = is_utf8-from_IsUtf8 (codes "gate") (IsUtf8-from_ascii (codes "gate")
+    (IsAscii-cons 103 (codes "ate") (lit< tt) (IsAscii-cons 97 (codes "te") (lit< tt) (IsAscii-cons 116 (codes "e") (lit< tt) (IsAscii-cons 101 [] (lit< tt) IsAscii-nil)))))
+
+log_utf8 : is_utf8 (codes "log") ≡ true
+log_utf8 = is_utf8-from_IsUtf8 (codes "log") (IsUtf8-from_ascii (codes "log")
+    (IsAscii-cons 108 (codes "og") (lit< tt) (IsAscii-cons 111 (codes "g") (lit< tt) (IsAscii-cons 103 [] (lit< tt) IsAscii-nil))))
+
+pub gate_part : are_parts (codes "gate") ≡ true
+gate_part = ap (λ (b : Bool). b && true) gate_utf8
+
+pub log_part : are_parts (codes "log") ≡ true
+log_part = ap (λ (b : Bool). b && true) log_utf8

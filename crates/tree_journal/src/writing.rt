@@ -1,7 +1,7 @@
 //! A write set, applied as a whole.
 ghost use Rattle.std.specs.Prelude.{◌≡◌, ◌≤◌, IfErr, IsErrOf, IsTrue, OnOk, length};
 ghost use Rattle.cny_base.specs.Count.{Rose};
-ghost use Rattle.cny_base.specs.Path.{parent};
+ghost use Rattle.cny_base.specs.Path.{is_path, parent};
 ghost use Rattle.tree_disk.specs.Rows.{is_dir_at};
 ghost use Rattle.cny_base.specs.declared.stop.Stop.TheVariants as stop;
 ghost use Rattle.tree_disk.specs.Confined.{Among, Confined, IsSynced, LeavesOnly};
@@ -60,7 +60,9 @@ fn prepare<D: TreeDisk>(
     log_path: &Path,
     bytes: &[u8],
 ) -> Result<(), Stop>
+    requires base { IsTrue (is_path base.now) }
     requires log { log_path.now ≡ log base.now }
+    requires log_path { IsTrue (is_path log_path.now) }
     requires told { IsTrue D.disk.tells → CanPrepare D.disk base.now disk.old }
     ensures makes { Makes D.disk (is_base_or_log base.now) (λ tree. with_log base.now bytes.now tree) disk.old disk.new result }
     ensures any_moment { IsTrue D.disk.tells → LeavesOnly D.disk disk.old disk.new (RecoversAsAt D.disk base.now disk.old) }
@@ -77,7 +79,9 @@ fn write_log<D: TreeDisk>(
     log_path: &Path,
     bytes: &[u8],
 ) -> Result<(), Stop>
+    requires base { IsTrue (is_path base.now) }
     requires log { log_path.now ≡ log base.now }
+    requires log_path { IsTrue (is_path log_path.now) }
     requires parent { IsTrue D.disk.tells → IsTrue (is_dir_at (D.disk.reads disk.old) (parent base.now)) }
     ensures makes { Makes D.disk (is_base_or_log base.now) (λ tree. with_log base.now bytes.now tree) disk.old disk.new result }
     ensures synced { IsTrue D.disk.tells → OnOk result (IsSynced D.disk disk.new) }
@@ -95,7 +99,9 @@ fn commit<D: TreeDisk>(
     gate_path: &Path,
     puts: &[Put],
 ) -> Result<(), Stop>
+    requires base { IsTrue (is_path base.now) }
     requires gate { gate_path.now ≡ gate base.now }
+    requires gate_path { IsTrue (is_path gate_path.now) }
     requires told { IsTrue D.disk.tells → IsPrepared D.disk base.now puts.now disk.old }
     ensures makes { Makes D.disk (is_gate_or_target base.now puts.now) (λ tree. committed base.now puts.now tree) disk.old disk.new result }
     ensures any_moment { IsTrue D.disk.tells → LeavesOnly D.disk disk.old disk.new (IsOldOrNew base.now puts.now (D.disk.reads disk.old)) }
