@@ -1,6 +1,7 @@
 //! What is to be put into a tree.
-ghost use Rattle.std.specs.Prelude.{◌≡◌, IfOk, Contains};
+ghost use Rattle.std.specs.Prelude.{◌≡◌, IfOk, IfSome, OnSome, IfNone};
 ghost use Rattle.journal_log.specs.Targets.{is_dir_want};
+ghost use Rattle.journal_log.specs.WriteSet.{Rises};
 
 use cny_base::{Bytes, Mode, OutOfMemory, Path, Target};
 use std::marker::Model;
@@ -85,4 +86,45 @@ impl Model for Puts {
     ghost view = { λ a. a.items.items };
 
     ghost invariant = { λ a. Rises a.items.items };
+}
+
+impl Puts {
+    /// The write set of these puts; none exactly where their paths don't strictly rise. Takes no memory.
+    pub fn new(items: Vec<Put>) -> Option<Self>
+        ensures some { IfSome result (λ puts. puts ≡ items.items) }
+        ensures rises { OnSome result (Rises items.items) }
+        ensures none { IfNone result (Rises items.items → ⊥) }
+    {
+        if !items.is_sorted_by(|one, next| one.path < next.path) {
+            return None;
+        }
+        Some(Puts { items })
+    }
+
+    /// The puts in path order.
+    pub fn get(&self) -> &[Put]
+        ensures value { result.now ≡ self.now }
+        ensures rises { Rises result.now }
+    {
+        self.items.as_slice()
+    }
+
+    /// The puts as a `Vec`; takes no memory.
+    pub fn into_vec(self) -> Vec<Put>
+        ensures value { result.items ≡ self }
+        ensures rises { Rises result.items }
+    {
+        self.items
+    }
+
+    /// An equal write set.
+    pub fn copy(&self) -> Result<Self, OutOfMemory>
+        ensures { IfOk result (λ made. made ≡ self.now) }
+    {
+        let mut items = Vec::new(*self.items.allocator());
+        for item in &self.items {
+            items.push(item.copy()?)?;
+        }
+        Ok(Puts { items })
+    }
 }
