@@ -6,13 +6,8 @@ use Rattle.std.proofs.lemmas.List.Elements.{All-more, All-contains, All-weaker, 
 use Rattle.cny_base.specs.Path.{is_path}
 use Rattle.journal_log.specs.declared.put.Put.{Put}
 use Rattle.journal_log.specs.WriteSet.{IsFormed}
+use Rattle.journal_log.specs.PutItem.{IsTold}
 use Rattle.journal_log.specs.LogBytes.{magic, put_bytes, end_bytes, FitsPut, IsSpelled}
-
--- a put that a log can tell
-pub record IsTold (p : Put) : Type 0 where
-  pub path : IsTrue (is_path p.path)
-  pub formed : IsFormed p.want
-  pub fits : FitsPut p
 
 -- what is written of the first k puts
 pub record IsWritten (puts : List Put) (k : ℕ) (out : List ℕ) : Type 0 where

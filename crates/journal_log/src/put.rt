@@ -1,8 +1,9 @@
 //! What is to be put into a tree.
-ghost use Rattle.std.specs.Prelude.{◌≡◌, IfOk, IfSome, OnSome, IfNone};
-ghost use Rattle.journal_log.specs.Targets.{is_dir_want};
+ghost use Rattle.std.specs.Prelude.{◌≡◌, ◌↔◌, IsTrue, IfOk, IfSome, OnSome, IfNone};
+ghost use Rattle.journal_log.specs.Targets.{is_dir_want, is_target};
 ghost use Rattle.journal_log.specs.WriteSet.{Rises};
 
+use crate::search::place_of;
 use cny_base::{Bytes, Mode, OutOfMemory, Path, Target};
 use std::marker::Model;
 
@@ -31,6 +32,13 @@ impl Want {
         ensures { result ≡ is_dir_want self.now }
     {
         matches!(self, Want::Dir { .. })
+    }
+
+    /// Whether nothing is to stand.
+    pub fn is_nothing(&self) -> bool
+        ensures { IsTrue result ↔ (self.now ≡ Want.Nothing) }
+    {
+        matches!(self, Want::Nothing)
     }
 
     /// An equal value.
@@ -107,6 +115,13 @@ impl Puts {
         ensures rises { Rises result.now }
     {
         self.items.as_slice()
+    }
+
+    /// Whether one of the puts is at this path; takes no memory.
+    pub fn contains(&self, path: &Path) -> bool
+        ensures { result ≡ is_target self.now path.now }
+    {
+        place_of(self.items.as_slice(), path.text()).is_some()
     }
 
     /// The puts as a `Vec`; takes no memory.
