@@ -6,3 +6,4 @@ pub mod Searching
 pub mod Links
 pub mod Walking
 pub mod NamedPuts
+pub mod Decoding

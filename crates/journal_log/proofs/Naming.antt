@@ -191,9 +191,9 @@ named_answer base path r s o r_is s_is o_is r_not s_not = (to, from)
 
     to : IsTrue (not o) → CanBeNamed base path
     to h = record {
-          not_root = λ e. cc (r_not, r_is ∙ same_bytes path root ∙ ap (λ (q : Name). same_name q root) e ∙ same_itself root);
-          not_own = own_is ∙ unset o h;
-        }
+      not_root = λ e. cc (r_not, r_is ∙ same_bytes path root ∙ ap (λ (q : Name). same_name q root) e ∙ same_itself root);
+      not_own = own_is ∙ unset o h;
+    }
 
     from : CanBeNamed base path → IsTrue (not o)
     from named = ap not (sym own_is ∙ named.not_own)

@@ -16,7 +16,7 @@ use Rattle.journal_log.specs.declared.put.Want.TheVariants.{Nothing}
 use Rattle.journal_log.specs.declared.put.Put.{Put}
 use Rattle.journal_log.specs.WriteSet.{Rises, CanBeNamed}
 use Rattle.journal_log.specs.Targets.{is_dir_want, is_target}
-use Rattle.journal_log.specs.Rules.{AreNamed, NothingBelow, MayStand, DirsAbove, DirAt, IsInner, AreInner}
+use Rattle.journal_log.specs.Rules.{AreNamed, NothingBelow, NoneBelow, MayStand, DirsAbove, DirAt, IsInner, AreInner}
 
 -- ---- one place for each path
 
@@ -91,19 +91,19 @@ not_empty (b ∷ bs) is e = cc
 
 pub walk_begins : (puts : List Put) (path : Name) → AreInner puts → is_path path ≡ true → WalksUp puts path (parent path)
 walk_begins puts path inner is = record {
-      path_is = parent_is_path path is;
-      low = child_below path is;
-      seen = λ p in_puts below. ⊎_elim (λ e. inl e) (λ e. inr (inl e)) (below_parent p.path path (not_empty p.path (inner p in_puts).path_is) below);
-    }
+  path_is = parent_is_path path is;
+  low = child_below path is;
+  seen = λ p in_puts below. ⊎_elim (λ e. inl e) (λ e. inr (inl e)) (below_parent p.path path (not_empty p.path (inner p in_puts).path_is) below);
+}
 
 pub walk_goes_on : (puts : List Put) (path above : Name) → AreInner puts → (above ≡ root → ⊥) → DirAt puts above → WalksUp puts path above → WalksUp puts path (parent above)
 walk_goes_on puts path above inner other dirs walk = record {
-      path_is = parent_is_path above walk.path_is;
-      low = ⊎_elim (λ e. absurd (other e)) (λ below. above_parent above path walk.path_is below) walk.low;
-      seen = λ p in_puts below. ⊎_elim (λ here. inr (inr (dirs p in_puts here))) (λ more. ⊎_elim
-        (λ higher. ⊎_elim (λ e. inl e) (λ e. inr (inl e)) (below_parent p.path above (not_empty p.path (inner p in_puts).path_is) higher))
-        (λ dir. inr (inr dir)) more) (walk.seen p in_puts below);
-    }
+  path_is = parent_is_path above walk.path_is;
+  low = ⊎_elim (λ e. absurd (other e)) (λ below. above_parent above path walk.path_is below) walk.low;
+  seen = λ p in_puts below. ⊎_elim (λ here. inr (inr (dirs p in_puts here))) (λ more. ⊎_elim
+      (λ higher. ⊎_elim (λ e. inl e) (λ e. inr (inl e)) (below_parent p.path above (not_empty p.path (inner p in_puts).path_is) higher))
+      (λ dir. inr (inr dir)) more) (walk.seen p in_puts below);
+}
 
 pub walk_ends : (puts : List Put) (path above : Name) → AreInner puts → above ≡ root → WalksUp puts path above → DirsAbove puts path
 walk_ends puts path above inner top walk p in_puts below =
@@ -136,10 +136,18 @@ whole P puts k le all p in_puts = All-contains P puts p (subst (All P) (take_all
 
 -- ---- both rules
 
+each_below : (puts : List Put) → NothingBelow puts → NoneBelow puts
+each_below puts all p q p_in q_in below file =
+    All-contains (λ q. IsTrue (is_below p.path q.path) → q.want ≡ Nothing) puts q
+    (All-contains (λ p. is_dir_want p.want ≡ false → All (λ q. IsTrue (is_below p.path q.path) → q.want ≡ Nothing) puts) puts p all p_in file) q_in below
+
+all_below : (puts : List Put) → NoneBelow puts → NothingBelow puts
+all_below puts each = λ k d lt file j e lj below. each (get_or puts k d) (get_or puts j e) (Contains-get_or puts k d lt) (Contains-get_or puts j e lj) below file
+
 pub not_kept : (base : Name) (a b : List Put) (P : Type 0) → a ≡ b → (AreNamed base a → P) → (AreNamed base b × NothingBelow b → P)
 not_kept base a b P same un both = un (subst (AreNamed base) (sym same) both.0)
 
-pub kept : (base : Name) (a b : List Put) (r : Bool) → a ≡ b → AreNamed base a → (IsTrue r → NothingBelow a) → (NothingBelow a → IsTrue r)
+pub kept : (base : Name) (a b : List Put) (r : Bool) → a ≡ b → AreNamed base a → (IsTrue r → NoneBelow a) → (NoneBelow a → IsTrue r)
     → (IsTrue r → AreNamed base b × NothingBelow b) × (AreNamed base b × NothingBelow b → IsTrue r)
 kept base a b r same named to from =
-    ((λ h. (subst (AreNamed base) same named, subst NothingBelow same (to h))), λ both. from (subst NothingBelow (sym same) both.1))
+    ((λ h. (subst (AreNamed base) same named, subst NothingBelow same (all_below a (to h)))), λ both. from (each_below a (subst NothingBelow (sym same) both.1)))

@@ -1,5 +1,6 @@
 -- The items of puts, and the puts of a log.
-use Rattle.std.specs.Prelude.{◌≡◌, ℕ, ◌<◌, ◌^◌, IsTrue, List, length, All}
+use Rattle.std.specs.Prelude.{◌≡◌, ℕ, ◌<◌, ◌^◌, IsTrue, List, length, All, slice_range}
+use Rattle.std.specs.Int.{w32, to_be_bytes}
 use Rattle.cny_base.specs.Path.{is_path}
 use Rattle.journal_log.specs.declared.put.Put.{Put}
 use Rattle.journal_log.specs.WriteSet.{IsFormed}
@@ -23,3 +24,9 @@ pub record ArePutsOf (puts : List Put) (bytes : List ℕ) : Type 0 where
   pub told : All IsTold puts
   pub number : length puts < 2 ^ 32
   pub text : bytes ≡ log_bytes puts
+
+-- the last item's value tells the number of puts, and the bytes end behind it
+pub record IsEnd (bytes : List ℕ) (from to number : ℕ) : Type 0 where
+  pub fits : number < 2 ^ 32
+  pub told : slice_range bytes from to ≡ to_be_bytes w32 number
+  pub last : to ≡ length bytes

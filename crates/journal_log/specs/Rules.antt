@@ -1,5 +1,5 @@
 -- The rules for the paths of a log, put by put.
-use Rattle.std.specs.Prelude.{◌≡◌, ◌≢◌, false, true, IsTrue, List, Contains}
+use Rattle.std.specs.Prelude.{◌≡◌, ◌≢◌, false, true, IsTrue, List, All, Contains}
 use Rattle.cny_base.specs.Below.{is_below}
 use Rattle.cny_base.specs.Path.{is_path, root}
 use Rattle.tree_disk.specs.Tree.{Name}
@@ -10,11 +10,15 @@ use Rattle.journal_log.specs.WriteSet.{CanBeNamed}
 
 -- a log in the private directory can name each path
 abbrev pub AreNamed : Name → List Put → Type 0
-AreNamed base puts = (p : Put) → Contains puts p → CanBeNamed base p.path
+AreNamed base puts = All (λ p. CanBeNamed base p.path) puts
 
 -- below a target that isn't a directory nothing stands
 abbrev pub NothingBelow : List Put → Type 0
-NothingBelow puts = (p q : Put) → Contains puts p → Contains puts q → IsTrue (is_below p.path q.path) → is_dir_want p.want ≡ false → q.want ≡ Nothing
+NothingBelow puts = All (λ p. is_dir_want p.want ≡ false → All (λ q. IsTrue (is_below p.path q.path) → q.want ≡ Nothing) puts) puts
+
+-- the same, of any two puts
+abbrev pub NoneBelow : List Put → Type 0
+NoneBelow puts = (p q : Put) → Contains puts p → Contains puts q → IsTrue (is_below p.path q.path) → is_dir_want p.want ≡ false → q.want ≡ Nothing
 
 -- the same for what stands at one path
 abbrev pub MayStand : List Put → Put → Type 0

@@ -1,8 +1,8 @@
 //! A write set read from the bytes of its log.
-ghost use Rattle.std.specs.Prelude.{◌≡◌, ◌≤◌, ℕ, List, IsTrue, IfOk, IsErrOf, length};
+ghost use Rattle.std.specs.Prelude.{◌≡◌, ◌≤◌, ◌↔◌, List, IsTrue, IfOk, IsErrOf, MatchResult, length};
 ghost use Rattle.journal_log.specs.declared.put.Put.{Put};
 ghost use Rattle.journal_log.specs.LogBytes.{IsLogText};
-ghost use Rattle.journal_log.specs.PutItem.{ArePutsOf};
+ghost use Rattle.journal_log.specs.PutItem.{ArePutsOf, IsEnd};
 
 use crate::encode::{DIR, END, FILE, LINK, MAGIC, NOTHING};
 use crate::put::{Put, Puts};
@@ -12,15 +12,22 @@ use cny_base::{Path, TextFault};
 use cny_stream::{Item, next_item};
 use std::alloc::Global;
 
+// The tags of a log's items.
+const TAGS: &[u8] = &[NOTHING, DIR, LINK, FILE, END];
+
 /// The write set whose log in the private directory `base` the bytes are. `Bad` exactly where they
 /// are the log of none.
 pub fn decode_log(alloc: Global, base: &Path, bytes: &[u8]) -> Result<Puts, TextFault>
     ensures ok { IfOk result (λ puts. IsLogText base.now puts bytes.now) }
-    ensures only { (puts : List Put) → IsLogText base.now puts bytes.now → IfOk result (λ made. made ≡ puts) }
+    // What is the log of a write set is read as that, unless memory runs out.
+    ensures only { (puts : List Put) → IsLogText base.now puts bytes.now
+        → MatchResult result (λ made. made ≡ puts) (λ fault. fault ≡ TextFault.Memory) }
     ensures bad { IsErrOf result TextFault.Bad → (puts : List Put) → IsLogText base.now puts bytes.now → ⊥ }
 {
     let items = read_puts(alloc, bytes)?;
-    let puts = Puts::new(items).ok_or(TextFault::Bad)?;
+    let Some(puts) = Puts::new(items) else {
+        return Err(TextFault::Bad);
+    };
     if !keeps_rules(base, &puts) {
         return Err(TextFault::Bad);
     }
@@ -37,26 +44,19 @@ fn read_puts(alloc: Global, bytes: &[u8]) -> Result<Vec<Put>, TextFault>
     }
     let mut puts = Vec::new(alloc);
     let mut at = MAGIC.len();
-    loop {
-        let item = next_log_item(bytes, at)?;
+    'items: loop {
+        let Ok(item) = next_item(bytes, at, TAGS) else {
+            return Err(TextFault::Bad);
+        };
         if item.tag == END {
             if !is_end(bytes, item, puts.len()) {
                 return Err(TextFault::Bad);
             }
             return Ok(puts);
         }
-        puts.push(read_put(alloc, item.tag, &bytes[item.from..item.to])?)?;
+        let put = read_put(alloc, item.tag, &bytes[item.from..item.to])?;
+        puts.push(put)?;
         at = item.to;
-    }
-}
-
-// The item of a log that begins at `at`.
-fn next_log_item(bytes: &[u8], at: usize) -> Result<Item, TextFault>
-    requires { at ≤ length bytes.now }
-{
-    match next_item(bytes, at, &[NOTHING, DIR, LINK, FILE, END]) {
-        Ok(item) => Ok(item),
-        Err(_) => Err(TextFault::Bad),
     }
 }
 
@@ -64,9 +64,14 @@ fn next_log_item(bytes: &[u8], at: usize) -> Result<Item, TextFault>
 fn is_end(bytes: &[u8], item: Item, number: usize) -> bool
     requires order { item.from ≤ item.to }
     requires within { item.to ≤ length bytes.now }
+    ensures { IsTrue result ↔ IsEnd bytes.now item.from item.to number }
 {
-    let Ok(number) = u32::try_from(number) else {
+    let Ok(count) = u32::try_from(number) else {
         return false;
     };
-    item.to == bytes.len() && &bytes[item.from..item.to] == number.to_be_bytes().as_slice()
+    let told = &bytes[item.from..item.to];
+    if told != count.to_be_bytes().as_slice() {
+        return false;
+    }
+    item.to == bytes.len()
 }

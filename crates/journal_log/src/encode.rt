@@ -1,10 +1,9 @@
 //! The bytes of the log of a write set.
-ghost use Rattle.std.specs.Prelude.{◌≡◌, ◌≤◌, ◌++◌, [], IfOk, OnOk, IsTrue, Contains};
+ghost use Rattle.std.specs.Prelude.{◌≡◌, ◌≤◌, ◌++◌, [], IfOk, OnOk, IsTrue, All};
 ghost use Rattle.std.specs.Int.{to_be_bytes, w16};
 ghost use Rattle.cny_base.specs.Path.{is_path};
 ghost use Rattle.cny_base.specs.Target.{is_target};
 ghost use Rattle.cny_base.specs.StrField.{str};
-ghost use Rattle.journal_log.specs.declared.put.Put.{Put};
 ghost use Rattle.journal_log.specs.WriteSet.{IsFormed};
 ghost use Rattle.journal_log.specs.LogBytes.{put_tag, put_value, put_bytes, FitsPut, IsSpelled};
 
@@ -18,18 +17,21 @@ pub(crate) const MAGIC: &[u8] = b"CNYLG01\n";
 
 /// The tags of a log's items.
 pub(crate) const NOTHING: u8 = 0x30;
+
 pub(crate) const DIR: u8 = 0x31;
+
 pub(crate) const LINK: u8 = 0x32;
+
 pub(crate) const FILE: u8 = 0x33;
+
 pub(crate) const END: u8 = 0x3f;
 
 /// The log of a write set. Where the number of puts or the length of one has no room in four bytes,
 /// the answer is want of memory.
 pub fn encode_log(alloc: Global, puts: &Puts) -> Result<Bytes, OutOfMemory>
-    ensures ok { IfOk result (IsSpelled puts.now) }
+    ensures spelled { IfOk result (IsSpelled puts.now) }
     // What the types of the puts hold.
-    ensures paths { OnOk result ((p : Put) → Contains puts.now p → IsTrue (is_path p.path)) }
-    ensures formed { OnOk result ((p : Put) → Contains puts.now p → IsFormed p.want) }
+    ensures formed { OnOk result (All (λ p. IsTrue (is_path p.path)) puts.now × All (λ p. IsFormed p.want) puts.now) }
 {
     let items = puts.get();
     let Ok(number) = u32::try_from(items.len()) else {

@@ -12,18 +12,11 @@ use std::marker::Model;
 pub enum Want {
     Nothing,
     /// A directory.
-    Dir {
-        mode: Mode,
-    },
+    Dir { mode: Mode },
     /// A regular file with its contents.
-    File {
-        mode: Mode,
-        bytes: Bytes,
-    },
+    File { mode: Mode, bytes: Bytes },
     /// A symbolic link, which has no mode.
-    Link {
-        target: Target,
-    },
+    Link { target: Target },
 }
 
 impl Want {

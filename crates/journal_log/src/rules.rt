@@ -2,7 +2,7 @@
 ghost use Rattle.std.specs.Prelude.{◌↔◌, IsTrue};
 ghost use Rattle.std.specs.Bool.{OnTrue};
 ghost use Rattle.journal_log.specs.WriteSet.{Rises};
-ghost use Rattle.journal_log.specs.Rules.{AreNamed, NothingBelow, MayStand, DirsAbove, DirAt, AreInner};
+ghost use Rattle.journal_log.specs.Rules.{AreNamed, NothingBelow, NoneBelow, MayStand, DirsAbove, DirAt, AreInner};
 
 use crate::named::can_be_named;
 use crate::put::{Put, Puts};
@@ -36,7 +36,7 @@ fn are_named(base: &Path, puts: &[Put]) -> bool
 fn nothing_is_below(puts: &[Put]) -> bool
     requires rises { Rises puts.now }
     requires inner { AreInner puts.now }
-    ensures { IsTrue result ↔ NothingBelow puts.now }
+    ensures { IsTrue result ↔ NoneBelow puts.now }
 {
     for put in puts {
         if !may_stand(puts, put) {

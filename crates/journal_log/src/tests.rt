@@ -5,7 +5,8 @@ use std::alloc::Global;
 use std::test::Fail;
 
 // The log of one put of each kind.
-const LOG: &[u8] = b"CNYLG01\n\x31\0\0\0\x04\x01\xed/a\x33\0\0\0\x0d\x01\xa4\0\x04/a-b\0hi\nx\x32\0\0\0\x09\0\x04/a/c\0\x01b\x30\0\0\0\x02/d\x3f\0\0\0\x04\0\0\0\x04";
+const LOG: &[u8] =
+    b"CNYLG01\n\x31\0\0\0\x04\x01\xed/a\x33\0\0\0\x0d\x01\xa4\0\x04/a-b\0hi\nx\x32\0\0\0\x09\0\x04/a/c\0\x01b\x30\0\0\0\x02/d\x3f\0\0\0\x04\0\0\0\x04";
 
 fn mode(bits: u16) -> Result<Mode, TextFault> {
     Mode::new(bits).ok_or(TextFault::Bad)
@@ -24,7 +25,14 @@ fn kinds(alloc: Global) -> Result<Vec<Put>, TextFault> {
     let target = Target::read(alloc, "b")?;
     let mut items = Vec::new(alloc);
     items.push(put(alloc, "/a", Want::Dir { mode: mode(0o755)? })?)?;
-    items.push(put(alloc, "/a-b", Want::File { mode: mode(0o644)?, bytes })?)?;
+    items.push(put(
+        alloc,
+        "/a-b",
+        Want::File {
+            mode: mode(0o644)?,
+            bytes,
+        },
+    )?)?;
     items.push(put(alloc, "/a/c", Want::Link { target })?)?;
     items.push(put(alloc, "/d", Want::Nothing)?)?;
     Ok(items)
@@ -78,21 +86,51 @@ const BROKEN: [(&[u8], bool); 20] = [
     // A tag that no item has.
     (b"CNYLG01\n\x34\0\0\0\x02/a\x3f\0\0\0\x04\0\0\0\x01", false),
     // Paths that don't rise.
-    (b"CNYLG01\n\x30\0\0\0\x02/a\x30\0\0\0\x02/a\x3f\0\0\0\x04\0\0\0\x02", false),
+    (
+        b"CNYLG01\n\x30\0\0\0\x02/a\x30\0\0\0\x02/a\x3f\0\0\0\x04\0\0\0\x02",
+        false,
+    ),
     // No path, a mode of 0o10000, an empty target, a byte behind a target.
     (b"CNYLG01\n\x30\0\0\0\x02a/\x3f\0\0\0\x04\0\0\0\x01", false),
-    (b"CNYLG01\n\x31\0\0\0\x04\x10\0/a\x3f\0\0\0\x04\0\0\0\x01", false),
-    (b"CNYLG01\n\x32\0\0\0\x06\0\x02/a\0\0\x3f\0\0\0\x04\0\0\0\x01", false),
-    (b"CNYLG01\n\x32\0\0\0\x08\0\x02/a\0\x01bc\x3f\0\0\0\x04\0\0\0\x01", false),
-    (b"CNYLG01\n\x33\0\0\0\x06\0\0\0\x09/a\x3f\0\0\0\x04\0\0\0\x01", false),
+    (
+        b"CNYLG01\n\x31\0\0\0\x04\x10\0/a\x3f\0\0\0\x04\0\0\0\x01",
+        false,
+    ),
+    (
+        b"CNYLG01\n\x32\0\0\0\x06\0\x02/a\0\0\x3f\0\0\0\x04\0\0\0\x01",
+        false,
+    ),
+    (
+        b"CNYLG01\n\x32\0\0\0\x08\0\x02/a\0\x01bc\x3f\0\0\0\x04\0\0\0\x01",
+        false,
+    ),
+    (
+        b"CNYLG01\n\x33\0\0\0\x06\0\0\0\x09/a\x3f\0\0\0\x04\0\0\0\x01",
+        false,
+    ),
     // Paths that a log can't name.
     (b"CNYLG01\n\x30\0\0\0\x01/\x3f\0\0\0\x04\0\0\0\x01", false),
-    (b"CNYLG01\n\x30\0\0\0\x05/base\x3f\0\0\0\x04\0\0\0\x01", false),
+    (
+        b"CNYLG01\n\x30\0\0\0\x05/base\x3f\0\0\0\x04\0\0\0\x01",
+        false,
+    ),
     // A directory below a path at which nothing is to stand, with a path between them.
-    (b"CNYLG01\n\x30\0\0\0\x02/a\x30\0\0\0\x04/a-b\x31\0\0\0\x08\0\0/a/b/c\x3f\0\0\0\x04\0\0\0\x03", false),
-    (b"CNYLG01\n\x30\0\0\0\x02/a\x30\0\0\0\x04/a-b\x30\0\0\0\x06/a/b/c\x3f\0\0\0\x04\0\0\0\x03", true),
-    (b"CNYLG01\n\x31\0\0\0\x04\0\0/a\x31\0\0\0\x08\0\0/a/b/c\x3f\0\0\0\x04\0\0\0\x02", true),
-    (b"CNYLG01\n\x30\0\0\0\x08/base/db\x3f\0\0\0\x04\0\0\0\x01", true),
+    (
+        b"CNYLG01\n\x30\0\0\0\x02/a\x30\0\0\0\x04/a-b\x31\0\0\0\x08\0\0/a/b/c\x3f\0\0\0\x04\0\0\0\x03",
+        false,
+    ),
+    (
+        b"CNYLG01\n\x30\0\0\0\x02/a\x30\0\0\0\x04/a-b\x30\0\0\0\x06/a/b/c\x3f\0\0\0\x04\0\0\0\x03",
+        true,
+    ),
+    (
+        b"CNYLG01\n\x31\0\0\0\x04\0\0/a\x31\0\0\0\x08\0\0/a/b/c\x3f\0\0\0\x04\0\0\0\x02",
+        true,
+    ),
+    (
+        b"CNYLG01\n\x30\0\0\0\x08/base/db\x3f\0\0\0\x04\0\0\0\x01",
+        true,
+    ),
 ];
 
 #[test]

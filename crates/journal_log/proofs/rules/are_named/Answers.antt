@@ -1,5 +1,7 @@
-use Rattle.std.proofs.Common.{true, refl, subst}
+use Rattle.std.proofs.Common.{true, refl, subst, List, All}
+use Rattle.std.proofs.lemmas.List.{take_all}
 use Rattle.std.proofs.lemmas.List.Elements.{All-more}
+use Rattle.journal_log.specs.declared.put.Put.{Put}
 use Rattle.journal_log.proofs.NamedPuts.{IsNamed}
 use Rattle.journal_log.proofs.Walking.{whole}
 use Rattle.journal_log.proofs.rules.are_named.Goals as goal
@@ -12,7 +14,8 @@ loop-put-preserved c =
 
 pub returns-clause-named : goal.returns-clause-named
 returns-clause-named c =
-    ((λ h p in_puts. (whole (IsNamed c.args.base.now) c.args.puts.now c.loop-put.put-index c.loop-put-test.false c.loop-put.invariant p in_puts).named), λ all. refl)
+    let all = subst (All (IsNamed c.args.base.now)) (take_all c.loop-put.put-index c.args.puts.now c.loop-put-test.false) c.loop-put.invariant in
+    ((λ h k d lt. (all k d lt).named), λ named. refl)
 
 pub returns-clause-inner : goal.returns-clause-inner
 returns-clause-inner c = λ p in_puts.

@@ -31,11 +31,12 @@ loop-above-smaller c =
     (walk_shortens c.loop-above.above.now c.loop-above.invariant.1.path_is (other c.loop-above.above.now c.ne.result c.ne.ensures c.loop-above-test.true))
 
 pub loop-above-preserved : goal.loop-above-preserved
-loop-above-preserved c =
-    (c.parent_of-above-in-loop-above.utf8,
-        subst (WalksUp c.args.puts.now c.args.path.now) (sym c.parent_of-above-in-loop-above.ensures)
-        (walk_goes_on c.args.puts.now c.args.path.now c.loop-above.above.now c.requires.inner (other c.loop-above.above.now c.ne.result c.ne.ensures c.loop-above-test.true)
-        (c.is_dir_at.ensures.0 c.if-not-is_dir_at.false) c.loop-above.invariant.1))
+loop-above-preserved c = (
+  c.parent_of-above-in-loop-above.utf8,
+  subst (WalksUp c.args.puts.now c.args.path.now) (sym c.parent_of-above-in-loop-above.ensures)
+      (walk_goes_on c.args.puts.now c.args.path.now c.loop-above.above.now c.requires.inner (other c.loop-above.above.now c.ne.result c.ne.ensures c.loop-above-test.true)
+      (c.is_dir_at.ensures.0 c.if-not-is_dir_at.false) c.loop-above.invariant.1),
+)
 
 pub returns : goal.returns
 returns c =
