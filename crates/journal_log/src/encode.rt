@@ -1,26 +1,118 @@
-//! stub
-ghost use Rattle.std.specs.Prelude.{◌≡◌, IfOk, OnOk, IsTrue, IsErrOf, List};
-ghost use Rattle.std.specs.List.{All};
+//! The bytes of the log of a write set.
+ghost use Rattle.std.specs.Prelude.{◌≡◌, ◌≤◌, ◌++◌, [], IfOk, OnOk, IsTrue, All};
+ghost use Rattle.std.specs.Int.{to_be_bytes, w16};
 ghost use Rattle.cny_base.specs.Path.{is_path};
-ghost use Rattle.journal_log.specs.declared.put.Put.{Put};
-ghost use Rattle.journal_log.specs.WriteSet.{IsFormed, Rises};
-ghost use Rattle.journal_log.specs.LogBytes.{IsSpelled, IsLogText};
+ghost use Rattle.cny_base.specs.Target.{is_target};
+ghost use Rattle.cny_base.specs.StrField.{str};
+ghost use Rattle.journal_log.specs.WriteSet.{IsFormed};
+ghost use Rattle.journal_log.specs.LogBytes.{put_tag, put_value, put_bytes, FitsPut, IsSpelled};
 
-use crate::put::Puts;
-use cny_base::{Bytes, OutOfMemory, Path, TextFault};
+use crate::put::{Put, Puts, Want};
+use cny_base::{Bytes, Mode, OutOfMemory, Path, Target, put_str};
+use cny_stream::put_item;
 use std::alloc::Global;
 
+/// What a log begins with.
+pub(crate) const MAGIC: &[u8] = b"CNYLG01\n";
+
+/// The tags of a log's items.
+pub(crate) const NOTHING: u8 = 0x30;
+
+pub(crate) const DIR: u8 = 0x31;
+
+pub(crate) const LINK: u8 = 0x32;
+
+pub(crate) const FILE: u8 = 0x33;
+
+pub(crate) const END: u8 = 0x3f;
+
+/// The log of a write set. Where the number of puts or the length of one has no room in four bytes,
+/// the answer is want of memory.
 pub fn encode_log(alloc: Global, puts: &Puts) -> Result<Bytes, OutOfMemory>
-    ensures spelled { IfOk result (λ log. IsSpelled puts.now log) }
+    ensures spelled { IfOk result (IsSpelled puts.now) }
+    // What the types of the puts hold.
     ensures formed { OnOk result (All (λ p. IsTrue (is_path p.path)) puts.now × All (λ p. IsFormed p.want) puts.now) }
 {
-    Err(OutOfMemory)
+    let items = puts.get();
+    let Ok(number) = u32::try_from(items.len()) else {
+        return Err(OutOfMemory);
+    };
+    let mut out = Bytes::new(alloc, MAGIC)?;
+    for put in items {
+        push_put(alloc, &mut out, put)?;
+    }
+    put_item(alloc, &mut out, END, &number.to_be_bytes())?;
+    Ok(out)
 }
 
-pub fn decode_log(alloc: Global, base: &Path, bytes: &[u8]) -> Result<Puts, TextFault>
-    ensures ok { IfOk result (λ puts. IsLogText base.now puts bytes.now) }
-    ensures only { (puts : List Put) → IsLogText base.now puts bytes.now → IfOk result (λ found. found ≡ puts) }
-    ensures bad { IsErrOf result TextFault.Bad → (puts : List Put) → ¬ (IsLogText base.now puts bytes.now) }
+// Appends the item of one put.
+fn push_put(alloc: Global, out: &mut Bytes, put: &Put) -> Result<(), OutOfMemory>
+    ensures ok { OnOk result (out.new ≡ out.old ++ put_bytes put.now) }
+    ensures fits { OnOk result (FitsPut put.now) }
+    ensures path { OnOk result (IsTrue (is_path put.now.path)) }
+    ensures formed { OnOk result (IsFormed put.now.want) }
 {
-    Err(TextFault::Memory)
+    let value = value_of(alloc, put)?;
+    if u32::try_from(value.get().len()).is_err() {
+        return Err(OutOfMemory);
+    }
+    put_item(alloc, out, tag_of(&put.want), value.get())
+}
+
+fn tag_of(want: &Want) -> u8
+    ensures { result ≡ put_tag want.now }
+{
+    match want {
+        Want::Nothing => NOTHING,
+        Want::Dir { .. } => DIR,
+        Want::Link { .. } => LINK,
+        Want::File { .. } => FILE,
+    }
+}
+
+// The value of the item of a put.
+fn value_of(alloc: Global, put: &Put) -> Result<Bytes, OutOfMemory>
+    ensures ok { IfOk result (λ value. value ≡ put_value put.now.path put.now.want) }
+    ensures path { OnOk result (IsTrue (is_path put.now.path)) }
+    ensures formed { OnOk result (IsFormed put.now.want) }
+{
+    let path = &put.path;
+    match &put.want {
+        Want::Nothing => Ok(Bytes::new(alloc, path.text().as_bytes())?),
+        Want::Dir { mode } => dir_value(alloc, path, *mode),
+        Want::Link { target } => link_value(alloc, path, target),
+        Want::File { mode, bytes } => file_value(alloc, path, *mode, bytes.get()),
+    }
+}
+
+fn dir_value(alloc: Global, path: &Path, mode: Mode) -> Result<Bytes, OutOfMemory>
+    ensures ok { IfOk result (λ value. value ≡ to_be_bytes w16 mode ++ path.now) }
+    ensures path { OnOk result (IsTrue (is_path path.now)) }
+    ensures mode { OnOk result (mode ≤ 4095) }
+{
+    let mut value = Bytes::new(alloc, &mode.bits().to_be_bytes())?;
+    value.push_slice(path.text().as_bytes())?;
+    Ok(value)
+}
+
+fn link_value(alloc: Global, path: &Path, target: &Target) -> Result<Bytes, OutOfMemory>
+    ensures ok { IfOk result (λ value. value ≡ str path.now ++ str target.now) }
+    ensures path { OnOk result (IsTrue (is_path path.now)) }
+    ensures target { OnOk result (IsTrue (is_target target.now)) }
+{
+    let mut value = Bytes::new(alloc, &[])?;
+    put_str(&mut value, path.text().as_bytes())?;
+    put_str(&mut value, target.text().as_bytes())?;
+    Ok(value)
+}
+
+fn file_value(alloc: Global, path: &Path, mode: Mode, bytes: &[u8]) -> Result<Bytes, OutOfMemory>
+    ensures ok { IfOk result (λ value. value ≡ to_be_bytes w16 mode ++ (str path.now ++ bytes.now)) }
+    ensures path { OnOk result (IsTrue (is_path path.now)) }
+    ensures mode { OnOk result (mode ≤ 4095) }
+{
+    let mut value = Bytes::new(alloc, &mode.bits().to_be_bytes())?;
+    put_str(&mut value, path.text().as_bytes())?;
+    value.push_slice(bytes)?;
+    Ok(value)
 }

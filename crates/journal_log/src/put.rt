@@ -1,10 +1,10 @@
 //! What is to be put into a tree.
-ghost use Rattle.std.specs.Prelude.{◌≡◌, IfOk, Contains};
-ghost use Rattle.journal_log.specs.WriteSet.{Rises};
+ghost use Rattle.std.specs.Prelude.{◌≡◌, ◌↔◌, IsTrue, IfOk, IfSome, OnSome, IfNone};
 ghost use Rattle.journal_log.specs.Targets.{is_dir_want, is_target};
+ghost use Rattle.journal_log.specs.WriteSet.{Rises};
 
+use crate::search::place_of;
 use cny_base::{Bytes, Mode, OutOfMemory, Path, Target};
-use std::cmp::Ord;
 use std::marker::Model;
 
 /// What is to stand at a path.
@@ -12,18 +12,11 @@ use std::marker::Model;
 pub enum Want {
     Nothing,
     /// A directory.
-    Dir {
-        mode: Mode,
-    },
+    Dir { mode: Mode },
     /// A regular file with its contents.
-    File {
-        mode: Mode,
-        bytes: Bytes,
-    },
+    File { mode: Mode, bytes: Bytes },
     /// A symbolic link, which has no mode.
-    Link {
-        target: Target,
-    },
+    Link { target: Target },
 }
 
 impl Want {
@@ -32,6 +25,13 @@ impl Want {
         ensures { result ≡ is_dir_want self.now }
     {
         matches!(self, Want::Dir { .. })
+    }
+
+    /// Whether nothing is to stand.
+    pub fn is_nothing(&self) -> bool
+        ensures { IsTrue result ↔ (self.now ≡ Want.Nothing) }
+    {
+        matches!(self, Want::Nothing)
     }
 
     /// An equal value.
@@ -90,6 +90,19 @@ impl Model for Puts {
 }
 
 impl Puts {
+    /// The write set of these puts; none exactly where their paths don't strictly rise. Takes no memory.
+    pub fn new(items: Vec<Put>) -> Option<Self>
+        ensures some { IfSome result (λ puts. puts ≡ items.items) }
+        ensures rises { OnSome result (Rises items.items) }
+        ensures none { IfNone result (Rises items.items → ⊥) }
+    {
+        if !items.is_sorted_by(|one, next| one.path < next.path) {
+            return None;
+        }
+        Some(Puts { items })
+    }
+
+    /// The puts in path order.
     pub fn get(&self) -> &[Put]
         ensures value { result.now ≡ self.now }
         ensures rises { Rises result.now }
@@ -97,18 +110,29 @@ impl Puts {
         self.items.as_slice()
     }
 
+    /// Whether one of the puts is at this path; takes no memory.
     pub fn contains(&self, path: &Path) -> bool
         ensures { result ≡ is_target self.now path.now }
     {
-        has_target(self.items.as_slice(), path)
+        place_of(self.items.as_slice(), path.text()).is_some()
     }
-}
 
-fn has_target(puts: &[Put], path: &Path) -> bool
-    ensures { result ≡ is_target puts.now path.now }
-{
-    match puts {
-        [] => false,
-        [put, rest @ ..] => path.cmp(&put.path).is_eq() || has_target(rest, path),
+    /// The puts as a `Vec`; takes no memory.
+    pub fn into_vec(self) -> Vec<Put>
+        ensures value { result.items ≡ self }
+        ensures rises { Rises result.items }
+    {
+        self.items
+    }
+
+    /// An equal write set.
+    pub fn copy(&self) -> Result<Self, OutOfMemory>
+        ensures { IfOk result (λ made. made ≡ self.now) }
+    {
+        let mut items = Vec::new(*self.items.allocator());
+        for item in &self.items {
+            items.push(item.copy()?)?;
+        }
+        Ok(Puts { items })
     }
 }

@@ -1,0 +1,127 @@
+//! One put of a log, read from its item.
+ghost use Rattle.std.specs.Prelude.{◌≡◌, ◌≤◌, ◌++◌, ℕ, List, false, drop, IsTrue, IfOk, OnOk, IsErrOf, IfSome, IfNone};
+ghost use Rattle.std.specs.Int.{to_be_bytes, w16};
+ghost use Rattle.cny_base.specs.Path.{is_path};
+ghost use Rattle.cny_base.specs.Target.{is_target};
+ghost use Rattle.cny_base.specs.StrField.{FitsStr, str};
+ghost use Rattle.journal_log.specs.declared.put.Put.{Put};
+ghost use Rattle.journal_log.specs.PutItem.{IsPutItem};
+ghost use Rattle.journal_log.specs.TwoStrs.{AreTwoStrs};
+
+use crate::encode::{DIR, FILE, LINK, NOTHING};
+use crate::put::{Put, Want};
+use cny_base::{Bytes, Mode, Path, Span, Target, TextFault, next_str};
+use std::alloc::Global;
+
+/// The put that an item with this tag and value spells. `Bad` exactly where it spells none.
+pub(crate) fn read_put(alloc: Global, tag: u8, value: &[u8]) -> Result<Put, TextFault>
+    ensures ok { IfOk result (λ put. IsPutItem put tag value.now) }
+    ensures bad { IsErrOf result TextFault.Bad → (p : Put) → IsPutItem p tag value.now → ⊥ }
+{
+    match tag {
+        NOTHING => read_nothing(alloc, value),
+        DIR => read_dir(alloc, value),
+        LINK => read_link(alloc, value),
+        FILE => read_file(alloc, value),
+        _ => Err(TextFault::Bad),
+    }
+}
+
+fn read_nothing(alloc: Global, value: &[u8]) -> Result<Put, TextFault>
+    ensures ok { IfOk result (λ put. IsPutItem put 0x30 value.now) }
+    ensures bad { IsErrOf result TextFault.Bad → (p : Put) → IsPutItem p 0x30 value.now → ⊥ }
+{
+    let path = read_path(alloc, value)?;
+    Ok(Put {
+        path,
+        want: Want::Nothing,
+    })
+}
+
+fn read_dir(alloc: Global, value: &[u8]) -> Result<Put, TextFault>
+    ensures ok { IfOk result (λ put. IsPutItem put 0x31 value.now) }
+    ensures bad { IsErrOf result TextFault.Bad → (p : Put) → IsPutItem p 0x31 value.now → ⊥ }
+{
+    let mode = read_mode(value).ok_or(TextFault::Bad)?;
+    let path = read_path(alloc, &value[2..])?;
+    Ok(Put {
+        path,
+        want: Want::Dir { mode },
+    })
+}
+
+fn read_link(alloc: Global, value: &[u8]) -> Result<Put, TextFault>
+    ensures ok { IfOk result (λ put. IsPutItem put 0x32 value.now) }
+    ensures bad { IsErrOf result TextFault.Bad → (p : Put) → IsPutItem p 0x32 value.now → ⊥ }
+{
+    let Some((first, second)) = two_strs(value) else {
+        return Err(TextFault::Bad);
+    };
+    let path = read_path(alloc, &value[first.from..first.to])?;
+    let target = read_target(alloc, &value[second.from..second.to])?;
+    Ok(Put {
+        path,
+        want: Want::Link { target },
+    })
+}
+
+// Where the values of two `str` fields stand that are all of the bytes.
+fn two_strs(value: &[u8]) -> Option<(Span, Span)>
+    ensures some { IfSome result (λ spans. AreTwoStrs value.now spans.0 spans.1) }
+    ensures none { IfNone result ((a b : List ℕ) → FitsStr a → FitsStr b → value.now ≡ str a ++ str b → ⊥) }
+{
+    let first = next_str(value, 0)?;
+    let second = next_str(value, first.to)?;
+    if second.to != value.len() {
+        return None;
+    }
+    Some((first, second))
+}
+
+fn read_file(alloc: Global, value: &[u8]) -> Result<Put, TextFault>
+    ensures ok { IfOk result (λ put. IsPutItem put 0x33 value.now) }
+    ensures bad { IsErrOf result TextFault.Bad → (p : Put) → IsPutItem p 0x33 value.now → ⊥ }
+{
+    let mode = read_mode(value).ok_or(TextFault::Bad)?;
+    let name = next_str(value, 2).ok_or(TextFault::Bad)?;
+    let path = read_path(alloc, &value[name.from..name.to])?;
+    let bytes = Bytes::new(alloc, &value[name.to..])?;
+    Ok(Put {
+        path,
+        want: Want::File { mode, bytes },
+    })
+}
+
+// The mode in the first two bytes.
+fn read_mode(value: &[u8]) -> Option<Mode>
+    ensures some { IfSome result (λ mode. value.now ≡ to_be_bytes w16 mode ++ drop 2 value.now) }
+    ensures within { IfSome result (λ mode. mode ≤ 4095) }
+    ensures none { IfNone result ((mode : ℕ) (rest : List ℕ) → mode ≤ 4095 → value.now ≡ to_be_bytes w16 mode ++ rest → ⊥) }
+{
+    if value.len() < 2 {
+        return None;
+    }
+    Mode::new(u16::from_be_bytes([value[0], value[1]]))
+}
+
+fn read_path(alloc: Global, bytes: &[u8]) -> Result<Path, TextFault>
+    ensures value { IfOk result (λ path. path ≡ bytes.now) }
+    ensures ok { OnOk result (IsTrue (is_path bytes.now)) }
+    ensures bad { IsErrOf result TextFault.Bad → is_path bytes.now ≡ false }
+{
+    let Ok(text) = str::from_utf8(bytes) else {
+        return Err(TextFault::Bad);
+    };
+    Path::read(alloc, text)
+}
+
+fn read_target(alloc: Global, bytes: &[u8]) -> Result<Target, TextFault>
+    ensures value { IfOk result (λ target. target ≡ bytes.now) }
+    ensures ok { OnOk result (IsTrue (is_target bytes.now)) }
+    ensures bad { IsErrOf result TextFault.Bad → is_target bytes.now ≡ false }
+{
+    let Ok(text) = str::from_utf8(bytes) else {
+        return Err(TextFault::Bad);
+    };
+    Target::read(alloc, text)
+}
