@@ -159,34 +159,6 @@ without-nothing t p well path none = sym (without-leaf t p well path (ap is_dir 
     at q true same = ap (λ b. cond b None (get t q)) same ∙ sym (ap (get t) (same_means q p same) ∙ none)
     at q false same = ap (λ b. cond b None (get t q)) same
 
--- ---- paths that grow longer
-
-pub child_longer : (p last : Name) → is_path p ≡ true → p ≢ root → length p < length (join p last)
-child_longer p last path other = omega (arith, ap length (join_is p last path other), length-append p (47 ∷ last))
-
-short_by : (x y z w : Bool) → (x && (y || (z && w))) ≡ true → (y ≡ true) ⊎ (z ≡ true)
-short_by true true z w h = inl refl
-short_by true false true w h = inr refl
-short_by true false false w h = absurd (cc h)
-short_by false y z w h = absurd (cc h)
-
-pub path_short : (p : Name) → is_path p ≡ true → length p ≤ 1024
-path_short [] path = omega arith
-path_short (b ∷ bs) path = ⊎_elim
-    (λ none. let no_rest : length bs ≡ 0 = grind (arith, nat_tests) in omega (arith, no_rest))
-    (λ few. let short : length bs ≤ 1023 = grind (arith, nat_tests) in omega (arith, short))
-    (short_by (b == 47) (length bs == 0) (nat_le (length bs) 1023) _ path)
-
-pub child_not_root : (p last : Name) → is_path p ≡ true → p ≢ root → join p last ≢ root
-child_not_root p last path other is =
-    let longer = child_longer p last path other in
-    let long : 0 < length p = some_byte p path in
-    absurd (omega (arith, longer, long, ap length is))
-  where
-    some_byte : (p : Name) → is_path p ≡ true → 0 < length p
-    some_byte [] path = absurd (cc path)
-    some_byte (b ∷ p) path = omega arith
-
 -- a loop over the last names has cleared one more
 pub one_more_cleared : (t : Tree) (p : Name) (names : List (List ℕ)) (i : ℕ) (last : List ℕ) → i < length names
     → last ≡ get_or names i last

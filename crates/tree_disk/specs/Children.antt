@@ -1,10 +1,11 @@
 -- What stands below a directory, by its children.
-use Rattle.std.proofs.Common.{◌≡◌, ◌≢◌, ◌⊎◌, inl, inr, ⊎_elim, ℕ, zero, suc, ◌+◌, ◌<◌, ◌≤◌, Bool, true, false, cond, not, ◌||◌, ◌&&◌, List, [], ◌∷◌, ◌++◌, map, length, Option, Some, None, is_some, ◌==◌, refl, sym, ◌∙◌, ap, subst, arith, length-append}
+use Rattle.std.proofs.Common.{◌≡◌, ◌≢◌, ◌⊎◌, inl, inr, ⊎_elim, ℕ, zero, suc, ◌+◌, ◌<◌, ◌≤◌, Bool, true, false, cond, not, ◌||◌, ◌&&◌, List, [], ◌∷◌, ◌++◌, map, length, Option, Some, None, is_some, ◌==◌, nat_le, refl, sym, ◌∙◌, ap, subst, arith, length-append}
 use Rattle.std.proofs.lemmas.Bool.{cases_Bool}
+use Rattle.std.proofs.lemmas.Bool.Decides.{nat_tests}
 use Rattle.std.proofs.lemmas.List.Elements.{All-from_recursion}
 use Rattle.std.specs.List.{list_any, filter, All, AllByRecursion}
 use Rattle.std.specs.FinMap.{get, keys, contains_key-keys}
-use Rattle.cny_base.specs.Path.{is_path, root, parent, last_name, join}
+use Rattle.cny_base.specs.Path.{is_path, are_parts, root, parent, last_name, join}
 use Rattle.cny_base.specs.Joins.{join_parent}
 use Rattle.cny_base.specs.Below.{is_below, below_rest, below_parent, child_below, none_below_root, parent_shorter}
 use Rattle.cny_base.specs.declared.node.Node.{Node}
@@ -12,7 +13,7 @@ use Rattle.tree_disk.specs.Tree.{Name, Tree, same_name, is_dir, is_child, childr
 use Rattle.tree_disk.specs.Rows.{is_childless}
 use Rattle.tree_disk.specs.Laws.{same_means, same_itself}
 use Rattle.tree_disk.specs.Clear.{is_within}
-use Rattle.tree_disk.specs.ClearLaws.{or_left, or_right, or_cases, below_trans, below_within, within_itself}
+use Rattle.tree_disk.specs.ClearLaws.{or_left, or_right, or_cases, below_trans, below_within, within_itself, join_is}
 
 -- ---- tests
 
@@ -173,3 +174,31 @@ children_of t p (n ∷ names) stand well = at (is_child p n) refl
 pub children_stand : (t : Tree) (p : Name) → WellFormed t → All (λ last. is_some (get t (join p last)) ≡ true) (children t p)
 children_stand t p well = All-from_recursion (λ last. is_some (get t (join p last)) ≡ true) (children t p)
     (children_of t p (keys t) (λ q listed. contains_key-keys t q ∙ listed) well)
+
+-- ---- paths that grow longer
+
+pub child_longer : (p last : Name) → is_path p ≡ true → p ≢ root → length p < length (join p last)
+child_longer p last path other = omega (arith, ap length (join_is p last path other), length-append p (47 ∷ last))
+
+short_by : (x y z w : Bool) → (x && (y || (z && w))) ≡ true → (y ≡ true) ⊎ (z ≡ true)
+short_by true true z w h = inl refl
+short_by true false true w h = inr refl
+short_by true false false w h = absurd (cc h)
+short_by false y z w h = absurd (cc h)
+
+pub path_short : (p : Name) → is_path p ≡ true → length p ≤ 1024
+path_short [] path = omega arith
+path_short (b ∷ bs) path = ⊎_elim
+    (λ none. let no_rest : length bs ≡ 0 = grind (arith, nat_tests) in omega (arith, no_rest))
+    (λ few. let short : length bs ≤ 1023 = grind (arith, nat_tests) in omega (arith, short))
+    (short_by (b == 47) (length bs == 0) (nat_le (length bs) 1023) _ path)
+
+pub child_not_root : (p last : Name) → is_path p ≡ true → p ≢ root → join p last ≢ root
+child_not_root p last path other is =
+    let longer = child_longer p last path other in
+    let long : 0 < length p = some_byte p path in
+    absurd (omega (arith, longer, long, ap length is))
+  where
+    some_byte : (p : Name) → is_path p ≡ true → 0 < length p
+    some_byte [] path = absurd (cc path)
+    some_byte (b ∷ p) path = omega arith

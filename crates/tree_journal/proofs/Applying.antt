@@ -1,40 +1,36 @@
 -- What crash images recover to while a write set is applied.
-use Rattle.std.proofs.Common.{◌≡◌, ◌≢◌, ◌⊎◌, inl, inr, ⊎_elim, ℕ, ◌<◌, Bool, true, false, ◌||◌, IsTrue, List, [], ◌∷◌, length, get_or, codes, Option, Some, None, is_some, Contains, Result, Ok, Err, OnOk, refl, sym, ◌∙◌, ap, subst, arith}
+use Rattle.std.proofs.Common.{◌≡◌, ◌≢◌, inl, inr, ⊎_elim, ℕ, Bool, true, false, IsTrue, List, get_or, codes, Some, None, Contains, Result, Ok, Err, OnOk, refl, sym, ◌∙◌, ap, subst, arith}
 use Rattle.std.proofs.lemmas.Bool.{cases_Bool}
-use Rattle.std.proofs.lemmas.List.Elements.{All-contains, All-weaker, Contains-get_or}
+use Rattle.std.proofs.lemmas.List.Elements.{All-weaker, Contains-get_or}
 use Rattle.std.specs.List.{All}
 use Rattle.std.specs.FinMap.{get}
-use Rattle.cny_base.specs.Path.{is_path, root, parent}
+use Rattle.cny_base.specs.Path.{is_path, root}
 use Rattle.cny_base.specs.Below.{is_below}
-use Rattle.cny_base.specs.declared.node.Node.{Node}
 use Rattle.cny_base.specs.declared.node.Node.TheVariants as node
 use Rattle.tree_disk.specs.Tree.{Name, Tree, same_name, is_dir, WellFormed}
-use Rattle.tree_disk.specs.Laws.{same_itself, get_put_here, get_put_other, reads_image}
+use Rattle.tree_disk.specs.Laws.{get_put_here, get_put_other, reads_image}
 use Rattle.tree_disk.specs.Children.{none_below}
-use Rattle.tree_disk.specs.Rows.{without}
 use Rattle.tree_disk.specs.Clear.{is_within}
-use Rattle.tree_disk.specs.ClearLaws.{within_itself, or_left, or_right, or_cases}
-use Rattle.tree_disk.specs.Disk.{DiskModel, IsDisk, IsImageOf}
+use Rattle.tree_disk.specs.Disk.{DiskModel, IsDisk}
 use Rattle.tree_disk.specs.Confined.{Among, Confined, DiffersOnlyAt, IsUnsyncedOr, IsSynced, LeavesOnly}
-use Rattle.tree_disk.specs.ConfinedLaws.{leaves_weaker, leaves_then}
+use Rattle.tree_disk.specs.ConfinedLaws.{leaves_weaker}
 use Rattle.cny_base.specs.declared.stop.Stop.{Stop}
 use Rattle.tree_disk.specs.Steps.{no_name, Ended}
 use Rattle.journal_log.specs.declared.put.Want.{Want}
 use Rattle.journal_log.specs.declared.put.Want.TheVariants as want
 use Rattle.journal_log.specs.declared.put.Put.{Put}
 use Rattle.journal_log.specs.Own.{gate, log, is_own, StoresSame}
-use Rattle.journal_log.specs.WriteSet.{CanBeNamed, IsWriteSet, IsLoggable, IsFormed, Rises}
+use Rattle.journal_log.specs.WriteSet.{CanBeNamed, IsLoggable, IsFormed, Rises}
 use Rattle.journal_log.specs.Targets.{is_dir_want, node_of, is_target, with_targets}
-use Rattle.journal_log.specs.LogBytes.{IsLogText, IsSpelled}
-use Rattle.tree_journal.specs.CanBePut.{CanBePut, AllCanBePut}
-use Rattle.tree_journal.specs.Recovery.{is_flag, is_committed, HoldsLog, RecoversTo, at_rest, by_log, RecoversAsAt}
-use Rattle.tree_journal.specs.Apply.{with_base, is_own_or_target, CanApply, IsBeforeOrAfter, IsAtRest}
-use Rattle.tree_journal.specs.Passes.{CanReplay}
-use Rattle.tree_journal.specs.Steps.{with_own_file, with_log, with_flag, replayed, committed, is_base_or_log, is_gate_or_target, CanPrepare, HasLog, IsPrepared, IsCommitted, IsOldOrNew}
-use Rattle.tree_journal.proofs.WriteSets.{neither, or_none, target_at, with_targets_outside, with_targets_inside, with_targets_target}
-use Rattle.tree_journal.proofs.OwnNames.{in_gate, in_log, base_own, base_or_log_own, base_not_in_gate, base_not_in_log, log_not_in_gate, gate_not_in_log, gate_not_written}
+use Rattle.journal_log.specs.LogBytes.{IsSpelled}
+use Rattle.tree_journal.specs.CanBePut.{AllCanBePut}
+use Rattle.tree_journal.specs.Recovery.{is_flag, is_committed, RecoversTo, at_rest, by_log, RecoversAsAt}
+use Rattle.tree_journal.specs.Apply.{with_base, CanApply, IsBeforeOrAfter, IsAtRest}
+use Rattle.tree_journal.specs.Steps.{with_log, with_flag, committed, is_base_or_log, CanPrepare, HasLog, IsPrepared, IsCommitted, IsOldOrNew}
+use Rattle.tree_journal.proofs.WriteSets.{neither, with_targets_target}
+use Rattle.tree_journal.proofs.OwnNames.{in_gate, in_log, base_or_log_own, base_not_in_gate, base_not_in_log, log_not_in_gate, gate_not_written}
 use Rattle.tree_journal.proofs.OwnFiles.{get-own_file_other, get-own_file_here, get-base_other, base_stands}
-use Rattle.tree_journal.proofs.ReplayImages.{recovers_same, by_flag, own_no_target, base_no_target, gate_no_target, can_elsewhere, same_targets, replay_image, image_agrees}
+use Rattle.tree_journal.proofs.ReplayImages.{recovers_same, by_flag, can_elsewhere, same_targets, replay_image, image_agrees, unchanged_leaves}
 
 not_false : {A : Type 0} (b : Bool) → b ≡ true → b ≡ false → A
 not_false b is other = absurd (cc (is, other))
@@ -84,10 +80,6 @@ loggable_from base puts tree rises paths formed named well = record {
 -- ---- the log is written
 
 module _ {D : Type 0} (disk : DiskModel D) (laws : IsDisk disk) (base : Name) (path : is_path base ≡ true) (old : D) (can : CanPrepare disk base old) where
-  -- nothing has happened yet
-  pub at_entry : (image : Tree) → IsImageOf disk old image → RecoversAsAt disk base old image
-  at_entry image is = (image, is, λ tree h. h)
-
   -- an image whose commit flag isn't set, and that stores the same as what the disk read
   pub as_before : (image : Tree) → is_committed base image ≡ false → StoresSame base image (disk.reads old) → RecoversAsAt disk base old image
   as_before image clear same = (disk.reads old, reads_image laws old, all)
@@ -98,13 +90,7 @@ module _ {D : Type 0} (disk : DiskModel D) (laws : IsDisk disk) (base : Name) (p
 
   -- until the first sync is done
   pub before_sync : (new : D) → Confined disk (Among no_name) old new → LeavesOnly disk old new (RecoversAsAt disk base old)
-  before_sync new run = leaves_weaker each run.images
-    where
-      each : (image : Tree) → DiffersOnlyAt (IsUnsyncedOr disk old (Among no_name)) (disk.reads old) image → RecoversAsAt disk base old image
-      each image differs = at_entry image (record {
-        well_formed = differs.well_formed;
-        synced = λ p none. differs.agrees p (λ h. ⊎_elim (λ was. absurd (cc (none, was))) (λ is. absurd (cc is)) h);
-      })
+  before_sync new run = unchanged_leaves disk base old new run
 
   -- while the base is made and the log is written
   pub after_sync : (mid new : D) → disk.reads mid ≡ disk.reads old → IsSynced disk mid → Confined disk (Among (is_base_or_log base)) mid new

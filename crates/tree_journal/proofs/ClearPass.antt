@@ -1,29 +1,27 @@
 -- The first pass removes what obstructs the targets, from the last write to the first.
-use Rattle.std.proofs.Common.{◌≡◌, ◌≢◌, ◌⊎◌, inl, inr, ⊎_elim, ℕ, zero, suc, ◌+◌, ◌<◌, Bool, true, false, cond, not, ◌&&◌, ◌||◌, IsTrue, List, [], ◌∷◌, length, get_or, drop, Option, Some, None, is_some, Contains, refl, sym, ◌∙◌, ap, subst, arith}
+use Rattle.std.proofs.Common.{◌≡◌, ◌≢◌, ⊎_elim, ℕ, zero, suc, ◌+◌, ◌<◌, Bool, true, false, cond, not, ◌&&◌, ◌||◌, IsTrue, List, [], ◌∷◌, length, get_or, drop, Option, Some, None, is_some, Contains, refl, sym, ◌∙◌, ap, subst, arith}
 use Rattle.std.proofs.lemmas.Bool.{cases_Bool}
 use Rattle.std.proofs.lemmas.List.Elements.{All-contains}
 use Rattle.std.specs.List.{All}
 use Rattle.std.specs.FinMap.{get}
-use Rattle.std.specs.declared.cmp.Ordering.TheVariants.{Less}
 use Rattle.std.specs.Cmp.Lexicographic.{nat_list_cmp_total}
-use Rattle.cny_base.specs.Path.{is_path, root, parent}
+use Rattle.cny_base.specs.Path.{root, parent}
 use Rattle.cny_base.specs.Below.{is_below, child_below}
 use Rattle.cny_base.specs.declared.node.Node.{Node}
 use Rattle.cny_base.specs.declared.node.Node.TheVariants as node
-use Rattle.tree_disk.specs.declared.disk.Look.TheVariants as look
-use Rattle.tree_disk.specs.Tree.{Name, Tree, same_name, put, is_dir, is_file, is_link, is_child, WellFormed}
+use Rattle.tree_disk.specs.Tree.{Name, Tree, same_name, is_dir, is_file, is_link, is_child, WellFormed}
 use Rattle.tree_disk.specs.Rows.{can_remove, is_childless, without, look_of, seen_as}
-use Rattle.tree_disk.specs.Laws.{same_means, get_put, get_put_here, get_put_other}
+use Rattle.tree_disk.specs.Laws.{same_means, get_put_here, get_put_other}
 use Rattle.tree_disk.specs.Allowed.{remove_well_formed}
 use Rattle.tree_disk.specs.Children.{childless_from}
 use Rattle.journal_log.specs.declared.put.Want.{Want}
 use Rattle.journal_log.specs.declared.put.Want.TheVariants as want
 use Rattle.journal_log.specs.declared.put.Put.{Put}
-use Rattle.journal_log.specs.WriteSet.{Rises, IsWriteSet}
+use Rattle.journal_log.specs.WriteSet.{Rises}
 use Rattle.journal_log.specs.Targets.{is_dir_want, is_target}
-use Rattle.tree_journal.specs.CanBePut.{CanBePut, AllCanBePut}
+use Rattle.tree_journal.specs.CanBePut.{CanBePut}
 use Rattle.tree_journal.specs.Passes.{obstructs, is_obstructed, cleared, all_cleared, CanClear, CanClearAll, CanReplay}
-use Rattle.tree_journal.proofs.WriteSets.{name_cmp, less_differs, below_later, neither, or_none, contains_first, contains_rest, contains_cases, target_at, is_target-from, first_before, first_not_later, later_differs, rest_at}
+use Rattle.tree_journal.proofs.WriteSets.{less_differs, below_later, neither, or_none, contains_first, contains_rest, contains_cases, target_at, is_target-from, first_before, later_differs, rest_at}
 
 -- ---- one write
 
@@ -167,11 +165,13 @@ can_clear_part (p ∷ puts) tree part well = with_rest (can_clear_part puts tree
   where
     with_rest : CanClearAll puts tree × WellFormed (all_cleared puts tree) → CanClearAll (p ∷ puts) tree × WellFormed (all_cleared (p ∷ puts) tree)
     with_rest rest =
-        let first : CanClear (all_cleared puts tree) p = can_clear_first p puts tree part rest.1 in
-        ((first, rest.0), ⊎_elim
-        (λ is. subst WellFormed (sym (cleared_away (all_cleared puts tree) p is)) (remove_well_formed (all_cleared puts tree) p.path rest.1 (first is)))
-        (λ is. subst WellFormed (sym (cleared_kept (all_cleared puts tree) p is)) rest.1)
-        (cases_Bool (obstructs p.want (get (all_cleared puts tree) p.path))))
+        let first : CanClear (all_cleared puts tree) p = can_clear_first p puts tree part rest.1 in (
+          (first, rest.0),
+          ⊎_elim
+              (λ is. subst WellFormed (sym (cleared_away (all_cleared puts tree) p is)) (remove_well_formed (all_cleared puts tree) p.path rest.1 (first is)))
+              (λ is. subst WellFormed (sym (cleared_kept (all_cleared puts tree) p is)) rest.1)
+              (cases_Bool (obstructs p.want (get (all_cleared puts tree) p.path))),
+        )
 
 pub can_clear_all : (puts : List Put) (tree : Tree) → CanReplay puts tree → WellFormed tree → CanClearAll puts tree
 can_clear_all puts tree can well = (can_clear_part puts tree (part_whole puts tree can) well).0

@@ -5,3 +5,7 @@ pub mod OwnNames
 pub mod OwnFiles
 pub mod ReplayImages
 pub mod Applying
+pub mod Finding
+pub mod Logs
+pub mod PutTest
+pub mod Recovering

@@ -1,8 +1,7 @@
 -- The second pass makes the targets, from the first write to the last.
-use Rattle.std.proofs.Common.{◌≡◌, ◌≢◌, ◌⊎◌, inl, inr, ⊎_elim, ℕ, zero, suc, ◌+◌, ◌<◌, Bool, true, false, cond, not, ◌&&◌, ◌||◌, IsTrue, List, [], ◌∷◌, ◌++◌, length, get_or, take, drop, Option, Some, None, is_some, Contains, refl, sym, ◌∙◌, ap, subst, arith}
+use Rattle.std.proofs.Common.{◌≡◌, ◌≢◌, ◌⊎◌, inl, inr, ⊎_elim, ℕ, ◌+◌, ◌<◌, Bool, true, false, cond, not, ◌&&◌, ◌||◌, IsTrue, List, [], ◌∷◌, length, get_or, take, drop, Option, Some, None, is_some, Contains, refl, sym, ◌∙◌, ap, subst}
 use Rattle.std.proofs.lemmas.Bool.{cases_Bool}
 use Rattle.std.proofs.lemmas.List.Elements.{All-contains}
-use Rattle.std.specs.List.{All}
 use Rattle.std.specs.FinMap.{get}
 use Rattle.std.specs.declared.cmp.Ordering.TheVariants.{Less}
 use Rattle.cny_base.specs.Path.{is_path, root, parent}
@@ -10,18 +9,17 @@ use Rattle.cny_base.specs.Parent.{parent_is_path}
 use Rattle.cny_base.specs.Below.{is_below, child_below, parent_first}
 use Rattle.cny_base.specs.declared.node.Node.{Node}
 use Rattle.cny_base.specs.declared.node.Node.TheVariants as node
-use Rattle.tree_disk.specs.declared.disk.Look.TheVariants as look
 use Rattle.tree_disk.specs.Tree.{Name, Tree, same_name, put, is_dir, is_file, WellFormed}
-use Rattle.tree_disk.specs.Rows.{is_dir_at, can_make, can_set_mode, with_mode, of_mode, look_of, seen_as}
-use Rattle.tree_disk.specs.Laws.{same_means, same_itself, get_put, get_put_here, get_put_other, same_tree}
+use Rattle.tree_disk.specs.Rows.{can_make, can_set_mode, with_mode, of_mode, look_of, seen_as}
+use Rattle.tree_disk.specs.Laws.{same_means, get_put, get_put_here, get_put_other, same_tree}
 use Rattle.journal_log.specs.declared.put.Want.{Want}
 use Rattle.journal_log.specs.declared.put.Want.TheVariants as want
 use Rattle.journal_log.specs.declared.put.Put.{Put}
-use Rattle.journal_log.specs.WriteSet.{Rises, IsWriteSet}
+use Rattle.journal_log.specs.WriteSet.{Rises}
 use Rattle.journal_log.specs.Targets.{is_dir_want, node_of, is_target, with_targets}
-use Rattle.tree_journal.specs.CanBePut.{CanBePut, AllCanBePut}
+use Rattle.tree_journal.specs.CanBePut.{CanBePut}
 use Rattle.tree_journal.specs.Passes.{obstructs, all_cleared, CanMake, CanMakeAll, CanMakeDir, CanReplay, sees_dir}
-use Rattle.tree_journal.proofs.WriteSets.{name_cmp, not_itself, not_back, less_differs, neither, or_none, contains_first, contains_rest, is_target-from, first_before, later_differs, with_targets_outside, with_targets_agree, with_targets_more, rest_at, front_at}
+use Rattle.tree_journal.proofs.WriteSets.{name_cmp, not_itself, not_back, or_none, contains_first, contains_rest, first_before, later_differs, with_targets_agree, with_targets_more, rest_at, front_at}
 use Rattle.tree_journal.proofs.ClearPass.{CanClearPart, part_whole, all_cleared_outside, not_obstructed}
 
 -- ---- one write

@@ -1,5 +1,5 @@
 -- What making the base and writing one of the journal's files does to a tree.
-use Rattle.std.proofs.Common.{◌≡◌, ◌≢◌, ◌⊎◌, inl, inr, ⊎_elim, ℕ, ◌<◌, ◌≤◌, Bool, true, false, cond, not, ◌&&◌, ◌||◌, IsTrue, List, length, Option, Some, None, is_some, refl, sym, ◌∙◌, ap, arith}
+use Rattle.std.proofs.Common.{◌≡◌, ◌≢◌, inl, inr, ⊎_elim, ℕ, Bool, true, false, cond, not, ◌&&◌, ◌||◌, List, length, Option, Some, None, is_some, refl, sym, ◌∙◌, ap, arith}
 use Rattle.std.proofs.lemmas.Bool.{cases_Bool}
 use Rattle.std.specs.FinMap.{get}
 use Rattle.cny_base.specs.Path.{is_path, root, parent}
@@ -7,13 +7,13 @@ use Rattle.cny_base.specs.Below.{parent_shorter}
 use Rattle.cny_base.specs.declared.node.Node.{Node}
 use Rattle.cny_base.specs.declared.node.Node.TheVariants as node
 use Rattle.tree_disk.specs.Tree.{Name, Tree, same_name, put, is_dir, is_file, is_link}
-use Rattle.tree_disk.specs.Rows.{is_dir_at, can_append, can_make, can_remove, is_childless, with_append, with_node, without, grown, look_of, seen_as}
-use Rattle.tree_disk.specs.Laws.{same_means, same_itself, get_put, get_put_here, get_put_other, put_put}
+use Rattle.tree_disk.specs.Rows.{can_append, can_make, can_remove, is_childless, with_append, with_node, without, grown, look_of, seen_as}
+use Rattle.tree_disk.specs.Laws.{same_means, same_itself, get_put_here, get_put_other, put_put}
 use Rattle.tree_disk.specs.Clear.{is_within, without_tree, sees_nothing}
-use Rattle.tree_disk.specs.ClearLaws.{get-without_tree, bare_without, within_itself, or_left, or_right, or_cases}
+use Rattle.tree_disk.specs.ClearLaws.{get-without_tree, bare_without, within_itself, or_left, or_right}
 use Rattle.tree_journal.specs.Apply.{with_base}
 use Rattle.tree_journal.specs.Steps.{with_own_file, IsOther}
-use Rattle.tree_journal.proofs.OwnNames.{not_longer, below_longer}
+use Rattle.tree_journal.proofs.OwnNames.{not_longer}
 
 other_no_dir : (o : Option Node) → IsOther o → is_dir o ≡ false
 other_no_dir None other = refl

@@ -1,5 +1,5 @@
 -- The journal's own names, and which of them lie in which.
-use Rattle.std.proofs.Common.{◌≡◌, ◌≢◌, ◌⊎◌, inl, inr, ⊎_elim, ℕ, zero, suc, ◌+◌, ◌<◌, ◌≤◌, Bool, true, false, cond, ◌||◌, ◌&&◌, List, [], ◌∷◌, ◌++◌, length, codes, refl, sym, ◌∙◌, ap, subst, arith, append_assoc, length-append}
+use Rattle.std.proofs.Common.{◌≡◌, ◌≢◌, ⊎_elim, ℕ, ◌+◌, ◌<◌, ◌≤◌, Bool, true, false, cond, ◌&&◌, [], ◌∷◌, ◌++◌, length, codes, refl, sym, ◌∙◌, ap, subst, arith, length-append}
 use Rattle.std.proofs.lemmas.Bool.{cases_Bool}
 use Rattle.std.proofs.lemmas.Bool.Decides.{nat_tests}
 use Rattle.std.specs.Prelude.{nat_le, ◌==◌}
@@ -8,15 +8,15 @@ use Rattle.std.proofs.Common.{lit<}
 use Rattle.std.proofs.lemmas.Str.{IsUtf8-from_ascii, is_utf8-from_IsUtf8}
 use Rattle.std.proofs.lemmas.Str.Ascii.{IsAscii-nil, IsAscii-cons}
 use Rattle.cny_base.specs.Path.{has_slash, before_slash, is_path, join, parent, root, or_root, are_parts}
-use Rattle.cny_base.specs.Below.{is_below, begins_with, below_rest, rest_below, before_join, below_parent}
+use Rattle.cny_base.specs.Below.{is_below, below_rest, before_join, below_parent}
 use Rattle.cny_base.specs.Parent.{join_is_path}
 use Rattle.tree_disk.specs.Tree.{Name, same_name}
-use Rattle.tree_disk.specs.Laws.{same_means, same_itself}
+use Rattle.tree_disk.specs.Laws.{same_means}
 use Rattle.tree_disk.specs.Clear.{is_within}
-use Rattle.tree_disk.specs.ClearLaws.{below_trans, below_within, within_itself, itself_within, or_left, or_right, or_cases}
+use Rattle.tree_disk.specs.ClearLaws.{below_trans, below_within, or_left, or_right, or_cases}
 use Rattle.journal_log.specs.Own.{gate, log, work, staged, is_own_file, is_own}
 use Rattle.tree_journal.specs.Steps.{is_base_or_log}
-use Rattle.tree_journal.proofs.WriteSets.{neither, or_none}
+use Rattle.tree_journal.proofs.WriteSets.{or_none}
 
 -- ---- joined names
 

@@ -1,30 +1,29 @@
 -- What crash images recover to while a log is replayed.
-use Rattle.std.proofs.Common.{◌≡◌, ◌≢◌, ◌⊎◌, inl, inr, ⊎_elim, ℕ, ◌<◌, Bool, true, false, ◌||◌, IsTrue, List, [], ◌∷◌, length, get_or, Option, Some, None, Contains, refl, sym, ◌∙◌, ap, subst}
+use Rattle.std.proofs.Common.{◌≡◌, ⊎_elim, Bool, true, false, IsTrue, List, [], get_or, Option, Some, None, Contains, refl, sym, ◌∙◌, ap, subst}
 use Rattle.std.proofs.lemmas.Bool.{cases_Bool}
 use Rattle.std.proofs.lemmas.List.Elements.{All-contains, Contains-get_or}
 use Rattle.std.specs.List.{All}
 use Rattle.std.specs.FinMap.{get}
-use Rattle.cny_base.specs.Path.{is_path, root, join, parent, has_slash}
+use Rattle.cny_base.specs.Path.{is_path, join, parent, has_slash}
 use Rattle.cny_base.specs.Below.{is_below, below_parent}
 use Rattle.cny_base.specs.declared.node.Node.{Node}
 use Rattle.cny_base.specs.declared.node.Node.TheVariants as node
 use Rattle.tree_disk.specs.Tree.{Name, Tree, same_name, is_dir, is_file}
 use Rattle.tree_disk.specs.Laws.{same_means, same_itself}
 use Rattle.tree_disk.specs.Clear.{is_within}
-use Rattle.tree_disk.specs.ClearLaws.{below_within, within_itself, or_left, or_right, or_cases}
-use Rattle.tree_disk.specs.Disk.{DiskModel, IsDisk, IsImageOf}
+use Rattle.tree_disk.specs.ClearLaws.{below_within, within_itself, or_left, or_cases}
+use Rattle.tree_disk.specs.Disk.{DiskModel}
 use Rattle.tree_disk.specs.Confined.{Among, Confined, DiffersOnlyAt, IsUnsyncedOr, IsSynced, LeavesOnly}
-use Rattle.tree_disk.specs.ConfinedLaws.{leaves_weaker, leaves_then}
+use Rattle.tree_disk.specs.ConfinedLaws.{leaves_weaker}
+use Rattle.tree_disk.specs.Steps.{no_name}
 use Rattle.journal_log.specs.declared.put.Put.{Put}
 use Rattle.journal_log.specs.Own.{gate, log, is_own, StoresSame}
-use Rattle.journal_log.specs.WriteSet.{CanBeNamed, IsWriteSet, IsLoggable}
+use Rattle.journal_log.specs.WriteSet.{CanBeNamed, IsLoggable}
 use Rattle.journal_log.specs.Targets.{is_dir_want, is_target, with_targets}
-use Rattle.journal_log.specs.LogBytes.{IsLogText}
 use Rattle.tree_journal.specs.CanBePut.{CanBePut, AllCanBePut}
-use Rattle.tree_journal.specs.Recovery.{is_flag, is_committed, HoldsLog, RecoversTo, at_rest, by_log}
+use Rattle.tree_journal.specs.Recovery.{is_flag, is_committed, HoldsLog, RecoversTo, at_rest, by_log, RecoversAsAt}
 use Rattle.tree_journal.specs.Apply.{is_own_or_target}
-use Rattle.tree_journal.specs.Passes.{CanReplay}
-use Rattle.tree_journal.specs.Steps.{is_gate_or_target, HasLog, IsCommitted}
+use Rattle.tree_journal.specs.Steps.{is_gate_or_target, IsCommitted}
 use Rattle.tree_journal.proofs.WriteSets.{neither, or_none, target_at, with_targets_outside, with_targets_inside}
 use Rattle.tree_journal.proofs.OwnNames.{parent_join, within_below, in_line, Line, one, first, second, in_gate, in_log, base_own, OwnPlace, at_base, in_file, own_place, base_not_in_gate, log_not_in_gate}
 
@@ -160,6 +159,20 @@ module _ (base : Name) (path : is_path base ≡ true) (puts : List Put) (paths :
 pub image_agrees : {D : Type 0} (disk : DiskModel D) (d : D) (names : Name → Bool) (image : Tree) → IsSynced disk d
     → DiffersOnlyAt (IsUnsyncedOr disk d (Among names)) (disk.reads d) image → (q : Name) → names q ≡ false → get image q ≡ get (disk.reads d) q
 image_agrees disk d names image synced differs q out = differs.agrees q (λ h. ⊎_elim (λ was. absurd (cc (synced q, was))) (λ is. absurd (cc (out, is))) h)
+
+-- while nothing is changed, each image is one of those at entry
+pub unchanged_leaves : {D : Type 0} (disk : DiskModel D) (base : Name) (old new : D) → Confined disk (Among no_name) old new → LeavesOnly disk old new (RecoversAsAt disk base old)
+unchanged_leaves disk base old new run = leaves_weaker each run.images
+  where
+    each : (image : Tree) → DiffersOnlyAt (IsUnsyncedOr disk old (Among no_name)) (disk.reads old) image → RecoversAsAt disk base old image
+    each image differs = (
+      image,
+      record {
+        well_formed = differs.well_formed;
+        synced = λ p none. differs.agrees p (λ h. ⊎_elim (λ was. absurd (cc (none, was))) (λ is. absurd (cc is)) h);
+      },
+      λ tree h. h,
+    )
 
 module _ {D : Type 0} (disk : DiskModel D) (base : Name) (path : is_path base ≡ true) (puts : List Put) (old : D) (ready : IsCommitted disk base puts old) where
   log_of : IsLoggable base puts

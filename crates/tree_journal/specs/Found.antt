@@ -1,13 +1,12 @@
 -- What recovery finds.
-use Rattle.std.specs.Prelude.{◌≡◌, ◌≢◌, ℕ, ◌≤◌, Bool, true, false, IsTrue, List, Option, Some, None, Result, Ok, Err, IfOk, IfErr}
+use Rattle.std.specs.Prelude.{◌≡◌, ◌≢◌, ℕ, ◌<◌, ◌≤◌, length, Bool, true, false, ◌==◌, IsTrue, List, Option, Some, None, Result, IfOk, IfErr}
 use Rattle.std.specs.FinMap.{get}
 use Rattle.std.specs.List.{All}
 use Rattle.cny_base.specs.Count.{Rose}
-use Rattle.cny_base.specs.Path.{is_path, join}
+use Rattle.cny_base.specs.Path.{is_path, join, parent, root}
 use Rattle.cny_base.specs.Below.{is_below}
 use Rattle.cny_base.specs.declared.node.Node.{Node}
 use Rattle.cny_base.specs.declared.node.Node.TheVariants as node
-use Rattle.cny_base.specs.declared.refusal.Refusal.{Refusal}
 use Rattle.cny_base.specs.declared.refusal.Refusal.TheVariants as refusal
 use Rattle.cny_base.specs.declared.stop.Stop.{Stop}
 use Rattle.cny_base.specs.declared.stop.Stop.TheVariants.{Refused, Memory, Failed, Damaged, FarFailed, FarDamaged}
@@ -19,7 +18,7 @@ use Rattle.tree_disk.specs.Disk.{DiskModel, HasRead}
 use Rattle.journal_log.specs.declared.put.Put.{Put}
 use Rattle.journal_log.specs.Own.{log}
 use Rattle.journal_log.specs.Targets.{is_target}
-use Rattle.tree_journal.specs.CanBePut.{CanBePut, AllCanBePut}
+use Rattle.tree_journal.specs.CanBePut.{AllCanBePut}
 use Rattle.tree_journal.specs.Recovery.{HoldsLog, IsFirstBlocked, HasBlockedLog, HasDamagedLog}
 
 -- Why calls of a disk stop: a fault, or want of memory.
@@ -42,6 +41,21 @@ pub record IsAnswer (P : Type 0) (answer : Bool) : Type 0 where
   pub holds : answer ≡ true → P
   pub fails : answer ≡ false → P → ⊥
 
+-- the path without its last name, and that it is shorter
+pub record IsAbove (path above : Name) : Type 0 where
+  pub is : above ≡ parent path
+  pub is_path : IsTrue (is_path above)
+  pub not_root : path ≢ root
+  pub shorter : length above < length path
+
+-- the path of a name directly below another, and that it is longer, but no longer than a path may be
+pub record IsChild (path last child : Name) : Type 0 where
+  pub is : child ≡ join path last
+  pub is_path : IsTrue (is_path child)
+  pub not_root : child ≢ root
+  pub longer : length path < length child
+  pub short : length child ≤ 1024
+
 -- each path above that isn't a target is a directory
 abbrev pub HasWay : List Put → Tree → Name → Type 0
 HasWay puts tree path = (q : Name) → IsTrue (is_path q) → IsTrue (is_below q path) → is_target puts q ≡ false → IsTrue (is_dir_at tree q)
@@ -59,7 +73,12 @@ abbrev pub file_bytes : Option Node → Option (List ℕ)
 file_bytes (Some (node.File mode bytes)) = Some bytes
 file_bytes _ = None
 
--- a file of one byte
+-- whether a file of one byte is seen
+abbrev pub sees_one_byte : Look → Bool
+sees_one_byte (look.File mode size) = size == 1
+sees_one_byte _ = false
+
+-- the size of the file that is seen
 abbrev pub size_seen : Look → Option ℕ
 size_seen (look.File mode size) = Some size
 size_seen _ = None
@@ -76,18 +95,13 @@ FindsBlocked puts tree None = AllCanBePut puts tree
 
 -- ---- how a recovery stops
 
--- a refusal is that of a parent, at a path that has P
-abbrev pub IfParent : (Name → Type 0) → Stop → Type 0
-IfParent P (Refused (refusal.Parent path)) = P path
-IfParent P (Refused _) = ⊥
-IfParent P _ = Unit {0}
-
-abbrev pub IfDamaged : (Name → Type 0) → Stop → Type 0
-IfDamaged P (Damaged path) = P path
-IfDamaged P _ = Unit {0}
-
--- no stop of a source of contents
-abbrev pub IsNear : Stop → Type 0
-IsNear FarFailed = ⊥
-IsNear (FarDamaged path) = ⊥
-IsNear _ = Unit {0}
+-- Why a recovery stops: the disk failed; memory ran out; the log behind a set commit flag has a write that can't be put,
+-- or isn't whole. In the last two cases no node is changed.
+abbrev pub StopsSo : {D : Type 0} → DiskModel D → Name → D → D → Stop → Type 0
+StopsSo disk base old new Failed = Rose (disk.faults old) (disk.faults new)
+StopsSo disk base old new Memory = Unit {0}
+StopsSo disk base old new (Refused (refusal.Parent path)) = IsTrue disk.tells → HasBlockedLog base (disk.reads old) path × (disk.reads new ≡ disk.reads old)
+StopsSo disk base old new (Refused _) = ⊥
+StopsSo disk base old new (Damaged path) = IsTrue disk.tells → (path ≡ log base) × HasDamagedLog base (disk.reads old) × (disk.reads new ≡ disk.reads old)
+StopsSo disk base old new FarFailed = ⊥
+StopsSo disk base old new (FarDamaged path) = ⊥

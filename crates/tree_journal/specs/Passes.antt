@@ -1,6 +1,6 @@
 -- The two passes of a replay: what obstructs the targets is removed, the deepest path first, and then the targets are
 -- made, the shallowest first.
-use Rattle.std.specs.Prelude.{◌≡◌, ◌≢◌, ◌⊎◌, ℕ, Bool, true, false, not, IsTrue, List, [], ◌∷◌, Option, Some, None, if◌then◌else◌}
+use Rattle.std.specs.Prelude.{◌≡◌, ◌≢◌, ◌⊎◌, Bool, true, false, not, IsTrue, List, [], ◌∷◌, Option, Some, None, if◌then◌else◌}
 use Rattle.std.specs.FinMap.{get}
 use Rattle.std.specs.List.{All}
 use Rattle.cny_base.specs.Path.{parent, root}
@@ -8,7 +8,7 @@ use Rattle.cny_base.specs.declared.node.Node.{Node}
 use Rattle.cny_base.specs.declared.node.Node.TheVariants as node
 use Rattle.tree_disk.specs.declared.disk.Look.{Look}
 use Rattle.tree_disk.specs.declared.disk.Look.TheVariants as look
-use Rattle.tree_disk.specs.Tree.{Name, Tree, put, is_dir, WellFormed}
+use Rattle.tree_disk.specs.Tree.{Name, Tree, put}
 use Rattle.tree_disk.specs.Rows.{is_dir_at, can_remove, without}
 use Rattle.journal_log.specs.declared.put.Want.{Want}
 use Rattle.journal_log.specs.declared.put.Want.TheVariants as want

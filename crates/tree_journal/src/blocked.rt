@@ -1,13 +1,12 @@
 //! Which write of a write set can't be put into the tree as it stands.
-ghost use Rattle.std.specs.Prelude.{◌≡◌, ◌≢◌, IfErr, IfOk, IsTrue};
+ghost use Rattle.std.specs.Prelude.{◌≡◌, ◌≢◌, IfErr, IfNone, IfOk, IfSome, IsTrue};
+ghost use Rattle.std.specs.List.{All};
 ghost use Rattle.cny_base.specs.Path.{is_path, join, root};
 ghost use Rattle.cny_base.specs.declared.stop.Stop.TheVariants as stop;
-ghost use Rattle.journal_log.specs.Targets.{is_dir_want};
-ghost use Rattle.journal_log.specs.WriteSet.{IsWriteSet};
 ghost use Rattle.tree_disk.specs.Disk.{NamesOf};
 ghost use Rattle.tree_disk.specs.Rows.{is_dir_at};
 ghost use Rattle.tree_journal.specs.CanBePut.{CanBePut};
-ghost use Rattle.tree_journal.specs.Found.{AreClear, Finds, FindsBlocked, HasWay, IsAnswer, IsClearBelow};
+ghost use Rattle.tree_journal.specs.Found.{AreClear, Finds, FindsBlocked, HasWay, IsAbove, IsAnswer, IsChild, IsClearBelow};
 
 use crate::passes::is_dir;
 use cny_base::{Path, Stop, Text, TextFault};
@@ -21,7 +20,8 @@ pub fn first_blocked<D: TreeDisk>(
     disk: &mut D,
     puts: &Puts,
 ) -> Result<Option<Path>, Stop>
-    requires { IsWriteSet puts.now }
+    requires paths { All (λ p. IsTrue (is_path p.path)) puts.now }
+    requires not_root { All (λ p. p.path ≢ root) puts.now }
     ensures { Finds D.disk (FindsBlocked puts.now) disk.old disk.new result }
 {
     for put in puts.get() {
@@ -38,6 +38,8 @@ fn can_be_put<D: TreeDisk>(
     puts: &Puts,
     put: &Put,
 ) -> Result<bool, Stop>
+    requires path { IsTrue (is_path put.now.path) }
+    requires not_root { put.now.path ≢ root }
     ensures { Finds D.disk (λ tree can. IsAnswer (CanBePut puts.now tree put.now) can) disk.old disk.new result }
 {
     if !has_way(alloc, disk, puts, &put.path)? {
@@ -49,16 +51,25 @@ fn can_be_put<D: TreeDisk>(
     is_clear_below(alloc, disk, puts, &put.path)
 }
 
-// Whether each path above that isn't a target is a directory: where the nearest one is, all are.
-fn has_way<D: TreeDisk>(
-    alloc: Global,
-    disk: &mut D,
-    puts: &Puts,
-    path: &Path,
-) -> Result<bool, Stop>
-    ensures { Finds D.disk (λ tree has. IsAnswer (HasWay puts.now tree path.now) has) disk.old disk.new result }
+// The path without its last name.
+fn above_of(alloc: Global, path: &Path) -> Result<Option<Path>, Stop>
+    requires { IsTrue (is_path path.now) }
+    ensures above { IfOk result (λ found. IfSome found (IsAbove path.now)) }
+    ensures none { IfOk result (λ found. IfNone found (path.now ≡ root)) }
+    ensures memory { IfErr result (λ e. e ≡ stop.Memory) }
 {
     let Some(above) = path.parent_path(alloc)? else {
+        return Ok(None);
+    };
+    Ok(Some(above))
+}
+
+// Whether each path above that isn't a target is a directory: where the nearest one is, all are.
+fn has_way<D: TreeDisk>(alloc: Global, disk: &mut D, puts: &Puts, path: &Path) -> Result<bool, Stop>
+    requires { IsTrue (is_path path.now) }
+    ensures { Finds D.disk (λ tree has. IsAnswer (HasWay puts.now tree path.now) has) disk.old disk.new result }
+{
+    let Some(above) = above_of(alloc, path)? else {
         return Ok(true);
     };
     if puts.contains(&above) {
@@ -131,8 +142,10 @@ fn are_names_clear<D: TreeDisk>(
 
 // The path of a name directly below another.
 fn child_of(alloc: Global, path: &Path, last: &str) -> Result<Path, Stop>
-    requires { IsTrue (is_path (join path.now last.now)) }
-    ensures child { IfOk result (λ child. child ≡ join path.now last.now) }
+    requires path { IsTrue (is_path path.now) }
+    requires not_root { path.now ≢ root }
+    requires child { IsTrue (is_path (join path.now last.now)) }
+    ensures child { IfOk result (IsChild path.now last.now) }
     ensures memory { IfErr result (λ e. e ≡ stop.Memory) }
 {
     match path.join(alloc, last) {

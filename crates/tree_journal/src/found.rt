@@ -1,9 +1,10 @@
 //! What stands behind the commit flag.
-ghost use Rattle.std.specs.Prelude.{◌≡◌, IfOk, IsTrue, Some};
+ghost use Rattle.std.specs.Prelude.{◌≡◌, IfOk, IfSome, IsTrue, Some};
 ghost use Rattle.std.specs.FinMap.{get};
 ghost use Rattle.cny_base.specs.Path.{join};
 ghost use Rattle.journal_log.specs.Own.{gate, log};
-ghost use Rattle.tree_journal.specs.Found.{file_bytes, size_seen, Finds, FindsLog};
+ghost use Rattle.journal_log.specs.WriteSet.{IsLoggable};
+ghost use Rattle.tree_journal.specs.Found.{file_bytes, sees_one_byte, size_seen, Finds, FindsLog};
 ghost use Rattle.tree_journal.specs.Recovery.{is_flag};
 
 use cny_base::{Bytes, Path, Stop, TextFault};
@@ -20,12 +21,17 @@ fn file_size(look: &Look) -> Option<u64>
     }
 }
 
+fn is_one_byte(look: &Look) -> bool
+    ensures { result ≡ sees_one_byte look.now }
+{
+    match look {
+        Look::File { size, .. } => *size == 1,
+        Look::Nothing | Look::Dir { .. } | Look::Link { .. } => false,
+    }
+}
+
 // The bytes of the file at a path, where one stands.
-fn read_file<D: TreeDisk>(
-    alloc: Global,
-    disk: &mut D,
-    path: &Path,
-) -> Result<Option<Bytes>, Stop>
+fn read_file<D: TreeDisk>(alloc: Global, disk: &mut D, path: &Path) -> Result<Option<Bytes>, Stop>
     ensures { Finds D.disk (λ tree bytes. bytes ≡ file_bytes (get tree path.now)) disk.old disk.new result }
 {
     let look = steps::look(alloc, disk, path)?;
@@ -36,15 +42,11 @@ fn read_file<D: TreeDisk>(
 }
 
 /// Whether the commit flag is set.
-pub fn is_flag_set<D: TreeDisk>(
-    alloc: Global,
-    disk: &mut D,
-    gate_path: &Path,
-) -> Result<bool, Stop>
+pub fn is_flag_set<D: TreeDisk>(alloc: Global, disk: &mut D, gate_path: &Path) -> Result<bool, Stop>
     ensures { Finds D.disk (λ tree is. is ≡ is_flag (get tree gate_path.now)) disk.old disk.new result }
 {
     let look = steps::look(alloc, disk, gate_path)?;
-    if file_size(&look) != Some(1) {
+    if !is_one_byte(&look) {
         return Ok(false);
     }
     let mut byte = [0u8; 1];
@@ -61,6 +63,8 @@ pub fn read_log<D: TreeDisk>(
 ) -> Result<Option<Puts>, Stop>
     requires { log_path.now ≡ log base.now }
     ensures finds { Finds D.disk (FindsLog base.now) disk.old disk.new result }
+    // On every disk.
+    ensures loggable { IfOk result (λ found. IfSome found (IsLoggable base.now)) }
 {
     let Some(bytes) = read_file(alloc, disk, log_path)? else {
         return Ok(None);

@@ -1,13 +1,13 @@
 //! The journal of a disk: a write set takes effect as a whole at the write of one byte, or not at all.
 #![tactic(auto)]
 
-mod writing;
 mod blocked;
 mod flag;
 mod found;
 mod passes;
 mod recovery;
 mod replay;
+mod writing;
 
-pub use writing::apply;
 pub use recovery::recover;
+pub use writing::apply;

@@ -1,12 +1,11 @@
 //! Recovery: what a crash left of an applied write set is brought to its end.
-ghost use Rattle.std.specs.Prelude.{◌≡◌, ◌≤◌, false, true, IfErr, IfNone, IfOk, IfSome, IsErrOf, IsTrue, OnOk};
+ghost use Rattle.std.specs.Prelude.{◌≡◌, ◌≤◌, false, true, IfErr, IfNone, IfOk, IfSome, IsTrue, OnOk};
 ghost use Rattle.cny_base.specs.Path.{is_path};
-ghost use Rattle.cny_base.specs.Count.{Rose};
 ghost use Rattle.cny_base.specs.declared.stop.Stop.TheVariants as stop;
 ghost use Rattle.tree_disk.specs.Confined.{IsSynced, LeavesOnly};
-ghost use Rattle.journal_log.specs.Own.{gate, log};
-ghost use Rattle.tree_journal.specs.Found.{IfDamaged, IfParent, IsNear};
-ghost use Rattle.tree_journal.specs.Recovery.{is_committed, HasBlockedLog, HasDamagedLog, IsRecovered, RecoversAsAt};
+ghost use Rattle.journal_log.specs.Own.{gate};
+ghost use Rattle.tree_journal.specs.Found.{StopsSo};
+ghost use Rattle.tree_journal.specs.Recovery.{is_committed, IsRecovered, RecoversAsAt};
 
 use crate::blocked::first_blocked;
 use crate::flag::own_path;
@@ -31,13 +30,8 @@ pub fn recover<D: TreeDisk>(alloc: Global, disk: &mut D, base: &Path) -> Result<
     ensures was_committed { IsTrue D.disk.tells → IfOk result (λ was. was ≡ is_committed base.now (D.disk.reads disk.old)) }
     // A flag that isn't set is left as it stands, and all else too.
     ensures kept { IsTrue D.disk.tells → IfOk result (λ was. was ≡ false → D.disk.reads disk.new ≡ D.disk.reads disk.old) }
-    ensures parent { IsTrue D.disk.tells → IfErr result (IfParent (λ path.
-        HasBlockedLog base.now (D.disk.reads disk.old) path × (D.disk.reads disk.new ≡ D.disk.reads disk.old))) }
-    ensures damaged { IsTrue D.disk.tells → IfErr result (IfDamaged (λ path.
-        (path ≡ log base.now) × HasDamagedLog base.now (D.disk.reads disk.old) × (D.disk.reads disk.new ≡ D.disk.reads disk.old))) }
+    ensures causes { IfErr result (StopsSo D.disk base.now disk.old disk.new) }
     ensures later { D.disk.faults disk.old ≤ D.disk.faults disk.new }
-    ensures failed { IsErrOf result stop.Failed → Rose (D.disk.faults disk.old) (D.disk.faults disk.new) }
-    ensures near { IfErr result IsNear }
 {
     steps::sync(alloc, disk)?;
     let Some(gate_path) = gate_of(alloc, base)? else {
@@ -53,6 +47,7 @@ pub fn recover<D: TreeDisk>(alloc: Global, disk: &mut D, base: &Path) -> Result<
 // The path of the commit flag's file, where that is a path: with a base so long that it isn't, nothing stands there.
 fn gate_of(alloc: Global, base: &Path) -> Result<Option<Path>, Stop>
     ensures some { IfOk result (λ found. IfSome found (λ path. path ≡ gate base.now)) }
+    ensures is_path { IfOk result (λ found. IfSome found (λ path. IsTrue (is_path path))) }
     ensures none { IfOk result (λ found. IfNone found (is_path (gate base.now) ≡ false)) }
     ensures memory { IfErr result (λ e. e ≡ stop.Memory) }
 {
@@ -71,17 +66,13 @@ fn replay_log<D: TreeDisk>(
     gate_path: &Path,
 ) -> Result<(), Stop>
     requires gate { gate_path.now ≡ gate base.now }
+    requires gate_path { IsTrue (is_path gate_path.now) }
     requires synced { IsTrue D.disk.tells → IsSynced D.disk disk.old }
     requires flag_set { IsTrue D.disk.tells → is_committed base.now (D.disk.reads disk.old) ≡ true }
     ensures any_moment { IsTrue D.disk.tells → LeavesOnly D.disk disk.old disk.new (RecoversAsAt D.disk base.now disk.old) }
     ensures recovered { IsTrue D.disk.tells → OnOk result (IsRecovered D.disk base.now disk.old disk.new) }
-    ensures parent { IsTrue D.disk.tells → IfErr result (IfParent (λ path.
-        HasBlockedLog base.now (D.disk.reads disk.old) path × (D.disk.reads disk.new ≡ D.disk.reads disk.old))) }
-    ensures damaged { IsTrue D.disk.tells → IfErr result (IfDamaged (λ path.
-        (path ≡ log base.now) × HasDamagedLog base.now (D.disk.reads disk.old) × (D.disk.reads disk.new ≡ D.disk.reads disk.old))) }
+    ensures causes { IfErr result (StopsSo D.disk base.now disk.old disk.new) }
     ensures later { D.disk.faults disk.old ≤ D.disk.faults disk.new }
-    ensures failed { IsErrOf result stop.Failed → Rose (D.disk.faults disk.old) (D.disk.faults disk.new) }
-    ensures near { IfErr result IsNear }
 {
     let log_path = own_path(alloc, base, "log")?;
     let Some(puts) = read_log(alloc, disk, base, &log_path)? else {

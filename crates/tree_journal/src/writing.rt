@@ -24,12 +24,7 @@ use tree_disk::{TreeDisk, steps};
 ///
 /// `Failed` comes where the disk failed, and want of memory also where the write set is too large for a log: a value,
 /// or the number of writes, has no room in 32 bits. After both the disk recovers to the tree before or after.
-pub fn apply<D: TreeDisk>(
-    alloc: Global,
-    disk: &mut D,
-    base: &Path,
-    puts: &Puts,
-) -> Result<(), Stop>
+pub fn apply<D: TreeDisk>(alloc: Global, disk: &mut D, base: &Path, puts: &Puts) -> Result<(), Stop>
     requires short { length base.now ≤ 1011 }
     requires told { IsTrue D.disk.tells → CanApply D.disk base.now puts.now disk.old }
     // At every moment, also inside each call of the disk and where a call fails, a crash leaves a tree that recovers to

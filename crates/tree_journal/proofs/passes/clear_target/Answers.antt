@@ -1,5 +1,5 @@
 use Rattle.std.proofs.Common.{ap, sym, ◌∙◌}
-use Rattle.tree_disk.specs.StepLaws.{tests_value, makes_after_test, makes_from_test, makes_test_stop}
+use Rattle.tree_disk.specs.StepLaws.{tests_value, makes_after_test, makes_from_test}
 use Rattle.tree_disk.specs.Disk.{one_name}
 use Rattle.tree_journal.specs.Passes.{is_obstructed}
 use Rattle.tree_journal.proofs.ClearPass.{obstructed_at, cleared_away, cleared_kept}

@@ -1,8 +1,8 @@
-use Rattle.std.proofs.Common.{◌≡◌, ℕ, ◌+◌, ◌-◌, ◌<◌, IsTrue, List, length, get_or, drop, ap, sym, ◌∙◌, refl, arith}
+use Rattle.std.proofs.Common.{◌≡◌, ℕ, ◌-◌, List, length, drop, ap, arith}
 use Rattle.std.proofs.lemmas.List.{drop_all}
 use Rattle.tree_disk.specs.StepLaws.{makes_start, makes_then, makes_then_stop, makes_as}
 use Rattle.journal_log.specs.declared.put.Put.{Put}
-use Rattle.tree_journal.specs.Passes.{all_cleared, CanClear}
+use Rattle.tree_journal.specs.Passes.{all_cleared}
 use Rattle.tree_journal.proofs.WriteSets.{own_target}
 use Rattle.tree_journal.proofs.ClearPass.{can_clear_at, one_more_cleared}
 use Rattle.tree_journal.proofs.passes.clear_targets.Goals as goal

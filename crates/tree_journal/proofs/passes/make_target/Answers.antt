@@ -1,4 +1,4 @@
-use Rattle.std.proofs.Common.{◌≡◌, false, true, sym, ap, ◌∙◌, refl}
+use Rattle.std.proofs.Common.{sym, ap}
 use Rattle.tree_disk.specs.StepLaws.{makes_start}
 use Rattle.tree_disk.specs.Disk.{one_name}
 use Rattle.journal_log.specs.Targets.{is_dir_want}

@@ -1,4 +1,4 @@
-use Rattle.std.proofs.Common.{refl, ap, ◌∙◌}
+use Rattle.std.proofs.Common.{refl}
 use Rattle.tree_disk.specs.StepLaws.{makes_then}
 use Rattle.journal_log.specs.Targets.{with_targets}
 use Rattle.tree_journal.proofs.ClearPass.{can_clear_all}

@@ -4,7 +4,7 @@ use Rattle.tree_disk.specs.ConfinedLaws.{leaves_then}
 use Rattle.tree_disk.specs.ClearLaws.{itself_within, or_left, or_right}
 use Rattle.tree_disk.specs.Rows.{is_file_at, without}
 use Rattle.tree_disk.specs.StepLaws.{makes_then, makes_stop, makes_wider}
-use Rattle.tree_disk.specs.Tree.{Name, Tree, same_name}
+use Rattle.tree_disk.specs.Tree.{Name, same_name}
 use Rattle.journal_log.specs.Own.{gate}
 use Rattle.journal_log.specs.Targets.{is_target, with_targets}
 use Rattle.tree_journal.specs.Steps.{is_gate_or_target}

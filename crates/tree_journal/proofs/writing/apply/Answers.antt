@@ -1,10 +1,9 @@
-use Rattle.std.proofs.Common.{◌≡◌, IsTrue, Bool, List, true, ap, subst, refl, sym, ◌∙◌, arith}
-use Rattle.std.specs.Prelude.{codes}
+use Rattle.std.proofs.Common.{IsTrue, List, ap, subst, sym, ◌∙◌}
 use Rattle.tree_disk.specs.Clear.{is_within}
 use Rattle.tree_disk.specs.ClearLaws.{or_left, or_right, or_cases}
 use Rattle.tree_disk.specs.Confined.{Among, Confined, LeavesOnly}
 use Rattle.tree_disk.specs.ConfinedLaws.{leaves_then, confined_start, confined_wider, confined_then}
-use Rattle.tree_disk.specs.Tree.{Name, Tree}
+use Rattle.tree_disk.specs.Tree.{Name}
 use Rattle.journal_log.specs.declared.put.Put.{Put}
 use Rattle.journal_log.specs.Own.{gate, is_own}
 use Rattle.journal_log.specs.Targets.{is_target}
@@ -13,7 +12,7 @@ use Rattle.journal_log.specs.WriteSet.{Rises}
 use Rattle.std.proofs.Common.{⊎_elim}
 use Rattle.tree_journal.specs.Apply.{is_own_or_target}
 use Rattle.tree_journal.specs.Steps.{is_base_or_log, is_gate_or_target, committed, IsPrepared, IsOldOrNew}
-use Rattle.tree_journal.proofs.OwnNames.{gate_part, log_part, join_short, base_or_log_own, in_gate}
+use Rattle.tree_journal.proofs.OwnNames.{gate_part, log_part, base_or_log_own, in_gate}
 use Rattle.tree_journal.proofs.Applying.{nothing_yet, may_prepare, first_part, second_part, all_applied, is_prepared, on_ok_end}
 use Rattle.tree_journal.proofs.writing.apply.Goals as goal
 

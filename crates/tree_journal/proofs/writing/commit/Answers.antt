@@ -1,4 +1,4 @@
-use Rattle.std.proofs.Common.{◌≡◌, IsTrue, List, true, ap, subst, refl, sym, ◌∙◌}
+use Rattle.std.proofs.Common.{◌≡◌, IsTrue, List, true, ap, subst, refl, ◌∙◌}
 use Rattle.std.specs.Prelude.{codes}
 use Rattle.cny_base.specs.Path.{parent}
 use Rattle.tree_disk.specs.Clear.{is_within}
@@ -7,11 +7,11 @@ use Rattle.tree_disk.specs.Confined.{Among, Confined}
 use Rattle.tree_disk.specs.ConfinedLaws.{leaves_then}
 use Rattle.tree_disk.specs.Rows.{is_dir_at}
 use Rattle.tree_disk.specs.StepLaws.{makes_then, makes_stop, makes_wider}
-use Rattle.tree_disk.specs.Tree.{Name, Tree}
+use Rattle.tree_disk.specs.Tree.{Name}
 use Rattle.journal_log.specs.declared.put.Put.{Put}
 use Rattle.journal_log.specs.Own.{gate}
 use Rattle.journal_log.specs.Targets.{is_target}
-use Rattle.tree_journal.specs.Steps.{is_gate_or_target, with_flag, with_own_file, replayed}
+use Rattle.tree_journal.specs.Steps.{is_gate_or_target, with_own_file, replayed}
 use Rattle.tree_journal.proofs.OwnNames.{parent_join}
 use Rattle.tree_journal.proofs.Applying.{opening_leaves, is_flagged, replay_leaves}
 use Rattle.tree_journal.proofs.writing.commit.Goals as goal

@@ -1,4 +1,4 @@
-use Rattle.std.proofs.Common.{refl, ◌∙◌}
+use Rattle.std.proofs.Common.{refl}
 use Rattle.tree_disk.specs.ConfinedLaws.{leaves_then}
 use Rattle.tree_disk.specs.StepLaws.{makes_then, makes_stop, makes_wider}
 use Rattle.tree_journal.specs.Steps.{is_base_or_log, with_log}

@@ -1,4 +1,4 @@
-use Rattle.std.proofs.Common.{◌≡◌, IsTrue, true, ap, subst, sym, ◌∙◌}
+use Rattle.std.proofs.Common.{◌≡◌, IsTrue, true, ap, subst, ◌∙◌}
 use Rattle.tree_disk.specs.Clear.{is_within}
 use Rattle.tree_disk.specs.ClearLaws.{or_left, or_right}
 use Rattle.tree_disk.specs.Rows.{is_dir_at}
