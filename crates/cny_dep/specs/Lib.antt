@@ -1,0 +1,6 @@
+pub mod Part
+pub mod Dep
+pub mod Listing
+pub mod Relaxed
+pub mod Satisfies
+pub mod Order

@@ -1,0 +1,16 @@
+//! Dependencies: what a trove requires and provides, their texts, and when a provide satisfies a requirement.
+#![tactic(auto)]
+
+mod class;
+mod dep;
+mod flag;
+mod reading;
+mod satisfying;
+#[cfg(test)]
+mod tests;
+mod writing;
+
+pub use class::Class;
+pub use dep::Dep;
+pub use flag::Flag;
+pub use satisfying::satisfies;

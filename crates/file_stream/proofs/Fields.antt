@@ -1,0 +1,110 @@
+-- Fields of records: flags, numbers and strs, read and written.
+use Rattle.std.proofs.Common.{◌≡◌, ℕ, ◌+◌, ◌^◌, ◌<◌, ◌≤◌, Bool, true, false, cond, zero, suc, List, [], ◌∷◌, ◌++◌, length, take, drop, get_or, nat_le, ◌&&◌, ◌==◌, Option, Some, None, refl, sym, ap, ◌∙◌, arith, inl, inr, ◌⊎◌}
+use Rattle.std.specs.Cmp.{first_so, second_so}
+use Rattle.std.specs.Cmp.Derive.{both_true}
+use Rattle.std.specs.Int.{w16, to_be_bytes, from_be_bytes}
+use Rattle.std.proofs.lemmas.Bool.{cases_lt}
+use Rattle.std.proofs.lemmas.Bool.Decides.{nat_tests}
+use Rattle.std.proofs.lemmas.List.{take-append-drop, length-take, length-drop, get_or-take, get_or-drop, get_or_past, append-nil}
+use Rattle.std.proofs.lemmas.Nat.{be_bytes_2, from_be_bytes-to_be_bytes_2}
+use Rattle.cny_base.specs.StrField.{FitsStr, str}
+use Rattle.file_stream.specs.declared.record.Flags.{Flags}
+use Rattle.file_stream.specs.Record.{flag_bits}
+use Rattle.file_stream.specs.Reading.{flags_of, str_value}
+
+abbrev pub IsBytes : List ℕ → Type 0
+IsBytes bytes = (i : ℕ) → get_or bytes i 0 < 256
+
+pub drop_bytes : (n : ℕ) (bytes : List ℕ) → IsBytes bytes → IsBytes (drop n bytes)
+drop_bytes n bytes fits i = rw get_or-drop (fits (n + i))
+
+pub take_bytes : (n : ℕ) (bytes : List ℕ) → IsBytes bytes → IsBytes (take n bytes)
+take_bytes n bytes fits i =
+    elim (cases_lt i n) [
+      | inl lt ↦ rw (get_or-take n bytes i 0 lt) (fits i)
+      | inr le ↦ rw (get_or_past (take n bytes) i 0 (omega (arith, length-take n bytes))) (omega arith)
+    ]
+
+-- a value that stands behind a test
+pub guarded : {A : Type 0} (b : Bool) (x y : A) → cond b (Some x) None ≡ Some y → (b ≡ true) × (x ≡ y)
+guarded true x y e = (refl, cc)
+guarded false x y e = absurd (cc)
+
+-- which of two ways a choice went
+pub chosen : {A : Type 0} (b : Bool) (x y z : A) → cond b x y ≡ z → ((b ≡ true) × (x ≡ z)) ⊎ ((b ≡ false) × (y ≡ z))
+chosen true x y z e = inl (refl, e)
+chosen false x y z e = inr (refl, e)
+
+pub same_number : (m n : ℕ) → (m == n) ≡ true → m ≡ n
+same_number m n is = grind (arith, nat_tests)
+
+pub number_same : (m n : ℕ) → m ≡ n → (m == n) ≡ true
+number_same m n is = grind (arith, nat_tests)
+
+pub at_most : (m n : ℕ) → nat_le m n ≡ true → m ≤ n
+at_most m n is = grind (arith, nat_tests)
+
+pub most_at : (m n : ℕ) → m ≤ n → nat_le m n ≡ true
+most_at m n is = grind (arith, nat_tests)
+
+pub no_bytes : (bytes : List ℕ) → length bytes ≡ 0 → bytes ≡ []
+no_bytes [] is = refl
+no_bytes (b ∷ bytes) is = absurd (omega arith)
+
+-- ---- flags
+
+pub bits_again : (flags : Flags) → (nat_le (flag_bits flags) 7 ≡ true) × (flags_of (flag_bits flags) ≡ flags)
+bits_again flags = by flags.config flags.initial flags.transient
+  where
+    by : (config initial transient : Bool) → let made : Flags = record { config = config; initial = initial; transient = transient } in (nat_le (flag_bits made) 7 ≡ true) × (flags_of (flag_bits made) ≡ made)
+    by true true true = (refl, refl)
+    by true true false = (refl, refl)
+    by true false true = (refl, refl)
+    by true false false = (refl, refl)
+    by false true true = (refl, refl)
+    by false true false = (refl, refl)
+    by false false true = (refl, refl)
+    by false false false = (refl, refl)
+
+pub bits_taken : (bits : ℕ) → bits ≤ 7 → flag_bits (flags_of bits) ≡ bits
+bits_taken zero small = refl
+bits_taken (suc zero) small = refl
+bits_taken (suc (suc zero)) small = refl
+bits_taken (suc (suc (suc zero))) small = refl
+bits_taken (suc (suc (suc (suc zero)))) small = refl
+bits_taken (suc (suc (suc (suc (suc zero))))) small = refl
+bits_taken (suc (suc (suc (suc (suc (suc zero)))))) small = refl
+bits_taken (suc (suc (suc (suc (suc (suc (suc zero))))))) small = refl
+bits_taken (suc (suc (suc (suc (suc (suc (suc (suc bits)))))))) small = absurd (omega arith)
+
+-- ---- numbers
+
+pub two_below : (bytes : List ℕ) → IsBytes bytes → from_be_bytes w16 bytes < 2 ^ 16
+two_below bytes fits = omega (arith, fits 0, fits 1)
+
+-- ---- strs
+
+pub str_taken : (bytes value : List ℕ) → IsBytes bytes → str_value bytes ≡ Some value → FitsStr value × (bytes ≡ str value)
+str_taken bytes value fits e =
+    let found = guarded (nat_le 2 (length bytes) && from_be_bytes w16 (take 2 bytes) + 2 == length bytes) (drop 2 bytes) value e in
+    let long : 2 ≤ length bytes = at_most 2 (length bytes) (first_so (nat_le 2 (length bytes)) (from_be_bytes w16 (take 2 bytes) + 2 == length bytes) found.0) in
+    let whole : from_be_bytes w16 (take 2 bytes) + 2 ≡ length bytes =
+    same_number (from_be_bytes w16 (take 2 bytes) + 2) (length bytes) (second_so (nat_le 2 (length bytes)) (from_be_bytes w16 (take 2 bytes) + 2 == length bytes) found.0) in
+    let len : length value ≡ from_be_bytes w16 (take 2 bytes) = omega (arith, ap length found.1, length-drop 2 bytes) in
+    let below : from_be_bytes w16 (take 2 bytes) < 2 ^ 16 = two_below (take 2 bytes) (take_bytes 2 bytes fits) in
+    let told : to_be_bytes w16 (length value) ≡ take 2 bytes = be_bytes_2 (take 2 bytes) (length value) (omega (arith, length-take 2 bytes)) (take_bytes 2 bytes fits) len in
+    (omega arith, sym (take-append-drop 2 bytes) ∙ ap (λ l. l ++ drop 2 bytes) (sym told) ∙ ap (λ l. to_be_bytes w16 (length value) ++ l) found.1)
+
+pub str_again : (value : List ℕ) → FitsStr value → str_value (str value) ≡ Some value
+str_again value fits =
+    let len : from_be_bytes w16 (take 2 (str value)) ≡ length value = from_be_bytes-to_be_bytes_2 (length value) fits in
+    let tests : (nat_le 2 (length (str value)) && from_be_bytes w16 (take 2 (str value)) + 2 == length (str value)) ≡ true =
+    both_true (most_at 2 (length (str value)) (omega arith)) (number_same (from_be_bytes w16 (take 2 (str value)) + 2) (length (str value)) (omega (arith, len))) in
+    ap (λ b. cond b (Some value) None) tests
+
+pub no_str : (bytes : List ℕ) (found : Option (List ℕ)) → str_value bytes ≡ found → IsBytes bytes
+    → ((value rest : List ℕ) → FitsStr value → bytes ≡ str value ++ rest → ⊥) → str_value bytes ≡ None
+no_str bytes None is fits never = is
+no_str bytes (Some value) is fits never =
+    let taken = str_taken bytes value fits is in
+    absurd (never value [] taken.0 (taken.1 ∙ sym (append-nil (str value))))

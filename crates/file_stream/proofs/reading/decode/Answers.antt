@@ -1,0 +1,26 @@
+use Rattle.std.proofs.Common.{◌≡◌, Some, ◌∙◌, ap, arith}
+use Rattle.std.proofs.lemmas.Result.{IfOk-weaker}
+use Rattle.file_stream.specs.declared.record.FileRec.{FileRec}
+use Rattle.file_stream.specs.Record.{IsFileRecord, file_record_bytes}
+use Rattle.file_stream.specs.Reading.{record_of}
+use Rattle.file_stream.proofs.Records.{record_taken, record_again}
+use Rattle.file_stream.proofs.reading.decode.Goals as goal
+
+pub returns-clause-value : goal.returns-clause-value
+returns-clause-value c =
+    IfOk-weaker c.record_in.result (λ rec. record_of c.args.bytes.now ≡ Some rec) (λ rec. c.args.bytes.now ≡ file_record_bytes rec)
+    (λ rec is. (record_taken c.args.bytes.now rec (λ i. omega (arith, c.type_inv.bytes i)) is).1) c.record_in.ensures.value
+
+pub returns-clause-ok : goal.returns-clause-ok
+returns-clause-ok c =
+    IfOk-weaker c.record_in.result (λ rec. record_of c.args.bytes.now ≡ Some rec) IsFileRecord
+    (λ rec is. (record_taken c.args.bytes.now rec (λ i. omega (arith, c.type_inv.bytes i)) is).0) c.record_in.ensures.value
+
+pub returns-clause-bad : goal.returns-clause-bad
+returns-clause-bad c h rec is spelled = let none = c.record_in.ensures.bad h in let some = ap record_of spelled ∙ record_again rec is in absurd (cc (none, some))
+
+pub returns-clause-only : goal.returns-clause-only
+returns-clause-only c =
+    IfOk-weaker c.record_in.result (λ rec. record_of c.args.bytes.now ≡ Some rec)
+    (λ read. (rec : FileRec) → IsFileRecord rec → c.args.bytes.now ≡ file_record_bytes rec → read ≡ rec)
+    (λ read found rec is spelled. let some = ap record_of spelled ∙ record_again rec is in cc (found, some)) c.record_in.ensures.value
