@@ -86,3 +86,7 @@ sets_part (f ∷ fs) (s ∷ ss) = codes " is: " ++ sets_text (s ∷ ss)
 -- the canonical text
 abbrev pub flavor_text : Parts → List ℕ
 flavor_text p = flags_text p.flags ++ sets_part p.flags p.sets
+
+-- the empty flavor, whose text is empty
+abbrev pub no_parts : Parts
+no_parts = record { flags = []; sets = [] }

@@ -1,4 +1,5 @@
 pub mod Canonical
+pub mod Equality
 pub mod Order
 pub mod Reading
 pub mod Score

@@ -1,10 +1,12 @@
 -- The relaxed texts of flavors: the words in any order, and more or fewer spaces.
-use Rattle.std.specs.Prelude.{◌≡◌, ℕ, true, List, [], ◌∷◌, ◌++◌, map, replicate, codes}
+use Rattle.std.specs.Prelude.{◌≡◌, ℕ, true, List, [], ◌∷◌, ◌++◌, map, replicate, codes, Result, Ok, Err}
 use Rattle.std.specs.List.{flat_map}
+use Rattle.cny_base.specs.declared.text.TextFault.{TextFault}
+use Rattle.cny_base.specs.declared.text.TextFault.TheVariants as fault
 use Rattle.cny_flavor.specs.declared.parts.Flag.{Flag}
 use Rattle.cny_flavor.specs.declared.parts.InstructionSet.{InstructionSet}
 use Rattle.cny_flavor.specs.declared.parts.Parts.{Parts}
-use Rattle.cny_flavor.specs.Canonical.{flag_text, is_flavor}
+use Rattle.cny_flavor.specs.Canonical.{flag_text, is_flavor, flavor_text}
 use Rattle.cny_flavor.specs.Order.{in_order}
 
 -- a flag as it is written, and how many spaces stand between it and the comma before it, where there is one
@@ -81,3 +83,14 @@ pub record IsRelaxedText (text : List ℕ) (parts : Parts) : Type 0 where
   pub text_is : text ≡ spelling_text spelling
   pub parts_are : parts ≡ value_of spelling
   pub flavor : is_flavor parts ≡ true
+
+-- the canonical text of a flavor of these parts
+pub record IsCanonicalText (text : List ℕ) (parts : Parts) : Type 0 where
+  pub text_is : text ≡ flavor_text parts
+  pub flavor : is_flavor parts ≡ true
+
+-- What a reader of a text of these parts answers: the parts, or that memory ran out.
+abbrev pub IsReadAs : Result Parts TextFault → Parts → Type 0
+IsReadAs (Ok read) parts = read ≡ parts
+IsReadAs (Err fault.Memory) parts = Unit {0}
+IsReadAs (Err fault.Bad) parts = ⊥

@@ -1,8 +1,11 @@
 //! Flavors, which say what a build needs or prefers of a machine, with their texts and their score.
 #![tactic(auto)]
 
+mod flavor;
 mod order;
 mod parts;
 mod read;
+mod write;
 
+pub use flavor::{Flavor, one_text};
 pub use parts::{Flag, Flags, InstructionSet, InstructionSets, Parts, Sense};
