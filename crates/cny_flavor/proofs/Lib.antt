@@ -1,3 +1,5 @@
+pub mod Again
+pub mod Found
 pub mod Fronts
 pub mod Loops
 pub mod Putting
