@@ -283,12 +283,130 @@ part_no_comma f fs before after (s ∷ ss) = refl
 
 -- ---- flags don't begin with `is:`
 
--- bytes that neither go on with a word nor with a colon
-abbrev no_colon : List ℕ → Bool
-no_colon bytes = ends_word bytes
+second_none : (v : Bool) (ys : List ℕ) → after_byte 58 ys ≡ None → option_and_then (after_byte 58) (cond v (Some ys) None) ≡ None
+second_none true ys none = none
+second_none false ys none = refl
 
-pub record Readable (s : Spelling) : Type 0 where
-  pub flags : list_all is_flag (written s.flags) ≡ true
-  pub flag_count : length s.flags ≤ 64
-  pub sets : list_all fits (map set_of s.sets) ≡ true
-  pub set_count : length s.sets ≤ 64
+first_none : (v : Bool) (xs : List ℕ) → option_and_then (after_byte 58) (after_byte 115 xs) ≡ None → option_and_then (after_byte 58) (option_and_then (after_byte 115) (cond v (Some xs) None)) ≡ None
+first_none true xs none = none
+first_none false xs none = refl
+
+no_s : (b : ℕ) → not (is_word_byte b) ≡ true → (b == 115) ≡ false
+no_s b is = grind (arith, nat_tests)
+
+no_colon : (b : ℕ) → is_word_byte b ≡ true → (b == 58) ≡ false
+no_colon b is = grind (arith, nat_tests)
+
+ended_no_s : (rest : List ℕ) → ends_word rest ≡ true → after_byte 115 rest ≡ None
+ended_no_s [] ends = refl
+ended_no_s (b ∷ bs) ends = absent 115 b bs (no_s b ends)
+
+word_no_is : (word rest : List ℕ) → list_all is_word_byte word ≡ true → (word ≡ [] → ⊥) → ends_word rest ≡ true → after_byte 58 rest ≡ None → after_is (word ++ rest) ≡ None
+word_no_is [] rest all some ends none = absurd (some refl)
+word_no_is (a ∷ []) rest all some ends none = first_none (a == 105) rest (ap (option_and_then (after_byte 58)) (ended_no_s rest ends))
+word_no_is (a ∷ b ∷ []) rest all some ends none = first_none (a == 105) (b ∷ rest) (second_none (b == 115) rest none)
+word_no_is (a ∷ b ∷ d ∷ ds) rest all some ends none =
+    let good = second_so (is_word_byte b) (is_word_byte d && list_all is_word_byte ds) (second_so (is_word_byte a) (is_word_byte b && (is_word_byte d && list_all is_word_byte ds)) all) in
+    first_none (a == 105) (b ∷ d ∷ (ds ++ rest)) (second_none (b == 115) (d ∷ (ds ++ rest)) (absent 58 d (ds ++ rest) (no_colon d (first_so (is_word_byte d) (list_all is_word_byte ds) good))))
+
+some_word : (word : List ℕ) → is_word word ≡ true → word ≡ [] → ⊥
+some_word [] is none = cc is
+some_word (b ∷ bs) is none = cc none
+
+sensed_no_is : (s : Sense) (word rest : List ℕ) → is_flavor_word word ≡ true → ends_word rest ≡ true → after_byte 58 rest ≡ None → after_is (sense_text s ++ (word ++ rest)) ≡ None
+sensed_no_is Required word rest is ends none = word_no_is word rest (word_bytes word is) (some_word word (second_so (nat_le (length word) 255) (is_word word) is)) ends none
+sensed_no_is Preferred word rest is ends none = refl
+sensed_no_is PreferNot word rest is ends none = refl
+sensed_no_is Forbidden word rest is ends none = refl
+
+flag_no_is : (f : Flag) (rest : List ℕ) → is_flag f ≡ true → ends_word rest ≡ true → after_byte 58 rest ≡ None → after_is (flag_text f ++ rest) ≡ None
+flag_no_is f rest is ends none = ap after_is (append_assoc (sense_text f.sense) f.word rest) ∙ sensed_no_is f.sense f.word rest is ends none
+
+others_end : (fs : List SpacedFlag) (rest : List ℕ) → ends_word rest ≡ true → ends_word (flat_map comma_and_flag fs ++ rest) ≡ true
+others_end [] rest ends = ends
+others_end (f ∷ fs) rest ends = refl
+
+others_no_colon : (fs : List SpacedFlag) (rest : List ℕ) → after_byte 58 rest ≡ None → after_byte 58 (flat_map comma_and_flag fs ++ rest) ≡ None
+others_no_colon [] rest none = none
+others_no_colon (f ∷ fs) rest none = refl
+
+part_no_colon : (f : SpacedFlag) (fs : List SpacedFlag) (before after : ℕ) (ss : List SpacedSet) → after_byte 58 (spelled_sets_part (f ∷ fs) before after ss) ≡ None
+part_no_colon f fs before after [] = refl
+part_no_colon f fs before after (s ∷ ss) = refl
+
+flags_no_is : (f : SpacedFlag) (fs : List SpacedFlag) (rest : List ℕ) → is_flag f.flag ≡ true → ends_word rest ≡ true → after_byte 58 rest ≡ None → after_is (spelled_flags (f ∷ fs) ++ rest) ≡ None
+flags_no_is f fs rest is ends none =
+    ap after_is (append_assoc (flag_text f.flag) (flat_map comma_and_flag fs) rest)
+    ∙ flag_no_is f.flag (flat_map comma_and_flag fs ++ rest) is (others_end fs rest ends) (others_no_colon fs rest none)
+
+some_flag : (s : Sense) (word rest : List ℕ) → is_word word ≡ true → ((sense_text s ++ word) ++ rest) ≡ [] → ⊥
+some_flag Required [] rest is none = cc is
+some_flag Required (b ∷ bs) rest is none = cc none
+some_flag Preferred word rest is none = cc none
+some_flag PreferNot word rest is none = cc none
+some_flag Forbidden word rest is none = cc none
+
+some_flags : (f : SpacedFlag) (fs : List SpacedFlag) (rest : List ℕ) → is_flag f.flag ≡ true → spelled_flags (f ∷ fs) ++ rest ≡ [] → ⊥
+some_flags f fs rest is none =
+    some_flag f.flag.sense f.flag.word (flat_map comma_and_flag fs ++ rest) (second_so (nat_le (length f.flag.word) 255) (is_word f.flag.word) is)
+    (sym (append_assoc (flag_text f.flag) (flat_map comma_and_flag fs) rest) ∙ none)
+
+-- ---- whole texts
+
+parts_by_flags : (bytes : List ℕ) → (bytes ≡ [] → ⊥) → after_is bytes ≡ None → parts_at bytes ≡ parts_from bytes None
+unfolding parts_at
+parts_by_flags [] some none = absurd (some refl)
+parts_by_flags (b ∷ bs) some none = ap (parts_from (b ∷ bs)) none
+
+-- what makes a spelling readable
+record Readable (fs : List SpacedFlag) (ss : List SpacedSet) : Type 0 where
+  flags : list_all is_flag (written fs) ≡ true
+  flags_within : length fs ≤ 64
+  sets : list_all fits (map set_of ss) ≡ true
+  sets_within : length ss ≤ 64
+
+parts_again_from : (fs : List SpacedFlag) (before after : ℕ) (ss : List SpacedSet) → Readable fs ss
+    → parts_at (spelled_flags fs ++ spelled_sets_part fs before after ss) ≡ Some (record { flags = flags_of fs; sets = sets_of ss })
+unfolding parts_at
+parts_again_from [] before after [] good = refl
+parts_again_from [] before after (s ∷ ss) good = ap (with_flags []) (part_again after s ss good.sets_within good.sets)
+parts_again_from (f ∷ fs) before after ss good =
+    let part = spelled_sets_part (f ∷ fs) before after ss in
+    let first = first_so (is_flag f.flag) (list_all is_flag (written fs)) good.flags in
+    parts_by_flags (spelled_flags (f ∷ fs) ++ part) (some_flags f fs part first)
+    (flags_no_is f fs part first (part_ends f fs before after ss) (part_no_colon f fs before after ss))
+    ∙ ap (option_and_then (λ r. with_flags r.0 (sets_after_at r.1))) (ordered_again f fs part good.flags_within good.flags (part_ends f fs before after ss) (part_no_comma f fs before after ss))
+    ∙ ap (with_flags (flags_of (f ∷ fs))) (after_again f fs before after ss good.sets_within good.sets)
+
+is_at_most : (m n : ℕ) → m ≤ n → nat_le m n ≡ true
+is_at_most m n h = grind (arith, nat_tests)
+
+all_fit : (ss : List InstructionSet) → list_all is_set ss ≡ true → sum_by set_count ss ≤ 64 → list_all fits ss ≡ true
+all_fit [] all within = refl
+all_fit (s ∷ ss) all within =
+    let sum = sum_by-cons set_count s ss in
+    both_true (both_true (first_so (is_set s) (list_all is_set ss) all) (is_at_most (length s.flags) 64 (omega arith)))
+    (all_fit ss (second_so (is_set s) (list_all is_set ss) all) (omega arith))
+
+length-le-count : (ss : List InstructionSet) → length ss ≤ sum_by set_count ss
+length-le-count [] = omega arith
+length-le-count (s ∷ ss) = omega (arith, sum_by-cons set_count s ss, length-le-count ss)
+
+readable : (fs : List SpacedFlag) (ss : List SpacedSet) → is_flavor (record { flags = flags_of fs; sets = sets_of ss }) ≡ true → Readable fs ss
+readable fs ss is =
+    let count = at_most (length (flags_of fs) + sum_by set_count (sets_of ss)) 64
+            (first_so (nat_le (length (flags_of fs) + sum_by set_count (sets_of ss)) 64) (are_flags (flags_of fs) && are_sets (sets_of ss)) is) in
+    let both = second_so (nat_le (length (flags_of fs) + sum_by set_count (sets_of ss)) 64) (are_flags (flags_of fs) && are_sets (sets_of ss)) is in
+    let flags = first_so (list_all is_flag (flags_of fs)) (rise (λ f. f.word) (flags_of fs)) (first_so (are_flags (flags_of fs)) (are_sets (sets_of ss)) both) in
+    let sets = first_so (list_all is_set (sets_of ss)) (rise (λ s. s.word) (sets_of ss)) (second_so (are_flags (flags_of fs)) (are_sets (sets_of ss)) both) in
+    let flag_len : length (flags_of fs) ≡ length fs = length-in_order (λ f. f.word) (written fs) ∙ length-map fs (λ f. f.flag) in
+    let set_len : length (sets_of ss) ≡ length ss = length-in_order (λ s. s.word) (map set_of ss) ∙ length-map ss set_of in
+    record {
+      flags = sym (list_all-in_order is_flag (λ f. f.word) (written fs)) ∙ flags;
+      flags_within = omega arith;
+      sets = sym (list_all-in_order fits (λ s. s.word) (map set_of ss)) ∙ all_fit (sets_of ss) sets (omega arith);
+      sets_within = omega (arith, length-le-count (sets_of ss))
+    }
+
+pub parts_again : (s : Spelling) → is_flavor (value_of s) ≡ true → parts_at (spelling_text s) ≡ Some (value_of s)
+parts_again s is = parts_again_from s.flags s.before s.after s.sets (readable s.flags s.sets is)

@@ -2,4 +2,5 @@ pub mod Again
 pub mod Found
 pub mod Fronts
 pub mod Loops
+pub mod Plain
 pub mod Putting

@@ -3,7 +3,11 @@ use Rattle.std.specs.Prelude.{◌≡◌, ℕ, Bool, true, false, cond, ◌&&◌,
 use Rattle.std.proofs.Common.{suc, ◌+◌, sym, ◌∙◌, ap, arith}
 use Rattle.std.proofs.lemmas.Bool.Decides.{nat_tests}
 use Rattle.std.specs.Cmp.{first_so, second_so}
+use Rattle.std.specs.Cmp.Lexicographic.{slice_cmp, nat_list_cmp_total}
 use Rattle.std.specs.List.{list_all, prefix_len}
+use Rattle.std.specs.Ordering.{nat_cmp, is_lt, ordering_reverse}
+use Rattle.std.specs.declared.cmp.Ordering.{Ordering}
+use Rattle.std.specs.declared.cmp.Ordering.TheVariants.{Less, Equal, Greater}
 use Rattle.cny_flavor.specs.Order.{precedes, put, put_all, in_order, rise, rise_after}
 
 put_here : {X : Type 0} (b : Bool) (n : ℕ) (x y : X) (ys more : List X) → more ≡ insert ys n x → cond b (y ∷ more) (x ∷ y ∷ ys) ≡ insert (y ∷ ys) (cond b (1 + n) 0) x
@@ -63,3 +67,20 @@ length-in_order word (x ∷ xs) = length-put word x (in_order word xs) ∙ ap su
 rise_rest : {X : Type 0} (word : X → List ℕ) (before : List ℕ) (xs : List X) → rise_after word before xs ≡ true → rise word xs ≡ true
 rise_rest word before [] up = refl
 rise_rest word before (x ∷ xs) up = second_so (precedes before (word x)) (rise_after word (word x) xs) up
+
+turned : (o : Ordering) → is_lt (ordering_reverse o) ≡ true → is_lt o ≡ false
+turned Less is = absurd (cc is)
+turned Equal is = refl
+turned Greater is = refl
+
+not_before : (a b : List ℕ) → precedes a b ≡ true → precedes b a ≡ false
+not_before a b is = turned (slice_cmp nat_cmp b a) (ap is_lt (sym (nat_list_cmp_total.antisymm a b)) ∙ is)
+
+put_first : {X : Type 0} (word : X → List ℕ) (x : X) (ys : List X) → rise_after word (word x) ys ≡ true → put word x ys ≡ x ∷ ys
+put_first word x [] up = refl
+put_first word x (y ∷ ys) up =
+    ap (λ v. cond v (y ∷ put word x ys) (x ∷ y ∷ ys)) (not_before (word x) (word y) (first_so (precedes (word x) (word y)) (rise_after word (word y) ys) up))
+
+pub in_order-rising : {X : Type 0} (word : X → List ℕ) (xs : List X) → rise word xs ≡ true → in_order word xs ≡ xs
+in_order-rising word [] up = refl
+in_order-rising word (x ∷ xs) up = ap (put word x) (in_order-rising word xs (rise_rest word (word x) xs up)) ∙ put_first word x xs up
