@@ -1,8 +1,11 @@
 -- The canonical text is a relaxed one.
-use Rattle.std.specs.Prelude.{◌≡◌, ℕ, Bool, true, ◌&&◌, nat_le, List, [], ◌∷◌, ◌++◌, map, length, codes, Result, Ok, Err, Option, Some, None, refl}
+use Rattle.std.specs.Prelude.{◌≡◌, ◌↔◌, ℕ, Bool, true, false, not, IsTrue, ◌==◌, ◌&&◌, nat_le, List, [], ◌∷◌, ◌++◌, map, length, codes, Result, Ok, Err, Option, Some, None, refl}
 use Rattle.std.proofs.Common.{◌≤◌, sym, ◌∙◌, ap, subst, arith}
 use Rattle.std.proofs.lemmas.Option.{same_Some}
+use Rattle.std.proofs.lemmas.Bool.Decides.{nat_tests}
 use Rattle.std.specs.Cmp.{first_so, second_so}
+use Rattle.std.specs.Cmp.Lexicographic.{nat_list_eq_equiv}
+use Rattle.std.specs.Str.{bytes_eq}
 use Rattle.std.specs.List.{flat_map, list_all}
 use Rattle.cny_base.specs.declared.text.TextFault.{TextFault}
 use Rattle.cny_base.specs.declared.text.TextFault.TheVariants as fault
@@ -127,3 +130,34 @@ same_from_text a b good_a good_b same =
 pub failing_reader : (e : TextFault) (text : List ℕ) (p : Parts) (r : Result Parts TextFault) → Fails e (parts_at text) → r ≡ Err e → IsRelaxedText text p → IsReadAs r p
 failing_reader fault.Memory text p r fails is relaxed = subst (λ (x : Result Parts TextFault). IsReadAs x p) (sym is) tt
 failing_reader fault.Bad text p r fails is relaxed = absurd (cc (fails, relaxed_read text p relaxed))
+
+-- ---- equal bytes
+
+equal_bytes : (a b : List ℕ) → bytes_eq a b ≡ true → a ≡ b
+equal_bytes [] [] is = refl
+equal_bytes [] (y ∷ ys) is = absurd (cc is)
+equal_bytes (x ∷ xs) [] is = absurd (cc is)
+equal_bytes (x ∷ xs) (y ∷ ys) is =
+    ap (λ n. n ∷ xs) (equal_byte x y (first_so (x == y) (bytes_eq xs ys) is)) ∙ ap (λ l. y ∷ l) (equal_bytes xs ys (second_so (x == y) (bytes_eq xs ys) is))
+  where
+    equal_byte : (m n : ℕ) → (m == n) ≡ true → m ≡ n
+    equal_byte m n h = grind (arith, nat_tests)
+
+own_bytes : (a : List ℕ) → bytes_eq a a ≡ true
+own_bytes a = nat_list_eq_equiv.refl a
+
+not_false : (v : Bool) → false ≡ not v → v ≡ true
+not_false true h = refl
+not_false false h = absurd (cc h)
+
+pub same_bytes : (a b : List ℕ) → false ≡ not (bytes_eq a b) → a ≡ b
+same_bytes a b h = equal_bytes a b (not_false (bytes_eq a b) h)
+
+pub other_bytes : (a b : List ℕ) → true ≡ not (bytes_eq a b) → a ≡ b → ⊥
+other_bytes a b h same = cc (h, ap (bytes_eq a) (sym same) ∙ own_bytes a)
+
+-- the test of texts tells whether the flavors are equal
+pub tells_equal : (v : Bool) (a b : Parts) → is_flavor a ≡ true → is_flavor b ≡ true → v ≡ bytes_eq (flavor_text a) (flavor_text b) → IsTrue v ↔ (a ≡ b)
+tells_equal v a b good_a good_b is =
+    (λ yes. same_from_text a b good_a good_b (equal_bytes (flavor_text a) (flavor_text b) (sym is ∙ yes)),
+    λ same. is ∙ ap (λ p. bytes_eq (flavor_text a) (flavor_text p)) (sym same) ∙ own_bytes (flavor_text a))

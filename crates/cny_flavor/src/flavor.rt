@@ -111,13 +111,6 @@ impl Flavor {
             text: self.text.copy()?,
         })
     }
-
-    /// Whether the flavors are equal.
-    pub fn is(&self, other: &Flavor) -> bool
-        ensures { IsTrue result ↔ (self.now ≡ other.now) }
-    {
-        self.text() == other.text()
-    }
 }
 
 // Flavors are equal where their canonical texts are.
@@ -126,8 +119,11 @@ impl PartialEq for Flavor {
 
     ghost laws = { partial_equiv_from_equiv same_text_equiv };
 
-    fn eq(&self, other: &Flavor) -> bool {
-        self.text.get() == other.text.get()
+    fn eq(&self, other: &Flavor) -> bool
+        ensures text { result ≡ same_text self.now other.now }
+        ensures same { IsTrue result ↔ (self.now ≡ other.now) }
+    {
+        self.text() == other.text()
     }
 }
 

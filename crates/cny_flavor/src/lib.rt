@@ -5,6 +5,7 @@ mod flavor;
 mod order;
 mod parts;
 mod read;
+mod score;
 mod write;
 
 pub use flavor::{Flavor, one_text};
