@@ -4,3 +4,4 @@ pub mod Fronts
 pub mod Loops
 pub mod Plain
 pub mod Putting
+pub mod Totals

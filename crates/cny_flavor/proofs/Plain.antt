@@ -133,7 +133,7 @@ failing_reader fault.Bad text p r fails is relaxed = absurd (cc (fails, relaxed_
 
 -- ---- equal bytes
 
-equal_bytes : (a b : List ℕ) → bytes_eq a b ≡ true → a ≡ b
+pub equal_bytes : (a b : List ℕ) → bytes_eq a b ≡ true → a ≡ b
 equal_bytes [] [] is = refl
 equal_bytes [] (y ∷ ys) is = absurd (cc is)
 equal_bytes (x ∷ xs) [] is = absurd (cc is)

@@ -4,3 +4,4 @@ pub mod Order
 pub mod Reading
 pub mod Score
 pub mod Spelling
+pub mod Walk

@@ -3,7 +3,6 @@ use Rattle.std.specs.Prelude.{ℕ, ℤ, pos, negsuc, ◌+ℤ◌, List, [], ◌�
 use Rattle.std.specs.List.{flat_map}
 use Rattle.std.specs.Option.{option_map}
 use Rattle.std.specs.Str.{bytes_eq}
-use Rattle.cny_flavor.specs.Order.{precedes}
 use Rattle.cny_flavor.specs.declared.parts.Flag.{Flag}
 use Rattle.cny_flavor.specs.declared.parts.InstructionSet.{InstructionSet}
 use Rattle.cny_flavor.specs.declared.parts.Parts.{Parts}
@@ -34,25 +33,18 @@ cell Forbidden (Some PreferNot) = Some (pos 1)
 cell Forbidden (Some Forbidden) = Some (pos 2)
 cell Forbidden None = Some (pos 0)
 
+-- the item of that word, if there is one
+abbrev pub named : {X : Type 0} → (X → List ℕ) → List ℕ → List X → Option X
+named word wanted [] = None
+named word wanted (x ∷ xs) = if bytes_eq (word x) wanted then Some x else named word wanted xs
+
 -- the sense of the flag of that word, if there is one
 abbrev pub sense_of : List ℕ → List Flag → Option Sense
-sense_of word [] = None
-sense_of word (f ∷ fs) = if bytes_eq f.word word then Some f.sense else sense_of word fs
+sense_of word fs = option_map (λ f. f.sense) (named (λ f. f.word) word fs)
 
 -- the set of that word, if there is one
 abbrev pub set_named : List ℕ → List InstructionSet → Option InstructionSet
-set_named word [] = None
-set_named word (s ∷ ss) = if bytes_eq s.word word then Some s else set_named word ss
-
--- the items from the first on whose word doesn't precede this one
-abbrev pub from_word : {X : Type 0} → (X → List ℕ) → List ℕ → List X → List X
-from_word word least [] = []
-from_word word least (x ∷ xs) = if precedes (word x) least then from_word word least xs else x ∷ xs
-
--- the sense of the first flag, where that is the one of this word
-abbrev pub first_sense : List ℕ → List Flag → Option Sense
-first_sense word [] = None
-first_sense word (f ∷ fs) = if bytes_eq f.word word then Some f.sense else None
+set_named word ss = named (λ s. s.word) word ss
 
 abbrev pub flag_cell : List Flag → Flag → Option ℤ
 flag_cell system f = cell f.sense (sense_of f.word system)

@@ -5,8 +5,9 @@ mod flavor;
 mod order;
 mod parts;
 mod read;
-mod score;
+mod scoring;
 mod write;
 
 pub use flavor::{Flavor, one_text};
 pub use parts::{Flag, Flags, InstructionSet, InstructionSets, Parts, Sense};
+pub use scoring::score;

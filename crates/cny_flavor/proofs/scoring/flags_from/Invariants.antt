@@ -1,6 +1,6 @@
 use Rattle.std.proofs.Common.{◌≡◌, length}
-use Rattle.cny_flavor.specs.Score.{from_word}
-use Rattle.cny_flavor.proofs.score.flags_from.Given as goal
+use Rattle.cny_flavor.specs.Walk.{from_word}
+use Rattle.cny_flavor.proofs.scoring.flags_from.Given as goal
 
 abbrev pub invariant-loop-rest : goal.invariant-loop-rest
 invariant-loop-rest l = from_word (λ f. f.word) l.word l.rest ≡ from_word (λ f. f.word) l.word l.flags

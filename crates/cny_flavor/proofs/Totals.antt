@@ -1,0 +1,194 @@
+-- Sums of cells, and the walk over two lists in order.
+use Rattle.std.specs.Prelude.{◌≡◌, ℕ, zero, ℤ, pos, negsuc, ◌+ℤ◌, ◌≤ℤ◌, neg_ℤ, Bool, true, false, cond, ◌==◌, ◌&&◌, List, [], ◌∷◌, ◌++◌, map, length, drop, Option, Some, None, IfSome, refl}
+use Rattle.std.proofs.Common.{suc, ◌+◌, ◌*◌, ◌<◌, ◌≤◌, get_or, sym, ◌∙◌, ap, subst, arith, drop-cons, add-one}
+use Rattle.std.proofs.lemmas.Bool.Decides.{nat_tests}
+use Rattle.std.proofs.lemmas.Cmp.{tied_itself}
+use Rattle.std.proofs.lemmas.Int.{ints}
+use Rattle.std.specs.Cmp.{first_so, second_so}
+use Rattle.std.specs.Cmp.Derive.{both_true}
+use Rattle.std.specs.Cmp.Lexicographic.{slice_cmp, nat_list_cmp_total, nat_list_eq_equiv, texts_ties}
+use Rattle.std.specs.Option.{option_map}
+use Rattle.std.specs.Ordering.{nat_cmp, is_lt, is_eq, ordering_reverse}
+use Rattle.std.specs.Str.{bytes_eq}
+use Rattle.std.specs.declared.cmp.Ordering.{Ordering}
+use Rattle.std.specs.declared.cmp.Ordering.TheVariants.{Less, Equal, Greater}
+use Rattle.cny_flavor.proofs.Plain.{equal_bytes}
+use Rattle.cny_flavor.specs.declared.parts.Flag.{Flag}
+use Rattle.cny_flavor.specs.declared.parts.InstructionSet.{InstructionSet}
+use Rattle.cny_flavor.specs.declared.parts.Sense.{Sense}
+use Rattle.cny_flavor.specs.Order.{precedes, rise, rise_after}
+use Rattle.cny_flavor.specs.Score.{cell, named, sense_of, set_named, flag_cell, flag_cells, cells_with, set_cells, total}
+use Rattle.cny_flavor.specs.Walk.{from_word, first_named}
+
+-- a sum with more added to it
+abbrev pub add_to : ℤ → Option ℤ → Option ℤ
+add_to n sum = option_map (λ m. n +ℤ m) sum
+
+-- how far the walk over flags has come
+pub record FlagsWalked (trove system rest : List Flag) (i : ℕ) (score : ℤ) : Type 0 where
+  pub value : add_to score (total (flag_cells rest (drop i trove))) ≡ total (flag_cells system trove)
+  pub low : neg_ℤ (pos (2 * i)) ≤ℤ score
+  pub high : score ≤ℤ pos (2 * i)
+  pub rises : rise (λ f. f.word) rest ≡ true
+
+-- ---- sums
+
+pub sum_none : (sum : Option ℤ) → add_to (pos 0) sum ≡ sum
+sum_none None = refl
+sum_none (Some n) = ap Some (zero_plus n)
+  where
+    zero_plus : (m : ℤ) → pos 0 +ℤ m ≡ m
+    zero_plus m = omega (arith, ints)
+
+plus_assoc : (a b c : ℤ) → (a +ℤ b) +ℤ c ≡ a +ℤ (b +ℤ c)
+plus_assoc a b c = omega (arith, ints)
+
+add_twice : (a b : ℤ) (sum : Option ℤ) → add_to a (add_to b sum) ≡ add_to (a +ℤ b) sum
+add_twice a b None = refl
+add_twice a b (Some n) = ap Some (sym (plus_assoc a b n))
+
+-- ---- the walk
+
+irreflexive : (w : List ℕ) → precedes w w ≡ false
+irreflexive w = ap is_lt (tied_itself nat_list_cmp_total w)
+
+before_both : (a b c : List ℕ) → precedes a b ≡ true → precedes b c ≡ true → precedes a c ≡ true
+before_both a b c first second = ap is_lt (nat_list_cmp_total.trans a b c (is_less (slice_cmp nat_cmp a b) first) (is_less (slice_cmp nat_cmp b c) second))
+  where
+    is_less : (o : Ordering) → is_lt o ≡ true → o ≡ Less
+    is_less Less is = refl
+    is_less Equal is = absurd (cc is)
+    is_less Greater is = absurd (cc is)
+
+-- words of which one precedes the other differ
+apart_here : (v : Bool) (a b : List ℕ) → bytes_eq a b ≡ v → precedes a b ≡ true → v ≡ false
+apart_here false a b same before = refl
+apart_here true a b same before = absurd (cc (ap (λ l. precedes l b) (equal_bytes a b same) ∙ irreflexive b, before))
+
+apart : (a b : List ℕ) → precedes a b ≡ true → bytes_eq a b ≡ false
+apart a b before = apart_here (bytes_eq a b) a b refl before
+
+skip_here : {X : Type 0} (v : Bool) (word : X → List ℕ) (wanted least : List ℕ) (x : X) (xs : List X) → precedes (word x) least ≡ v
+    → ((a : List ℕ) → precedes a least ≡ true → bytes_eq a wanted ≡ false)
+    → named word wanted (from_word word least xs) ≡ named word wanted xs
+    → named word wanted (cond v (from_word word least xs) (x ∷ xs)) ≡ named word wanted (x ∷ xs)
+skip_here true word wanted least x xs before other same = same ∙ sym (ap (λ w. cond w (Some x) (named word wanted xs)) (other (word x) before))
+skip_here false word wanted least x xs before other same = refl
+
+-- an item is still found where those that are passed have other words
+named_skip : {X : Type 0} (word : X → List ℕ) (wanted least : List ℕ) (xs : List X) → ((a : List ℕ) → precedes a least ≡ true → bytes_eq a wanted ≡ false)
+    → named word wanted (from_word word least xs) ≡ named word wanted xs
+named_skip word wanted least [] other = refl
+named_skip word wanted least (x ∷ xs) other = skip_here (precedes (word x) least) word wanted least x xs refl other (named_skip word wanted least xs other)
+
+-- nothing after a later word has this one
+absent_after : {X : Type 0} (word : X → List ℕ) (wanted before : List ℕ) (xs : List X) → rise_after word before xs ≡ true → precedes wanted before ≡ true → named word wanted xs ≡ None
+absent_after word wanted before [] up later = refl
+absent_after word wanted before (x ∷ xs) up later =
+    let next = before_both wanted before (word x) later (first_so (precedes before (word x)) (rise_after word (word x) xs) up) in
+    ap (λ w. cond w (Some x) (named word wanted xs)) (bytes_eq_comm (word x) wanted ∙ apart wanted (word x) next)
+    ∙ absent_after word wanted (word x) xs (second_so (precedes before (word x)) (rise_after word (word x) xs) up) next
+  where
+    bytes_eq_comm : (a b : List ℕ) → bytes_eq a b ≡ bytes_eq b a
+    bytes_eq_comm a b = nat_list_eq_equiv.symm a b
+
+rise_rest : {X : Type 0} (word : X → List ℕ) (before : List ℕ) (xs : List X) → rise_after word before xs ≡ true → rise word xs ≡ true
+rise_rest word before [] up = refl
+rise_rest word before (x ∷ xs) up = second_so (precedes before (word x)) (rise_after word (word x) xs) up
+
+rise_earlier : {X : Type 0} (word : X → List ℕ) (least before : List ℕ) (xs : List X) → precedes least before ≡ true → rise_after word before xs ≡ true → rise_after word least xs ≡ true
+rise_earlier word least before [] less up = refl
+rise_earlier word least before (x ∷ xs) less up =
+    both_true (before_both least before (word x) less (first_so (precedes before (word x)) (rise_after word (word x) xs) up)) (second_so (precedes before (word x)) (rise_after word (word x) xs) up)
+
+rise-drop : {X : Type 0} (word : X → List ℕ) (i : ℕ) (xs : List X) → rise word xs ≡ true → rise word (drop i xs) ≡ true
+rise-drop word zero xs up = up
+rise-drop word (suc i) [] up = refl
+rise-drop word (suc i) (x ∷ xs) up = rise-drop word i xs (rise_rest word (word x) xs up)
+
+rise_from_here : {X : Type 0} (v : Bool) (word : X → List ℕ) (least : List ℕ) (x : X) (xs : List X) → rise word (x ∷ xs) ≡ true → rise word (from_word word least xs) ≡ true
+    → rise word (cond v (from_word word least xs) (x ∷ xs)) ≡ true
+rise_from_here true word least x xs up more = more
+rise_from_here false word least x xs up more = up
+
+rise_from : {X : Type 0} (word : X → List ℕ) (least : List ℕ) (xs : List X) → rise word xs ≡ true → rise word (from_word word least xs) ≡ true
+rise_from word least [] up = refl
+rise_from word least (x ∷ xs) up = rise_from_here (precedes (word x) least) word least x xs up (rise_from word least xs (rise_rest word (word x) xs up))
+
+greater : (o : Ordering) → is_lt o ≡ false → is_eq o ≡ false → is_lt (ordering_reverse o) ≡ true
+greater Less less same = absurd (cc less)
+greater Equal less same = absurd (cc same)
+greater Greater less same = refl
+
+after_other : (a b : List ℕ) → precedes a b ≡ false → bytes_eq a b ≡ false → precedes b a ≡ true
+after_other a b less same = ap is_lt (nat_list_cmp_total.antisymm b a) ∙ greater (slice_cmp nat_cmp a b) less (sym (texts_ties a b) ∙ same)
+
+front_same : {X : Type 0} (v : Bool) (word : X → List ℕ) (wanted : List ℕ) (x : X) (xs : List X) → bytes_eq (word x) wanted ≡ v → precedes (word x) wanted ≡ false → rise_after word (word x) xs ≡ true
+    → cond v (Some x) (named word wanted xs) ≡ cond v (Some x) None
+front_same true word wanted x xs same less up = refl
+front_same false word wanted x xs same less up = absent_after word wanted (word x) xs up (after_other (word x) wanted less same)
+
+front_here : {X : Type 0} (v : Bool) (word : X → List ℕ) (wanted : List ℕ) (x : X) (xs : List X) → precedes (word x) wanted ≡ v → rise_after word (word x) xs ≡ true
+    → named word wanted (from_word word wanted xs) ≡ first_named word wanted (from_word word wanted xs)
+    → named word wanted (cond v (from_word word wanted xs) (x ∷ xs)) ≡ first_named word wanted (cond v (from_word word wanted xs) (x ∷ xs))
+front_here true word wanted x xs less up more = more
+front_here false word wanted x xs less up more = front_same (bytes_eq (word x) wanted) word wanted x xs refl less up
+
+-- in a list in order the item of a word is the first whose word doesn't precede it
+named_front : {X : Type 0} (word : X → List ℕ) (wanted : List ℕ) (xs : List X) → rise word xs ≡ true → named word wanted (from_word word wanted xs) ≡ first_named word wanted (from_word word wanted xs)
+named_front word wanted [] up = refl
+named_front word wanted (x ∷ xs) up = front_here (precedes (word x) wanted) word wanted x xs refl up (named_front word wanted xs (rise_rest word (word x) xs up))
+
+named_here : {X : Type 0} (word : X → List ℕ) (wanted : List ℕ) (xs : List X) → rise word xs ≡ true → named word wanted xs ≡ first_named word wanted (from_word word wanted xs)
+named_here word wanted xs up = sym (named_skip word wanted wanted xs (λ a h. apart a wanted h)) ∙ named_front word wanted xs up
+
+named_later : {X : Type 0} (word : X → List ℕ) (wanted least : List ℕ) (xs : List X) → precedes least wanted ≡ true → named word wanted xs ≡ named word wanted (from_word word least xs)
+named_later word wanted least xs later = sym (named_skip word wanted least xs (λ a h. apart a wanted (before_both a least wanted h later)))
+
+-- ---- flags
+
+abbrev flag_word : Flag → List ℕ
+flag_word f = f.word
+
+flags_later : (least : List ℕ) (rest fs : List Flag) → rise_after flag_word least fs ≡ true → flag_cells rest fs ≡ flag_cells (from_word flag_word least rest) fs
+flags_later least rest [] up = refl
+flags_later least rest (f ∷ fs) up =
+    let later = first_so (precedes least f.word) (rise_after flag_word f.word fs) up in
+    ap (λ o. cell f.sense (option_map (λ g. g.sense) o) ∷ flag_cells rest fs) (named_later flag_word f.word least rest later)
+    ∙ ap (λ l. flag_cell (from_word flag_word least rest) f ∷ l)
+    (flags_later least rest fs (rise_earlier flag_word least f.word fs later (second_so (precedes least f.word) (rise_after flag_word f.word fs) up)))
+
+flags_front : (rest : List Flag) (f : Flag) (fs : List Flag) → rise flag_word rest ≡ true → rise flag_word (f ∷ fs) ≡ true
+    → flag_cells rest (f ∷ fs) ≡ cell f.sense (option_map (λ g. g.sense) (first_named flag_word f.word (from_word flag_word f.word rest))) ∷ flag_cells (from_word flag_word f.word rest) fs
+flags_front rest f fs rest_up up =
+    ap (λ o. cell f.sense (option_map (λ g. g.sense) o) ∷ flag_cells rest fs) (named_here flag_word f.word rest rest_up)
+    ∙ ap (λ l. cell f.sense (option_map (λ g. g.sense) (first_named flag_word f.word (from_word flag_word f.word rest))) ∷ l) (flags_later f.word rest fs up)
+
+-- the list from an index on, by its first item
+drop_here : {X : Type 0} (xs : List X) (i : ℕ) (x : X) → i < length xs → x ≡ get_or xs i x → drop i xs ≡ x ∷ drop (i + 1) xs
+drop_here xs i x within is = drop-cons xs i x within ∙ ap (λ y. y ∷ drop (suc i) xs) (sym is) ∙ ap (λ n. x ∷ drop n xs) (sym (add-one i))
+
+pub flag_walked : (trove system rest : List Flag) (i : ℕ) (score : ℤ) (f : Flag) (worth : Option ℤ) → i < length trove → f ≡ get_or trove i f → rise flag_word trove ≡ true
+    → FlagsWalked trove system rest i score → worth ≡ cell f.sense (option_map (λ g. g.sense) (first_named flag_word f.word (from_word flag_word f.word rest)))
+    → add_to score (total (worth ∷ flag_cells (from_word flag_word f.word rest) (drop (i + 1) trove))) ≡ total (flag_cells system trove)
+flag_walked trove system rest i score f worth within is up walked worth_is =
+    let here = drop_here trove i f within is in
+    let rises = subst (λ (l : List Flag). rise flag_word l ≡ true) here (rise-drop flag_word i trove up) in
+    ap (λ c. add_to score (total (c ∷ flag_cells (from_word flag_word f.word rest) (drop (i + 1) trove)))) worth_is
+    ∙ ap (λ l. add_to score (total l)) (sym (flags_front rest f (drop (i + 1) trove) walked.rises rises))
+    ∙ ap (λ l. add_to score (total (flag_cells rest l))) (sym here)
+    ∙ walked.value
+
+pub flag_added : (trove system rest : List Flag) (i : ℕ) (score n : ℤ) (f : Flag) → i < length trove → f ≡ get_or trove i f → rise flag_word trove ≡ true
+    → FlagsWalked trove system rest i score → Some n ≡ cell f.sense (option_map (λ g. g.sense) (first_named flag_word f.word (from_word flag_word f.word rest)))
+    → neg_ℤ (pos 2) ≤ℤ n → n ≤ℤ pos 2
+    → FlagsWalked trove system (from_word flag_word f.word rest) (i + 1) (score +ℤ n)
+flag_added trove system rest i score n f within is up walked worth low high =
+    let low_before = walked.low in
+    let high_before = walked.high in
+    record {
+      value = sym (add_twice score n (total (flag_cells (from_word flag_word f.word rest) (drop (i + 1) trove)))) ∙ flag_walked trove system rest i score f (Some n) within is up walked worth;
+      low = omega (arith, ints);
+      high = omega (arith, ints);
+      rises = rise_from flag_word f.word rest walked.rises
+    }
