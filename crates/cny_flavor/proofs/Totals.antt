@@ -1,5 +1,5 @@
 -- Sums of cells, and the walk over two lists in order.
-use Rattle.std.specs.Prelude.{◌≡◌, ℕ, zero, ℤ, pos, negsuc, ◌+ℤ◌, ◌≤ℤ◌, neg_ℤ, Bool, true, false, cond, ◌==◌, ◌&&◌, List, [], ◌∷◌, ◌++◌, map, length, drop, Option, Some, None, IfSome, refl}
+use Rattle.std.specs.Prelude.{◌≡◌, ℕ, zero, ℤ, pos, negsuc, ◌+ℤ◌, ◌≤ℤ◌, neg_ℤ, Bool, true, false, cond, ◌==◌, ◌&&◌, List, [], ◌∷◌, ◌++◌, map, length, take, drop, Option, Some, None, IfSome, refl}
 use Rattle.std.proofs.Common.{suc, ◌+◌, ◌*◌, ◌<◌, ◌≤◌, get_or, sym, ◌∙◌, ap, subst, arith, drop-cons, add-one}
 use Rattle.std.proofs.lemmas.Bool.Decides.{nat_tests}
 use Rattle.std.proofs.lemmas.Cmp.{tied_itself}
@@ -7,7 +7,10 @@ use Rattle.std.proofs.lemmas.Int.{ints}
 use Rattle.std.specs.Cmp.{first_so, second_so}
 use Rattle.std.specs.Cmp.Derive.{both_true}
 use Rattle.std.specs.Cmp.Lexicographic.{slice_cmp, nat_list_cmp_total, nat_list_eq_equiv, texts_ties}
-use Rattle.std.specs.Option.{option_map}
+use Rattle.std.proofs.lemmas.List.Sums.{sum_by_more}
+use Rattle.std.specs.List.{flat_map, list_all, sum_by}
+use Rattle.std.specs.Option.{option_map, option_and_then}
+use Rattle.cny_flavor.specs.Canonical.{is_flavor_word, is_flag, are_flags, is_set, are_sets, set_count}
 use Rattle.std.specs.Ordering.{nat_cmp, is_lt, is_eq, ordering_reverse}
 use Rattle.std.specs.Str.{bytes_eq}
 use Rattle.std.specs.declared.cmp.Ordering.{Ordering}
@@ -147,7 +150,7 @@ named_later word wanted least xs later = sym (named_skip word wanted least xs (�
 
 -- ---- flags
 
-abbrev flag_word : Flag → List ℕ
+abbrev pub flag_word : Flag → List ℕ
 flag_word f = f.word
 
 flags_later : (least : List ℕ) (rest fs : List Flag) → rise_after flag_word least fs ≡ true → flag_cells rest fs ≡ flag_cells (from_word flag_word least rest) fs
@@ -192,3 +195,106 @@ flag_added trove system rest i score n f within is up walked worth low high =
       high = omega (arith, ints);
       rises = rise_from flag_word f.word rest walked.rises
     }
+
+-- ---- sets
+
+abbrev pub set_word : InstructionSet → List ℕ
+set_word s = s.word
+
+total-append_here : (sum rest : Option ℤ) (n : ℤ) → add_to n (option_and_then (λ m. add_to m rest) sum) ≡ option_and_then (λ m. add_to m rest) (add_to n sum)
+total-append_here None rest n = refl
+total-append_here (Some m) rest n = add_twice n m rest
+
+total-append : (xs ys : List (Option ℤ)) → total (xs ++ ys) ≡ option_and_then (λ n. add_to n (total ys)) (total xs)
+total-append [] ys = sym (sum_none (total ys))
+total-append (None ∷ xs) ys = refl
+total-append (Some n ∷ xs) ys = ap (add_to n) (total-append xs ys) ∙ total-append_here (total xs) (total ys) n
+
+sets_later : (least : List ℕ) (rest ss : List InstructionSet) → rise_after set_word least ss ≡ true → flat_map (set_cells rest) ss ≡ flat_map (set_cells (from_word set_word least rest)) ss
+sets_later least rest [] up = refl
+sets_later least rest (s ∷ ss) up =
+    let later = first_so (precedes least s.word) (rise_after set_word s.word ss) up in
+    ap (λ o. cells_with s o ++ flat_map (set_cells rest) ss) (named_later set_word s.word least rest later)
+    ∙ ap (λ l. set_cells (from_word set_word least rest) s ++ l)
+    (sets_later least rest ss (rise_earlier set_word least s.word ss later (second_so (precedes least s.word) (rise_after set_word s.word ss) up)))
+
+sets_front : (rest : List InstructionSet) (s : InstructionSet) (ss : List InstructionSet) → rise set_word rest ≡ true → rise set_word (s ∷ ss) ≡ true
+    → flat_map (set_cells rest) (s ∷ ss) ≡ cells_with s (first_named set_word s.word (from_word set_word s.word rest)) ++ flat_map (set_cells (from_word set_word s.word rest)) ss
+sets_front rest s ss rest_up up =
+    ap (λ o. cells_with s o ++ flat_map (set_cells rest) ss) (named_here set_word s.word rest rest_up)
+    ∙ ap (λ l. cells_with s (first_named set_word s.word (from_word set_word s.word rest)) ++ l) (sets_later s.word rest ss up)
+
+-- how far the walk over sets has come
+pub record SetsWalked (trove system rest : List InstructionSet) (i : ℕ) (score : ℤ) : Type 0 where
+  pub value : add_to score (total (flat_map (set_cells rest) (drop i trove))) ≡ total (flat_map (set_cells system) trove)
+  pub low : neg_ℤ (pos (2 * sum_by set_count (take i trove))) ≤ℤ score
+  pub high : score ≤ℤ pos (2 * sum_by set_count (take i trove))
+  pub sets : are_sets rest ≡ true
+
+sets_rise : (ss : List InstructionSet) → are_sets ss ≡ true → rise set_word ss ≡ true
+sets_rise ss is = second_so (list_all is_set ss) (rise set_word ss) is
+
+pub set_walked : (trove system rest : List InstructionSet) (i : ℕ) (score : ℤ) (s : InstructionSet) (worth : Option ℤ) → i < length trove → s ≡ get_or trove i s → are_sets trove ≡ true
+    → SetsWalked trove system rest i score → worth ≡ total (cells_with s (first_named set_word s.word (from_word set_word s.word rest)))
+    → add_to score (option_and_then (λ n. add_to n (total (flat_map (set_cells (from_word set_word s.word rest)) (drop (i + 1) trove)))) worth) ≡ total (flat_map (set_cells system) trove)
+set_walked trove system rest i score s worth within is good walked worth_is =
+    let here = drop_here trove i s within is in
+    let rises = subst (λ (l : List InstructionSet). rise set_word l ≡ true) here (rise-drop set_word i trove (sets_rise trove good)) in
+    let others = flat_map (set_cells (from_word set_word s.word rest)) (drop (i + 1) trove) in
+    let own = cells_with s (first_named set_word s.word (from_word set_word s.word rest)) in
+    ap (λ w. add_to score (option_and_then (λ n. add_to n (total others)) w)) worth_is
+    ∙ ap (add_to score) (sym (total-append own others))
+    ∙ ap (λ l. add_to score (total l)) (sym (sets_front rest s (drop (i + 1) trove) (sets_rise rest walked.sets) rises))
+    ∙ ap (λ l. add_to score (total (flat_map (set_cells rest) l))) (sym here)
+    ∙ walked.value
+
+all_from_here : {X : Type 0} (v : Bool) (p : X → Bool) (word : X → List ℕ) (least : List ℕ) (x : X) (xs : List X) → list_all p (x ∷ xs) ≡ true → list_all p (from_word word least xs) ≡ true
+    → list_all p (cond v (from_word word least xs) (x ∷ xs)) ≡ true
+all_from_here true p word least x xs all more = more
+all_from_here false p word least x xs all more = all
+
+all_from : {X : Type 0} (p : X → Bool) (word : X → List ℕ) (least : List ℕ) (xs : List X) → list_all p xs ≡ true → list_all p (from_word word least xs) ≡ true
+all_from p word least [] all = refl
+all_from p word least (x ∷ xs) all = all_from_here (precedes (word x) least) p word least x xs all (all_from p word least xs (second_so (p x) (list_all p xs) all))
+
+pub sets_from_good : (least : List ℕ) (ss : List InstructionSet) → are_sets ss ≡ true → are_sets (from_word set_word least ss) ≡ true
+sets_from_good least ss good = both_true (all_from is_set set_word least ss (first_so (list_all is_set ss) (rise set_word ss) good)) (rise_from set_word least ss (sets_rise ss good))
+
+pub set_added : (trove system rest : List InstructionSet) (i : ℕ) (score n : ℤ) (s : InstructionSet) → i < length trove → s ≡ get_or trove i s → are_sets trove ≡ true
+    → SetsWalked trove system rest i score → Some n ≡ total (cells_with s (first_named set_word s.word (from_word set_word s.word rest)))
+    → neg_ℤ (pos (2 * set_count s)) ≤ℤ n → n ≤ℤ pos (2 * set_count s)
+    → SetsWalked trove system (from_word set_word s.word rest) (i + 1) (score +ℤ n)
+set_added trove system rest i score n s within is good walked worth low high =
+    let low_before = walked.low in
+    let high_before = walked.high in
+    let count : sum_by set_count (take (i + 1) trove) ≡ sum_by set_count (take i trove) + set_count s =
+        sum_by_more set_count trove i s within ∙ ap (λ x. sum_by set_count (take i trove) + set_count x) (sym is) in
+    record {
+      value = sym (add_twice score n (total (flat_map (set_cells (from_word set_word s.word rest)) (drop (i + 1) trove)))) ∙ set_walked trove system rest i score s (Some n) within is good walked worth;
+      low = omega (arith, ints);
+      high = omega (arith, ints);
+      sets = sets_from_good s.word rest walked.sets
+    }
+
+all-drop : {X : Type 0} (p : X → Bool) (i : ℕ) (xs : List X) → list_all p xs ≡ true → list_all p (drop i xs) ≡ true
+all-drop p zero xs all = all
+all-drop p (suc i) [] all = refl
+all-drop p (suc i) (x ∷ xs) all = all-drop p i xs (second_so (p x) (list_all p xs) all)
+
+own_rise : (s : InstructionSet) → is_set s ≡ true → rise flag_word s.flags ≡ true
+own_rise s is = second_so (list_all is_flag s.flags) (rise flag_word s.flags) (second_so (is_flavor_word s.word) (are_flags s.flags) is)
+
+-- the flags of a set in a good list rise
+pub flags_rise_at : (ss : List InstructionSet) (i : ℕ) (s : InstructionSet) → i < length ss → s ≡ get_or ss i s → are_sets ss ≡ true → rise flag_word s.flags ≡ true
+flags_rise_at ss i s within is good =
+    let here = drop_here ss i s within is in
+    let all = subst (λ (l : List InstructionSet). list_all is_set l ≡ true) here (all-drop is_set i ss (first_so (list_all is_set ss) (rise set_word ss) good)) in
+    own_rise s (first_so (is_set s) (list_all is_set (drop (i + 1) ss)) all)
+
+first_rises_here : (v : Bool) (s : InstructionSet) → is_set s ≡ true → IfSome (cond v (Some s) None) (λ o. rise flag_word o.flags ≡ true)
+first_rises_here true s is = own_rise s is
+first_rises_here false s is = tt
+
+pub first_rises : (word : List ℕ) (ss : List InstructionSet) → are_sets ss ≡ true → IfSome (first_named set_word word ss) (λ o. rise flag_word o.flags ≡ true)
+first_rises word [] good = tt
+first_rises word (s ∷ ss) good = first_rises_here (bytes_eq s.word word) s (first_so (is_set s) (list_all is_set ss) (first_so (list_all is_set (s ∷ ss)) (rise set_word (s ∷ ss)) good))
