@@ -1,5 +1,5 @@
 -- Sums of cells, and the walk over two lists in order.
-use Rattle.std.specs.Prelude.{◌≡◌, ℕ, zero, ℤ, pos, negsuc, ◌+ℤ◌, ◌≤ℤ◌, neg_ℤ, Bool, true, false, cond, ◌==◌, ◌&&◌, List, [], ◌∷◌, ◌++◌, map, length, take, drop, Option, Some, None, IfSome, refl}
+use Rattle.std.specs.Prelude.{◌≡◌, ℕ, zero, ℤ, pos, negsuc, ◌+ℤ◌, ◌≤ℤ◌, neg_ℤ, Bool, true, false, cond, ◌==◌, ◌&&◌, nat_le, List, [], ◌∷◌, ◌++◌, map, length, take, drop, Option, Some, None, IfSome, refl}
 use Rattle.std.proofs.Common.{suc, ◌+◌, ◌*◌, ◌<◌, ◌≤◌, get_or, sym, ◌∙◌, ap, subst, arith, drop-cons, add-one}
 use Rattle.std.proofs.lemmas.Bool.Decides.{nat_tests}
 use Rattle.std.proofs.lemmas.Cmp.{tied_itself}
@@ -10,7 +10,7 @@ use Rattle.std.specs.Cmp.Lexicographic.{slice_cmp, nat_list_cmp_total, nat_list_
 use Rattle.std.proofs.lemmas.List.Sums.{sum_by_more}
 use Rattle.std.specs.List.{flat_map, list_all, sum_by}
 use Rattle.std.specs.Option.{option_map, option_and_then}
-use Rattle.cny_flavor.specs.Canonical.{is_flavor_word, is_flag, are_flags, is_set, are_sets, set_count}
+use Rattle.cny_flavor.specs.Canonical.{is_flavor_word, is_flag, are_flags, is_set, are_sets, set_count, flag_count, is_flavor}
 use Rattle.std.specs.Ordering.{nat_cmp, is_lt, is_eq, ordering_reverse}
 use Rattle.std.specs.Str.{bytes_eq}
 use Rattle.std.specs.declared.cmp.Ordering.{Ordering}
@@ -18,6 +18,7 @@ use Rattle.std.specs.declared.cmp.Ordering.TheVariants.{Less, Equal, Greater}
 use Rattle.cny_flavor.proofs.Plain.{equal_bytes}
 use Rattle.cny_flavor.specs.declared.parts.Flag.{Flag}
 use Rattle.cny_flavor.specs.declared.parts.InstructionSet.{InstructionSet}
+use Rattle.cny_flavor.specs.declared.parts.Parts.{Parts}
 use Rattle.cny_flavor.specs.declared.parts.Sense.{Sense}
 use Rattle.cny_flavor.specs.Order.{precedes, rise, rise_after}
 use Rattle.cny_flavor.specs.Score.{cell, named, sense_of, set_named, flag_cell, flag_cells, cells_with, set_cells, total}
@@ -298,3 +299,25 @@ first_rises_here false s is = tt
 pub first_rises : (word : List ℕ) (ss : List InstructionSet) → are_sets ss ≡ true → IfSome (first_named set_word word ss) (λ o. rise flag_word o.flags ≡ true)
 first_rises word [] good = tt
 first_rises word (s ∷ ss) good = first_rises_here (bytes_eq s.word word) s (first_so (is_set s) (list_all is_set ss) (first_so (list_all is_set (s ∷ ss)) (rise set_word (s ∷ ss)) good))
+
+-- ---- flags and sets
+
+pub first_refuses : (xs ys : List (Option ℤ)) → None ≡ total xs → None ≡ total (xs ++ ys)
+first_refuses xs ys refused = ap (option_and_then (λ n. add_to n (total ys))) refused ∙ sym (total-append xs ys)
+
+pub second_refuses : (xs ys : List (Option ℤ)) (n : ℤ) → Some n ≡ total xs → None ≡ total ys → None ≡ total (xs ++ ys)
+second_refuses xs ys n first refused = ap (add_to n) refused ∙ ap (option_and_then (λ m. add_to m (total ys))) first ∙ sym (total-append xs ys)
+
+pub both_add : (xs ys : List (Option ℤ)) (n m : ℤ) → Some n ≡ total xs → Some m ≡ total ys → Some (n +ℤ m) ≡ total (xs ++ ys)
+both_add xs ys n m first second = ap (add_to n) second ∙ ap (option_and_then (λ k. add_to k (total ys))) first ∙ sym (total-append xs ys)
+
+pub good_sets : (p : Parts) → is_flavor p ≡ true → are_sets p.sets ≡ true
+good_sets p is = second_so (are_flags p.flags) (are_sets p.sets) (second_so (nat_le (flag_count p) 64) (are_flags p.flags && are_sets p.sets) is)
+
+at_most : (m n : ℕ) → nat_le m n ≡ true → m ≤ n
+at_most m n h = grind (arith, nat_tests)
+
+pub few_flags : (p : Parts) (fs : List Flag) → is_flavor p ≡ true → fs ≡ p.flags → length fs ≤ 64
+few_flags p fs is same =
+    let within = at_most (flag_count p) 64 (first_so (nat_le (flag_count p) 64) (are_flags p.flags && are_sets p.sets) is) in
+    omega (arith, ap length same)
