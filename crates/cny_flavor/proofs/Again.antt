@@ -1,6 +1,6 @@
 -- What is spelled so is read.
-use Rattle.std.specs.Prelude.{◌≡◌, ℕ, zero, Bool, true, false, cond, ◌==◌, ◌&&◌, ◌||◌, not, nat_le, List, [], ◌∷◌, ◌++◌, map, length, take, drop, replicate, codes, Option, Some, None, refl}
-use Rattle.std.proofs.Common.{suc, ◌+◌, ◌≤◌, ◌<◌, sym, ◌∙◌, ap, subst, arith, append_assoc}
+use Rattle.std.specs.Prelude.{◌≡◌, ℕ, zero, Bool, true, false, cond, ◌==◌, ◌&&◌, ◌||◌, not, nat_le, List, [], ◌∷◌, ◌++◌, map, length, take, drop, codes, Option, Some, None, refl}
+use Rattle.std.proofs.Common.{suc, ◌+◌, ◌≤◌, sym, ◌∙◌, ap, subst, arith, append_assoc}
 use Rattle.std.proofs.lemmas.Bool.Decides.{nat_tests}
 use Rattle.std.proofs.lemmas.List.{append-nil, length-map}
 use Rattle.std.proofs.lemmas.List.Sums.{sum_by-cons}
@@ -8,18 +8,17 @@ use Rattle.std.proofs.Math.Seq.{take-append_seam, drop-append_seam}
 use Rattle.std.specs.Char.{is_ascii_alphanumeric}
 use Rattle.std.specs.Cmp.{first_so, second_so}
 use Rattle.std.specs.Cmp.Derive.{both_true}
-use Rattle.std.specs.List.{flat_map, list_all, prefix_len, sum_by}
+use Rattle.std.specs.List.{flat_map, list_all, sum_by}
 use Rattle.std.specs.Option.{option_map, option_and_then}
 use Rattle.cny_base.specs.Name.{is_word, is_word_byte}
 use Rattle.cny_flavor.specs.declared.parts.Flag.{Flag}
 use Rattle.cny_flavor.specs.declared.parts.InstructionSet.{InstructionSet}
-use Rattle.cny_flavor.specs.declared.parts.Parts.{Parts}
 use Rattle.cny_flavor.specs.declared.parts.Sense.{Sense}
 use Rattle.cny_flavor.specs.declared.parts.Sense.TheVariants.{Required, Preferred, PreferNot, Forbidden}
-use Rattle.cny_flavor.specs.Canonical.{is_flavor_word, is_flag, are_flags, is_set, are_sets, set_count, flag_count, is_flavor, sense_text, flag_text}
-use Rattle.cny_flavor.specs.Order.{in_order, rise}
+use Rattle.cny_flavor.specs.Canonical.{is_flavor_word, is_flag, are_flags, is_set, are_sets, set_count, is_flavor, sense_text, flag_text}
+use Rattle.cny_flavor.specs.Order.{rise}
 use Rattle.cny_flavor.specs.Spelling.{SpacedFlag, SpacedSet, Spelling, spaces, comma_and_flag, spelled_flags, spelled_own_flags, spelled_set, space_and_set, spelled_sets, spelled_sets_part, spelling_text, flags_of, set_of, sets_of, value_of}
-use Rattle.cny_flavor.specs.Reading.{after_byte, skip_spaces, word_len, sense_after_tilde, sense_without_tilde, sense_from, sense_at, flag_from, flag_at, with_front, flags_from, flags_at, in_order_of, ordered_flags_at, closed, own_flags_from, own_flags_at, with_word, set_at, with_first_set, sets_from, sets_at, after_is, ordered_sets, sets_part_at, with_flags, sets_after_from, sets_after_at, parts_from, parts_at}
+use Rattle.cny_flavor.specs.Reading.{after_byte, skip_spaces, word_len, sense_after_tilde, sense_without_tilde, sense_from, sense_at, flag_from, flag_at, with_front, flags_from, flags_at, in_order_of, ordered_flags_at, closed, own_flags_from, own_flags_at, with_word, set_at, with_first_set, sets_from, sets_at, after_is, ordered_sets, sets_part_at, with_flags, sets_after_at, parts_from, parts_at}
 use Rattle.cny_flavor.proofs.Putting.{list_all-in_order, length-in_order}
 
 -- ---- words
@@ -103,8 +102,8 @@ flag_again f rest is ends =
     let first = first_byte f.word is in
     let front : f.word ++ rest ≡ first.byte ∷ (first.rest ++ rest) = ap (λ l. l ++ rest) first.word_is in
     let sensed : sense_at (flag_text f ++ rest) ≡ (f.sense, f.word ++ rest) =
-        ap sense_at (append_assoc (sense_text f.sense) f.word rest ∙ ap (λ l. sense_text f.sense ++ l) front)
-        ∙ sense_again f.sense first.byte (first.rest ++ rest) first.alphanumeric ∙ ap (λ l. (f.sense, l)) (sym front) in
+    ap sense_at (append_assoc (sense_text f.sense) f.word rest ∙ ap (λ l. sense_text f.sense ++ l) front)
+    ∙ sense_again f.sense first.byte (first.rest ++ rest) first.alphanumeric ∙ ap (λ l. (f.sense, l)) (sym front) in
     ap flag_from sensed
     ∙ ap (λ w. flag_with f.sense w (drop (word_len (f.word ++ rest)) (f.word ++ rest))) (word_again f.word rest is ends)
     ∙ ap (flag_with f.sense f.word) (rest_again f.word rest is ends)
@@ -160,7 +159,7 @@ flags_again (suc n) f (g ∷ gs) rest within all ends no_comma =
     let good = second_so (is_flag f.flag) (list_all is_flag (written (g ∷ gs))) all in
     let more = spaces g.spaces ++ (spelled_flags (g ∷ gs) ++ rest) in
     let skips : skip_spaces more ≡ spelled_flags (g ∷ gs) ++ rest =
-        skip_all g.spaces (spelled_flags (g ∷ gs) ++ rest) (no_skip_flags g gs rest (first_so (is_flag g.flag) (list_all is_flag (written gs)) good)) in
+    skip_all g.spaces (spelled_flags (g ∷ gs) ++ rest) (no_skip_flags g gs rest (first_so (is_flag g.flag) (list_all is_flag (written gs)) good)) in
     ap (flags_at (suc n)) (regroup_flags (flag_text f.flag) (spaces g.spaces) (flag_text g.flag) (flat_map comma_and_flag gs) rest)
     ∙ flags_opens n (flag_text f.flag ++ 44 ∷ more) (f.flag, 44 ∷ more) (Some more) (flag_again f.flag (44 ∷ more) (first_so (is_flag f.flag) (list_all is_flag (written (g ∷ gs))) all) refl) refl
     ∙ ap (with_front (f.flag ∷ [])) (ap (flags_at n) skips ∙ flags_again n g gs rest (omega arith) good ends no_comma)
@@ -192,7 +191,7 @@ set_parts s is =
     record {
       word = first_so (is_flavor_word s.word) (are_flags (flags_of s.flags)) set;
       flags = sym (list_all-in_order is_flag (λ f. f.word) (written s.flags)) ∙ first_so (list_all is_flag (flags_of s.flags)) (rise (λ f. f.word) (flags_of s.flags)) flags;
-      within = subst (λ n. n ≤ 64) (length-in_order (λ f. f.word) (written s.flags) ∙ length-map s.flags (λ f. f.flag)) (at_most (length (flags_of s.flags)) 64 count)
+      within = subst (λ n. n ≤ 64) (length-in_order (λ f. f.word) (written s.flags) ∙ length-map s.flags (λ f. f.flag)) (at_most (length (flags_of s.flags)) 64 count);
     }
 
 regroup_own : (t rest : List ℕ) → (40 ∷ t ++ 41 ∷ []) ++ rest ≡ 40 ∷ (t ++ (41 ∷ rest))
@@ -395,7 +394,7 @@ length-le-count (s ∷ ss) = omega (arith, sum_by-cons set_count s ss, length-le
 readable : (fs : List SpacedFlag) (ss : List SpacedSet) → is_flavor (record { flags = flags_of fs; sets = sets_of ss }) ≡ true → Readable fs ss
 readable fs ss is =
     let count = at_most (length (flags_of fs) + sum_by set_count (sets_of ss)) 64
-            (first_so (nat_le (length (flags_of fs) + sum_by set_count (sets_of ss)) 64) (are_flags (flags_of fs) && are_sets (sets_of ss)) is) in
+    (first_so (nat_le (length (flags_of fs) + sum_by set_count (sets_of ss)) 64) (are_flags (flags_of fs) && are_sets (sets_of ss)) is) in
     let both = second_so (nat_le (length (flags_of fs) + sum_by set_count (sets_of ss)) 64) (are_flags (flags_of fs) && are_sets (sets_of ss)) is in
     let flags = first_so (list_all is_flag (flags_of fs)) (rise (λ f. f.word) (flags_of fs)) (first_so (are_flags (flags_of fs)) (are_sets (sets_of ss)) both) in
     let sets = first_so (list_all is_set (sets_of ss)) (rise (λ s. s.word) (sets_of ss)) (second_so (are_flags (flags_of fs)) (are_sets (sets_of ss)) both) in
@@ -405,7 +404,7 @@ readable fs ss is =
       flags = sym (list_all-in_order is_flag (λ f. f.word) (written fs)) ∙ flags;
       flags_within = omega arith;
       sets = sym (list_all-in_order fits (λ s. s.word) (map set_of ss)) ∙ all_fit (sets_of ss) sets (omega arith);
-      sets_within = omega (arith, length-le-count (sets_of ss))
+      sets_within = omega (arith, length-le-count (sets_of ss));
     }
 
 pub parts_again : (s : Spelling) → is_flavor (value_of s) ≡ true → parts_at (spelling_text s) ≡ Some (value_of s)

@@ -1,9 +1,9 @@
 -- What is read is spelled so.
-use Rattle.std.specs.Prelude.{◌≡◌, ℕ, zero, Bool, true, false, cond, ◌==◌, List, [], ◌∷◌, ◌++◌, map, length, take, drop, replicate, codes, Option, Some, None, refl}
-use Rattle.std.proofs.Common.{suc, ◌+◌, sym, ◌∙◌, ap, subst, arith, append_assoc}
+use Rattle.std.specs.Prelude.{◌≡◌, ℕ, zero, Bool, true, false, cond, ◌==◌, List, [], ◌∷◌, ◌++◌, map, take, drop, codes, Option, Some, None, refl}
+use Rattle.std.proofs.Common.{suc, sym, ◌∙◌, ap, subst, arith, append_assoc}
 use Rattle.std.proofs.lemmas.Bool.Decides.{nat_tests}
 use Rattle.std.proofs.lemmas.List.{append-nil, take-append-drop}
-use Rattle.std.proofs.lemmas.Option.{same_Some, some_pair_parts}
+use Rattle.std.proofs.lemmas.Option.{same_Some}
 use Rattle.std.specs.List.{flat_map}
 use Rattle.std.specs.Option.{option_map, option_and_then}
 use Rattle.cny_flavor.specs.declared.parts.Flag.{Flag}
@@ -85,7 +85,7 @@ more_flags f fs bytes after more rest is comma found =
       others = next ∷ found.others;
       flags_are = ap (λ l. f ∷ l) found.flags_are;
       text = is ∙ ap (λ l. flag_text f ++ l) (comma ∙ ap (λ l. 44 ∷ l) (gap.text ∙ ap (λ l. spaces gap.count ++ l) found.text))
-          ∙ regroup (flag_text f) (spaces gap.count) (flag_text found.first) (flat_map comma_and_flag found.others) rest
+          ∙ regroup (flag_text f) (spaces gap.count) (flag_text found.first) (flat_map comma_and_flag found.others) rest;
     }
 
 flags_front : (f : Flag × List ℕ) (more bytes : List ℕ) (read : Option (List Flag × List ℕ)) (r : List Flag × List ℕ) → bytes ≡ flag_text f.0 ++ f.1 → f.1 ≡ 44 ∷ more
@@ -149,7 +149,7 @@ closed_found bytes inner q (Some rest) r opens found next whole =
       written = found.first ∷ found.others;
       flags_are = found.flags_are;
       text = opens ∙ ap (λ l. 40 ∷ l) (found.text ∙ ap (λ l. spelled_flags (found.first ∷ found.others) ++ l) (begins 41 q.1 rest next))
-          ∙ regroup_own (spelled_flags (found.first ∷ found.others)) rest
+          ∙ regroup_own (spelled_flags (found.first ∷ found.others)) rest;
     })
 
 own_inner : (bytes inner : List ℕ) (read : Option (List Flag × List ℕ)) (r : List Flag × List ℕ) → bytes ≡ 40 ∷ inner → ordered_flags_at inner ≡ read
@@ -179,7 +179,7 @@ set_found_from word after bytes (Some q) r is own whole =
     subst (λ (x : InstructionSet × List ℕ). FoundSet x.0 bytes x.1) end (record {
       written = written;
       set_is = named word q.0 (flags_of found.written) found.flags_are;
-      text = is ∙ ap (λ l. word ++ l) found.text ∙ sym (append_assoc word (spelled_own_flags found.written) q.1)
+      text = is ∙ ap (λ l. word ++ l) found.text ∙ sym (append_assoc word (spelled_own_flags found.written) q.1);
     })
   where
     named : (w : List ℕ) (fs gs : List Flag) → fs ≡ gs → ◌≡◌ {A = InstructionSet} (record { word = w; flags = fs }) (record { word = w; flags = gs })
@@ -215,7 +215,7 @@ more_sets s ss bytes after more set space found =
       others = spaced gap.count found.first ∷ found.others;
       sets_are = ap (λ x. x ∷ ss) set.set_is ∙ ap (λ l. set_of set.written ∷ l) found.sets_are;
       text = set.text ∙ ap (λ l. spelled_set set.written ++ l) (space ∙ ap (λ l. 32 ∷ l) (gap.text ∙ ap (λ l. spaces gap.count ++ l) found.text))
-          ∙ regroup_sets (spelled_set set.written) (spaces gap.count) (spelled_set found.first) (flat_map space_and_set found.others)
+          ∙ regroup_sets (spelled_set set.written) (spaces gap.count) (spelled_set found.first) (flat_map space_and_set found.others);
     }
 
 sets_front : (s : InstructionSet) (bytes after more : List ℕ) (read : Option (List InstructionSet)) (ss : List InstructionSet) → FoundSet s bytes after → after ≡ 32 ∷ more
@@ -274,7 +274,7 @@ part_inner bytes rest (Some q) ss is read whole =
       first = found.first;
       others = found.others;
       sets_are = sym (same_Some (in_order (λ s. s.word) q) ss whole) ∙ ap (in_order (λ s. s.word)) found.sets_are;
-      text = is ∙ ap (λ l. codes "is:" ++ l) (gap.text ∙ ap (λ l. spaces gap.count ++ l) found.text)
+      text = is ∙ ap (λ l. codes "is:" ++ l) (gap.text ∙ ap (λ l. spaces gap.count ++ l) found.text);
     }
 
 part_from : (bytes : List ℕ) (next : Option (List ℕ)) (ss : List InstructionSet) → after_is bytes ≡ next → option_and_then (λ rest. ordered_sets (sets_at 64 (skip_spaces rest))) next ≡ Some ss
@@ -305,7 +305,7 @@ after_from (b ∷ bs) (Some rest) ss is whole =
       after = found.after;
       written = found.first ∷ found.others;
       sets_are = found.sets_are;
-      text = λ f fs. begins 32 (b ∷ bs) rest is ∙ ap (λ l. 32 ∷ l) (gap.text ∙ ap (λ l. spaces gap.count ++ l) found.text)
+      text = λ f fs. begins 32 (b ∷ bs) rest is ∙ ap (λ l. 32 ∷ l) (gap.text ∙ ap (λ l. spaces gap.count ++ l) found.text);
     }
 
 after_found : (bytes : List ℕ) (ss : List InstructionSet) → sets_after_at bytes ≡ Some ss → FoundAfter ss bytes
@@ -334,7 +334,7 @@ with_both bytes after fs (Some ss) parts flags is whole =
     record {
       written = record { flags = all; before = found.before; after = found.after; sets = found.written };
       parts_are = sym end ∙ same_parts fs (flags_of all) ss (sets_of found.written) flags.flags_are found.sets_are;
-      text = flags.text ∙ ap (λ l. spelled_flags all ++ l) (found.text flags.first flags.others)
+      text = flags.text ∙ ap (λ l. spelled_flags all ++ l) (found.text flags.first flags.others);
     }
 
 flags_first : (bytes : List ℕ) (read : Option (List Flag × List ℕ)) (parts : Parts) → ordered_flags_at bytes ≡ read
@@ -352,7 +352,7 @@ sets_alone bytes (Some ss) parts is whole =
     record {
       written = record { flags = []; before = 0; after = found.after; sets = all };
       parts_are = sym end ∙ same_parts [] [] ss (sets_of all) refl found.sets_are;
-      text = found.text
+      text = found.text;
     }
 
 parts_found_from : (bytes : List ℕ) (next : Option (List ℕ)) (parts : Parts) → parts_from bytes next ≡ Some parts → FoundParts parts bytes

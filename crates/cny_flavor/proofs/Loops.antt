@@ -54,8 +54,8 @@ pub flags_more : (n k : ℕ) (front : List Flag) (bytes after more : List ℕ) (
     → with_front (front ++ f ∷ []) (flags_at (n - (k + 1)) (skip_spaces more)) ≡ with_front front (flags_at (n - k) bytes)
 flags_more n k front bytes after more f within is then =
     sym (ap (λ m. with_front front (flags_at m bytes)) (one_more n k within)
-        ∙ ap (with_front front) (flags_open (n - (k + 1)) bytes (f, after) (Some more) (sym is) (sym then))
-        ∙ with_front-push front f (flags_at (n - (k + 1)) (skip_spaces more)))
+    ∙ ap (with_front front) (flags_open (n - (k + 1)) bytes (f, after) (Some more) (sym is) (sym then))
+    ∙ with_front-push front f (flags_at (n - (k + 1)) (skip_spaces more)))
 
 pub no_flags_left : (n k : ℕ) (front : List Flag) (bytes : List ℕ) → n ≡ k → with_front front (flags_at (n - k) bytes) ≡ None
 unfolding flags_at
@@ -111,8 +111,8 @@ pub sets_more : (n k : ℕ) (front : List InstructionSet) (bytes after more : Li
 sets_more n k front bytes [] more s within is then = absurd (cc then)
 sets_more n k front bytes (b ∷ after) more s within is then =
     sym (ap (λ m. with_sets front (sets_at m bytes)) (one_more n k within)
-        ∙ ap (with_sets front) (sets_open (n - (k + 1)) bytes (b ∷ after) s (Some more) is (sym then))
-        ∙ with_sets-push front s (sets_at (n - (k + 1)) (skip_spaces more)))
+    ∙ ap (with_sets front) (sets_open (n - (k + 1)) bytes (b ∷ after) s (Some more) is (sym then))
+    ∙ with_sets-push front s (sets_at (n - (k + 1)) (skip_spaces more)))
 
 pub no_sets_left : (n k : ℕ) (front : List InstructionSet) (bytes : List ℕ) → n ≡ k → with_sets front (sets_at (n - k) bytes) ≡ None
 unfolding sets_at

@@ -1,6 +1,6 @@
 -- The canonical text is a relaxed one.
-use Rattle.std.specs.Prelude.{◌≡◌, ◌↔◌, ℕ, Bool, true, false, not, IsTrue, ◌==◌, ◌&&◌, nat_le, List, [], ◌∷◌, ◌++◌, map, length, codes, Result, Ok, Err, Option, Some, None, refl}
-use Rattle.std.proofs.Common.{◌≤◌, sym, ◌∙◌, ap, subst, arith}
+use Rattle.std.specs.Prelude.{◌≡◌, ◌↔◌, ℕ, Bool, true, false, not, IsTrue, ◌==◌, ◌&&◌, nat_le, List, [], ◌∷◌, ◌++◌, map, codes, Result, Err, Some, refl}
+use Rattle.std.proofs.Common.{sym, ◌∙◌, ap, subst, arith}
 use Rattle.std.proofs.lemmas.Option.{same_Some}
 use Rattle.std.proofs.lemmas.Bool.Decides.{nat_tests}
 use Rattle.std.specs.Cmp.{first_so, second_so}
@@ -17,7 +17,7 @@ use Rattle.cny_flavor.specs.Order.{in_order, rise}
 use Rattle.cny_flavor.specs.Reading.{Fails, parts_at}
 use Rattle.cny_flavor.specs.Spelling.{SpacedFlag, SpacedSet, Spelling, comma_and_flag, spelled_flags, spelled_own_flags, spelled_set, space_and_set, spelled_sets, spelled_sets_part, spelling_text, flags_of, set_of, sets_of, value_of, IsRelaxedText, IsCanonicalText, IsReadAs}
 use Rattle.cny_flavor.proofs.Putting.{in_order-rising}
-use Rattle.cny_flavor.proofs.Found.{FoundParts, parts_found}
+use Rattle.cny_flavor.proofs.Found.{parts_found}
 use Rattle.cny_flavor.proofs.Again.{parts_again}
 
 abbrev plain_flag : Flag → SpacedFlag
@@ -105,7 +105,7 @@ canonical_relaxed text p is = record {
   spelling = plain p;
   text_is = is.text_is ∙ text_plain p;
   parts_are = sym (value_plain p is.flavor);
-  flavor = is.flavor
+  flavor = is.flavor;
 }
 
 -- ---- what reading gives
@@ -158,6 +158,7 @@ other_bytes a b h same = cc (h, ap (bytes_eq a) (sym same) ∙ own_bytes a)
 
 -- the test of texts tells whether the flavors are equal
 pub tells_equal : (v : Bool) (a b : Parts) → is_flavor a ≡ true → is_flavor b ≡ true → v ≡ bytes_eq (flavor_text a) (flavor_text b) → IsTrue v ↔ (a ≡ b)
-tells_equal v a b good_a good_b is =
-    (λ yes. same_from_text a b good_a good_b (equal_bytes (flavor_text a) (flavor_text b) (sym is ∙ yes)),
-    λ same. is ∙ ap (λ p. bytes_eq (flavor_text a) (flavor_text p)) (sym same) ∙ own_bytes (flavor_text a))
+tells_equal v a b good_a good_b is = (
+  λ yes. same_from_text a b good_a good_b (equal_bytes (flavor_text a) (flavor_text b) (sym is ∙ yes)),
+  λ same. is ∙ ap (λ p. bytes_eq (flavor_text a) (flavor_text p)) (sym same) ∙ own_bytes (flavor_text a),
+)

@@ -1,10 +1,11 @@
 -- Lists put in order, an item at a time.
-use Rattle.std.specs.Prelude.{◌≡◌, ℕ, Bool, true, false, cond, ◌&&◌, List, [], ◌∷◌, ◌++◌, map, length, refl, insert}
-use Rattle.std.proofs.Common.{suc, ◌+◌, sym, ◌∙◌, ap, arith}
-use Rattle.std.proofs.lemmas.Bool.Decides.{nat_tests}
+use Rattle.std.specs.Prelude.{◌≡◌, ℕ, Bool, true, false, cond, ◌&&◌, List, [], ◌∷◌, ◌++◌, length, refl, insert}
+use Rattle.std.proofs.Common.{suc, ◌+◌, sym, ◌∙◌, ap, subst, arith}
 use Rattle.std.specs.Cmp.{first_so, second_so}
 use Rattle.std.specs.Cmp.Lexicographic.{slice_cmp, nat_list_cmp_total}
+use Rattle.std.proofs.lemmas.List.Sorted.{IsPermutation-refl, IsPermutation-cons, IsPermutation-trans, IsPermutation-insert}
 use Rattle.std.specs.List.{list_all, prefix_len}
+use Rattle.std.specs.List.Sorted.{IsPermutation}
 use Rattle.std.specs.Ordering.{nat_cmp, is_lt, ordering_reverse}
 use Rattle.std.specs.declared.cmp.Ordering.{Ordering}
 use Rattle.std.specs.declared.cmp.Ordering.TheVariants.{Less, Equal, Greater}
@@ -84,3 +85,14 @@ put_first word x (y ∷ ys) up =
 pub in_order-rising : {X : Type 0} (word : X → List ℕ) (xs : List X) → rise word xs ≡ true → in_order word xs ≡ xs
 in_order-rising word [] up = refl
 in_order-rising word (x ∷ xs) up = ap (put word x) (in_order-rising word xs (rise_rest word (word x) xs up)) ∙ put_first word x xs up
+
+-- ---- putting in order keeps each item
+
+put_permutes : {X : Type 0} (word : X → List ℕ) (x : X) (ys : List X) → IsPermutation (x ∷ ys) (put word x ys)
+put_permutes {X} word x ys =
+    subst (λ (l : List X). IsPermutation (x ∷ ys) l) (sym (put_is_insert word x ys)) (IsPermutation-insert ys (prefix_len (λ y. precedes (word y) (word x)) ys) x)
+
+pub in_order_permutes : {X : Type 0} (word : X → List ℕ) (xs : List X) → IsPermutation xs (in_order word xs)
+in_order_permutes word [] = IsPermutation-refl []
+in_order_permutes word (x ∷ xs) =
+    IsPermutation-trans (x ∷ xs) (x ∷ in_order word xs) (put word x (in_order word xs)) (IsPermutation-cons x xs (in_order word xs) (in_order_permutes word xs)) (put_permutes word x (in_order word xs))

@@ -1,5 +1,5 @@
 -- Sums of cells, and the walk over two lists in order.
-use Rattle.std.specs.Prelude.{◌≡◌, ℕ, zero, ℤ, pos, negsuc, ◌+ℤ◌, ◌≤ℤ◌, neg_ℤ, Bool, true, false, cond, ◌==◌, ◌&&◌, nat_le, List, [], ◌∷◌, ◌++◌, map, length, take, drop, Option, Some, None, IfSome, refl}
+use Rattle.std.specs.Prelude.{◌≡◌, ℕ, zero, ℤ, pos, ◌+ℤ◌, ◌≤ℤ◌, neg_ℤ, Bool, true, false, cond, ◌&&◌, nat_le, List, [], ◌∷◌, ◌++◌, length, take, drop, Option, Some, None, IfSome, refl}
 use Rattle.std.proofs.Common.{suc, ◌+◌, ◌*◌, ◌<◌, ◌≤◌, get_or, sym, ◌∙◌, ap, subst, arith, drop-cons, add-one}
 use Rattle.std.proofs.lemmas.Bool.Decides.{nat_tests}
 use Rattle.std.proofs.lemmas.Cmp.{tied_itself}
@@ -19,9 +19,8 @@ use Rattle.cny_flavor.proofs.Plain.{equal_bytes}
 use Rattle.cny_flavor.specs.declared.parts.Flag.{Flag}
 use Rattle.cny_flavor.specs.declared.parts.InstructionSet.{InstructionSet}
 use Rattle.cny_flavor.specs.declared.parts.Parts.{Parts}
-use Rattle.cny_flavor.specs.declared.parts.Sense.{Sense}
 use Rattle.cny_flavor.specs.Order.{precedes, rise, rise_after}
-use Rattle.cny_flavor.specs.Score.{cell, named, sense_of, set_named, flag_cell, flag_cells, cells_with, set_cells, total}
+use Rattle.cny_flavor.specs.Score.{cell, named, flag_cell, flag_cells, cells_with, set_cells, total}
 use Rattle.cny_flavor.specs.Walk.{from_word, first_named}
 
 -- a sum with more added to it
@@ -194,7 +193,7 @@ flag_added trove system rest i score n f within is up walked worth low high =
       value = sym (add_twice score n (total (flag_cells (from_word flag_word f.word rest) (drop (i + 1) trove)))) ∙ flag_walked trove system rest i score f (Some n) within is up walked worth;
       low = omega (arith, ints);
       high = omega (arith, ints);
-      rises = rise_from flag_word f.word rest walked.rises
+      rises = rise_from flag_word f.word rest walked.rises;
     }
 
 -- ---- sets
@@ -269,12 +268,12 @@ set_added trove system rest i score n s within is good walked worth low high =
     let low_before = walked.low in
     let high_before = walked.high in
     let count : sum_by set_count (take (i + 1) trove) ≡ sum_by set_count (take i trove) + set_count s =
-        sum_by_more set_count trove i s within ∙ ap (λ x. sum_by set_count (take i trove) + set_count x) (sym is) in
+    sum_by_more set_count trove i s within ∙ ap (λ x. sum_by set_count (take i trove) + set_count x) (sym is) in
     record {
       value = sym (add_twice score n (total (flat_map (set_cells (from_word set_word s.word rest)) (drop (i + 1) trove)))) ∙ set_walked trove system rest i score s (Some n) within is good walked worth;
       low = omega (arith, ints);
       high = omega (arith, ints);
-      sets = sets_from_good s.word rest walked.sets
+      sets = sets_from_good s.word rest walked.sets;
     }
 
 all-drop : {X : Type 0} (p : X → Bool) (i : ℕ) (xs : List X) → list_all p xs ≡ true → list_all p (drop i xs) ≡ true

@@ -1,5 +1,5 @@
 -- The values of flavors, and their canonical texts.
-use Rattle.std.specs.Prelude.{ℕ, Bool, true, ◌&&◌, List, [], ◌∷◌, ◌++◌, map, length, ◌+◌, nat_le, codes}
+use Rattle.std.specs.Prelude.{ℕ, Bool, ◌&&◌, List, [], ◌∷◌, ◌++◌, length, ◌+◌, nat_le, codes}
 use Rattle.std.specs.List.{list_all, flat_map, sum_by}
 use Rattle.cny_base.specs.Name.{is_word}
 use Rattle.cny_flavor.specs.declared.parts.Flag.{Flag}

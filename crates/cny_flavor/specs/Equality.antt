@@ -2,7 +2,6 @@
 use Rattle.std.specs.Prelude.{Bool}
 use Rattle.std.specs.Cmp.{IsEquivalence}
 use Rattle.std.specs.Cmp.Lexicographic.{nat_list_eq_equiv}
-use Rattle.std.specs.Ordering.{on}
 use Rattle.std.specs.Str.{bytes_eq}
 use Rattle.std.proofs.lemmas.Cmp.{on_equiv}
 use Rattle.cny_flavor.specs.declared.parts.Parts.{Parts}

@@ -4,4 +4,5 @@ pub mod Order
 pub mod Reading
 pub mod Score
 pub mod Spelling
+pub mod Utf8
 pub mod Walk

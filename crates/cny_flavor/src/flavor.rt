@@ -1,6 +1,10 @@
 //! Flavors.
-ghost use Rattle.std.specs.Prelude.{◌≡◌, true, [], ◌↔◌, IsTrue, IfOk};
+ghost use Rattle.std.specs.Prelude.{◌≡◌, true, List, ◌↔◌, IsTrue, IfOk};
 ghost use Rattle.std.specs.Cmp.{partial_equiv_from_equiv};
+ghost use Rattle.std.specs.List.Sorted.{IsPermutation};
+ghost use Rattle.cny_flavor.specs.declared.parts.Flag.{Flag};
+ghost use Rattle.cny_flavor.specs.declared.parts.InstructionSet.{InstructionSet};
+ghost use Rattle.cny_flavor.specs.Order.{in_order};
 ghost use Rattle.cny_flavor.specs.declared.parts.Parts.{Parts};
 ghost use Rattle.cny_flavor.specs.Canonical as spec;
 ghost use Rattle.cny_flavor.specs.Canonical.{flavor_text, no_parts};
@@ -134,5 +138,10 @@ impl Eq for Flavor {
 /// Flavors with one canonical text are one flavor.
 pub fn one_text()
     ensures { (a b : Parts) → spec.is_flavor a ≡ true → spec.is_flavor b ≡ true → flavor_text a ≡ flavor_text b → a ≡ b }
-{
-}
+{}
+
+/// Putting in order changes the places of flags and sets alone: none is lost, and none is added.
+pub fn same_items()
+    ensures flags { (fs : List Flag) → IsPermutation fs (in_order (λ f. f.word) fs) }
+    ensures sets { (ss : List InstructionSet) → IsPermutation ss (in_order (λ s. s.word) ss) }
+{}

@@ -6,8 +6,10 @@ mod order;
 mod parts;
 mod read;
 mod scoring;
+#[cfg(test)]
+mod tests;
 mod write;
 
-pub use flavor::{Flavor, one_text};
+pub use flavor::{Flavor, one_text, same_items};
 pub use parts::{Flag, Flags, InstructionSet, InstructionSets, Parts, Sense};
 pub use scoring::score;

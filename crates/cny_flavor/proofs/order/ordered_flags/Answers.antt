@@ -13,7 +13,7 @@ pub loop-flag-preserved : goal.loop-flag-preserved
 loop-flag-preserved c =
     let before = λ (f : Flag). precedes f.word c.in-Some.flag.word in
     let placed : c.flag_place-place.result ≡ prefix_len before c.loop-flag.ordered.items =
-        c.flag_place-place.ensures ∙ ap (prefix_len before) c.as_slice.ensures.value in
+    c.flag_place-place.ensures ∙ ap (prefix_len before) c.as_slice.ensures.value in
     ap (put_all (λ f. f.word) c.pop.new.self.items) (c.in_ok-insert.ensures.items ∙ ap (λ n. insert c.loop-flag.ordered.items n c.in-Some.flag) placed)
     ∙ put_last (λ f. f.word) c.loop-flag.flags.items c.pop.new.self.items c.in-Some.flag c.loop-flag.ordered.items c.in-Some.ensures.items
     ∙ c.loop-flag.invariant

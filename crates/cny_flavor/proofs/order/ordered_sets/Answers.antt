@@ -13,7 +13,7 @@ pub loop-set-preserved : goal.loop-set-preserved
 loop-set-preserved c =
     let before = λ (f : InstructionSet). precedes f.word c.in-Some.set.word in
     let placed : c.set_place-place.result ≡ prefix_len before c.loop-set.ordered.items =
-        c.set_place-place.ensures ∙ ap (prefix_len before) c.as_slice.ensures.value in
+    c.set_place-place.ensures ∙ ap (prefix_len before) c.as_slice.ensures.value in
     ap (put_all (λ s. s.word) c.pop.new.self.items) (c.in_ok-insert.ensures.items ∙ ap (λ n. insert c.loop-set.ordered.items n c.in-Some.set) placed)
     ∙ put_last (λ s. s.word) c.loop-set.sets.items c.pop.new.self.items c.in-Some.set c.loop-set.ordered.items c.in-Some.ensures.items
     ∙ c.loop-set.invariant

@@ -1,4 +1,4 @@
-use Rattle.std.proofs.Common.{arith, ap, ◌∙◌, sym, take, ◌≡◌, ℕ, List, true, subst}
+use Rattle.std.proofs.Common.{arith, ap, ◌∙◌, take}
 use Rattle.std.specs.List.{list_all}
 use Rattle.cny_base.specs.Name.{is_word_byte}
 use Rattle.cny_flavor.proofs.Fronts.{word_len-le, word_passes}

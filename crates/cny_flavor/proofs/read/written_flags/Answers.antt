@@ -1,5 +1,4 @@
 use Rattle.std.proofs.Common.{◌<◌, Some, ◌∙◌, sym, ap, arith}
-use Rattle.cny_flavor.specs.Reading.{flags_at, with_front}
 use Rattle.cny_flavor.proofs.Loops.{flags_end, flags_more, no_flags_left}
 use Rattle.cny_flavor.proofs.read.written_flags.Goals as goal
 

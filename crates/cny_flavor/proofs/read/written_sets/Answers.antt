@@ -1,4 +1,4 @@
-use Rattle.std.proofs.Common.{◌<◌, ◌-◌, ◌∙◌, Some, sym, ap, arith}
+use Rattle.std.proofs.Common.{◌<◌, ◌∙◌, Some, sym, ap, arith}
 use Rattle.std.proofs.lemmas.Result.{err_from_is_err_and}
 use Rattle.cny_flavor.specs.Reading.{set_at, sets_at}
 use Rattle.cny_flavor.proofs.Loops.{fails_along, set_bad, sets_end, sets_bad, sets_more, no_sets_left}

@@ -1,9 +1,9 @@
-use Rattle.std.proofs.Common.{◌≡◌, ◌<◌, ◌+◌, ◌∙◌, Some, None, ℤ, ◌+ℤ◌, to_z, of_z, w32, length, List, sym, ap, subst, arith}
+use Rattle.std.proofs.Common.{◌≡◌, ◌+◌, ◌∙◌, None, ℤ, ◌+ℤ◌, to_z, of_z, w32, List, sym, ap, subst, arith}
 use Rattle.std.proofs.lemmas.Int.{ints}
 use Rattle.std.specs.Option.{option_map}
 use Rattle.cny_flavor.specs.declared.parts.Flag.{Flag}
 use Rattle.cny_flavor.specs.Score.{cell}
-use Rattle.cny_flavor.specs.Walk.{from_word, first_named}
+use Rattle.cny_flavor.specs.Walk.{first_named}
 use Rattle.cny_flavor.proofs.Totals.{FlagsWalked, flag_word, flag_walked, flag_added}
 use Rattle.cny_flavor.proofs.scoring.flags_score.Goals as goal
 
@@ -21,7 +21,7 @@ loop-flag-preserved c =
     let seen = c.first_sense.ensures ∙ ap (λ l. option_map (λ g. g.sense) (first_named flag_word f.word l)) c.flags_from-rest.ensures in
     let before = to_z w32 c.loop-flag.score-bits in
     let added = flag_added c.args.trove.now c.args.system.now c.loop-flag.rest.now c.loop-flag.flag-index before c.in_ok-score.field-0 f (omega arith) c.flag-item.is c.requires.trove_rises
-            c.loop-flag.invariant (c.in_ok-score.ensures.value ∙ ap (cell f.sense) seen) c.in_ok-score.ensures.low c.in_ok-score.ensures.high in
+    c.loop-flag.invariant (c.in_ok-score.ensures.value ∙ ap (cell f.sense) seen) c.in_ok-score.ensures.low c.in_ok-score.ensures.high in
     let low = c.loop-flag.invariant.low in
     let high = c.loop-flag.invariant.high in
     let sum : before +ℤ c.in_ok-score.field-0 ≡ to_z w32 (of_z w32 (before +ℤ to_z w32 (of_z w32 c.in_ok-score.field-0))) = omega (arith, ints) in

@@ -1,4 +1,4 @@
-use Rattle.std.proofs.Common.{◌≡◌, ◌∙◌, ◌≤◌, ◌*◌, ℕ, ℤ, pos, neg_ℤ, ◌≤ℤ◌, Some, None, ◌+ℤ◌, to_z, of_z, w32, length, FitsSigned, true, sym, ap, arith}
+use Rattle.std.proofs.Common.{◌≡◌, ◌∙◌, ◌≤◌, ◌*◌, ℕ, ℤ, pos, neg_ℤ, ◌≤ℤ◌, Some, ◌+ℤ◌, to_z, of_z, w32, length, FitsSigned, ap, arith}
 use Rattle.std.proofs.lemmas.Int.{ints}
 use Rattle.std.specs.List.{flat_map}
 use Rattle.cny_flavor.specs.Canonical.{are_sets}
@@ -59,7 +59,7 @@ returns c =
     let trove_sets = c.get-3.ensures ∙ ap (λ p. p.sets) c.parts-trove.ensures.value in
     let system_sets = c.get-4.ensures ∙ ap (λ p. p.sets) c.parts-system.ensures.value in
     ap Some (sum_is c.in_ok-flags.flags c.in_ok-sets.sets (length c.get.result.now) (few_flags trove c.get.result.now c.parts-trove.ensures.flavor trove_flags)
-        c.in_ok-flags.ensures.low c.in_ok-flags.ensures.high c.in_ok-sets.ensures.low c.in_ok-sets.ensures.high)
+    c.in_ok-flags.ensures.low c.in_ok-flags.ensures.high c.in_ok-sets.ensures.low c.in_ok-sets.ensures.high)
     ∙ both_add (flag_cells system.flags trove.flags) (flat_map (set_cells system.sets) trove.sets) c.in_ok-flags.flags c.in_ok-sets.sets
     (c.in_ok-flags.ensures.value ∙ ap (λ l. total (flag_cells l c.get.result.now)) system_flags ∙ ap (λ l. total (flag_cells system.flags l)) trove_flags)
     (c.in_ok-sets.ensures.value ∙ ap (λ l. total (flat_map (set_cells l) c.get-3.result.now)) system_sets ∙ ap (λ l. total (flat_map (set_cells system.sets) l)) trove_sets)

@@ -1,14 +1,11 @@
-use Rattle.std.proofs.Common.{◌≡◌, ◌<◌, ◌+◌, ◌≤◌, ◌∙◌, Some, None, ℤ, ◌+ℤ◌, to_z, of_z, w32, length, take, get_or, List, IfSome, true, sym, ap, subst, arith}
+use Rattle.std.proofs.Common.{◌≡◌, ◌+◌, ◌∙◌, None, ℤ, ◌+ℤ◌, to_z, of_z, w32, get_or, List, sym, ap, subst, arith}
 use Rattle.std.proofs.lemmas.Int.{ints}
 use Rattle.std.proofs.lemmas.List.Sums.{sum_by_more_le}
-use Rattle.std.specs.List.{sum_by}
-use Rattle.std.specs.Option.{option_map}
 use Rattle.cny_flavor.specs.declared.parts.InstructionSet.{InstructionSet}
-use Rattle.cny_flavor.specs.Canonical.{set_count, are_sets}
-use Rattle.cny_flavor.specs.Order.{rise}
+use Rattle.cny_flavor.specs.Canonical.{set_count}
 use Rattle.cny_flavor.specs.Score.{cells_with, total}
 use Rattle.cny_flavor.specs.Walk.{from_word, first_named}
-use Rattle.cny_flavor.proofs.Totals.{SetsWalked, flag_word, set_word, set_walked, set_added, sets_from_good, flags_rise_at, first_rises}
+use Rattle.cny_flavor.proofs.Totals.{SetsWalked, set_word, set_walked, set_added, sets_from_good, flags_rise_at, first_rises}
 use Rattle.cny_flavor.proofs.scoring.sets_score.Goals as goal
 
 pub set_score-requires-clause-trove_rises : goal.set_score-requires-clause-trove_rises
@@ -50,6 +47,6 @@ loop-set-preserved c =
     let same : set_count (get_or c.args.trove.now c.loop-set.set-index s) ≡ set_count s = ap set_count (sym c.set-item.is) in
     let sum : before +ℤ c.in_ok-score.field-0 ≡ to_z w32 (of_z w32 (before +ℤ to_z w32 (of_z w32 c.in_ok-score.field-0))) = omega (arith, ints) in
     let added = set_added c.args.trove.now c.args.system.now c.loop-set.rest.now c.loop-set.set-index before c.in_ok-score.field-0 s (omega arith) c.set-item.is c.requires.trove_sets
-            c.loop-set.invariant (c.in_ok-score.ensures.value ∙ ap (λ o. total (cells_with s o)) seen) own_low own_high in
+    c.loop-set.invariant (c.in_ok-score.ensures.value ∙ ap (λ o. total (cells_with s o)) seen) own_low own_high in
     let at_rest = subst (λ (l : List InstructionSet). SetsWalked c.args.trove.now c.args.system.now l (c.loop-set.set-index + 1) (before +ℤ c.in_ok-score.field-0)) (sym c.sets_from-rest.ensures) added in
     subst (λ (z : ℤ). SetsWalked c.args.trove.now c.args.system.now c.sets_from-rest.result.now (c.loop-set.set-index + 1) z) sum at_rest

@@ -1,8 +1,8 @@
-use Rattle.std.proofs.Common.{◌≡◌, ◌∙◌, Some, Err, sym, ap}
+use Rattle.std.proofs.Common.{◌≡◌, ◌∙◌, sym, ap}
 use Rattle.std.proofs.lemmas.Option.{same_Some}
 use Rattle.std.proofs.lemmas.Result.{err_from_is_err_and}
 use Rattle.cny_flavor.specs.Canonical.{is_flavor}
-use Rattle.cny_flavor.specs.Reading.{Fails, parts_at}
+use Rattle.cny_flavor.specs.Reading.{parts_at}
 use Rattle.cny_flavor.proofs.Plain.{relaxed_read, read_relaxed, failing_reader}
 use Rattle.cny_flavor.proofs.flavor.Flavor.read.Goals as goal
 
@@ -14,7 +14,7 @@ returns-in_err-parts-clause-only c parts relaxed =
 pub returns-then-not-is_flavor-clause-only : goal.returns-then-not-is_flavor-clause-only
 returns-then-not-is_flavor-clause-only c parts relaxed =
     let same : c.in_ok-parts.parts ≡ parts =
-        same_Some c.in_ok-parts.parts parts (sym c.in_ok-parts.ensures ∙ ap parts_at c.as_bytes.ensures.value ∙ relaxed_read c.args.text.now parts relaxed) in
+    same_Some c.in_ok-parts.parts parts (sym c.in_ok-parts.ensures ∙ ap parts_at c.as_bytes.ensures.value ∙ relaxed_read c.args.text.now parts relaxed) in
     let good = ap is_flavor same ∙ relaxed.flavor in
     cc (good, c.is_flavor.ensures)
 

@@ -1,7 +1,6 @@
-use Rattle.std.proofs.Common.{◌≡◌, ◌∙◌, Err, true, false, sym, ap}
+use Rattle.std.proofs.Common.{◌≡◌, ◌∙◌, sym, ap}
 use Rattle.std.proofs.lemmas.Result.{err_from_is_err_and}
 use Rattle.cny_flavor.specs.Canonical.{flavor_text}
-use Rattle.cny_flavor.specs.Spelling.{IsReadAs}
 use Rattle.cny_flavor.proofs.Plain.{canonical_relaxed, same_bytes, other_bytes}
 use Rattle.cny_flavor.proofs.flavor.Flavor.read_whole.Goals as goal
 
