@@ -1,0 +1,8 @@
+pub mod Canonical
+pub mod Equality
+pub mod Order
+pub mod Reading
+pub mod Score
+pub mod Spelling
+pub mod Utf8
+pub mod Walk

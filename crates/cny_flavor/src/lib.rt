@@ -1,0 +1,15 @@
+//! Flavors, which say what a build needs or prefers of a machine, with their texts and their score.
+#![tactic(auto)]
+
+mod flavor;
+mod order;
+mod parts;
+mod read;
+mod scoring;
+#[cfg(test)]
+mod tests;
+mod write;
+
+pub use flavor::{Flavor, one_text, same_items};
+pub use parts::{Flag, Flags, InstructionSet, InstructionSets, Parts, Sense};
+pub use scoring::score;
