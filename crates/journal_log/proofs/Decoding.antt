@@ -1,28 +1,21 @@
 -- The bytes of a log determine its puts, and how far they are read.
-use Rattle.std.proofs.Common.{◌≡◌, ◌≢◌, ℕ, ◌+◌, ◌-◌, ◌<◌, ◌≤◌, ◌^◌, Bool, true, false, List, [], ◌∷◌, ◌++◌, length, drop, take, flat_map, All, Contains, sym, ◌∙◌, ap, subst, refl, arith, append_assoc, append-nil, IsTrue, Result, Ok, Err, MatchResult, nat_eq, IfOk}
+use Rattle.std.proofs.Common.{◌≡◌, ℕ, ◌<◌, ◌≤◌, ◌^◌, true, List, [], ◌∷◌, ◌++◌, length, drop, flat_map, All, sym, ◌∙◌, ap, subst, refl, arith, append_assoc, append-nil, IsTrue}
 use Rattle.std.specs.Prelude.{slice_range}
-use Rattle.std.specs.Int.{w16, w32, to_be_bytes, from_be_bytes}
-use Rattle.std.specs.List.{starts_with}
-use Rattle.std.specs.Cmp.Lexicographic.{pointwise}
-use Rattle.std.proofs.lemmas.List.{append_cancel_left, length-drop, take-append-drop}
+use Rattle.std.specs.Int.{w32, to_be_bytes}
+use Rattle.std.proofs.lemmas.List.{append_cancel_left, length-drop}
 use Rattle.std.proofs.lemmas.List.Concat.{flat_map-append}
-use Rattle.std.proofs.lemmas.List.Elements.{All-head, All-tail, All-push, All-contains, All-weaker, All-contains_itself, Contains-get_or}
-use Rattle.std.proofs.lemmas.Nat.{from_be_bytes-to_be_bytes_4}
+use Rattle.std.proofs.lemmas.List.Elements.{All-head, All-tail, All-push, All-weaker}
 use Rattle.cny_base.specs.Path.{is_path}
 use Rattle.cny_base.specs.StrField.{str}
-use Rattle.cny_base.specs.declared.text.TextFault.{TextFault}
-use Rattle.cny_base.specs.declared.text.TextFault.TheVariants.{Bad, Memory}
 use Rattle.cny_stream.specs.Item.{FitsItem, item_bytes, IsItemAt, is_expected}
-use Rattle.cny_stream.specs.ItemLaws.{same_front, same_item}
-use Rattle.std.proofs.lemmas.Map.Text.{is_eq-slice_cmp}
-use Rattle.tree_disk.specs.Laws.{same_means}
+use Rattle.cny_stream.specs.ItemLaws.{same_item}
 use Rattle.tree_disk.specs.Tree.{Name}
 use Rattle.journal_log.specs.declared.put.Want.{Want}
 use Rattle.journal_log.specs.declared.put.Want.TheVariants.{Nothing, Dir, File, Link}
 use Rattle.journal_log.specs.declared.put.Put.{Put}
-use Rattle.journal_log.specs.WriteSet.{Rises, IsFormed, CanBeNamed, IsWriteSet, IsLoggable}
+use Rattle.journal_log.specs.WriteSet.{Rises, IsFormed}
 use Rattle.journal_log.specs.Rules.{AreNamed, NothingBelow}
-use Rattle.journal_log.specs.LogBytes.{magic, put_tag, put_value, put_bytes, end_bytes, log_bytes, FitsPut, IsSpelled, IsLogText}
+use Rattle.journal_log.specs.LogBytes.{magic, put_tag, put_value, put_bytes, end_bytes, FitsPut, IsLogText}
 use Rattle.journal_log.specs.PutItem.{IsPutItem, IsTold, ArePutsOf, IsEnd}
 use Rattle.journal_log.proofs.Links.{same_two, same_str, fits_path, fits_target}
 
@@ -97,18 +90,6 @@ tail_of bytes puts all at so_far whole =
     same_start puts all (drop at bytes) (length all) so_far.told whole.told
     (append_cancel_left magic (flat_map put_bytes puts ++ drop at bytes) (flat_map put_bytes all ++ end_bytes (length all)) (sym so_far.text ∙ whole.text))
 
--- ---- the magic
-
-pub magic_read : (bytes : List ℕ) → length magic ≤ length bytes → true ≡ starts_with nat_eq bytes magic → IsReadTo bytes [] 8
-magic_read bytes long begins = record {
-  within = long;
-  told = λ k d lt. absurd (omega arith);
-  text = sym (take-append-drop 8 bytes) ∙ ap (λ (l : List ℕ). l ++ drop 8 bytes) (sym (same_means magic (take 8 bytes) (is_eq-slice_cmp magic (take 8 bytes) ∙ sym begins)));
-}
-
-pub no_magic : (bytes : List ℕ) (all : List Put) → false ≡ starts_with nat_eq bytes magic → ArePutsOf all bytes → ⊥
-no_magic bytes all none whole = cc (none, ap (λ (l : List ℕ). starts_with nat_eq l magic) whole.text)
-
 -- ---- one more put
 
 pub one_more : (bytes : List ℕ) (puts : List Put) (at tag from to : ℕ) (p : Put) → IsReadTo bytes puts at → IsItemAt bytes at tag from to → IsPutItem p tag (slice_range bytes from to) → IsReadTo bytes (puts ++ p ∷ []) to
@@ -174,20 +155,6 @@ end_here bytes [] all front at from to fits tail item =
       told = items.values ∙ ap (to_be_bytes w32) counted;
       last = omega (arith, none, length-drop to bytes, within);
     }
-
-pub whole_read : (bytes : List ℕ) (puts : List Put) (at from to : ℕ) → IsReadTo bytes puts at → IsItemAt bytes at 0x3F from to → IsEnd bytes from to (length puts) → ArePutsOf puts bytes
-whole_read bytes puts at from to so_far item end =
-    let none : drop to bytes ≡ [] = empty (drop to bytes) (omega (arith, length-drop to bytes, end.last)) in
-    record {
-      told = so_far.told;
-      number = end.fits;
-      text = so_far.text ∙ ap (λ (l : List ℕ). magic ++ (flat_map put_bytes puts ++ l))
-          (item.spelled ∙ ap (λ (l : List ℕ). item_bytes 0x3F (slice_range bytes from to) ++ l) none ∙ append-nil (item_bytes 0x3F (slice_range bytes from to)) ∙ ap (item_bytes 0x3F) end.told);
-    }
-  where
-    empty : (l : List ℕ) → length l ≡ 0 → l ≡ []
-    empty [] e = refl
-    empty (x ∷ l) e = absurd (omega arith)
 
 -- ---- whole logs
 

@@ -1,22 +1,21 @@
 -- From a path up to `/`, past the targets above it.
-use Rattle.std.proofs.Common.{◌≡◌, ◌≢◌, ◌⊎◌, inl, inr, ⊎_elim, ℕ, zero, suc, ◌+◌, ◌<◌, ◌≤◌, Bool, true, false, ◌||◌, IsTrue, List, [], ◌∷◌, length, get_or, take, All, Contains, refl, sym, ◌∙◌, ap, subst, arith}
-use Rattle.std.specs.declared.cmp.Ordering.TheVariants.{Less, Equal}
+use Rattle.std.proofs.Common.{◌≡◌, ◌⊎◌, inl, inr, ⊎_elim, ℕ, zero, suc, ◌<◌, ◌≤◌, Bool, true, false, ◌||◌, IsTrue, List, [], ◌∷◌, length, get_or, take, All, Contains, refl, sym, ◌∙◌, ap, subst, arith}
+use Rattle.std.specs.declared.cmp.Ordering.TheVariants.{Less}
 use Rattle.std.specs.Ordering.{nat_cmp}
 use Rattle.std.specs.Cmp.Lexicographic.{slice_cmp, nat_list_cmp_total}
 use Rattle.std.specs.List.{HoldsAt}
 use Rattle.std.proofs.lemmas.List.{take_all}
-use Rattle.std.proofs.lemmas.List.Elements.{All-more, All-contains, Contains-get_or}
+use Rattle.std.proofs.lemmas.List.Elements.{All-contains, Contains-get_or}
 use Rattle.cny_base.specs.Path.{is_path, root, parent}
 use Rattle.cny_base.specs.Below.{is_below, below_parent, above_parent, child_below, none_below_root, parent_shorter}
 use Rattle.cny_base.specs.Parent.{parent_is_path}
 use Rattle.tree_disk.specs.Tree.{Name, same_name}
 use Rattle.tree_disk.specs.Laws.{same_itself}
-use Rattle.journal_log.specs.declared.put.Want.{Want}
 use Rattle.journal_log.specs.declared.put.Want.TheVariants.{Nothing}
 use Rattle.journal_log.specs.declared.put.Put.{Put}
-use Rattle.journal_log.specs.WriteSet.{Rises, CanBeNamed}
+use Rattle.journal_log.specs.WriteSet.{Rises}
 use Rattle.journal_log.specs.Targets.{is_dir_want, is_target}
-use Rattle.journal_log.specs.Rules.{AreNamed, NothingBelow, NoneBelow, MayStand, DirsAbove, DirAt, IsInner, AreInner}
+use Rattle.journal_log.specs.Rules.{AreNamed, NothingBelow, NoneBelow, DirsAbove, DirAt, AreInner}
 
 -- ---- one place for each path
 
@@ -111,25 +110,10 @@ walk_ends puts path above inner top walk p in_puts below =
     (λ more. ⊎_elim (λ higher. absurd (none_below_root p.path (inner p in_puts).path_is (ap (is_below p.path) (sym top) ∙ higher))) (λ dir. dir) more)
     (walk.seen p in_puts below)
 
-pub walk_stops : (puts : List Put) (path above : Name) → (above ≡ root → ⊥) → (DirAt puts above → ⊥) → WalksUp puts path above → DirsAbove puts path → ⊥
-walk_stops puts path above other un walk dirs =
-    un (λ p in_puts here. dirs p in_puts (⊎_elim (λ e. absurd (other e)) (λ below. ap (λ (n : Name). is_below n path) here ∙ below) walk.low))
-
 pub walk_shortens : (above : Name) → is_path above ≡ true → (above ≡ root → ⊥) → length (parent above) < length above
 walk_shortens above is other = ⊎_elim (λ e. absurd (other e)) (λ lt. lt) (parent_shorter above is)
 
 -- ---- put by put
-
-pub stands_nothing : (puts : List Put) (q : Put) → q.want ≡ Nothing → (IsTrue true → MayStand puts q) × (MayStand puts q → IsTrue true)
-stands_nothing puts q is = ((λ h p in_puts below file. is), λ may. refl)
-
-pub stands_below_dirs : (puts : List Put) (q : Put) (b : Bool) → (q.want ≡ Nothing → ⊥) → (IsTrue b → DirsAbove puts q.path) → (DirsAbove puts q.path → IsTrue b)
-    → (IsTrue b → MayStand puts q) × (MayStand puts q → IsTrue b)
-stands_below_dirs puts q b some to from = ((λ h p in_puts below file. absurd (cc (to h p in_puts below, file))), λ may. from (λ p in_puts below. dir p in_puts below may (is_dir_want p.want) refl))
-  where
-    dir : (p : Put) → Contains puts p → IsTrue (is_below p.path q.path) → MayStand puts q → (v : Bool) → is_dir_want p.want ≡ v → is_dir_want p.want ≡ true
-    dir p in_puts below may true e = e
-    dir p in_puts below may false e = absurd (some (may p in_puts below e))
 
 pub whole : (P : Put → Type 0) (puts : List Put) (k : ℕ) → length puts ≤ k → All P (take k puts) → (p : Put) → Contains puts p → P p
 whole P puts k le all p in_puts = All-contains P puts p (subst (All P) (take_all k puts le) all) in_puts

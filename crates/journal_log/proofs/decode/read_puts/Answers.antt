@@ -1,4 +1,4 @@
-use Rattle.std.proofs.Common.{◌≡◌, ℕ, List, length, arith, Result, Err, Vec, Global, ap, sym, ◌∙◌, subst}
+use Rattle.std.proofs.Common.{◌≡◌, ℕ, List, length, arith, Result, Err, Vec, Global, ap, sym, subst}
 use Rattle.std.proofs.lemmas.Result.{err_from_is_err_and}
 use Rattle.cny_base.specs.declared.text.TextFault.{TextFault}
 use Rattle.cny_base.specs.declared.text.TextFault.TheVariants.{Bad}

@@ -1,4 +1,4 @@
-use Rattle.std.proofs.Common.{true, sym, ap, ◌∙◌, List, ℕ, subst, ◌≡◌, Bool, [], ◌∷◌}
+use Rattle.std.proofs.Common.{ap, ◌∙◌, List, ℕ, ◌≡◌, Bool}
 use Rattle.std.specs.Str.{bytes_eq}
 use Rattle.cny_base.specs.Path.{root}
 use Rattle.journal_log.specs.Own.{is_own_file}

@@ -1,4 +1,4 @@
-use Rattle.std.proofs.Common.{◌≡◌, ◌∷◌, [], false, None, IfNone, subst}
+use Rattle.std.proofs.Common.{◌≡◌, ◌∷◌, [], false}
 use Rattle.cny_base.specs.Below.{begins_with}
 use Rattle.journal_log.specs.Joined.{front_of}
 use Rattle.journal_log.proofs.Naming.{if_none, no_front, no_slash, then_none}

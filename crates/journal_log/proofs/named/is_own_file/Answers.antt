@@ -1,4 +1,4 @@
-use Rattle.std.proofs.Common.{Bool, codes, true, sym, ap, ◌∙◌, ◌||◌, ◌≡◌}
+use Rattle.std.proofs.Common.{Bool, codes, sym, ◌∙◌, ◌||◌, ◌≡◌}
 use Rattle.tree_disk.specs.Clear.{is_within}
 use Rattle.journal_log.proofs.Naming.{own_none, own_rest, some_own, last_own}
 use Rattle.journal_log.proofs.named.is_own_file.Goals as goal

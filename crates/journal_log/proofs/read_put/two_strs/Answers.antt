@@ -1,4 +1,4 @@
-use Rattle.std.proofs.Common.{◌≡◌, ℕ, ◌+◌, [], ◌++◌, length, arith, sym, ◌∙◌, append-nil, List}
+use Rattle.std.proofs.Common.{◌≡◌, ℕ, [], ◌++◌, arith, sym, ◌∙◌, append-nil, List}
 use Rattle.cny_base.specs.StrField.{FitsStr, str}
 use Rattle.journal_log.proofs.Links.{behind_str, both_lengths}
 use Rattle.journal_log.proofs.Naming.{if_none}

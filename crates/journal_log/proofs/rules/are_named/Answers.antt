@@ -1,7 +1,6 @@
-use Rattle.std.proofs.Common.{true, refl, subst, List, All}
+use Rattle.std.proofs.Common.{refl, subst, All}
 use Rattle.std.proofs.lemmas.List.{take_all}
 use Rattle.std.proofs.lemmas.List.Elements.{All-more}
-use Rattle.journal_log.specs.declared.put.Put.{Put}
 use Rattle.journal_log.proofs.NamedPuts.{IsNamed}
 use Rattle.journal_log.proofs.Walking.{whole}
 use Rattle.journal_log.proofs.rules.are_named.Goals as goal

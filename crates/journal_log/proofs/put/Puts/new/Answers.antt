@@ -1,4 +1,4 @@
-use Rattle.std.proofs.Common.{rules, List, Bool, true, false, subst, sym, MatchBool, ◌≡◌}
+use Rattle.std.proofs.Common.{rules, List, Bool, true, false, subst, MatchBool, ◌≡◌}
 use Rattle.std.specs.List.{IsAllAdjacentAnswer}
 use Rattle.std.proofs.lemmas.List.Sorted.{answers_always}
 use Rattle.journal_log.specs.declared.put.Put.{Put}
