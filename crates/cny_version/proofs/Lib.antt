@@ -1,0 +1,15 @@
+pub mod Cuts
+pub mod Labels
+pub mod Exact
+pub mod Options
+pub mod Counts
+pub mod Revisions
+pub mod Branches
+pub mod Versions
+pub mod Complete
+pub mod CountSteps
+pub mod CountTexts
+pub mod BranchSteps
+pub mod Scans
+pub mod Readings
+pub mod NextCounts

@@ -1,0 +1,7 @@
+use Rattle.std.proofs.Common.{◌≡◌, length, sym, ap, ◌∙◌, arith}
+use Rattle.cny_version.proofs.Scans.{end_oversized}
+use Rattle.cny_version.proofs.read.last_version.Goals as goal
+
+pub returns-then-text-piece-gt512 : goal.returns-then-text-piece-gt512
+returns-then-text-piece-gt512 c =
+    end_oversized c.args.branch c.args.piece.now (omega (arith, ap length c.text.ensures.value, c.if-text-piece-gt512.true))

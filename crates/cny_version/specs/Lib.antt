@@ -1,0 +1,10 @@
+pub mod Label
+pub mod Revision
+pub mod Version
+pub mod Filled
+pub mod Made
+pub mod Reading
+pub mod Slices
+pub mod Steps
+pub mod TooLarge
+pub mod Next
