@@ -1,7 +1,7 @@
 // Write sets that are cut off after each number of calls, left as a crash may leave them, and recovered.
 use super::runs::{MANY, apply_up_to, recover_up_to};
 use super::trees::Stands::{Dir, File, Link, Nothing};
-use super::trees::{Stands, all_stand};
+use super::trees::{Stands, Table, all_stand};
 use std::alloc::Global;
 use std::test::Fail;
 use tree_memory::MemoryTree;
@@ -27,6 +27,34 @@ const TORN: [(&str, Stands<'static>); 2] = [
     ("/etc", Dir(0o755)),
     ("/etc/foo", File(0o600, b"\xEE\xEE\xEE")),
 ];
+
+// Which of two trees stands: whether it is the one after.
+fn is_after(alloc: Global, tree: &MemoryTree, before: Table, after: Table) -> Result<bool, Fail> {
+    let is_before = all_stand(alloc, tree, before)?;
+    let is_after = all_stand(alloc, tree, after)?;
+    if is_before == is_after {
+        return Err(Fail::from("neither of the trees, or both"));
+    }
+    Ok(is_after)
+}
+
+// Recovers what a crash leaves of a tree, to the end, and says which of two trees is found. Where the commit flag was set,
+// that has to be the tree after.
+fn finds_after(
+    alloc: Global,
+    tree: &MemoryTree,
+    pick: u64,
+    before: Table,
+    after: Table,
+) -> Result<bool, Fail> {
+    let ended = recover_up_to(alloc, tree, pick, MANY)?;
+    let was_committed = ended.was_committed.ok_or("a recovery that ends")?;
+    let found = is_after(alloc, &ended.tree, before, after)?;
+    if was_committed && !found {
+        return Err(Fail::from("a commit that was lost"));
+    }
+    Ok(found)
+}
 
 // The calls: a sync; a look at the base, which is made; a look at the log, which is made; a sync; a look at the flag (the
 // 7th), which is made; a sync; a look at each target, the deepest first; a look at the directory, which is made; the file,
@@ -64,7 +92,39 @@ fn crash_before_commit_flag(rt: HostRuntime) -> Result<(), Fail> {
     Ok(())
 }
 
-// All unsynced names as they read; as at the last sync; the first 16 of them torn.
+// So many of the images that the first 64 numbers pick recover to the tree with the component.
+fn images_after(alloc: Global, tree: &MemoryTree) -> Result<u32, Fail> {
+    let mut count: u32 = 0;
+    for pick in 0..64 {
+        if finds_after(alloc, tree, pick, &NO_COMPONENT, &COMPONENT)? {
+            count = count.saturating_add(1);
+        }
+    }
+    Ok(count)
+}
+
+// There are never more than three unsynced names, so these are all images by digits. From the first number of calls up to
+// the next: none with the flag can be left; the flag's file is unsynced, and one of its four digits leaves it as it reads;
+// the flag is kept, or the component is.
+const COMMITTED: [(u32, u32, u32); 3] = [(0, 8, 0), (8, 9, 16), (9, 19, 64)];
+
+#[test]
+fn each_image_recovers(rt: HostRuntime) -> Result<(), Fail> {
+    for (first, end, count) in COMMITTED {
+        for calls in first..end {
+            let cut = apply_up_to(rt.alloc(), &FIXED, &COMPONENT, calls)?;
+            assert_eq!(rt;
+                images_after(rt.alloc(), &cut.tree)?,
+                count,
+                "after {calls} calls"
+            );
+            assert_eq!(rt; cut.is_done, calls == 18);
+        }
+    }
+    Ok(())
+}
+
+// All unsynced names as they read; the first as at the last sync; the first 16 torn.
 const PICKS: [u64; 3] = [0, 1, 4_294_967_295];
 
 // There is no base. A directory with a file in it is to go, a file becomes a directory and a directory a link, a file is
@@ -129,25 +189,9 @@ const NONE_YET: Counts = Counts {
     found_after: 0,
 };
 
-// Which of the two trees stands: whether that is the one after.
-fn is_after(alloc: Global, tree: &MemoryTree) -> Result<bool, Fail> {
-    let before = all_stand(alloc, tree, &BEFORE)?;
-    let after = all_stand(alloc, tree, &AFTER)?;
-    if before == after {
-        return Err(Fail::from("a mix of the trees"));
-    }
-    Ok(after)
-}
-
-// Recovers what a crash leaves of a tree, to the end.
+// Recovers what a crash leaves of a tree, to the end, and counts what is found.
 fn find(alloc: Global, tree: &MemoryTree, pick: u64, counts: &mut Counts) -> Result<(), Fail> {
-    let ended = recover_up_to(alloc, tree, pick, MANY)?;
-    let was_committed = ended.was_committed.ok_or("a recovery that ends")?;
-    let after = is_after(alloc, &ended.tree)?;
-    if was_committed && !after {
-        return Err(Fail::from("a commit that was lost"));
-    }
-    if after {
+    if finds_after(alloc, tree, pick, &BEFORE, &AFTER)? {
         counts.found_after = counts.found_after.saturating_add(1);
     } else {
         counts.found_before = counts.found_before.saturating_add(1);
@@ -194,7 +238,7 @@ fn apply_each(alloc: Global, counts: &mut Counts) -> Result<(), Fail> {
         let cut = apply_up_to(alloc, &START, &PUTS, calls)?;
         crash_each(alloc, &cut.tree, counts)?;
         if cut.is_done {
-            return match is_after(alloc, &cut.tree)? {
+            return match is_after(alloc, &cut.tree, &BEFORE, &AFTER)? {
                 true => Ok(()),
                 false => Err(Fail::from("nothing is applied")),
             };
