@@ -13,7 +13,7 @@ fn score_of(alloc: Global, trove: &str, system: &str) -> Result<Option<i32>, Tex
 #[test]
 fn flavor_text_and_score(rt: HostRuntime) -> Result<(), Fail> {
     let flavor = Flavor::read(rt.alloc(), "sse, ~ssl is: x86(~i686, sse2)")?;
-    assert!(rt; flavor.text() == "sse,~ssl is: x86(~i686,sse2)");
+    assert!(rt; flavor.write()?.get() == "sse,~ssl is: x86(~i686,sse2)");
     let fit = score_of(
         rt.alloc(),
         "ssl,~krb is: x86(sse2)",
@@ -74,6 +74,7 @@ fn cells_of_flags_in_sets(rt: HostRuntime) -> Result<(), Fail> {
 #[test]
 fn sets_and_empty_flavors(rt: HostRuntime) -> Result<(), Fail> {
     for (trove, system, fit) in [
+        ("", "", Some(0)),
         ("", "a is: x(b)", Some(0)),
         ("is: x", "x", None),
         ("x", "is: x", None),
@@ -109,6 +110,24 @@ fn relaxed_texts(rt: HostRuntime) -> Result<(), Fail> {
     Ok(())
 }
 
+fn is_bad(read: Result<Flavor, TextFault>) -> bool {
+    matches!(read, Err(TextFault::Bad))
+}
+
+// Whether both readers refuse the text as a wrong one, and not for want of memory.
+fn is_refused(alloc: Global, text: &str) -> bool {
+    is_bad(Flavor::read(alloc, text)) && is_bad(Flavor::read_whole(alloc, text))
+}
+
+// Whether the text is read as a canonical one where it is good, and is else refused.
+fn is_canonical_or_refused(alloc: Global, text: &str, good: bool) -> Result<bool, TextFault> {
+    if good {
+        is_read_as(alloc, text, text)
+    } else {
+        Ok(is_refused(alloc, text))
+    }
+}
+
 #[test]
 fn refused_texts(rt: HostRuntime) {
     for text in [
@@ -131,22 +150,23 @@ fn refused_texts(rt: HostRuntime) {
         "is: x x",
         "is: x(a,a)",
     ] {
-        assert!(rt; Flavor::read(rt.alloc(), text).is_err());
+        assert!(rt; is_refused(rt.alloc(), text), "{text:?}");
     }
 }
 
 #[test]
 fn relaxed_texts_are_not_canonical(rt: HostRuntime) {
     for text in ["b,a", "a, b", "is:x", "a  is: x"] {
-        assert!(rt; Flavor::read_whole(rt.alloc(), text).is_err());
+        assert!(rt; Flavor::read(rt.alloc(), text).is_ok());
+        assert!(rt; is_bad(Flavor::read_whole(rt.alloc(), text)));
     }
 }
 
-// So many flags, and what follows them.
+// So many flags in the order of their words, and what follows them.
 fn many_flags(alloc: Global, count: u32, end: &str) -> Result<String, AllocError> {
     let mut text = format!(in alloc; "a")?;
     for number in 1..count {
-        let flag = format!(in alloc; ",a{number}")?;
+        let flag = format!(in alloc; ",a{number:02}")?;
         text.push_str(flag.as_str())?;
     }
     text.push_str(end)?;
@@ -162,20 +182,34 @@ fn counts(rt: HostRuntime) -> Result<(), Fail> {
         (63, " is: x(b)", false),
     ] {
         let text = many_flags(rt.alloc(), count, end)?;
-        let read = Flavor::read(rt.alloc(), text.as_str()).is_ok();
-        assert_eq!(rt; read, good);
+        assert!(rt; is_canonical_or_refused(rt.alloc(), text.as_str(), good)?);
     }
     Ok(())
 }
 
+// The front, so many letters, and the back.
+fn long_text(alloc: Global, front: &str, letters: usize, back: &str) -> Result<String, AllocError> {
+    let mut text = String::from_str(alloc, front)?;
+    for _ in 0..letters {
+        text.push('a')?;
+    }
+    text.push_str(back)?;
+    Ok(text)
+}
+
+// The words of a flag, of a set, and of a flag in a set.
 #[test]
 fn long_words(rt: HostRuntime) -> Result<(), Fail> {
-    for (len, good) in [(255, true), (256, false)] {
-        let mut word = String::new(rt.alloc());
-        for _ in 0..len {
-            word.push('a')?;
-        }
-        assert_eq!(rt; Flavor::read(rt.alloc(), word.as_str()).is_ok(), good);
+    for (front, letters, back, good) in [
+        ("", 255, "", true),
+        ("", 256, "", false),
+        ("is: ", 255, "", true),
+        ("is: ", 256, "", false),
+        ("is: x(", 255, ")", true),
+        ("is: x(", 256, ")", false),
+    ] {
+        let text = long_text(rt.alloc(), front, letters, back)?;
+        assert!(rt; is_canonical_or_refused(rt.alloc(), text.as_str(), good)?);
     }
     Ok(())
 }
