@@ -99,31 +99,48 @@ const VERSIONS: [(&str, bool, bool); 58] = [
     ("/h@n:t//@n:u/1-1", false, false),
 ];
 
-fn is_label(alloc: Global, text: &str) -> bool {
-    Label::read(alloc, text).is_ok()
-}
+// Labels in the same way: the front, so many letters, and the back.
+const LONG_LABELS: [(&str, usize, &str, bool); 6] = [
+    ("h@n:", 251, "", true),
+    ("h@n:", 252, "", false),
+    ("h@", 251, ":t", true),
+    ("h@", 252, ":t", false),
+    ("", 251, "@n:t", true),
+    ("", 252, "@n:t", false),
+];
 
-fn is_version(alloc: Global, text: &str) -> bool {
-    Version::read(alloc, text).is_ok()
-}
+// Versions: the greatest label, the greatest version, the greatest one with a label filled up by
+// four bytes, and each with a byte more.
+const LONG_VERSIONS: [(&str, usize, &str, bool, bool); 6] = [
+    ("/h@n:", 251, "/1-1", true, true),
+    ("/h@n:", 252, "/1-1", false, false),
+    ("/h@n:t/", 503, "-1", true, true),
+    ("/h@n:t/", 504, "-1", false, false),
+    ("/h@n:t//u/", 496, "-1", true, false),
+    ("/h@n:t//u/", 497, "-1", false, false),
+];
 
-fn is_whole_version(alloc: Global, text: &str) -> bool {
-    Version::read_whole(alloc, text).is_ok()
-}
-
-#[test]
-fn label_spelling(rt: HostRuntime) {
-    for (text, good) in LABELS {
-        assert_eq!(rt; is_label(rt.alloc(), text), good, "{text:?}");
+// Whether the label's reader takes a good text, and answers another one with `Bad`.
+fn label_is(alloc: Global, text: &str, good: bool) -> bool {
+    match Label::read(alloc, text) {
+        Ok(label) => good && label.text() == text,
+        Err(fault) => !good && matches!(fault, TextFault::Bad),
     }
 }
 
-#[test]
-fn version_spelling(rt: HostRuntime) {
-    for (text, good, whole) in VERSIONS {
-        assert_eq!(rt; is_version(rt.alloc(), text), good, "{text:?}");
-        assert_eq!(rt; is_whole_version(rt.alloc(), text), whole, "{text:?}");
+// Whether a version was read from a good text, and another one answered with `Bad`.
+fn is_answer(read: Result<Version, TextFault>, good: bool) -> bool {
+    match read {
+        Ok(_version) => good,
+        Err(fault) => !good && matches!(fault, TextFault::Bad),
     }
+}
+
+// Whether both readers of versions take a text that is good for them, and answer another one
+// with `Bad`.
+fn version_is(alloc: Global, text: &str, good: bool, whole: bool) -> bool {
+    is_answer(Version::read(alloc, text), good)
+        && is_answer(Version::read_whole(alloc, text), whole)
 }
 
 // The front, so many letters, and the back.
@@ -136,21 +153,54 @@ fn long_text(alloc: Global, front: &str, letters: usize, back: &str) -> Result<S
     Ok(text)
 }
 
-// The greatest label, the greatest version, the greatest one with a label filled up by four
-// bytes, and each with a byte more.
-#[test]
-fn long_texts(rt: HostRuntime) -> Result<(), Fail> {
-    for (front, letters, back, good) in [
-        ("/h@n:", 251, "/1-1", true),
-        ("/h@n:", 252, "/1-1", false),
-        ("/h@n:t/", 503, "-1", true),
-        ("/h@n:t/", 504, "-1", false),
-        ("/h@n:t//u/", 496, "-1", true),
-        ("/h@n:t//u/", 497, "-1", false),
-    ] {
-        let version = long_text(rt.alloc(), front, letters, back)?;
-        assert_eq!(rt; is_version(rt.alloc(), version.as_str()), good);
+// The first short text of the table that isn't answered as it says.
+fn wrong_short_text(alloc: Global) -> Option<&'static str> {
+    for (text, good) in LABELS {
+        if !label_is(alloc, text, good) {
+            return Some(text);
+        }
     }
+    wrong_version(alloc)
+}
+
+// The first short text of a version that isn't answered as the table says.
+fn wrong_version(alloc: Global) -> Option<&'static str> {
+    for (text, good, whole) in VERSIONS {
+        if !version_is(alloc, text, good, whole) {
+            return Some(text);
+        }
+    }
+    None
+}
+
+// Whether the long labels are answered as the table says.
+fn are_long_labels_right(alloc: Global) -> Result<bool, AllocError> {
+    for (front, letters, back, good) in LONG_LABELS {
+        let text = long_text(alloc, front, letters, back)?;
+        if !label_is(alloc, text.as_str(), good) {
+            return Ok(false);
+        }
+    }
+    Ok(true)
+}
+
+// Whether the long versions are answered as the table says.
+fn are_long_versions_right(alloc: Global) -> Result<bool, AllocError> {
+    for (front, letters, back, good, whole) in LONG_VERSIONS {
+        let text = long_text(alloc, front, letters, back)?;
+        if !version_is(alloc, text.as_str(), good, whole) {
+            return Ok(false);
+        }
+    }
+    Ok(true)
+}
+
+#[test]
+fn table_of_texts(rt: HostRuntime) -> Result<(), Fail> {
+    let wrong = wrong_short_text(rt.alloc());
+    assert!(rt; wrong.is_none(), "{wrong:?}");
+    assert!(rt; are_long_labels_right(rt.alloc())?);
+    assert!(rt; are_long_versions_right(rt.alloc())?);
     Ok(())
 }
 
@@ -200,6 +250,14 @@ fn parts_of_a_version(rt: HostRuntime) -> Result<(), Fail> {
     Ok(())
 }
 
+// Whether the revision has these counts.
+fn has_counts(revision: &Revision, source: &[u32], build: &[u32]) -> bool {
+    match &revision.build {
+        Some(found) => revision.source.get() == source && found.get() == build,
+        None => false,
+    }
+}
+
 // Whether a copy of the count has these numbers.
 fn has_numbers(count: Count, numbers: &[u32]) -> Result<bool, OutOfMemory> {
     let copy = count.copy()?;
@@ -240,26 +298,31 @@ fn answer_of(alloc: Global, made: Result<Version, Fault>) -> Answer {
     }
 }
 
-fn is_made(alloc: Global, made: Result<Version, Fault>, text: &str) -> bool {
-    match answer_of(alloc, made) {
+fn is_text(answer: Answer, text: &str) -> bool {
+    match answer {
         Answer::Made(found) => found.get() == text,
         _ => false,
     }
 }
 
-// The version on the wanted one's branch with the revision after the latest one, which is one of
-// the same depth and kind.
-fn next_version(
-    alloc: Global,
-    wanted: &Version,
-    latest: Option<&Version>,
-) -> Result<Version, Fault> {
+fn is_made(alloc: Global, made: Result<Version, Fault>, text: &str) -> bool {
+    is_text(answer_of(alloc, made), text)
+}
+
+// What the version on the wanted one's branch with the revision after the latest one is; the
+// latest one has to be of the same depth and kind.
+fn next_version(alloc: Global, wanted: &Version, latest: Option<&Version>) -> Answer {
     let latest = match latest {
-        Some(latest) => same_kind(wanted, latest),
+        Some(latest) => match same_kind(wanted, latest) {
+            Some(revision) => Some(revision),
+            None => return Answer::Other,
+        },
         None => None,
     };
-    let next = next_revision(alloc, wanted.revision(), wanted.depth(), latest)?;
-    wanted.with_revision(alloc, &next)
+    match next_revision(alloc, wanted.revision(), wanted.depth(), latest) {
+        Ok(next) => answer_of(alloc, wanted.with_revision(alloc, &next)),
+        Err(fault) => answer_of(alloc, Err(fault)),
+    }
 }
 
 // The latest one's revision, where it is of the wanted one's depth and kind.
@@ -277,25 +340,72 @@ fn same_kind<'a>(wanted: &Version, latest: &'a Version) -> Option<&'a Revision>
     Some(revision)
 }
 
-fn is_next(alloc: Global, wanted: &str, latest: &str, next: &str) -> Result<bool, TextFault> {
+// The version with this text, where there is one.
+fn read_latest(alloc: Global, latest: Option<&str>) -> Result<Option<Version>, TextFault> {
+    match latest {
+        Some(text) => Ok(Some(Version::read(alloc, text)?)),
+        None => Ok(None),
+    }
+}
+
+fn is_next(
+    alloc: Global,
+    wanted: &str,
+    latest: Option<&str>,
+    next: &str,
+) -> Result<bool, TextFault> {
     let wanted = Version::read(alloc, wanted)?;
-    let latest = Version::read(alloc, latest).ok();
-    Ok(is_made(alloc, next_version(alloc, &wanted, latest.as_ref()), next))
+    let latest = read_latest(alloc, latest)?;
+    Ok(is_text(next_version(alloc, &wanted, latest.as_ref()), next))
+}
+
+#[test]
+fn version_spelling(rt: HostRuntime) -> Result<(), Fail> {
+    let version = Version::read(rt.alloc(), "/conary.example.com@ex:devel/1.0-1-1")?;
+    let label = "conary.example.com@ex:devel";
+    let found = has_parts(&version, "/conary.example.com@ex:devel", label, 0, "1.0")?;
+    assert!(rt; found && has_counts(version.revision(), &[1], &[1]));
+    for text in [
+        "/conary.example.com@ex:devel/1.0-01-1",
+        "/conary.example.com@ex:devel/1.0-1.1",
+        "/conary.example.com@ex:devel/1.0-0-1",
+    ] {
+        assert!(rt; version_is(rt.alloc(), text, false, false), "{text}");
+    }
+    for (wanted, latest, next) in [
+        (
+            "/conary.example.com@ex:devel/1.0-1-1",
+            Some("/conary.example.com@ex:devel/1.0-1-1"),
+            "/conary.example.com@ex:devel/1.0-1-2",
+        ),
+        (
+            "/conary.example.com@ex:devel//conary.example.com@ex:stable/1.0-1-1",
+            None,
+            "/conary.example.com@ex:devel//conary.example.com@ex:stable/1.0-1-0.1",
+        ),
+    ] {
+        assert!(rt; is_next(rt.alloc(), wanted, latest, next)?, "{next}");
+    }
+    Ok(())
 }
 
 #[test]
 fn next_revisions(rt: HostRuntime) -> Result<(), Fail> {
     for (wanted, latest, next) in [
-        ("/h@n:t/1.0-1-1", "/h@n:t/1.0-1-1", "/h@n:t/1.0-1-2"),
-        ("/h@n:t/1.0-1-9", "", "/h@n:t/1.0-1-1"),
-        ("/h@n:t//u/1.0-1-1", "", "/h@n:t//h@n:u/1.0-1-0.1"),
+        ("/h@n:t/1.0-1-1", Some("/h@n:t/1.0-1-1"), "/h@n:t/1.0-1-2"),
+        ("/h@n:t/1.0-1-9", None, "/h@n:t/1.0-1-1"),
+        ("/h@n:t//u/1.0-1-1", None, "/h@n:t//h@n:u/1.0-1-0.1"),
         (
             "/h@n:t//u/1.0-1",
-            "/h@n:t//u/1.0-1",
+            Some("/h@n:t//u/1.0-1"),
             "/h@n:t//h@n:u/1.0-1.1",
         ),
-        ("/h@n:t//u/1.1-1", "", "/h@n:t//h@n:u/1.1-0.1"),
-        ("/h@n:t/2-7", "/h@n:t/2-4294967294", "/h@n:t/2-4294967295"),
+        ("/h@n:t//u/1.1-1", None, "/h@n:t//h@n:u/1.1-0.1"),
+        (
+            "/h@n:t/2-7",
+            Some("/h@n:t/2-4294967294"),
+            "/h@n:t/2-4294967295",
+        ),
     ] {
         assert!(rt; is_next(rt.alloc(), wanted, latest, next)?, "{next}");
     }
@@ -305,7 +415,7 @@ fn next_revisions(rt: HostRuntime) -> Result<(), Fail> {
 #[test]
 fn greatest_count(rt: HostRuntime) -> Result<(), Fail> {
     let last = Version::read(rt.alloc(), "/h@n:t/2-4294967295")?;
-    let next = answer_of(rt.alloc(), next_version(rt.alloc(), &last, Some(&last)));
+    let next = next_version(rt.alloc(), &last, Some(&last));
     assert!(rt; matches!(next, Answer::TooGreat(4294967295)));
     Ok(())
 }
