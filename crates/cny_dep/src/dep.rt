@@ -54,7 +54,8 @@ impl Dep {
     }
 
     /// The dependency that the text stands for, where its flags may come in any order, and each
-    /// two have one space or one comma between them. `Bad` exactly where it stands for none.
+    /// two have one space or one comma between them. `Bad` only where it stands for none; want of
+    /// memory may be answered there instead.
     pub fn read(alloc: Global, text: &str) -> Result<Self, TextFault>
         ensures value { IfOk result (λ dep. IsRelaxedText text.now dep) }
         ensures ok { IfOk result IsDependency }
@@ -74,7 +75,8 @@ impl Dep {
     }
 
     /// The dependency whose canonical text this is: its flags rise, and one space stands between
-    /// each two. `Bad` exactly where it is the canonical text of none.
+    /// each two. `Bad` only where it is the canonical text of none; want of memory may be
+    /// answered there instead.
     pub fn read_whole(alloc: Global, text: &str) -> Result<Self, TextFault>
         ensures value { IfOk result (λ dep. text.now ≡ dep_text dep) }
         ensures ok { IfOk result IsDependency }

@@ -1,6 +1,6 @@
 //! Worked cases, with the expected values made by hand.
 use crate::{Class, Dep, satisfies};
-use cny_base::Name;
+use cny_base::{Name, Path, TextFault};
 use std::alloc::{AllocError, Global};
 use std::test::Fail;
 
@@ -39,19 +39,31 @@ const TEXTS: [(&str, Option<&str>); 27] = [
     ("perl: \u{e9}", None),
 ];
 
-fn reads_as(alloc: Global, text: &str, canonical: Option<&str>) -> bool {
-    match Dep::read(alloc, text) {
+// Whether this was answered: the dependency with this canonical text, or `Bad` where there is none.
+fn is_answer(read: Result<Dep, TextFault>, canonical: Option<&str>) -> bool {
+    match read {
         Ok(dep) => canonical == Some(dep.text()),
-        Err(_) => canonical.is_none(),
+        Err(TextFault::Bad) => canonical.is_none(),
+        Err(TextFault::Memory) => false,
     }
 }
 
 #[test]
 fn relaxed_and_canonical_texts(rt: HostRuntime) {
     for (text, canonical) in TEXTS {
-        assert!(rt; reads_as(rt.alloc(), text, canonical), "{text:?}");
-        let whole = Dep::read_whole(rt.alloc(), text).is_ok();
-        assert_eq!(rt; whole, canonical == Some(text), "{text:?}");
+        assert!(rt;
+            is_answer(Dep::read(rt.alloc(), text), canonical),
+            "{text:?}"
+        );
+        let whole = if canonical == Some(text) {
+            canonical
+        } else {
+            None
+        };
+        assert!(rt;
+            is_answer(Dep::read_whole(rt.alloc(), text), whole),
+            "{text:?}"
+        );
     }
 }
 
@@ -88,24 +100,37 @@ fn limits(rt: HostRuntime) -> Result<(), Fail> {
         (1, b'q', 0, false),
     ] {
         let text = long_text(rt.alloc(), name, end, letters)?;
-        assert_eq!(rt; Dep::read(rt.alloc(), text.as_str()).is_ok(), good);
+        let canonical = if good { Some(text.as_str()) } else { None };
+        assert!(rt; is_answer(Dep::read(rt.alloc(), text.as_str()), canonical));
+        assert!(rt; is_answer(Dep::read_whole(rt.alloc(), text.as_str()), canonical));
+    }
+    Ok(())
+}
+
+fn is_satisfied(alloc: Global, provide: &str, require: &str) -> Result<bool, TextFault> {
+    let provide = Dep::read(alloc, provide)?;
+    let require = Dep::read(alloc, require)?;
+    Ok(satisfies(&provide, &require))
+}
+
+#[test]
+fn dependency_match_and_paths(rt: HostRuntime) -> Result<(), Fail> {
+    let both = "soname: ELF32/libc.so.6(GLIBC_2.0 GLIBC_2.1)";
+    let one = "soname: ELF32/libc.so.6(GLIBC_2.0)";
+    assert_eq!(rt; is_satisfied(rt.alloc(), both, one)?, true);
+    assert_eq!(rt; is_satisfied(rt.alloc(), one, both)?, false);
+    for text in ["/a//b", "/a/.."] {
+        assert!(rt;
+            matches!(Path::read(rt.alloc(), text), Err(TextFault::Bad)),
+            "{text:?}"
+        );
     }
     Ok(())
 }
 
 #[test]
-fn dependency_match(rt: HostRuntime) -> Result<(), Fail> {
+fn provides_and_requirements(rt: HostRuntime) -> Result<(), Fail> {
     for (provide, require, satisfied) in [
-        (
-            "soname: ELF32/libc.so.6(GLIBC_2.0 GLIBC_2.1)",
-            "soname: ELF32/libc.so.6(GLIBC_2.0)",
-            true,
-        ),
-        (
-            "soname: ELF32/libc.so.6(GLIBC_2.0)",
-            "soname: ELF32/libc.so.6(GLIBC_2.0 GLIBC_2.1)",
-            false,
-        ),
         ("perl: x(b c)", "perl: x(a b)", false),
         ("perl: x(a b c)", "perl: x(a c)", true),
         ("perl: x(a)", "perl: x", true),
@@ -113,9 +138,7 @@ fn dependency_match(rt: HostRuntime) -> Result<(), Fail> {
         ("perl: x", "perl: y", false),
         ("perl: x", "python: x", false),
     ] {
-        let provide = Dep::read(rt.alloc(), provide)?;
-        let require = Dep::read(rt.alloc(), require)?;
-        assert_eq!(rt; satisfies(&provide, &require), satisfied);
+        assert_eq!(rt; is_satisfied(rt.alloc(), provide, require)?, satisfied);
     }
     Ok(())
 }

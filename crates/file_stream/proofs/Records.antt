@@ -1,5 +1,5 @@
 -- Records and their bytes: each way back, and no record's bytes begin another's.
-use Rattle.std.proofs.Common.{◌≡◌, ℕ, ◌^◌, ◌<◌, ◌≤◌, Bool, true, false, cond, List, [], ◌∷◌, ◌++◌, length, take, drop, slice_index, nat_le, ◌&&◌, ◌==◌, Some, None, refl, sym, ap, ◌∙◌, subst, arith, inl, inr, ◌⊎◌}
+use Rattle.std.proofs.Common.{◌≡◌, ℕ, ◌^◌, ◌<◌, ◌≤◌, Bool, true, false, cond, List, [], ◌∷◌, ◌++◌, length, take, drop, slice_index, nat_le, ◌&&◌, ◌==◌, Option, Some, None, refl, sym, ap, ◌∙◌, subst, arith, inl, inr, ◌⊎◌}
 use Rattle.std.specs.Cmp.{first_so, second_so}
 use Rattle.std.specs.Cmp.Derive.{both_true}
 use Rattle.std.specs.Int.{w16, w32, to_be_bytes, from_be_bytes}
@@ -16,7 +16,7 @@ use Rattle.cny_base.specs.Target.{is_shown, has_target_form, is_target}
 use Rattle.file_stream.specs.declared.record.Flags.{Flags}
 use Rattle.file_stream.specs.declared.record.FileRec.{FileRec}
 use Rattle.file_stream.specs.declared.record.FileRec.TheVariants.{Dir, File, Link}
-use Rattle.file_stream.specs.Record.{size_limit, IsFileRecord, flag_bits, head, file_record_bytes}
+use Rattle.file_stream.specs.Record.{size_limit, IsFileRecord, IsRecordBytes, flag_bits, head, file_record_bytes}
 use Rattle.file_stream.specs.Reading.{flags_of, str_value, dir_at, file_at, target_at, link_at, kind_at, record_of}
 use Rattle.file_stream.proofs.Fields.{IsBytes, drop_bytes, take_bytes, guarded, chosen, same_number, number_same, at_most, most_at, no_bytes, bits_again, bits_taken, str_taken, str_again}
 
@@ -136,6 +136,11 @@ record_again (File mode flags size name) is =
     ∙ ap (λ f. Some (File mode f (from_be_bytes w32 sized) name)) bits.1 ∙ ap (λ (n : ℕ). Some (File mode flags n name)) back
 record_again (Link target) is =
     opened 108 0 0 (str target) (omega arith) ∙ ap (option_and_then target_at) (str_again target (target_fits target is)) ∙ ap (λ b. cond b (Some (Link target)) None) is
+
+-- where no record is spelled, none is read
+pub none_found : (bytes : List ℕ) (found : Option FileRec) → record_of bytes ≡ found → IsBytes bytes → ¬ IsRecordBytes bytes → found ≡ None
+none_found bytes (Some rec) is fits outside = absurd (let spells = record_taken bytes rec fits is in outside (rec, spells.0, spells.1))
+none_found bytes None is fits outside = refl
 
 -- ---- no record's bytes begin another's
 

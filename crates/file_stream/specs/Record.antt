@@ -41,3 +41,7 @@ abbrev pub file_record_bytes : FileRec → List ℕ
 file_record_bytes (Dir mode) = head 100 0 mode
 file_record_bytes (File mode flags size name) = head 102 (flag_bits flags) mode ++ (to_be_bytes w32 size ++ name)
 file_record_bytes (Link target) = head 108 0 0 ++ str target
+
+-- these bytes, all of them, are a record's
+abbrev pub IsRecordBytes : List ℕ → Type 0
+IsRecordBytes bytes = (rec : FileRec) × IsFileRecord rec × (bytes ≡ file_record_bytes rec)

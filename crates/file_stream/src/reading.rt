@@ -1,8 +1,8 @@
 //! The record that some bytes spell.
-ghost use Rattle.std.specs.Prelude.{◌≡◌, Some, None, IfOk, IsErrOf};
+ghost use Rattle.std.specs.Prelude.{◌≡◌, ◌↔◌, Some, None, IfOk, IsErrOf};
 ghost use Rattle.std.specs.Option.{option_map};
 ghost use Rattle.file_stream.specs.declared.record.FileRec.{FileRec};
-ghost use Rattle.file_stream.specs.Record.{IsFileRecord, file_record_bytes};
+ghost use Rattle.file_stream.specs.Record.{IsFileRecord, IsRecordBytes, file_record_bytes};
 ghost use Rattle.file_stream.specs.Reading.{str_value, dir_at, file_at, link_at, kind_at, record_of};
 
 use crate::record::{FileRec, Flags};
@@ -57,10 +57,10 @@ fn whole_str(bytes: &[u8]) -> Option<&[u8]>
     Some(&bytes[span.from..])
 }
 
-// The link of these fields. `Bad` where they aren't those of one.
+// The link of these fields. `Bad` exactly where they aren't those of one.
 fn link_of(alloc: Global, flags: u8, mode: u16, rest: &[u8]) -> Result<FileRec, TextFault>
     ensures value { IfOk result (λ rec. link_at flags mode rest.now ≡ Some rec) }
-    ensures bad { IsErrOf result TextFault.Bad → link_at flags mode rest.now ≡ None }
+    ensures bad { IsErrOf result TextFault.Bad ↔ (link_at flags mode rest.now ≡ None) }
 {
     if flags != 0 || mode != 0 {
         return Err(TextFault::Bad);
@@ -74,11 +74,11 @@ fn link_of(alloc: Global, flags: u8, mode: u16, rest: &[u8]) -> Result<FileRec, 
     }
 }
 
-// The record of this kind.
+// The record of this kind. `Bad` exactly where the fields aren't those of one.
 #[tactic(auto, unfolding(crate::specs::Reading::kind_at))]
 fn of_kind(alloc: Global, kind: u8, flags: u8, mode: u16, rest: &[u8]) -> Result<FileRec, TextFault>
     ensures value { IfOk result (λ rec. kind_at kind flags mode rest.now ≡ Some rec) }
-    ensures bad { IsErrOf result TextFault.Bad → kind_at kind flags mode rest.now ≡ None }
+    ensures bad { IsErrOf result TextFault.Bad ↔ (kind_at kind flags mode rest.now ≡ None) }
 {
     match kind {
         b'd' => dir_of(flags, mode, rest).ok_or(TextFault::Bad),
@@ -88,10 +88,10 @@ fn of_kind(alloc: Global, kind: u8, flags: u8, mode: u16, rest: &[u8]) -> Result
     }
 }
 
-// The record that the bytes spell. `Bad` where they spell none.
+// The record that the bytes spell. `Bad` exactly where they spell none.
 fn record_in(alloc: Global, bytes: &[u8]) -> Result<FileRec, TextFault>
     ensures value { IfOk result (λ rec. record_of bytes.now ≡ Some rec) }
-    ensures bad { IsErrOf result TextFault.Bad → record_of bytes.now ≡ None }
+    ensures bad { IsErrOf result TextFault.Bad ↔ (record_of bytes.now ≡ None) }
 {
     match bytes {
         // Every record is of form 1.
@@ -103,12 +103,12 @@ fn record_in(alloc: Global, bytes: &[u8]) -> Result<FileRec, TextFault>
     }
 }
 
-/// The record that the bytes spell, all of them. `Bad` exactly where they spell none.
+/// The record that the bytes spell, all of them. `Bad` exactly where they spell none, which is
+/// exactly outside the grammar of file records.
 pub fn decode(alloc: Global, bytes: &[u8]) -> Result<FileRec, TextFault>
     ensures value { IfOk result (λ rec. bytes.now ≡ file_record_bytes rec) }
     ensures ok { IfOk result IsFileRecord }
-    ensures bad { IsErrOf result TextFault.Bad
-        → (rec : FileRec) → IsFileRecord rec → bytes.now ≡ file_record_bytes rec → ⊥ }
+    ensures bad { IsErrOf result TextFault.Bad ↔ ¬ IsRecordBytes bytes.now }
     // The bytes spell no other record.
     ensures only { IfOk result (λ read.
         (rec : FileRec) → IsFileRecord rec → bytes.now ≡ file_record_bytes rec → read ≡ rec) }

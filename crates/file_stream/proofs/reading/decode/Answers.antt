@@ -1,9 +1,9 @@
-use Rattle.std.proofs.Common.{◌≡◌, Some, ◌∙◌, ap, arith}
+use Rattle.std.proofs.Common.{◌≡◌, Some, refl, ◌∙◌, ap, arith}
 use Rattle.std.proofs.lemmas.Result.{IfOk-weaker}
 use Rattle.file_stream.specs.declared.record.FileRec.{FileRec}
 use Rattle.file_stream.specs.Record.{IsFileRecord, file_record_bytes}
 use Rattle.file_stream.specs.Reading.{record_of}
-use Rattle.file_stream.proofs.Records.{record_taken, record_again}
+use Rattle.file_stream.proofs.Records.{record_taken, record_again, none_found}
 use Rattle.file_stream.proofs.reading.decode.Goals as goal
 
 pub returns-clause-value : goal.returns-clause-value
@@ -17,7 +17,10 @@ returns-clause-ok c =
     (λ rec is. (record_taken c.args.bytes.now rec (λ i. omega (arith, c.type_inv.bytes i)) is).0) c.record_in.ensures.value
 
 pub returns-clause-bad : goal.returns-clause-bad
-returns-clause-bad c h rec is spelled = let none = c.record_in.ensures.bad h in let some = ap record_of spelled ∙ record_again rec is in absurd (cc (none, some))
+returns-clause-bad c = (
+  (λ h is. let none = c.record_in.ensures.bad.0 h in let some = ap record_of is.2 ∙ record_again is.0 is.1 in absurd (cc (none, some))),
+  (λ outside. c.record_in.ensures.bad.1 (none_found c.args.bytes.now (record_of c.args.bytes.now) refl (λ i. omega (arith, c.type_inv.bytes i)) outside)),
+)
 
 pub returns-clause-only : goal.returns-clause-only
 returns-clause-only c =
