@@ -1,11 +1,12 @@
 -- A branch that is kept with its depth and its text, and one label more.
-use Rattle.std.proofs.Common.{◌≡◌, ℕ, ◌+◌, ◌-◌, ◌≤◌, suc, zero, Bool, true, List, [], ◌∷◌, ◌++◌, length, Option, Some, None, Bor, IsTrue, refl, sym, ap, ◌∙◌, subst, arith, append_assoc, length-append}
+use Rattle.std.proofs.Common.{◌≡◌, ℕ, ◌+◌, ◌-◌, ◌≤◌, suc, true, List, [], ◌∷◌, ◌++◌, length, Option, Some, None, Bor, refl, sym, ap, ◌∙◌, subst, arith, length-append}
 use Rattle.std.specs.List.{slice_get}
 use Rattle.std.specs.Option.{option_copied, unwrap_or}
 use Rattle.cny_version.specs.declared.revision.Revision.{Revision}
 use Rattle.cny_version.specs.Label.{LabelParts, label_text, is_label}
 use Rattle.cny_version.specs.Revision.{revision_text, is_revision}
-use Rattle.cny_version.specs.Version.{Part, WholeBranch, branch_text, last_of, depth, IsBranch, IsBranchWith}
+use Rattle.cny_version.specs.Version.{Part, WholeBranch, branch_text, last_of, depth}
+use Rattle.cny_version.specs.Kept.{IsBranchWith}
 use Rattle.cny_version.specs.Made.{shadowed, part_of, branched}
 use Rattle.cny_version.specs.Reading.{branch_at}
 use Rattle.cny_version.proofs.Labels.{label_short}

@@ -1,14 +1,14 @@
 -- Branches: one label more, and its text, its labels filled up, and its rules.
-use Rattle.std.proofs.Common.{◌≡◌, ℕ, ◌+◌, ◌≤◌, Bool, true, ◌&&◌, List, [], ◌∷◌, ◌++◌, length, IsTrue, refl, sym, ap, ◌∙◌, subst, arith, append_assoc, length-append}
+use Rattle.std.proofs.Common.{◌≡◌, ℕ, ◌+◌, true, ◌&&◌, List, [], ◌∷◌, ◌++◌, length, IsTrue, refl, sym, ap, ◌∙◌, arith, append_assoc, length-append}
 use Rattle.std.specs.List.{list_all, flat_map}
 use Rattle.std.specs.Cmp.{first_so, second_so}
 use Rattle.std.proofs.lemmas.Bool.{and_from}
 use Rattle.std.proofs.lemmas.List.Folds.{list_all-append}
 use Rattle.std.proofs.lemmas.List.Sums.{sum_by-cons}
 use Rattle.cny_version.specs.declared.revision.Revision.{Revision}
-use Rattle.cny_version.specs.Label.{LabelParts, label_text, is_label}
+use Rattle.cny_version.specs.Label.{LabelParts, is_label}
 use Rattle.cny_version.specs.Revision.{revision_text, is_revision}
-use Rattle.cny_version.specs.Version.{Part, BranchParts, VersionParts, WholeBranch, WholeVersion, labels_text, part_text, branch_text_by, branch_text, last_of, last_label, depth_of_parts, depth, AreLabels, ArePartsAfter, IsBranch}
+use Rattle.cny_version.specs.Version.{Part, BranchParts, WholeBranch, labels_text, part_text, branch_text_by, last_of, last_label, depth_of_parts, depth, AreLabels, ArePartsAfter, IsBranch}
 use Rattle.cny_version.specs.Filled.{no_label, filled_shadows, filled_part, label_after, filled_parts, filled_branch}
 use Rattle.cny_version.specs.Made.{shadowed, part_of, branched}
 

@@ -1,17 +1,16 @@
 -- The text of a version is read as that version.
-use Rattle.std.proofs.Common.{◌≡◌, ℕ, ◌+◌, ◌≤◌, Bool, true, false, cond, not, ◌&&◌, eqb, leb, List, [], ◌∷◌, ◌++◌, length, Option, Some, None, IsTrue, refl, sym, ap, ◌∙◌, subst, arith, append_assoc, length-append}
-use Rattle.std.specs.List.{list_all, flat_map}
-use Rattle.std.specs.Option.{option_map, option_and_then}
-use Rattle.std.specs.Cmp.{first_so, second_so}
+use Rattle.std.proofs.Common.{◌≡◌, ℕ, ◌≤◌, Bool, true, cond, ◌&&◌, List, [], ◌∷◌, ◌++◌, length, Option, Some, None, refl, sym, ap, ◌∙◌, subst, arith, append_assoc, length-append}
+use Rattle.std.specs.List.{list_all}
+use Rattle.std.specs.Option.{option_and_then}
 use Rattle.std.proofs.lemmas.Bool.{and_from, le-leb}
 use Rattle.std.proofs.lemmas.List.Folds.{list_all-append}
 use Rattle.cny_version.specs.declared.revision.Revision.{Revision}
 use Rattle.cny_version.specs.Label.{LabelParts, label_text, is_label}
-use Rattle.cny_version.specs.Revision.{revision_text, is_revision}
+use Rattle.cny_version.specs.Revision.{revision_text}
 use Rattle.cny_version.specs.Version.{Part, BranchParts, VersionParts, WholeBranch, WholeVersion, branch_text_by, version_text_by, branch_text, version_text, last_label, depth, IsBranch, IsVersion}
 use Rattle.cny_version.specs.Filled.{no_label, filled_branch, filled_by}
-use Rattle.cny_version.specs.Made.{shadowed, part_of, branched}
-use Rattle.cny_version.specs.Reading.{pieces, label_found, revision_found, revision_cut, short_branch, short_version, step_to, step_found, version_on, branch_at, version_in, version_found}
+use Rattle.cny_version.specs.Made.{shadowed, branched}
+use Rattle.cny_version.specs.Reading.{pieces, revision_found, short_branch, short_version, step_to, step_found, version_on, branch_at, version_in, version_found}
 use Rattle.cny_version.proofs.Cuts.{is_free, pieces_at}
 use Rattle.cny_version.proofs.Revisions.{revision_no_slash, revision_back}
 use Rattle.cny_version.proofs.Branches.{append_none, text_shadowed, text_branched, filled_shadowed, filled_branched, was_shadowed, was_branched}

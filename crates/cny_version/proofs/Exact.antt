@@ -1,5 +1,5 @@
 -- What a reader promises, from what is found in a text.
-use Rattle.std.proofs.Common.{◌≡◌, Option, Some, None, Result, Ok, Err, IfOk, IsErrOf, IsSome, ◌↔◌, true, ℕ, ◌<◌, ◌≤◌, arith, refl, sym, ap, ◌∙◌, subst}
+use Rattle.std.proofs.Common.{◌≡◌, Option, Some, None, Result, Ok, Err, IfOk, IsErrOf, IsSome, ◌↔◌, true, ℕ, ◌<◌, ◌≤◌, arith, refl, sym, ◌∙◌}
 use Rattle.std.specs.Option.{is_some}
 use Rattle.cny_base.specs.declared.refusal.Fault.{Fault}
 use Rattle.cny_base.specs.declared.refusal.Fault.TheVariants as refused_or

@@ -1,5 +1,5 @@
 -- Label texts, and the labels that they write.
-use Rattle.std.proofs.Common.{◌≡◌, ℕ, ◌≤◌, Bool, true, false, cond, not, ◌&&◌, eqb, leb, List, [], ◌∷◌, ◌++◌, length, Option, Some, None, refl, sym, ap, ◌∙◌, subst, arith}
+use Rattle.std.proofs.Common.{◌≡◌, ℕ, ◌≤◌, Bool, true, false, cond, not, ◌&&◌, eqb, leb, List, [], ◌∷◌, ◌++◌, length, Option, Some, None, refl, sym, ap, ◌∙◌, arith}
 use Rattle.std.specs.List.{list_all}
 use Rattle.std.specs.Char.{is_ascii_alphanumeric}
 use Rattle.std.specs.Cmp.{first_so, second_so}
@@ -9,7 +9,7 @@ use Rattle.std.proofs.lemmas.List.Folds.{list_all-append}
 use Rattle.cny_version.specs.Label.{LabelParts, label_text, is_label_byte, is_label_part, is_label}
 use Rattle.cny_version.specs.Filled.{AbbreviatedLabel, whole, without_host, only_tag, abbreviated_label_text, filled_label}
 use Rattle.cny_version.specs.Reading.{cut, checked_label, label_from, label_near, label_cut, label_found}
-use Rattle.cny_version.proofs.Cuts.{is_free, cut_at, cut_free, IsCut, cut_some, cut_none}
+use Rattle.cny_version.proofs.Cuts.{is_free, cut_at, cut_free, cut_some}
 
 -- ---- bytes that a text has not
 

@@ -1,16 +1,16 @@
 -- The next count.
-use Rattle.std.proofs.Common.{◌≡◌, ℕ, ◌+◌, ◌-◌, ◌^◌, ◌<◌, ◌≤◌, suc, zero, Bool, true, not, ◌&&◌, eqb, List, [], ◌∷◌, ◌++◌, length, take, drop, replicate, get_or, Option, MatchOption, Bor, rules, Some, None, IsTrue, refl, sym, ap, ◌∙◌, subst, arith, length-append, inl, inr}
+use Rattle.std.proofs.Common.{◌≡◌, ℕ, ◌+◌, ◌-◌, ◌^◌, ◌<◌, ◌≤◌, suc, zero, true, List, [], ◌∷◌, ◌++◌, length, take, replicate, get_or, Option, MatchOption, Bor, rules, Some, None, refl, sym, ap, ◌∙◌, subst, arith, length-append}
 use Rattle.std.specs.List.{list_all}
 use Rattle.std.specs.Option.{ForSome, option_copied}
 use Rattle.std.specs.Cmp.{first_so, second_so}
-use Rattle.std.proofs.lemmas.Bool.{and_from, cases_lt, lt-ltb}
+use Rattle.std.proofs.lemmas.Bool.{and_from, lt-ltb}
 use Rattle.std.proofs.lemmas.Bool.Decides.{nat_tests}
 use Rattle.std.proofs.lemmas.List.{length-take-le, take_more}
 use Rattle.cny_version.specs.declared.revision.Revision.{Revision}
-use Rattle.cny_version.specs.Revision.{fits_32_bits, ends_above_zero, is_upstream, is_count, is_build, is_revision}
+use Rattle.cny_version.specs.Revision.{fits_32_bits, ends_above_zero, is_count, is_build, is_revision}
 use Rattle.cny_version.specs.Made.{filled_up, raised, next_count}
 use Rattle.cny_version.specs.Next.{count_in_question, latest_count, with_count, number_to_raise}
-use Rattle.cny_version.proofs.Counts.{IsCountFound, count_parts, count_is}
+use Rattle.cny_version.proofs.Counts.{count_parts, count_is}
 use Rattle.cny_version.proofs.Revisions.{revision_parts, revision_is}
 
 abbrev zeros : ℕ → List ℕ

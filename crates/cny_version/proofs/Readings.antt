@@ -1,15 +1,15 @@
 -- The two readings of versions, and each version's text.
-use Rattle.std.proofs.Common.{◌≡◌, ℕ, ◌+◌, ◌≤◌, Bool, true, false, ◌&&◌, List, [], ◌∷◌, ◌++◌, length, Option, Some, None, IsTrue, refl, sym, ap, ◌∙◌, subst, arith}
-use Rattle.std.proofs.lemmas.Bool.{and_from, le-leb}
+use Rattle.std.proofs.Common.{◌≡◌, ℕ, ◌+◌, ◌≤◌, true, false, ◌&&◌, List, [], ◌∷◌, length, Option, Some, None, refl, sym, ap, ◌∙◌, subst, arith}
+use Rattle.std.proofs.lemmas.Bool.{and_from}
 use Rattle.cny_version.specs.declared.revision.Revision.{Revision}
-use Rattle.cny_version.specs.Label.{LabelParts, label_text, is_label}
+use Rattle.cny_version.specs.Label.{LabelParts, label_text}
 use Rattle.cny_version.specs.Revision.{is_upstream, is_count, is_build, is_revision}
-use Rattle.cny_version.specs.Version.{Part, BranchParts, VersionParts, WholeBranch, WholeVersion, version_text, last_of, depth, IsVersion}
-use Rattle.cny_version.specs.Filled.{no_label, filled_label, abbreviated_label_text, filled_shadows, label_after, filled_parts, filled_by, filled, abbreviated_text, AbbreviatedVersion, IsAbbreviationOf}
+use Rattle.cny_version.specs.Version.{Part, WholeBranch, WholeVersion, version_text, last_of, depth, IsVersion}
+use Rattle.cny_version.specs.Filled.{no_label, filled_label, abbreviated_label_text, filled_shadows, filled_parts, filled_by, filled, abbreviated_text, AbbreviatedVersion, IsAbbreviationOf}
 use Rattle.cny_version.specs.Made.{shadowed, branched}
-use Rattle.cny_version.specs.Reading.{label_found, version_found}
+use Rattle.cny_version.specs.Reading.{version_found}
 use Rattle.cny_version.proofs.Labels.{label_text_no_slash, abbreviated_no_slash, whole_back, label_back, label_sound}
-use Rattle.cny_version.proofs.Counts.{IsCountFound, count_parts, count_is}
+use Rattle.cny_version.proofs.Counts.{count_parts, count_is}
 use Rattle.cny_version.proofs.Revisions.{revision_parts}
 use Rattle.cny_version.proofs.Branches.{depth_shadowed, depth_branched}
 use Rattle.cny_version.proofs.Versions.{ReadsLabels, version_writes}

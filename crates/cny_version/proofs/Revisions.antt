@@ -1,7 +1,6 @@
 -- Revision texts, and the revisions that they write.
-use Rattle.std.proofs.Common.{◌≡◌, ℕ, ◌+◌, ◌≤◌, Bool, true, false, cond, not, ◌&&◌, eqb, List, [], ◌∷◌, ◌++◌, length, map, Option, Some, None, refl, sym, ap, ◌∙◌, subst, arith}
+use Rattle.std.proofs.Common.{◌≡◌, ℕ, true, false, cond, not, ◌&&◌, eqb, List, [], ◌∷◌, ◌++◌, Option, Some, None, refl, sym, ap, ◌∙◌, subst, arith}
 use Rattle.std.specs.Char.{is_ascii_alphanumeric}
-use Rattle.std.specs.Fmt.{decimal}
 use Rattle.std.specs.List.{list_all, join_with_byte}
 use Rattle.std.specs.Option.{option_map, option_and_then}
 use Rattle.std.specs.Cmp.{first_so, second_so}
@@ -10,11 +9,11 @@ use Rattle.std.proofs.lemmas.Bool.Decides.{nat_tests}
 use Rattle.std.proofs.lemmas.List.Splits.{join_with_byte-slice_split}
 use Rattle.cny_base.specs.Number.{is_digit}
 use Rattle.cny_version.specs.declared.revision.Revision.{Revision}
-use Rattle.cny_version.specs.Revision.{count_text, build_text, revision_text, is_upstream_byte, is_upstream, fits_32_bits, ends_above_zero, is_count, is_build, is_revision}
+use Rattle.cny_version.specs.Revision.{count_text, build_text, revision_text, is_upstream_byte, is_upstream, is_count, is_build, is_revision}
 use Rattle.cny_version.specs.Reading.{cut, pieces, count_found, counts_found, revision_cut, revision_found}
-use Rattle.cny_version.proofs.Cuts.{is_free, cut_at, cut_free, cut_some, cut_none}
+use Rattle.cny_version.proofs.Cuts.{is_free, cut_at, cut_free, cut_some}
 use Rattle.cny_version.proofs.Labels.{free_by_test, is_free-append}
-use Rattle.cny_version.proofs.Counts.{IsCountFound, count_parts, count_is, count_sound, count_free, count_text_back}
+use Rattle.cny_version.proofs.Counts.{count_parts, count_is, count_sound, count_free, count_text_back}
 use Rattle.cny_version.proofs.Options.{bind_some, map_some, test_some}
 
 -- ---- upstreams

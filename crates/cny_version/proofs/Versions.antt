@@ -1,22 +1,20 @@
 -- Version texts, and the versions that they write.
-use Rattle.std.proofs.Common.{◌≡◌, ℕ, ◌+◌, ◌≤◌, Bool, true, false, cond, not, ◌&&◌, eqb, leb, List, [], ◌∷◌, ◌++◌, length, Option, Some, None, IsTrue, refl, sym, ap, ◌∙◌, subst, arith, append_assoc, length-append}
-use Rattle.std.specs.List.{list_all, flat_map, join_with_byte}
-use Rattle.std.specs.Option.{option_map, option_and_then}
+use Rattle.std.proofs.Common.{◌≡◌, ℕ, ◌≤◌, Bool, true, leb, List, [], ◌∷◌, ◌++◌, length, Some, refl, sym, ap, ◌∙◌, subst, append_assoc}
+use Rattle.std.specs.List.{list_all, join_with_byte}
 use Rattle.std.specs.Cmp.{first_so, second_so}
-use Rattle.std.proofs.lemmas.Bool.{and_from, leb-true, le-leb}
-use Rattle.std.proofs.lemmas.List.Folds.{list_all-append}
+use Rattle.std.proofs.lemmas.Bool.{leb-true}
 use Rattle.std.proofs.lemmas.List.Splits.{join_with_byte-slice_split}
 use Rattle.cny_version.specs.declared.revision.Revision.{Revision}
-use Rattle.cny_version.specs.Label.{LabelParts, label_text, is_label}
-use Rattle.cny_version.specs.Revision.{revision_text, is_revision}
-use Rattle.cny_version.specs.Version.{Part, BranchParts, VersionParts, WholeBranch, WholeVersion, labels_text, part_text, branch_text_by, version_text_by, branch_text, version_text, last_of, last_label, depth, IsBranch, IsVersion}
-use Rattle.cny_version.specs.Filled.{no_label, filled_shadows, filled_branch, filled_by}
-use Rattle.cny_version.specs.Made.{shadowed, part_of, branched}
+use Rattle.cny_version.specs.Label.{LabelParts, is_label}
+use Rattle.cny_version.specs.Revision.{revision_text}
+use Rattle.cny_version.specs.Version.{BranchParts, VersionParts, WholeBranch, WholeVersion, branch_text_by, version_text_by, branch_text, version_text, last_label, depth, IsBranch, IsVersion}
+use Rattle.cny_version.specs.Filled.{no_label, filled_branch, filled_by}
+use Rattle.cny_version.specs.Made.{shadowed, branched}
 use Rattle.cny_version.specs.Reading.{pieces, label_found, revision_found, short_branch, short_version, step_to, step_found, version_on, branch_at, version_in, version_found}
 use Rattle.cny_version.proofs.Cuts.{is_free, pieces_at, pieces_free}
 use Rattle.cny_version.proofs.Labels.{label_sound}
-use Rattle.cny_version.proofs.Revisions.{revision_no_slash, revision_back, revision_sound}
-use Rattle.cny_version.proofs.Branches.{append_none, text_shadowed, text_branched, filled_shadowed, filled_branched, is_shadowed, was_shadowed, is_branched, was_branched}
+use Rattle.cny_version.proofs.Revisions.{revision_sound}
+use Rattle.cny_version.proofs.Branches.{append_none, text_shadowed, text_branched, filled_shadowed, filled_branched, is_shadowed, is_branched}
 use Rattle.cny_version.proofs.Options.{bind_some, test_some}
 
 -- ---- pieces, each after a slash

@@ -1,6 +1,7 @@
 pub mod Label
 pub mod Revision
 pub mod Version
+pub mod Kept
 pub mod Filled
 pub mod Made
 pub mod Reading

@@ -1,12 +1,8 @@
 -- Versions made from others: shadows, branches, and the next revision.
-use Rattle.std.specs.Prelude.{◌≡◌, ℕ, ◌+◌, ◌-◌, ◌<◌, List, [], ◌∷◌, ◌++◌, length, take, replicate, slice_index, Option, Some, None}
-use Rattle.cny_base.specs.declared.refusal.Fault.{Fault}
-use Rattle.cny_base.specs.declared.refusal.Fault.TheVariants as fault
-use Rattle.cny_base.specs.declared.refusal.Refusal.TheVariants as refusal
-use Rattle.cny_base.specs.declared.refusal.What.{What}
+use Rattle.std.specs.Prelude.{ℕ, ◌+◌, ◌-◌, List, [], ◌∷◌, ◌++◌, length, take, replicate, slice_index, Option, Some, None}
 use Rattle.cny_version.specs.declared.revision.Revision.{Revision}
 use Rattle.cny_version.specs.Label.{LabelParts}
-use Rattle.cny_version.specs.Version.{Part, BranchParts, VersionParts, WholeBranch, WholeVersion}
+use Rattle.cny_version.specs.Version.{Part, BranchParts, WholeVersion}
 
 -- ---- branches
 

@@ -1,5 +1,5 @@
 -- What the readers find, on bytes: none where the text is no label, number, revision or version.
-use Rattle.std.specs.Prelude.{◌≡◌, Result, Ok, Err, IsSome, ℕ, ◌+◌, ◌^◌, ◌≤◌, Bool, true, false, cond, suc, zero, List, [], ◌∷◌, ◌++◌, length, ◌==◌, nat_le, nat_lt, Option, Some, None, is_some, if◌then◌else◌}
+use Rattle.std.specs.Prelude.{◌≡◌, Result, Ok, Err, IsSome, ℕ, ◌+◌, Bool, suc, zero, List, [], ◌∷◌, length, ◌==◌, nat_le, Option, Some, None, is_some, if◌then◌else◌}
 use Rattle.std.specs.List.{slice_split}
 use Rattle.std.specs.Option.{option_map, option_and_then}
 use Rattle.cny_base.specs.declared.text.TextFault.{TextFault}
@@ -7,8 +7,8 @@ use Rattle.cny_base.specs.declared.text.TextFault.TheVariants as fault
 use Rattle.cny_base.specs.Number.{is_decimal, decimal_value}
 use Rattle.cny_version.specs.declared.revision.Revision.{Revision}
 use Rattle.cny_version.specs.Label.{LabelParts, label_text, is_label}
-use Rattle.cny_version.specs.Revision.{revision_text, is_upstream, fits_32_bits}
-use Rattle.cny_version.specs.Version.{Part, WholeBranch, WholeVersion, branch_text, version_text, last_label, depth}
+use Rattle.cny_version.specs.Revision.{is_upstream, fits_32_bits}
+use Rattle.cny_version.specs.Version.{WholeBranch, WholeVersion, branch_text, version_text, last_label, depth}
 use Rattle.cny_version.specs.Filled.{no_label}
 use Rattle.cny_version.specs.Made.{shadowed, branched}
 

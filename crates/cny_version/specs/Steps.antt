@@ -1,6 +1,5 @@
 -- How the text of a version goes on after a label.
 use Rattle.std.specs.Prelude.{◌≡◌, ℕ, ◌<◌, Bool, List, [], ◌∷◌, length, Some, None, IsTrue}
-use Rattle.std.specs.Str.{IsUtf8}
 use Rattle.cny_version.specs.declared.scan.Step.{Step}
 use Rattle.cny_version.specs.declared.scan.Step.TheVariants as step
 use Rattle.cny_version.specs.Label.{LabelParts, is_label}

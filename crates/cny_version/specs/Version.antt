@@ -92,11 +92,3 @@ pub record IsVersion (v : WholeVersion) : Type 0 where
 -- the text of a version
 abbrev pub IsVersionText : List ℕ → Type 0
 IsVersionText text = (v : WholeVersion) × IsVersion v × (text ≡ version_text v)
-
--- a branch with its depth and its text, which is short enough for a version
-pub record IsBranchWith (b : WholeBranch) (shadows : ℕ) (text : List ℕ) : Type 0 where
-  pub branch : IsBranch b
-  pub depth_is : shadows ≡ depth b
-  pub few : shadows ≤ length text
-  pub text_is : text ≡ branch_text b
-  pub short : length text ≤ 512

@@ -27,7 +27,8 @@ pub(crate) struct Branch {
 
 impl Model for Branch {
     ghost use Rattle.std.specs.Prelude.{◌≡◌, ◌≤◌, ℕ, length, string_bytes};
-    ghost use Rattle.cny_version.specs.Version.{WholeBranch, branch_text, depth, IsBranch, IsBranchWith};
+    ghost use Rattle.cny_version.specs.Version.{WholeBranch, branch_text, depth, IsBranch};
+    ghost use Rattle.cny_version.specs.Kept.{IsBranchWith};
 
     ghost Value = { WholeBranch };
 

@@ -97,17 +97,6 @@ impl Label {
         self.text.as_str()
     }
 
-    /// The parts of the label.
-    pub(crate) fn parts(&self) -> LabelText<'_>
-        ensures { parts_of result ≡ self.now }
-    {
-        LabelText {
-            host: self.host.as_str(),
-            namespace: self.namespace.as_str(),
-            tag: self.tag.as_str(),
-        }
-    }
-
     /// An equal label.
     pub fn copy(&self) -> Result<Self, OutOfMemory>
         ensures { IfOk result (λ made. made ≡ self.now) }

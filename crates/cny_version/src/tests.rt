@@ -225,7 +225,7 @@ enum Answer {
     Other,
 }
 
-fn answer(alloc: Global, made: Result<Version, Fault>) -> Answer {
+fn answer_of(alloc: Global, made: Result<Version, Fault>) -> Answer {
     match made {
         Ok(version) => match Text::new(alloc, version.text()) {
             Ok(text) => Answer::Made(text),
@@ -241,7 +241,7 @@ fn answer(alloc: Global, made: Result<Version, Fault>) -> Answer {
 }
 
 fn is_made(alloc: Global, made: Result<Version, Fault>, text: &str) -> bool {
-    match answer(alloc, made) {
+    match answer_of(alloc, made) {
         Answer::Made(found) => found.get() == text,
         _ => false,
     }
@@ -305,7 +305,7 @@ fn next_revisions(rt: HostRuntime) -> Result<(), Fail> {
 #[test]
 fn greatest_count(rt: HostRuntime) -> Result<(), Fail> {
     let last = Version::read(rt.alloc(), "/h@n:t/2-4294967295")?;
-    let next = answer(rt.alloc(), next_version(rt.alloc(), &last, Some(&last)));
+    let next = answer_of(rt.alloc(), next_version(rt.alloc(), &last, Some(&last)));
     assert!(rt; matches!(next, Answer::TooGreat(4294967295)));
     Ok(())
 }
@@ -331,9 +331,9 @@ fn versions_too_large(rt: HostRuntime) -> Result<(), Fail> {
     let text = long_text(rt.alloc(), "/h@n:t/", 503, "-1")?;
     let version = Version::read(rt.alloc(), text.as_str())?;
     let label = Label::read(rt.alloc(), "h@n:u")?;
-    let shadow = answer(rt.alloc(), version.shadow_onto(rt.alloc(), &label));
+    let shadow = answer_of(rt.alloc(), version.shadow_onto(rt.alloc(), &label));
     assert!(rt; matches!(shadow, Answer::TooLarge(519)));
-    let branch = answer(rt.alloc(), version.branch_onto(rt.alloc(), &label));
+    let branch = answer_of(rt.alloc(), version.branch_onto(rt.alloc(), &label));
     assert!(rt; matches!(branch, Answer::TooLarge(1024)));
     Ok(())
 }

@@ -12,7 +12,7 @@ use Rattle.journal_log.specs.WriteSet.{CanBeNamed}
 abbrev pub AreNamed : Name → List Put → Type 0
 AreNamed base puts = All (λ p. CanBeNamed base p.path) puts
 
--- below a target that isn't a directory nothing stands
+-- below a target that isn't a directory nothing is to stand
 abbrev pub NothingBelow : List Put → Type 0
 NothingBelow puts = All (λ p. is_dir_want p.want ≡ false → All (λ q. IsTrue (is_below p.path q.path) → q.want ≡ Nothing) puts) puts
 

@@ -36,7 +36,7 @@ pub record CanBeNamed (base path : Name) : Type 0 where
   pub not_root : path ≢ root
   pub not_own : is_own base path ≡ false
 
--- Writes that can be made in one go: their paths strictly rise, and below a target that isn't a directory nothing stands.
+-- Writes that can be made in one go: their paths strictly rise, and below a target that isn't a directory nothing is to stand.
 pub record IsWriteSet (puts : List Put) : Type 0 where
   pub rises : Rises puts
   pub paths : All (λ p. IsTrue (is_path p.path)) puts

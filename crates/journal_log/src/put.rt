@@ -10,6 +10,7 @@ use std::marker::Model;
 /// What is to stand at a path.
 #[derive(Debug, Drop)]
 pub enum Want {
+    /// No node is to be there.
     Nothing,
     /// A directory.
     Dir { mode: Mode },

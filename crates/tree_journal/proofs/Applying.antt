@@ -1,5 +1,5 @@
 -- What crash images recover to while a write set is applied.
-use Rattle.std.proofs.Common.{◌≡◌, ◌≢◌, inl, inr, ⊎_elim, ℕ, Bool, true, false, IsTrue, List, get_or, codes, Some, None, Contains, Result, Ok, Err, OnOk, refl, sym, ◌∙◌, ap, subst, arith}
+use Rattle.std.proofs.Common.{◌≡◌, ◌≢◌, inl, inr, ⊎_elim, ℕ, Bool, true, false, IsTrue, List, get_or, codes, Some, None, Contains, Result, Ok, Err, OnOk, OnErr, refl, sym, ◌∙◌, ap, subst, arith}
 use Rattle.std.proofs.lemmas.Bool.{cases_Bool}
 use Rattle.std.proofs.lemmas.List.Elements.{All-weaker, Contains-get_or}
 use Rattle.std.specs.List.{All}
@@ -7,11 +7,11 @@ use Rattle.std.specs.FinMap.{get}
 use Rattle.cny_base.specs.Path.{is_path, root}
 use Rattle.cny_base.specs.Below.{is_below}
 use Rattle.cny_base.specs.declared.node.Node.TheVariants as node
-use Rattle.tree_disk.specs.Tree.{Name, Tree, same_name, is_dir, WellFormed}
+use Rattle.tree_disk.specs.Tree.{Name, Tree, same_name, is_dir, AgreesOutside, WellFormed}
 use Rattle.tree_disk.specs.Laws.{get_put_here, get_put_other, reads_image}
 use Rattle.tree_disk.specs.Children.{none_below}
 use Rattle.tree_disk.specs.Clear.{is_within}
-use Rattle.tree_disk.specs.Disk.{DiskModel, IsDisk}
+use Rattle.tree_disk.specs.Disk.{DiskModel, IsDisk, IsImageOf}
 use Rattle.tree_disk.specs.Confined.{Among, Confined, DiffersOnlyAt, IsUnsyncedOr, IsSynced, LeavesOnly}
 use Rattle.tree_disk.specs.ConfinedLaws.{leaves_weaker}
 use Rattle.cny_base.specs.declared.stop.Stop.{Stop}
@@ -24,13 +24,13 @@ use Rattle.journal_log.specs.WriteSet.{CanBeNamed, IsLoggable, IsFormed, Rises}
 use Rattle.journal_log.specs.Targets.{is_dir_want, node_of, is_target, with_targets}
 use Rattle.journal_log.specs.LogBytes.{IsSpelled}
 use Rattle.tree_journal.specs.CanBePut.{AllCanBePut}
-use Rattle.tree_journal.specs.Recovery.{is_flag, is_committed, RecoversTo, at_rest, by_log, RecoversAsAt}
-use Rattle.tree_journal.specs.Apply.{with_base, CanApply, IsBeforeOrAfter, IsAtRest}
+use Rattle.tree_journal.specs.Recovery.{is_flag, is_committed, RecoversTo, at_rest}
+use Rattle.tree_journal.specs.Apply.{with_base, CanApply, IsAsBefore, IsBeforeOrAfter, IsAtRest, IsOneOf}
 use Rattle.tree_journal.specs.Steps.{with_log, with_flag, committed, is_base_or_log, CanPrepare, HasLog, IsPrepared, IsCommitted, IsOldOrNew}
 use Rattle.tree_journal.proofs.WriteSets.{neither, with_targets_target}
 use Rattle.tree_journal.proofs.OwnNames.{in_gate, in_log, base_or_log_own, base_not_in_gate, base_not_in_log, log_not_in_gate, gate_not_written}
 use Rattle.tree_journal.proofs.OwnFiles.{get-own_file_other, get-own_file_here, get-base_other, base_stands}
-use Rattle.tree_journal.proofs.ReplayImages.{recovers_same, by_flag, can_elsewhere, same_targets, replay_image, image_agrees, unchanged_leaves}
+use Rattle.tree_journal.proofs.ReplayImages.{recovers_same, by_flag, can_elsewhere, same_targets, replay_image, image_agrees}
 
 not_false : {A : Type 0} (b : Bool) → b ≡ true → b ≡ false → A
 not_false b is other = absurd (cc (is, other))
@@ -79,25 +79,32 @@ loggable_from base puts tree rises paths formed named well = record {
 
 -- ---- the log is written
 
+-- each image of a moment at which the commit flag isn't set, nor its name unsynced
+image_before : {D : Type 0} (disk : DiskModel D) (base : Name) (old : D) → is_committed base (disk.reads old) ≡ false → disk.unsynced old (gate base) ≡ false
+    → (image : Tree) → IsImageOf disk old image → IsAsBefore disk base old image
+image_before disk base old clear synced image is = (image, is, at_rest (ap is_flag (is.synced (gate base) synced) ∙ clear) (λ q out. refl))
+
 module _ {D : Type 0} (disk : DiskModel D) (laws : IsDisk disk) (base : Name) (path : is_path base ≡ true) (old : D) (can : CanPrepare disk base old) where
   -- an image whose commit flag isn't set, and that stores the same as what the disk read
-  pub as_before : (image : Tree) → is_committed base image ≡ false → StoresSame base image (disk.reads old) → RecoversAsAt disk base old image
-  as_before image clear same = (disk.reads old, reads_image laws old, all)
-    where
-      all : (tree : Tree) → RecoversTo base (disk.reads old) tree → RecoversTo base image tree
-      all tree (at_rest was stores) = at_rest clear (λ q out. same q out ∙ stores q out)
-      all tree (by_log set puts holds more stores) = not_false (is_committed base (disk.reads old)) set can.flag_clear
+  pub as_before : (image : Tree) → is_committed base image ≡ false → StoresSame base image (disk.reads old) → IsAsBefore disk base old image
+  as_before image clear same = (disk.reads old, reads_image laws old, at_rest clear same)
 
   -- until the first sync is done
-  pub before_sync : (new : D) → Confined disk (Among no_name) old new → LeavesOnly disk old new (RecoversAsAt disk base old)
-  before_sync new run = unchanged_leaves disk base old new run
+  pub before_sync : (new : D) → Confined disk (Among no_name) old new → LeavesOnly disk old new (IsAsBefore disk base old)
+  before_sync new run = leaves_weaker each run.images
+    where
+      each : (image : Tree) → DiffersOnlyAt (IsUnsyncedOr disk old (Among no_name)) (disk.reads old) image → IsAsBefore disk base old image
+      each image differs = image_before disk base old can.flag_clear can.flag_synced image (record {
+        well_formed = differs.well_formed;
+        synced = λ p none. differs.agrees p (λ h. ⊎_elim (λ was. absurd (cc (none, was))) (λ is. absurd (cc is)) h);
+      })
 
   -- while the base is made and the log is written
   pub after_sync : (mid new : D) → disk.reads mid ≡ disk.reads old → IsSynced disk mid → Confined disk (Among (is_base_or_log base)) mid new
-      → LeavesOnly disk mid new (RecoversAsAt disk base old)
+      → LeavesOnly disk mid new (IsAsBefore disk base old)
   after_sync mid new is synced run = leaves_weaker each run.images
     where
-      each : (image : Tree) → DiffersOnlyAt (IsUnsyncedOr disk mid (Among (is_base_or_log base))) (disk.reads mid) image → RecoversAsAt disk base old image
+      each : (image : Tree) → DiffersOnlyAt (IsUnsyncedOr disk mid (Among (is_base_or_log base))) (disk.reads mid) image → IsAsBefore disk base old image
       each image differs =
           let agree = image_agrees disk mid (is_base_or_log base) image synced differs in
           as_before image
@@ -223,34 +230,61 @@ pub on_ok_end : {P S : Type 0} (told : Bool) (after new : Tree) (result : Result
 on_ok_end told after new (Ok u) a b ended tells s so = so (ended tells) s
 on_ok_end told after new (Err e) a b ended tells s so = tt
 
+-- what holds is also said of an error
+pub on_err : {T E P : Type 0} (result : Result T E) → P → OnErr result P
+on_err (Ok t) p = tt
+on_err (Err e) p = p
+
 -- before the first call
-pub nothing_yet : {D : Type 0} (disk : DiskModel D) → IsDisk disk → (base : Name) (puts : List Put) (old : D) → LeavesOnly disk old old (IsBeforeOrAfter disk base puts old)
-nothing_yet disk laws base puts old = record {
+pub nothing_yet : {D : Type 0} (disk : DiskModel D) → IsDisk disk → (base : Name) (puts : List Put) (old : D) → CanApply disk base puts old → LeavesOnly disk old old (IsBeforeOrAfter disk base puts old)
+nothing_yet disk laws base puts old can = record {
   later = omega arith;
-  each = λ image since. inl (image, laws.only_now old image since, λ tree h. h);
+  each = λ image since. inl (image_before disk base old can.flag_clear can.flag_synced image (laws.only_now old image since));
   before = λ k image le since. inl since;
 }
+
+pub stopped_at_once : {D : Type 0} (disk : DiskModel D) (base : Name) (puts : List Put) (old : D) → CanApply disk base puts old → IsOneOf base puts (disk.reads old) (disk.reads old)
+stopped_at_once disk base puts old can = inl (at_rest can.flag_clear (λ q out. refl))
 
 module _ {D : Type 0} (disk : DiskModel D) (laws : IsDisk disk) (base : Name) (path : is_path base ≡ true) (puts : List Put) (bytes : List ℕ) (old : D) (can : CanApply disk base puts old) where
   pub may_prepare : CanPrepare disk base old
   may_prepare = record { parent_stands = can.parent_stands; flag_clear = can.flag_clear; flag_synced = can.flag_synced }
 
-  pub first_part : (mid : D) → LeavesOnly disk old mid (RecoversAsAt disk base old) → LeavesOnly disk old mid (IsBeforeOrAfter disk base puts old)
+  pub first_part : (mid : D) → LeavesOnly disk old mid (IsAsBefore disk base old) → LeavesOnly disk old mid (IsBeforeOrAfter disk base puts old)
   first_part mid run = leaves_weaker (λ image h. inl h) run
+
+  pub stopped_first : (mid : D) → AgreesOutside (is_base_or_log base) (disk.reads mid) (disk.reads old) → IsOneOf base puts (disk.reads old) (disk.reads mid)
+  stopped_first mid outside = inl (at_rest (ap is_flag (outside (gate base) (gate_not_written base path)) ∙ can.flag_clear)
+      (λ q out. outside q (⊎_elim (λ h. not_false (is_own base q) (base_or_log_own base q h) out) (λ h. h) (cases_Bool (is_base_or_log base q)))))
 
   module _ (paths : All (λ p. IsTrue (is_path p.path)) puts) where
     same_with_log : StoresSame base (with_targets puts (with_log base bytes (disk.reads old))) (with_targets puts (disk.reads old))
     same_with_log = same_targets base path puts paths can.named (with_log base bytes (disk.reads old)) (disk.reads old)
         (λ q out. with_log_same base path bytes (disk.reads old) q (neither (is_own base q) (is_target puts q) out).0)
 
+    stored_before : (mid : D) → disk.reads mid ≡ with_log base bytes (disk.reads old) → (image : Tree) → StoresSame base image (disk.reads mid) → StoresSame base image (disk.reads old)
+    stored_before mid is image same = λ q out. same q out ∙ ap (λ (t : Tree). get t q) is ∙ with_log_same base path bytes (disk.reads old) q out
+
+    recovers_after : (mid : D) → disk.reads mid ≡ with_log base bytes (disk.reads old) → (image : Tree) → RecoversTo base image (with_targets puts (disk.reads mid)) → RecoversTo base image (with_targets puts (disk.reads old))
+    recovers_after mid is image after = recovers_same base image (with_targets puts (disk.reads mid)) (with_targets puts (disk.reads old)) after
+        (subst (λ (t : Tree). StoresSame base (with_targets puts t) (with_targets puts (disk.reads old))) (sym is) same_with_log)
+
     pub second_part : (mid new : D) → disk.reads mid ≡ with_log base bytes (disk.reads old) → LeavesOnly disk mid new (IsOldOrNew base puts (disk.reads mid))
         → LeavesOnly disk mid new (IsBeforeOrAfter disk base puts old)
     second_part mid new is run = leaves_weaker each run
       where
         each : (image : Tree) → IsOldOrNew base puts (disk.reads mid) image → IsBeforeOrAfter disk base puts old image
-        each image (inl before) = inl (as_before disk laws base path old may_prepare image before.0 (λ q out. before.1 q out ∙ ap (λ (t : Tree). get t q) is ∙ with_log_same base path bytes (disk.reads old) q out))
-        each image (inr after) = inr (recovers_same base image (with_targets puts (disk.reads mid)) (with_targets puts (disk.reads old)) after
-            (subst (λ (t : Tree). StoresSame base (with_targets puts t) (with_targets puts (disk.reads old))) (sym is) same_with_log))
+        each image (inl before) = inl (as_before disk laws base path old may_prepare image before.0 (stored_before mid is image before.1))
+        each image (inr after) = inr (recovers_after mid is image after)
+
+    -- what is read is an image of that moment
+    pub stopped_second : (mid new : D) → disk.reads mid ≡ with_log base bytes (disk.reads old) → LeavesOnly disk mid new (IsOldOrNew base puts (disk.reads mid))
+        → IsOneOf base puts (disk.reads old) (disk.reads new)
+    stopped_second mid new is run = either (run.each (disk.reads new) (laws.counts_now new (disk.now mid) (disk.reads new) run.later (reads_image laws new)))
+      where
+        either : IsOldOrNew base puts (disk.reads mid) (disk.reads new) → IsOneOf base puts (disk.reads old) (disk.reads new)
+        either (inl before) = inl (at_rest before.0 (stored_before mid is (disk.reads new) before.1))
+        either (inr after) = inr (recovers_after mid is (disk.reads new) after)
 
     pub all_applied : (mid new : D) → disk.reads mid ≡ with_log base bytes (disk.reads old) → disk.reads new ≡ committed base puts (disk.reads mid) → IsSynced disk new
         → IsAtRest disk base (with_targets puts (disk.reads old)) new

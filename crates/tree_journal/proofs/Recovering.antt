@@ -10,10 +10,11 @@ use Rattle.cny_base.specs.declared.refusal.Refusal.TheVariants as refusal
 use Rattle.cny_base.specs.declared.stop.Stop.{Stop}
 use Rattle.cny_base.specs.declared.stop.Stop.TheVariants.{Refused, Memory, Failed, Damaged, FarFailed, FarDamaged}
 use Rattle.tree_disk.specs.Tree.{Name, Tree, same_name, is_dir, WellFormed}
-use Rattle.tree_disk.specs.Laws.{get_put_here, get_put_other, reads_image, only_reads}
+use Rattle.tree_disk.specs.Laws.{get_put_here, get_put_other, reads_image, only_reads, same_tree}
 use Rattle.tree_disk.specs.Moments.{same_on, same_images, time_on, rose_before}
 use Rattle.tree_disk.specs.Disk.{DiskModel, IsDisk, HasRead}
-use Rattle.tree_disk.specs.Confined.{IsSynced, LeavesOnly}
+use Rattle.tree_disk.specs.Confined.{Among, Confined, IsSynced, LeavesOnly}
+use Rattle.tree_disk.specs.Steps.{no_name}
 use Rattle.tree_disk.specs.ConfinedLaws.{leaves_weaker, leaves_step}
 use Rattle.journal_log.specs.declared.put.Put.{Put}
 use Rattle.journal_log.specs.Own.{gate, log, is_own, StoresSame}
@@ -50,6 +51,18 @@ module _ {D : Type 0} (disk : DiskModel D) (laws : IsDisk disk) (base : Name) wh
     same = same_on first.same then.same;
     time = time_on laws first.same first.time then.time;
   }
+
+  -- no name changed
+  pub same_at_all : (old new : D) → Confined disk (Among no_name) old new → disk.reads new ≡ disk.reads old
+  same_at_all old new run = same_tree (disk.reads new) (disk.reads old) (λ q. run.reads q (λ h. absurd (cc h)))
+
+  -- what is read stays so
+  pub still_so : (old new : D) → disk.reads new ≡ disk.reads old → (tree : Tree) → RecoversTo base (disk.reads old) tree → RecoversTo base (disk.reads new) tree
+  still_so old new is tree r = subst (λ (t : Tree). RecoversTo base t tree) (sym is) r
+
+  pub still_then : (old mid new : D) → disk.reads mid ≡ disk.reads old → ((tree : Tree) → RecoversTo base (disk.reads mid) tree → RecoversTo base (disk.reads new) tree)
+      → (tree : Tree) → RecoversTo base (disk.reads old) tree → RecoversTo base (disk.reads new) tree
+  still_then old mid new is then tree r = then tree (still_so old mid is tree r)
 
   -- after a sync there is but one image, which was one before it
   pub since_sync : (old mid new : D) → disk.reads mid ≡ disk.reads old → IsSynced disk mid → LeavesOnly disk mid new (RecoversAsAt disk base mid) → LeavesOnly disk mid new (RecoversAsAt disk base old)
@@ -125,6 +138,16 @@ module _ {D : Type 0} (disk : DiskModel D) (laws : IsDisk disk) (base : Name) (p
         λ tree r. recovers_same base image (with_targets puts (disk.reads mid)) tree h
             (subst (λ (t : Tree). StoresSame base (with_targets puts t) tree) (sym call.same.reads) (goal_same tree r)),
       )
+
+  -- what is read is an image of that moment
+  pub still_recovers : (new : D) → LeavesOnly disk mid new (λ image. RecoversTo base image (with_targets puts (disk.reads mid)))
+      → (tree : Tree) → RecoversTo base (disk.reads old) tree → RecoversTo base (disk.reads new) tree
+  still_recovers new run tree r = recovers_same base (disk.reads new) (with_targets puts (disk.reads mid)) tree
+      (run.each (disk.reads new) (laws.counts_now new (disk.now mid) (disk.reads new) run.later (reads_image laws new)))
+      (subst (λ (t : Tree). StoresSame base (with_targets puts t) tree) (sym call.same.reads) (goal_same tree r))
+
+  pub has_replayable : HasReplayable base (disk.reads old)
+  has_replayable = record { puts = puts; holds = holds; can = can }
 
   pub recovered : (new : D) → disk.reads new ≡ replayed base puts (disk.reads mid) → IsSynced disk new → IsRecovered disk base old new
   recovered new done new_synced = record {

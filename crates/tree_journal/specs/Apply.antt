@@ -5,14 +5,14 @@ use Rattle.cny_base.specs.Path.{parent}
 use Rattle.cny_base.specs.declared.node.Node.TheVariants as node
 use Rattle.tree_disk.specs.Tree.{Name, Tree, put, WellFormed}
 use Rattle.tree_disk.specs.Rows.{is_dir_at}
-use Rattle.tree_disk.specs.Disk.{DiskModel}
+use Rattle.tree_disk.specs.Disk.{DiskModel, IsImageOf}
 use Rattle.tree_disk.specs.Confined.{IsSynced}
 use Rattle.journal_log.specs.declared.put.Put.{Put}
 use Rattle.journal_log.specs.Own.{gate, is_own, StoresSame}
 use Rattle.journal_log.specs.Targets.{is_target, with_targets}
 use Rattle.journal_log.specs.WriteSet.{CanBeNamed}
 use Rattle.tree_journal.specs.CanBePut.{AllCanBePut}
-use Rattle.tree_journal.specs.Recovery.{is_committed, RecoversTo, RecoversAsAt}
+use Rattle.tree_journal.specs.Recovery.{is_committed, RecoversTo}
 
 -- the tree with the base made a directory
 abbrev pub with_base : Name → Tree → Tree
@@ -28,9 +28,17 @@ pub record CanApply {D : Type 0} (disk : DiskModel D) (base : Name) (puts : List
   pub can : AllCanBePut puts (with_base base (disk.reads d))
   pub well_formed : WellFormed (with_targets puts (with_base base (disk.reads d)))
 
--- It recovers to all that some crash image of that moment recovers to, or to the tree with all targets.
+-- It recovers to some crash image of that moment.
+abbrev pub IsAsBefore : {D : Type 0} → DiskModel D → Name → D → Tree → Type 0
+IsAsBefore disk base d image = (entry : Tree) × IsImageOf disk d entry × RecoversTo base image entry
+
+-- It recovers to some crash image of that moment, or to the tree with all targets.
 abbrev pub IsBeforeOrAfter : {D : Type 0} → DiskModel D → Name → List Put → D → Tree → Type 0
-IsBeforeOrAfter disk base puts d image = RecoversAsAt disk base d image ⊎ RecoversTo base image (with_targets puts (disk.reads d))
+IsBeforeOrAfter disk base puts d image = IsAsBefore disk base d image ⊎ RecoversTo base image (with_targets puts (disk.reads d))
+
+-- The tree recovers to the tree before, or to that with all targets.
+abbrev pub IsOneOf : Name → List Put → Tree → Tree → Type 0
+IsOneOf base puts before tree = RecoversTo base tree before ⊎ RecoversTo base tree (with_targets puts before)
 
 -- The disk stores the same as this tree, its commit flag isn't set, and a crash leaves what it reads.
 pub record IsAtRest {D : Type 0} (disk : DiskModel D) (base : Name) (tree : Tree) (d : D) : Type 0 where

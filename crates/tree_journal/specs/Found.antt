@@ -1,10 +1,8 @@
 -- What recovery finds.
 use Rattle.std.specs.Prelude.{◌≡◌, ◌≢◌, ℕ, ◌<◌, ◌≤◌, length, Bool, true, false, ◌==◌, IsTrue, List, Option, Some, None, Result, IfOk, IfErr}
-use Rattle.std.specs.FinMap.{get}
 use Rattle.std.specs.List.{All}
 use Rattle.cny_base.specs.Count.{Rose}
 use Rattle.cny_base.specs.Path.{is_path, join, parent, root}
-use Rattle.cny_base.specs.Below.{is_below}
 use Rattle.cny_base.specs.declared.node.Node.{Node}
 use Rattle.cny_base.specs.declared.node.Node.TheVariants as node
 use Rattle.cny_base.specs.declared.refusal.Refusal.TheVariants as refusal
@@ -13,12 +11,11 @@ use Rattle.cny_base.specs.declared.stop.Stop.TheVariants.{Refused, Memory, Faile
 use Rattle.tree_disk.specs.declared.disk.Look.{Look}
 use Rattle.tree_disk.specs.declared.disk.Look.TheVariants as look
 use Rattle.tree_disk.specs.Tree.{Name, Tree}
-use Rattle.tree_disk.specs.Rows.{is_dir_at}
 use Rattle.tree_disk.specs.Disk.{DiskModel, HasRead}
 use Rattle.journal_log.specs.declared.put.Put.{Put}
 use Rattle.journal_log.specs.Own.{log}
 use Rattle.journal_log.specs.Targets.{is_target}
-use Rattle.tree_journal.specs.CanBePut.{AllCanBePut}
+use Rattle.tree_journal.specs.CanBePut.{AllCanBePut, IsClearBelow}
 use Rattle.tree_journal.specs.Recovery.{HoldsLog, IsFirstBlocked, HasBlockedLog, HasDamagedLog}
 
 -- Why calls of a disk stop: a fault, or want of memory.
@@ -55,14 +52,6 @@ pub record IsChild (path last child : Name) : Type 0 where
   pub not_root : child ≢ root
   pub longer : length path < length child
   pub short : length child ≤ 1024
-
--- each path above that isn't a target is a directory
-abbrev pub HasWay : List Put → Tree → Name → Type 0
-HasWay puts tree path = (q : Name) → IsTrue (is_path q) → IsTrue (is_below q path) → is_target puts q ≡ false → IsTrue (is_dir_at tree q)
-
--- no name that isn't a target stands below
-abbrev pub IsClearBelow : List Put → Tree → Name → Type 0
-IsClearBelow puts tree path = (q : Name) → IsTrue (is_below path q) → is_target puts q ≡ false → get tree q ≡ None
 
 -- these names directly below a path are targets, and no name that isn't one stands below them
 abbrev pub AreClear : List Put → Tree → Name → List (List ℕ) → Type 0

@@ -67,7 +67,3 @@ pub record CanReplay (puts : List Put) (tree : Tree) : Type 0 where
 pub record CanMakeDir (tree : Tree) (path : Name) : Type 0 where
   pub parent_stands : IsTrue (is_dir_at tree (parent path))
   pub clear : (get tree path ≡ None) ⊎ (is_dir_at tree path ≡ true)
-
-abbrev pub sees_dir : Look → Bool
-sees_dir (look.Dir mode) = true
-sees_dir _ = false

@@ -5,8 +5,8 @@ ghost use Rattle.cny_base.specs.Path.{is_path, join, root};
 ghost use Rattle.cny_base.specs.declared.stop.Stop.TheVariants as stop;
 ghost use Rattle.tree_disk.specs.Disk.{NamesOf};
 ghost use Rattle.tree_disk.specs.Rows.{is_dir_at};
-ghost use Rattle.tree_journal.specs.CanBePut.{CanBePut};
-ghost use Rattle.tree_journal.specs.Found.{AreClear, Finds, FindsBlocked, HasWay, IsAbove, IsAnswer, IsChild, IsClearBelow};
+ghost use Rattle.tree_journal.specs.CanBePut.{CanBePut, HasWay, IsClearBelow};
+ghost use Rattle.tree_journal.specs.Found.{AreClear, Finds, FindsBlocked, IsAbove, IsAnswer, IsChild};
 
 use crate::passes::is_dir;
 use cny_base::{Path, Stop, Text, TextFault};

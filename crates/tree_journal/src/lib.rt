@@ -9,5 +9,6 @@ mod recovery;
 mod replay;
 mod writing;
 
+pub use journal_log::{Put, Puts, Want};
 pub use recovery::recover;
 pub use writing::apply;

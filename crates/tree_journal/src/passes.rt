@@ -4,6 +4,7 @@ ghost use Rattle.std.specs.Prelude.{◌≡◌, ◌≢◌, IsTrue, OnOk, Some};
 ghost use Rattle.std.specs.FinMap.{get};
 ghost use Rattle.cny_base.specs.Path.{parent};
 ghost use Rattle.cny_base.specs.declared.node.Node.TheVariants as node;
+ghost use Rattle.tree_disk.specs.Clear.{sees_dir};
 ghost use Rattle.tree_disk.specs.Confined.{IsSynced};
 ghost use Rattle.tree_disk.specs.Disk.{one_name};
 ghost use Rattle.tree_disk.specs.Rows.{is_dir_at};
@@ -29,8 +30,9 @@ fn obstructs(want: &Want, look: &Look) -> bool
     }
 }
 
+/// Whether a directory is seen.
 pub fn is_dir(look: &Look) -> bool
-    ensures { result ≡ spec.sees_dir look.now }
+    ensures { result ≡ sees_dir look.now }
 {
     matches!(look, Look::Dir { .. })
 }

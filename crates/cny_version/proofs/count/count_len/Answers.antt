@@ -1,4 +1,4 @@
-use Rattle.std.proofs.Common.{◌≡◌, ◌+◌, ◌++◌, ◌-◌, take, drop, get_or, length, sym, ap, ◌∙◌, arith, length-append}
+use Rattle.std.proofs.Common.{◌+◌, ◌-◌, take, drop, get_or, length, sym, ap, ◌∙◌, length-append}
 use Rattle.std.specs.Fmt.{decimal}
 use Rattle.std.proofs.lemmas.List.{take_all}
 use Rattle.cny_version.proofs.CountTexts.{more_text, count_text_split}

@@ -1,5 +1,4 @@
 use Rattle.std.proofs.Common.{◌≡◌, ◌++◌, string_bytes, take}
-use Rattle.std.specs.Fmt.{decimal}
 use Rattle.cny_version.proofs.CountTexts.{more_text}
 use Rattle.cny_version.proofs.count.push_count.Given as goal
 

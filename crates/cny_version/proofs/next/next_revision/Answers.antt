@@ -2,7 +2,7 @@ use Rattle.std.proofs.Common.{◌≡◌, ◌+◌, ◌<◌, ◌^◌, [], ◌∷�
 use Rattle.std.specs.Option.{option_copied}
 use Rattle.cny_version.specs.Revision.{is_revision}
 use Rattle.cny_version.specs.Made.{filled_up}
-use Rattle.cny_version.specs.Next.{latest_count, number_to_raise, with_count}
+use Rattle.cny_version.specs.Next.{latest_count, with_count}
 use Rattle.cny_version.proofs.NextCounts.{latest_is, fits_latest, raised_is_count, counted_fits}
 use Rattle.cny_version.proofs.next.next_revision.Goals as goal
 

@@ -1,4 +1,4 @@
-use Rattle.std.proofs.Common.{◌≡◌, length, sym, ap, ◌∙◌, arith}
+use Rattle.std.proofs.Common.{length, ap, arith}
 use Rattle.cny_version.proofs.Scans.{end_oversized}
 use Rattle.cny_version.proofs.read.last_version.Goals as goal
 

@@ -2,7 +2,7 @@ use Rattle.std.proofs.Common.{◌≡◌, ◌≤◌, true, false, eqb, length, No
 use Rattle.std.specs.Option.{is_some}
 use Rattle.cny_version.specs.Version.{branch_text}
 use Rattle.cny_version.specs.Made.{shadowed}
-use Rattle.cny_version.specs.Reading.{Gives, size_found, step_to}
+use Rattle.cny_version.specs.Reading.{Gives, size_found}
 use Rattle.cny_version.specs.Slices.{parts_of}
 use Rattle.cny_version.proofs.Scans.{some_of, step_oversized, branch_is, shadow_fits, shadow_is}
 use Rattle.cny_version.proofs.read.longer_branch.Goals as goal

@@ -1,6 +1,5 @@
-use Rattle.std.proofs.Common.{◌≡◌, IsTrue, length}
+use Rattle.std.proofs.Common.{◌≡◌, length}
 use Rattle.std.specs.Str.{IsUtf8}
-use Rattle.cny_version.specs.Label.{is_label}
 use Rattle.cny_version.specs.Version.{last_label}
 use Rattle.cny_version.specs.Reading.{pieces, version_on, version_found}
 use Rattle.cny_version.specs.Slices.{parts_of}

@@ -1,4 +1,4 @@
-use Rattle.std.proofs.Common.{◌≡◌, ◌+◌, sym, ap, ◌∙◌, subst, arith, rules, None}
+use Rattle.std.proofs.Common.{◌+◌, sym, ap, ◌∙◌, subst, arith, rules}
 use Rattle.std.specs.Option.{is_some}
 use Rattle.cny_version.specs.Reading.{version_found}
 use Rattle.cny_version.specs.Slices.{parts_of}

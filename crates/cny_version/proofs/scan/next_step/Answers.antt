@@ -1,6 +1,4 @@
-use Rattle.std.proofs.Common.{◌≡◌, None, sym, ap, ◌∙◌, arith}
-use Rattle.std.proofs.lemmas.Grind.{common_steps}
-use Rattle.cny_version.specs.Reading.{label_found}
+use Rattle.std.proofs.Common.{sym}
 use Rattle.cny_version.specs.Slices.{parts_of}
 use Rattle.cny_version.proofs.Scans.{no_label_behind, bad_label}
 use Rattle.cny_version.proofs.scan.next_step.Goals as goal

@@ -1,6 +1,6 @@
 use Rattle.std.proofs.Common.{ap, refl, sym, ◌∙◌}
 use Rattle.tree_disk.specs.StepLaws.{tests_value, makes_after_test}
-use Rattle.tree_journal.specs.Passes.{sees_dir}
+use Rattle.tree_disk.specs.Clear.{sees_dir}
 use Rattle.tree_journal.proofs.MakePass.{dir_seen, may_set_dir_mode, with_dir_mode, may_make_missing_dir}
 use Rattle.tree_journal.proofs.passes.make_dir_at.Goals as goal
 

@@ -13,7 +13,7 @@ use Rattle.std.proofs.Common.{⊎_elim}
 use Rattle.tree_journal.specs.Apply.{is_own_or_target}
 use Rattle.tree_journal.specs.Steps.{is_base_or_log, is_gate_or_target, committed, IsPrepared, IsOldOrNew}
 use Rattle.tree_journal.proofs.OwnNames.{gate_part, log_part, base_or_log_own, in_gate}
-use Rattle.tree_journal.proofs.Applying.{nothing_yet, may_prepare, first_part, second_part, all_applied, is_prepared, on_ok_end}
+use Rattle.tree_journal.proofs.Applying.{nothing_yet, may_prepare, first_part, second_part, stopped_at_once, stopped_first, stopped_second, on_err, all_applied, is_prepared, on_ok_end}
 use Rattle.tree_journal.proofs.writing.apply.Goals as goal
 
 log_within : (base : Name) (puts : List Put) (q : Name) → IsTrue (is_base_or_log base q) → IsTrue (is_own_or_target base puts q)
@@ -29,19 +29,28 @@ pub own_path-requires-2-clause-part : goal.own_path-requires-2-clause-part
 own_path-requires-2-clause-part g c = log_part
 
 pub returns-in_err-gate_path-clause-any_moment : goal.returns-in_err-gate_path-clause-any_moment
-returns-in_err-gate_path-clause-any_moment g c = λ tells. nothing_yet _ g.met.D.TreeDisk.laws c.args.base.now c.args.puts.now c.args.disk.now
+returns-in_err-gate_path-clause-any_moment g c = λ tells. nothing_yet _ g.met.D.TreeDisk.laws c.args.base.now c.args.puts.now c.args.disk.now (c.requires.told tells)
+
+pub returns-in_err-gate_path-clause-stopped : goal.returns-in_err-gate_path-clause-stopped
+returns-in_err-gate_path-clause-stopped g c = λ tells. on_err _ (stopped_at_once _ c.args.base.now c.args.puts.now c.args.disk.now (c.requires.told tells))
 
 pub returns-in_err-gate_path-clause-confined : goal.returns-in_err-gate_path-clause-confined
 returns-in_err-gate_path-clause-confined g c = λ tells. confined_start g.met.D.TreeDisk.laws _ c.args.disk.now
 
 pub returns-in_err-log_path-clause-any_moment : goal.returns-in_err-log_path-clause-any_moment
-returns-in_err-log_path-clause-any_moment g c = λ tells. nothing_yet _ g.met.D.TreeDisk.laws c.args.base.now c.args.puts.now c.args.disk.now
+returns-in_err-log_path-clause-any_moment g c = λ tells. nothing_yet _ g.met.D.TreeDisk.laws c.args.base.now c.args.puts.now c.args.disk.now (c.requires.told tells)
+
+pub returns-in_err-log_path-clause-stopped : goal.returns-in_err-log_path-clause-stopped
+returns-in_err-log_path-clause-stopped g c = λ tells. on_err _ (stopped_at_once _ c.args.base.now c.args.puts.now c.args.disk.now (c.requires.told tells))
 
 pub returns-in_err-log_path-clause-confined : goal.returns-in_err-log_path-clause-confined
 returns-in_err-log_path-clause-confined g c = λ tells. confined_start g.met.D.TreeDisk.laws _ c.args.disk.now
 
 pub returns-in_err-log-clause-any_moment : goal.returns-in_err-log-clause-any_moment
-returns-in_err-log-clause-any_moment g c = λ tells. nothing_yet _ g.met.D.TreeDisk.laws c.args.base.now c.args.puts.now c.args.disk.now
+returns-in_err-log-clause-any_moment g c = λ tells. nothing_yet _ g.met.D.TreeDisk.laws c.args.base.now c.args.puts.now c.args.disk.now (c.requires.told tells)
+
+pub returns-in_err-log-clause-stopped : goal.returns-in_err-log-clause-stopped
+returns-in_err-log-clause-stopped g c = λ tells. on_err _ (stopped_at_once _ c.args.base.now c.args.puts.now c.args.disk.now (c.requires.told tells))
 
 pub returns-in_err-log-clause-confined : goal.returns-in_err-log-clause-confined
 returns-in_err-log-clause-confined g c = λ tells. confined_start g.met.D.TreeDisk.laws _ c.args.disk.now
@@ -52,6 +61,10 @@ prepare-requires-clause-told g c = λ tells. may_prepare _ g.met.D.TreeDisk.laws
 pub returns-in_err-prepare-clause-any_moment : goal.returns-in_err-prepare-clause-any_moment
 returns-in_err-prepare-clause-any_moment g c = λ tells.
     first_part _ g.met.D.TreeDisk.laws c.args.base.now c.own_path.ensures.base c.args.puts.now c.get.result.now _ (c.requires.told tells) _ (c.in_err-prepare.ensures.any_moment tells)
+
+pub returns-in_err-prepare-clause-stopped : goal.returns-in_err-prepare-clause-stopped
+returns-in_err-prepare-clause-stopped g c = λ tells.
+    on_err _ (stopped_first _ g.met.D.TreeDisk.laws c.args.base.now c.own_path.ensures.base c.args.puts.now c.get.result.now _ (c.requires.told tells) _ (c.in_err-prepare.ensures.makes.outside tells))
 
 pub returns-in_err-prepare-clause-confined : goal.returns-in_err-prepare-clause-confined
 returns-in_err-prepare-clause-confined g c = λ tells. confined_wider (log_within c.args.base.now c.args.puts.now) (c.in_err-prepare.ensures.makes.confined tells)
@@ -74,6 +87,14 @@ returns-clause-any_moment g c = λ tells.
     let last = subst (λ (l : List Put). LeavesOnly disk c.prepare.new.disk c.commit.new.disk (IsOldOrNew base l (disk.reads c.prepare.new.disk))) c.get-2.ensures.value (c.commit.ensures.any_moment tells) in
     leaves_then (first_part disk laws base c.own_path.ensures.base c.args.puts.now c.get.result.now _ can _ (c.in_ok-prepare.ensures.any_moment tells))
     (second_part disk laws base c.own_path.ensures.base c.args.puts.now c.get.result.now _ can c.in_ok-log.ensures.formed.0 _ _ (c.in_ok-prepare.ensures.makes.ended tells) last)
+
+pub returns-clause-stopped : goal.returns-clause-stopped
+returns-clause-stopped g c = λ tells.
+    let disk = g.D.TreeDisk.disk in
+    let laws = g.met.D.TreeDisk.laws in
+    let base = c.args.base.now in
+    let last = subst (λ (l : List Put). LeavesOnly disk c.prepare.new.disk c.commit.new.disk (IsOldOrNew base l (disk.reads c.prepare.new.disk))) c.get-2.ensures.value (c.commit.ensures.any_moment tells) in
+    on_err _ (stopped_second disk laws base c.own_path.ensures.base c.args.puts.now c.get.result.now _ (c.requires.told tells) c.in_ok-log.ensures.formed.0 _ _ (c.in_ok-prepare.ensures.makes.ended tells) last)
 
 pub returns-clause-applied : goal.returns-clause-applied
 returns-clause-applied g c = λ tells.

@@ -1,4 +1,4 @@
-use Rattle.std.proofs.Common.{◌∷◌, ◌++◌, sym, ap, ◌∙◌}
+use Rattle.std.proofs.Common.{◌∷◌, ◌++◌, ap, ◌∙◌}
 use Rattle.cny_version.proofs.BranchSteps.{kept_at}
 use Rattle.cny_version.proofs.branch.Branch.at.Goals as goal
 

@@ -1,5 +1,4 @@
 use Rattle.std.proofs.Common.{◌≡◌, [], ◌∷◌, ◌++◌, ◌≤◌, true, length, string_bytes, List, ℕ, sym, ap, ◌∙◌, subst, append_assoc, lit<}
-use Rattle.cny_version.specs.Label.{label_text}
 use Rattle.cny_version.specs.Revision.{revision_text, is_revision}
 use Rattle.cny_version.specs.Version.{WholeBranch, branch_text, depth}
 use Rattle.cny_version.specs.Made.{branched}

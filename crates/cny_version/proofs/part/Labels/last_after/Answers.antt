@@ -1,4 +1,4 @@
-use Rattle.std.proofs.Common.{◌≡◌, ap, ◌∙◌, Bor}
+use Rattle.std.proofs.Common.{ap, ◌∙◌, Bor}
 use Rattle.cny_version.specs.Label.{LabelParts}
 use Rattle.cny_version.specs.Version.{last_of}
 use Rattle.cny_version.proofs.BranchSteps.{last_found}

@@ -1,4 +1,4 @@
-use Rattle.std.proofs.Common.{◌≡◌, true, sym, ap, ◌∙◌, arith}
+use Rattle.std.proofs.Common.{◌≡◌, true, arith}
 use Rattle.std.specs.Option.{is_some}
 use Rattle.cny_version.specs.Reading.{version_found}
 use Rattle.cny_version.proofs.Exact.{reads_from_gives}

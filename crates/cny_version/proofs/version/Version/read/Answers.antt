@@ -1,4 +1,4 @@
-use Rattle.std.proofs.Common.{◌≡◌, false, subst}
+use Rattle.std.proofs.Common.{false, subst}
 use Rattle.cny_version.specs.Version.{IsVersion}
 use Rattle.cny_version.specs.Filled.{filled, IsAbbreviationOf}
 use Rattle.cny_version.specs.Reading.{version_found}

@@ -1,4 +1,4 @@
-use Rattle.std.proofs.Common.{◌≡◌, true, sym, ap, ◌∙◌, subst, arith}
+use Rattle.std.proofs.Common.{◌≡◌, true, sym, subst, arith}
 use Rattle.cny_version.specs.Revision.{is_revision}
 use Rattle.cny_version.specs.Version.{depth}
 use Rattle.cny_version.specs.Made.{shadowed}
