@@ -1,0 +1,5 @@
+pub mod Cuts
+pub mod VersionBytes
+pub mod FlavorLength
+pub mod Fields
+pub mod Reading

@@ -1,0 +1,3 @@
+pub mod Id
+pub mod Order
+pub mod Parts
