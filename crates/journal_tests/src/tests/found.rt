@@ -59,7 +59,7 @@ const FOUND: [(Table<'static>, Finds); 12] = [
         ],
         Finds::Damaged(LOG),
     ),
-    // Two bytes, none, another byte, a directory, and a link, also to such a file, are no commit flag that is set.
+    // Two bytes, none, a directory, another byte, and a link to a file of the byte `O` are no commit flag that is set.
     (
         &[
             ("/", Dir(0o755)),
