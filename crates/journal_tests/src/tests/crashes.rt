@@ -1,5 +1,5 @@
 // Write sets that are cut off after each number of calls, left as a crash may leave them, and recovered.
-use super::runs::{MANY, apply_up_to, recover_up_to};
+use super::runs::{GATE, MANY, apply_up_to, recover_up_to};
 use super::trees::Stands::{Dir, File, Link, Nothing};
 use super::trees::{Stands, Table, all_stand};
 use std::alloc::Global;
@@ -66,29 +66,39 @@ const BEFORE_SYNC: u32 = 15;
 // Of two unsynced names the first reads as it did, and the second is torn.
 const SECOND_TORN: u64 = 0b11_00;
 
+// Each digit of the number is 1: all unsynced names are as at the last sync.
+const AS_SYNCED: u64 = 0x5555_5555_5555_5555;
+
+// What a crash leaves where the component is put and cut off after so many calls.
+fn crash_after(alloc: Global, calls: u32, pick: u64) -> Result<MemoryTree, Fail> {
+    let cut = apply_up_to(alloc, &FIXED, &COMPONENT, calls)?;
+    if cut.is_done {
+        return Err(Fail::from("a write set that isn't cut off"));
+    }
+    Ok(cut.tree.crash(alloc, pick)?)
+}
+
+// Whether a recovery says so of the commit flag, and leaves this.
+fn recovers_to(
+    alloc: Global,
+    tree: &MemoryTree,
+    was_committed: bool,
+    table: Table,
+) -> Result<bool, Fail> {
+    let ended = recover_up_to(alloc, tree, 0, MANY)?;
+    Ok(ended.was_committed == Some(was_committed) && all_stand(alloc, &ended.tree, table)?)
+}
+
+// One crash comes before the flag is written, the other after it is kept.
 #[test]
 fn crash_around_commit_flag(rt: HostRuntime) -> Result<(), Fail> {
     let alloc = rt.alloc();
-    let cut = apply_up_to(alloc, &FIXED, &COMPONENT, BEFORE_SYNC)?;
-    assert!(rt; !cut.is_done);
-    let image = cut.tree.crash(alloc, SECOND_TORN)?;
-    assert!(rt; all_stand(alloc, &image, &TORN)?);
-    let ended = recover_up_to(alloc, &image, 0, MANY)?;
-    assert!(rt; ended.was_committed == Some(true));
-    assert!(rt; all_stand(alloc, &ended.tree, &COMPONENT)?);
-    Ok(())
-}
-
-#[test]
-fn crash_before_commit_flag(rt: HostRuntime) -> Result<(), Fail> {
-    let alloc = rt.alloc();
-    let cut = apply_up_to(alloc, &FIXED, &COMPONENT, BEFORE_FLAG)?;
-    assert!(rt; !cut.is_done);
-    for pick in PICKS {
-        let ended = recover_up_to(alloc, &cut.tree, pick, MANY)?;
-        assert!(rt; ended.was_committed == Some(false));
-        assert!(rt; all_stand(alloc, &ended.tree, &NO_COMPONENT)?);
-    }
+    let before = crash_after(alloc, BEFORE_FLAG, AS_SYNCED)?;
+    assert!(rt; all_stand(alloc, &before, &NO_COMPONENT)?);
+    assert!(rt; recovers_to(alloc, &before, false, &NO_COMPONENT)?);
+    let after = crash_after(alloc, BEFORE_SYNC, SECOND_TORN)?;
+    assert!(rt; all_stand(alloc, &after, &TORN)?);
+    assert!(rt; recovers_to(alloc, &after, true, &COMPONENT)?);
     Ok(())
 }
 
@@ -124,8 +134,16 @@ fn each_image_recovers(rt: HostRuntime) -> Result<(), Fail> {
     Ok(())
 }
 
-// All unsynced names as they read; the first as at the last sync; the first 16 torn.
-const PICKS: [u64; 3] = [0, 1, 4_294_967_295];
+// All unsynced names as they read.
+const AS_READ: u64 = 0;
+
+// The first, and each 32nd after it, as at the last sync, and the rest as they read.
+const FIRST_AS_SYNCED: u64 = 1;
+
+// The first 16, and 16 of each 32 after them, torn, and the rest as they read.
+const FIRST_TORN: u64 = 4_294_967_295;
+
+const PICKS: [u64; 4] = [AS_READ, FIRST_AS_SYNCED, FIRST_TORN, AS_SYNCED];
 
 // There is no base. A directory with a file in it is to go, a file becomes a directory and a directory a link, a file is
 // new, and another file stays.
@@ -172,6 +190,8 @@ const AFTER: [(&str, Stands<'static>); 9] = [
     ("/var", Dir(0o755)),
     ("/var/lib", Dir(0o755)),
 ];
+
+const NO_FLAG: [(&str, Stands<'static>); 1] = [(GATE, Nothing)];
 
 // How often runs were cut off, and what was found after the last recovery.
 #[derive(Clone, Copy, Debug)]
@@ -225,23 +245,24 @@ fn recover_each(
     Err(Fail::from("a recovery without an end"))
 }
 
-fn crash_each(alloc: Global, tree: &MemoryTree, counts: &mut Counts) -> Result<(), Fail> {
+// After Ok nothing is left to recovery: each crash leaves the tree after, with no commit flag.
+fn is_kept(alloc: Global, tree: &MemoryTree) -> Result<(), Fail> {
     for pick in PICKS {
-        recover_each(alloc, tree, pick, counts)?;
+        let image = tree.crash(alloc, pick)?;
+        if !all_stand(alloc, &image, &AFTER)? || !all_stand(alloc, &image, &NO_FLAG)? {
+            return Err(Fail::from("a write set that isn't kept"));
+        }
     }
     Ok(())
 }
 
-// Applies the write set, cut off after each number of calls.
-fn apply_each(alloc: Global, counts: &mut Counts) -> Result<(), Fail> {
+// Applies the write set, cut off after each number of calls, each time with the crash that a number picks.
+fn apply_each(alloc: Global, pick: u64, counts: &mut Counts) -> Result<(), Fail> {
     for calls in 0..MANY {
         let cut = apply_up_to(alloc, &START, &PUTS, calls)?;
-        crash_each(alloc, &cut.tree, counts)?;
+        recover_each(alloc, &cut.tree, pick, counts)?;
         if cut.is_done {
-            return match is_after(alloc, &cut.tree, &BEFORE, &AFTER)? {
-                true => Ok(()),
-                false => Err(Fail::from("nothing is applied")),
-            };
+            return is_kept(alloc, &cut.tree);
         }
         counts.applies_cut = counts.applies_cut.saturating_add(1);
     }
@@ -251,17 +272,40 @@ fn apply_each(alloc: Global, counts: &mut Counts) -> Result<(), Fail> {
 // The write set makes 17 calls that change something or sync: a sync; the base is made; the log, and a sync; the flag, and
 // a sync (the 6th); 4 nodes are removed; 4 calls make the targets; a sync (the 15th); the flag is removed, and a sync.
 //
-// From the 6th to the 15th of them on the flag is set in the images of all three picks. Then a recovery makes at least 13
+// From the 6th to the 15th of them on the flag is set in the image, whatever is picked. Then a recovery makes at least 13
 // calls: a sync, two that read the flag, two that read the log, a look at each of the 5 targets, a sync, the removal of the
-// flag, and a sync. It is cut off after each of fewer, and each time three crashes are recovered from. Until the 4th the flag
+// flag, and a sync. It is cut off after each of fewer, and each time four crashes are recovered from. Until the 4th the flag
 // isn't set, and a recovery makes two calls.
-#[test]
-fn one_of_two_trees_is_found(rt: HostRuntime) -> Result<(), Fail> {
+fn one_of_two_trees_is_found(alloc: Global, pick: u64) -> Result<bool, Fail> {
     let mut counts = NONE_YET;
-    apply_each(rt.alloc(), &mut counts)?;
-    assert!(rt; counts.applies_cut >= 17);
-    assert!(rt; counts.recoveries_cut >= 10 * 3 * 13);
-    assert!(rt; counts.found_after >= 10 * 3 * 13 * 3);
-    assert!(rt; counts.found_before >= 5 * 3 * 3 * 3);
+    apply_each(alloc, pick, &mut counts)?;
+    let are_cut = counts.applies_cut >= 17 && counts.recoveries_cut >= 10 * 13;
+    let are_found = counts.found_after >= 10 * 13 * 4 && counts.found_before >= 5 * 3 * 4;
+    Ok(are_cut && are_found)
+}
+
+// A test for each pick, since they take a while.
+
+#[test]
+fn one_of_two_trees_as_read(rt: HostRuntime) -> Result<(), Fail> {
+    assert!(rt; one_of_two_trees_is_found(rt.alloc(), AS_READ)?);
+    Ok(())
+}
+
+#[test]
+fn one_of_two_trees_first_as_synced(rt: HostRuntime) -> Result<(), Fail> {
+    assert!(rt; one_of_two_trees_is_found(rt.alloc(), FIRST_AS_SYNCED)?);
+    Ok(())
+}
+
+#[test]
+fn one_of_two_trees_first_torn(rt: HostRuntime) -> Result<(), Fail> {
+    assert!(rt; one_of_two_trees_is_found(rt.alloc(), FIRST_TORN)?);
+    Ok(())
+}
+
+#[test]
+fn one_of_two_trees_as_synced(rt: HostRuntime) -> Result<(), Fail> {
+    assert!(rt; one_of_two_trees_is_found(rt.alloc(), AS_SYNCED)?);
     Ok(())
 }

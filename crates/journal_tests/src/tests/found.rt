@@ -1,7 +1,7 @@
 // What recovery finds on disks that no crash left.
 use super::disk::QuietDisk;
-use super::runs::BASE;
-use super::trees::Stands::{Dir, File};
+use super::runs::{BASE, GATE, LOG};
+use super::trees::Stands::{Dir, File, Link};
 use super::trees::{Table, all_stand, tree_of};
 use cny_base::{Path, Refusal, Stop, TextFault};
 use std::alloc::Global;
@@ -17,10 +17,6 @@ enum Finds {
     Parent(&'static str),
 }
 
-const GATE: &str = "/var/lib/conarydb/gate";
-
-const LOG: &str = "/var/lib/conarydb/log";
-
 // A log of one file, `/opt/a/x` of mode 0644 and the byte `x`.
 const ONE_FILE: &[u8] = b"CNYLG01\n\x33\0\0\0\x0d\x01\xa4\0\x08/opt/a/xx\x3f\0\0\0\x04\0\0\0\x01";
 
@@ -28,7 +24,7 @@ const ONE_FILE: &[u8] = b"CNYLG01\n\x33\0\0\0\x0d\x01\xa4\0\x08/opt/a/xx\x3f\0\0
 const CUT_OFF: &[u8] = b"CNYLG01\n\x33\0\0\0\x0d\x01\xa4\0\x08/opt/a/xx\x3f\0\0\0\x04\0\0\0";
 
 // Trees, and what recovery finds in each. It changes nothing there.
-const FOUND: [(Table<'static>, Finds); 9] = [
+const FOUND: [(Table<'static>, Finds); 12] = [
     (&[("/", Dir(0o755))], Finds::Flag(false)),
     // The flag is set, and there is no log, an empty one, or one that is cut off.
     (
@@ -63,7 +59,7 @@ const FOUND: [(Table<'static>, Finds); 9] = [
         ],
         Finds::Damaged(LOG),
     ),
-    // Two bytes, none, and a directory are no commit flag that is set.
+    // Two bytes, none, a directory, another byte, and a link to a file of the byte `O` are no commit flag that is set.
     (
         &[
             ("/", Dir(0o755)),
@@ -96,6 +92,45 @@ const FOUND: [(Table<'static>, Finds); 9] = [
             (LOG, File(0o600, ONE_FILE)),
         ],
         Finds::Flag(false),
+    ),
+    (
+        &[
+            ("/", Dir(0o755)),
+            ("/var", Dir(0o755)),
+            ("/var/lib", Dir(0o755)),
+            (BASE, Dir(0o755)),
+            (GATE, File(0o600, b"o")),
+            (LOG, File(0o600, ONE_FILE)),
+        ],
+        Finds::Flag(false),
+    ),
+    (
+        &[
+            ("/", Dir(0o755)),
+            ("/o", File(0o600, b"O")),
+            ("/var", Dir(0o755)),
+            ("/var/lib", Dir(0o755)),
+            (BASE, Dir(0o755)),
+            (GATE, Link("/o")),
+            (LOG, File(0o600, ONE_FILE)),
+        ],
+        Finds::Flag(false),
+    ),
+    // A name that isn't in the log stands below the log's file.
+    (
+        &[
+            ("/", Dir(0o755)),
+            ("/opt", Dir(0o755)),
+            ("/opt/a", Dir(0o755)),
+            ("/opt/a/x", Dir(0o755)),
+            ("/opt/a/x/y", File(0o644, b"y")),
+            ("/var", Dir(0o755)),
+            ("/var/lib", Dir(0o755)),
+            (BASE, Dir(0o755)),
+            (GATE, File(0o600, b"O")),
+            (LOG, File(0o600, ONE_FILE)),
+        ],
+        Finds::Parent("/opt/a/x"),
     ),
     // The directory of the log's file is gone, or became a file.
     (

@@ -12,6 +12,12 @@ use tree_memory::MemoryTree;
 /// The private directory of the journal.
 pub const BASE: &str = "/var/lib/conarydb";
 
+/// The file of the commit flag.
+pub const GATE: &str = "/var/lib/conarydb/gate";
+
+/// The file of the log.
+pub const LOG: &str = "/var/lib/conarydb/log";
+
 /// More calls than any of the runs makes.
 pub const MANY: u32 = 1000;
 
