@@ -53,7 +53,7 @@ impl Flavor {
     }
 
     /// The flavor that a relaxed text spells: words in any order, and more or fewer spaces than in the canonical text.
-    /// `Bad` exactly where the text spells none.
+    /// `Bad` only where the text spells none; want of memory may be answered there instead.
     pub fn read(alloc: Global, text: &str) -> Result<Self, TextFault>
         // What is read is spelled so.
         ensures found { IfOk result (λ flavor. IsRelaxedText text.now flavor) }
@@ -68,7 +68,7 @@ impl Flavor {
         Ok(Flavor { parts, text })
     }
 
-    /// The flavor with this canonical text. `Bad` exactly where there is none.
+    /// The flavor with this canonical text. `Bad` only where there is none; want of memory may be answered there instead.
     pub fn read_whole(alloc: Global, text: &str) -> Result<Self, TextFault>
         // What is read is written so.
         ensures found { IfOk result (λ flavor. IsCanonicalText text.now flavor) }

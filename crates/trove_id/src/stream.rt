@@ -91,7 +91,8 @@ fn id_of_bytes(
     id_of_texts(alloc, name, version, flavor)
 }
 
-/// The id whose bytes begin at `at`, and its end. `Bad` exactly where none begins there.
+/// The id whose bytes begin at `at`, and its end. `Bad` only where none begins there; want of memory may be answered then
+/// instead.
 pub fn next_id(alloc: Global, bytes: &[u8], at: usize) -> Result<IdAt, TextFault>
     requires { at ≤ length bytes.now }
     ensures found { IfOk result (λ found. IsIdAt bytes.now at found.id found.to) }

@@ -76,7 +76,8 @@ fn version_and_flavor(text: &str) -> Option<(&str, &str)>
     }
 }
 
-/// The id with this text. `Bad` exactly where the text is that of none: a text with `[]` is none's.
+/// The id with this text. `Bad` only where the text is that of none, where want of memory may be answered instead. A text
+/// with `[]` is none's.
 pub fn read_id(alloc: Global, text: &str) -> Result<TroveId, TextFault>
     ensures value { IfOk result (λ id. text.now ≡ id_text_of id) }
     ensures ok { IfOk result IsTroveId }
