@@ -1,0 +1,5 @@
+mod Rising
+mod Taking
+mod Writing
+mod Lengths
+mod Fields

@@ -1,0 +1,37 @@
+-- What a trove records of its paths.
+use Rattle.std.specs.Prelude.{ℕ, IsTrue, List, ◌++◌}
+use Rattle.std.specs.Cmp.Lexicographic.{slice_cmp}
+use Rattle.std.specs.Ordering.{nat_cmp}
+use Rattle.std.specs.declared.cmp.Ordering.{Ordering}
+use Rattle.cny_base.specs.Path.{is_path}
+use Rattle.cny_base.specs.StrField.{str}
+use Rattle.file_stream.specs.Record.{FitsSize, IsFileRecord, file_record_bytes}
+use Rattle.trove_items.specs.declared.files.FileAt.{FileAt}
+use Rattle.trove_items.specs.Items.{items_bytes, IsRisingList}
+
+-- a path, and a file record
+pub record IsFileAt (file : FileAt) : Type 0 where
+  pub path : IsTrue (is_path file.path)
+  pub rec : IsFileRecord file.rec
+
+-- a file's size is within its limit
+abbrev pub FitsFile : FileAt → Type 0
+FitsFile file = FitsSize file.rec
+
+-- the path as a field, and the record
+abbrev pub file_value : FileAt → List ℕ
+file_value file = str file.path ++ file_record_bytes file.rec
+
+abbrev pub path_of : FileAt → List ℕ
+path_of file = file.path
+
+-- by the bytes of the paths
+abbrev pub file_cmp : FileAt → FileAt → Ordering
+file_cmp a b = slice_cmp nat_cmp (path_of a) (path_of b)
+
+-- at most so many, their paths strictly rising
+abbrev pub AreFiles : ℕ → List FileAt → Type 0
+AreFiles limit files = IsRisingList IsFileAt file_cmp limit files
+
+abbrev pub files_bytes : ℕ → List FileAt → List ℕ
+files_bytes tag files = items_bytes file_value tag files

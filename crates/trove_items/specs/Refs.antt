@@ -1,0 +1,13 @@
+-- Lists of ids.
+use Rattle.std.specs.Prelude.{ℕ, List}
+use Rattle.trove_id.specs.declared.id.TroveId.{TroveId}
+use Rattle.trove_id.specs.Id.{IsTroveId, id_bytes}
+use Rattle.trove_id.specs.Order.{id_cmp}
+use Rattle.trove_items.specs.Items.{items_bytes, IsRisingList}
+
+-- at most so many, strictly rising by name, version text and flavor text
+abbrev pub AreRefs : ℕ → List TroveId → Type 0
+AreRefs limit refs = IsRisingList IsTroveId id_cmp limit refs
+
+abbrev pub refs_bytes : ℕ → List TroveId → List ℕ
+refs_bytes tag refs = items_bytes id_bytes tag refs

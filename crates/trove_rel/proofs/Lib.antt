@@ -1,0 +1,5 @@
+mod Merging
+mod Equal
+mod Parts
+mod Handed
+mod Whole

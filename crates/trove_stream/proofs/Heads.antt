@@ -1,0 +1,98 @@
+-- The items of an id's texts, and the id that has them.
+use Rattle.std.proofs.Common.{◌≡◌, ℕ, ◌+◌, ◌<◌, ◌≤◌, ◌^◌, List, [], ◌∷◌, ◌++◌, length, drop, refl, sym, ap, ◌∙◌, arith, append_assoc, append-nil, length-append}
+use Rattle.std.specs.Int.{w16, w32, to_be_bytes, from_be_bytes}
+use Rattle.std.proofs.Math.Seq.{drop-append_seam}
+use Rattle.std.proofs.lemmas.List.{drop-drop}
+use Rattle.std.proofs.lemmas.Nat.{from_be_bytes-to_be_bytes_2}
+use Rattle.cny_base.specs.StrField.{FitsStr, str}
+use Rattle.cny_flavor.specs.Canonical.{flavor_text}
+use Rattle.cny_stream.specs.Item.{item_bytes}
+use Rattle.cny_stream.specs.ItemLaws.{same_front, same_item}
+use Rattle.cny_version.specs.Version.{version_text}
+use Rattle.trove_id.specs.declared.id.TroveId.{TroveId}
+use Rattle.trove_id.specs.Id.{IsTroveId, id_bytes, IsIdAt}
+use Rattle.trove_id.specs.Parts.{AreTextsOf, three_strs}
+use Rattle.trove_stream.specs.declared.head.HeadItems.{HeadItems}
+use Rattle.trove_stream.specs.Head.{name_in, version_in, flavor_in, AreHeadItems}
+use Rattle.trove_stream.specs.Stream.{three_items, head_bytes}
+
+pub three_and : (a b c rest : List ℕ) → three_items a b c ++ rest ≡ item_bytes 1 a ++ (item_bytes 2 b ++ (item_bytes 3 c ++ rest))
+three_and a b c rest = append_assoc (item_bytes 1 a) (item_bytes 2 b ++ item_bytes 3 c) rest ∙ ap (λ l. item_bytes 1 a ++ l) (append_assoc (item_bytes 2 b) (item_bytes 3 c) rest)
+
+-- what stands behind the item that begins there
+pub behind_item : (bytes : List ℕ) (at to tag : ℕ) (value rest : List ℕ) → drop at bytes ≡ item_bytes tag value ++ rest → to ≡ at + 5 + length value → drop to bytes ≡ rest
+behind_item bytes at to tag value rest is end =
+    let long : length (item_bytes tag value) ≡ 5 + length value = length-append (tag ∷ to_be_bytes w32 (length value)) value in
+    let place : to ≡ at + length (item_bytes tag value) = omega arith in
+    ap (λ (n : ℕ). drop n bytes) place ∙ sym (drop-drop (length (item_bytes tag value)) at bytes) ∙ ap (drop (length (item_bytes tag value))) is ∙ drop-append_seam (item_bytes tag value) rest
+
+-- ---- how long the texts of an id are
+
+-- each has at most as many bytes as the id
+pub record AreShort (id : TroveId) : Type 0 where
+  pub name : length id.name ≤ 17290
+  pub version : length (version_text id.version) ≤ 17290
+  pub flavor : length (flavor_text id.flavor) ≤ 17290
+
+str_length : (value : List ℕ) → length (str value) ≡ 2 + length value
+str_length value = length-append (to_be_bytes w16 (length value)) value
+
+pub texts_short : (id : TroveId) → length (id_bytes id) ≤ 17290 → AreShort id
+texts_short id short =
+    let first = length-append (str id.name) (str (version_text id.version) ++ str (flavor_text id.flavor)) in
+    let second = length-append (str (version_text id.version)) (str (flavor_text id.flavor)) in
+    let name = str_length id.name in
+    let version = str_length (version_text id.version) in
+    let flavor = str_length (flavor_text id.flavor) in
+    record { name = omega arith; version = omega arith; flavor = omega arith }
+
+pub fits_item : (n : ℕ) → n ≤ 17290 → n < 2 ^ 32
+fits_item n short = omega arith
+
+pub fits_str : (n : ℕ) → n ≤ 17290 → n < 2 ^ 16
+fits_str n short = omega arith
+
+-- ---- the items of an id
+
+pub there : (bytes : List ℕ) (items : HeadItems) (id : TroveId) (rest : List ℕ) → AreHeadItems bytes items → IsTroveId id → length (id_bytes id) ≤ 17290 → bytes ≡ head_bytes id ++ rest
+    → AreTextsOf id (name_in bytes items) (version_in bytes items) (flavor_in bytes items) × (drop items.flavor.to bytes ≡ rest)
+there bytes items id rest are valid short same =
+    let texts = texts_short id short in
+    let v = version_text id.version in
+    let f = flavor_text id.flavor in
+    let behind = drop items.flavor.to bytes in
+    let one = same_item 1 1 (name_in bytes items) id.name (item_bytes 2 (version_in bytes items) ++ (item_bytes 3 (flavor_in bytes items) ++ behind)) (item_bytes 2 v ++ (item_bytes 3 f ++ rest)) are.name_fits
+    (fits_item (length id.name) texts.name) (sym (three_and (name_in bytes items) (version_in bytes items) (flavor_in bytes items) behind) ∙ sym are.spelled ∙ same ∙ three_and id.name v f rest) in
+    let two = same_item 2 2 (version_in bytes items) v (item_bytes 3 (flavor_in bytes items) ++ behind) (item_bytes 3 f ++ rest) are.version_fits (fits_item (length v) texts.version) one.rests in
+    let three = same_item 3 3 (flavor_in bytes items) f behind rest are.flavor_fits (fits_item (length f) texts.flavor) two.rests in
+    (record { valid = valid; name_is = one.values; version_is = two.values; flavor_is = three.values }, three.rests)
+
+-- ---- the id that has three texts
+
+same_str : (a b r q : List ℕ) → FitsStr a → FitsStr b → str a ++ r ≡ str b ++ q → (a ≡ b) × (r ≡ q)
+same_str a b r q a_fits b_fits e =
+    let both = same_front (to_be_bytes w16 (length a)) (to_be_bytes w16 (length b)) (a ++ r) (b ++ q) refl
+    (sym (append_assoc (to_be_bytes w16 (length a)) a r) ∙ e ∙ append_assoc (to_be_bytes w16 (length b)) b q) in
+    let lengths : length a ≡ length b = sym (from_be_bytes-to_be_bytes_2 (length a) a_fits) ∙ ap (from_be_bytes w16) both.0 ∙ from_be_bytes-to_be_bytes_2 (length b) b_fits in
+    same_front a b r q lengths both.1
+
+strs_and : (a b c rest : List ℕ) → three_strs a b c ++ rest ≡ str a ++ (str b ++ (str c ++ rest))
+strs_and a b c rest = append_assoc (str a) (str b ++ str c) rest ∙ ap (λ l. str a ++ l) (append_assoc (str b) (str c) rest)
+
+pub texts_are : (bytes name version flavor : List ℕ) (id : TroveId) (to : ℕ) → FitsStr name → FitsStr version → FitsStr flavor → bytes ≡ three_strs name version flavor
+    → length (id_bytes id) ≤ 17290 → IsIdAt bytes 0 id to → AreTextsOf id name version flavor
+texts_are bytes name version flavor id to name_fits version_fits flavor_fits same short found =
+    let texts = texts_short id short in
+    let v = version_text id.version in
+    let f = flavor_text id.flavor in
+    let behind = drop to bytes in
+    let one = same_str name id.name (str version ++ (str flavor ++ [])) (str v ++ (str f ++ behind)) name_fits (fits_str (length id.name) texts.name)
+    (sym (strs_and name version flavor []) ∙ append-nil (three_strs name version flavor) ∙ sym same ∙ found.spelled ∙ strs_and id.name v f behind) in
+    let two = same_str version v (str flavor ++ []) (str f ++ behind) version_fits (fits_str (length v) texts.version) one.1 in
+    let three = same_str flavor f [] behind flavor_fits (fits_str (length f) texts.flavor) two.1 in
+    record { valid = found.valid; name_is = one.0; version_is = two.0; flavor_is = three.0 }
+
+pub fields_are : (bytes name version flavor : List ℕ) (id : TroveId) → bytes ≡ three_strs name version flavor → AreTextsOf id name version flavor → bytes ≡ id_bytes id ++ []
+fields_are bytes name version flavor id same texts =
+    same ∙ ap (λ a. three_strs a version flavor) texts.name_is ∙ ap (λ b. three_strs id.name b flavor) texts.version_is ∙ ap (λ c. three_strs id.name (version_text id.version) c) texts.flavor_is
+    ∙ sym (append-nil (id_bytes id))

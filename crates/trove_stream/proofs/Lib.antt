@@ -1,0 +1,5 @@
+mod Barring
+mod Names
+mod Heads
+mod Lists
+mod Handing

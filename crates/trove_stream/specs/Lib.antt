@@ -1,0 +1,4 @@
+pub mod Trove
+pub mod Stream
+pub mod Reserved
+pub mod Head

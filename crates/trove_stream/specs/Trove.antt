@@ -1,0 +1,87 @@
+-- The rules of troves.
+use Rattle.std.specs.Prelude.{◌≡◌, ◌≢◌, ℕ, Bool, false, ◌-◌, ◌&&◌, ◌==◌, not, is_some, IsTrue, List, [], ◌∷◌, length, drop, codes, All}
+use Rattle.std.specs.Str.{bytes_eq}
+use Rattle.cny_base.specs.Below.{begins_with}
+use Rattle.cny_base.specs.Name.{kind_of_name}
+use Rattle.cny_base.specs.declared.name.NameKind.{NameKind}
+use Rattle.cny_base.specs.declared.name.NameKind.TheVariants.{Component, Package, Group}
+use Rattle.trove_id.specs.declared.id.TroveId.{TroveId}
+use Rattle.trove_id.specs.Id.{IsTroveId}
+use Rattle.trove_items.specs.Deps.{AreDeps}
+use Rattle.trove_items.specs.Files.{AreFiles}
+use Rattle.trove_items.specs.Refs.{AreRefs}
+use Rattle.trove_stream.specs.declared.parts.TroveParts.{TroveParts}
+
+-- ---- limits
+
+abbrev pub files_limit : ℕ
+files_limit = 65535
+
+abbrev pub refs_limit : ℕ
+refs_limit = 65535
+
+abbrev pub deps_limit : ℕ
+deps_limit = 4096
+
+-- ---- build counts
+
+-- the name ends in `:source`
+abbrev pub is_source : List ℕ → Bool
+is_source name = bytes_eq (drop (length name - 7) name) (codes ":source")
+
+-- the last revision has a build count
+abbrev pub has_build : TroveId → Bool
+has_build id = is_some id.version.revision.build
+
+-- A component whose part is `source` has no build count, and every other trove has one.
+abbrev pub HasRightBuild : TroveId → Type 0
+HasRightBuild id = has_build id ≡ not (is_source id.name)
+
+-- ---- what each kind of trove holds
+
+abbrev pub begins_with_colon : List ℕ → Bool
+begins_with_colon [] = false
+begins_with_colon (b ∷ bytes) = b == 58
+
+-- the name is the package's, a colon and more
+abbrev pub is_component_of : List ℕ → List ℕ → Bool
+is_component_of whole name = begins_with whole name && begins_with_colon (drop (length whole) name)
+
+-- the id of a component of the package, with its version and its flavor
+pub record IsComponentOf (whole id : TroveId) : Type 0 where
+  pub name : IsTrue (is_component_of whole.name id.name)
+  pub version : id.version ≡ whole.version
+  pub flavor : id.flavor ≡ whole.flavor
+
+abbrev pub HasOtherName : TroveId → TroveId → Type 0
+HasOtherName group id = id.name ≢ group.name
+
+-- nothing but references
+pub record HasRefsAlone (t : TroveParts) : Type 0 where
+  pub files : t.files ≡ []
+  pub requires : t.requires_ ≡ []
+  pub provides : t.provides ≡ []
+
+-- A component has no references. A package has its components alone, a group other troves alone.
+abbrev pub KeepsKind : NameKind → TroveParts → Type 0
+KeepsKind Component t = t.refs ≡ []
+KeepsKind Package t = HasRefsAlone t × All (IsComponentOf t.id) t.refs
+KeepsKind Group t = HasRefsAlone t × All (HasOtherName t.id) t.refs
+
+-- ---- troves
+
+-- an id, and lists in their order and within their limits
+pub record HasLists (t : TroveParts) : Type 0 where
+  pub id : IsTroveId t.id
+  pub files : AreFiles files_limit t.files
+  pub refs : AreRefs refs_limit t.refs
+  pub requires : AreDeps deps_limit t.requires_
+  pub provides : AreDeps deps_limit t.provides
+
+pub record KeepsRules (t : TroveParts) : Type 0 where
+  pub build : HasRightBuild t.id
+  pub kind : KeepsKind (kind_of_name t.id.name) t
+
+pub record IsTrove (t : TroveParts) : Type 0 where
+  pub lists : HasLists t
+  pub rules : KeepsRules t
