@@ -1,5 +1,5 @@
 -- The form of a manifest decides how `install` ends, and a call that ended well read its input to its end.
-use Rattle.std.proofs.Common.{◌≡◌, ℕ, ◌+◌, ◌≤◌, Bool, true, false, cond, List, [], length, Option, Some, None, Result, Ok, Err, nat_lt, refl, ap, ◌∙◌, subst, inl, inr, arith}
+use Rattle.std.proofs.Common.{◌≡◌, ◌⊎◌, ℕ, ◌+◌, ◌≤◌, Bool, true, false, cond, List, [], length, Option, Some, None, Result, Ok, Err, IfSome, nat_lt, refl, ap, ◌∙◌, subst, inl, inr, arith}
 use Rattle.std.proofs.lemmas.Bool.{le-ltb, ltb-false}
 use Rattle.std.proofs.lemmas.List.{drop_all}
 use Rattle.cny_base.specs.declared.refusal.Refusal.{Refusal}
@@ -17,14 +17,15 @@ use Rattle.conary_cli.specs.ManifestForm.{IsManifest, IsManifestText, spelling, 
 use Rattle.conary_cli.specs.ManifestReading.{manifest_at, planned_text}
 use Rattle.conary_cli.specs.ReadManifest.{refusal_of, manifest_in}
 use Rattle.conary_cli.specs.ReadManifest as reading
-use Rattle.conary_cli.specs.Call.{Effect}
+use Rattle.conary_cli.specs.Call.{Effect, IsRecoveredRoot}
+use Rattle.conary_cli.specs.Recovered.{IsRecoveredTree, EachRecovered}
 use Rattle.conary_cli.specs.Install.{◌>>=◌, fixed_dirs, read_manifest, installs, left_by, install}
-use Rattle.conary_cli.specs.Run.{CallState, or_refused, IsAnswered, ReadsToEnd}
-use Rattle.conary_cli.specs.Report.{IsAnswer}
+use Rattle.conary_cli.specs.Run.{CallState, or_refused, IsAnswered, HasRefusedLog, HasMissingDir, ReadsToEnd}
+use Rattle.conary_cli.specs.Report.{IsAnswer, status_of}
 use Rattle.conary_cli.specs.FormDecides.{IsFormRefusal, DecidesForm, FormDecides}
 use Rattle.conary_cli.proofs.Takes.{manifest_takes}
 use Rattle.conary_cli.proofs.Again.{manifest_again}
-use Rattle.conary_cli.proofs.CallEnds.{CallEnd, answers, leaves}
+use Rattle.conary_cli.proofs.CallEnds.{CallEnd, answers, leaves, settles_end, found_end}
 
 -- ---- the outcome by the form
 
@@ -55,21 +56,21 @@ outside input none = no_manifest input (manifest_at max_items input) refl none
 
 -- ---- how a call ends
 
-decides : (before after : CallState) (status : ℕ) (input : List ℕ) → IsAnswered (or_refused (install.outcome before.objects.root.tree input)) before after status → fixed_dirs before.objects.root.tree ≡ Ok tt → length input ≤ input_limit → DecidesForm input before after status
-decides before after status input is dirs le = record {
-  taken = λ m valid same. subst (λ o. IsAnswered (or_refused o) before after status) (outcome_by before.objects.root.tree input (Ok m) dirs le (spelled m input valid same)) is;
+decides : (before after : CallState) (status : ℕ) (input : List ℕ) (recovered : Tree) → IsAnswered (or_refused (install.outcome recovered input)) before after status → fixed_dirs recovered ≡ Ok tt → length input ≤ input_limit → DecidesForm input recovered before after status
+decides before after status input recovered is dirs le = record {
+  taken = λ m valid same. subst (λ o. IsAnswered (or_refused o) before after status) (outcome_by recovered input (Ok m) dirs le (spelled m input valid same)) is;
   refused = λ none.
       let out = outside input none in
-      (out.0, out.1, subst (λ o. IsAnswered (or_refused o) before after status) (outcome_by before.objects.root.tree input (Err out.0) dirs le out.2) is);
+      (out.0, out.1, subst (λ o. IsAnswered (or_refused o) before after status) (outcome_by recovered input (Err out.0) dirs le out.2) is);
 }
 
 pub form_decides : (cmd : Result Command Failure) (before after : CallState) (status : ℕ) → CallEnd cmd before after status → FormDecides cmd before after status
 form_decides (Ok command.Install) before after status end = λ told. by before.objects.input.left (λ small. answers end small told)
   where
-    by : (o : Option (List ℕ)) → (status ≤ 2 → Rattle.std.specs.Option.IfSome o (λ input. IsAnswered (or_refused (install.outcome before.objects.root.tree input)) before after status))
-        → Rattle.std.specs.Option.IfSome o (λ input. fixed_dirs before.objects.root.tree ≡ Ok tt → length input ≤ input_limit → status ≤ 2 → DecidesForm input before after status)
+    by : (o : Option (List ℕ)) → (status ≤ 2 → IfSome o (λ input. EachRecovered before.objects.root.tree (λ recovered. IsAnswered (or_refused (install.outcome recovered input)) before after status)))
+        → IfSome o (λ input. EachRecovered before.objects.root.tree (λ recovered. fixed_dirs recovered ≡ Ok tt → length input ≤ input_limit → status ≤ 2 → DecidesForm input recovered before after status))
     by None is = tt
-    by (Some input) is = λ dirs le small. decides before after status input (is small) dirs le
+    by (Some input) is = λ recovered of dirs le small. decides before after status input recovered (is small recovered of) dirs le
 form_decides (Err e) before after status end = tt
 
 -- ---- reading to the end
@@ -89,24 +90,29 @@ done_by before after status tree input (Ok e) is zero' answered = all_left tree 
 done_by before after status tree input (Err r) is zero' answered = absurd (omega (arith, zero', answered.ended))
 
 pub read_to_end : (cmd : Result Command Failure) (before after : CallState) (status : ℕ) → ((e : Failure) → cmd ≡ Err e → IsAnswer e) → CallEnd cmd before after status → status ≡ 0 → ReadsToEnd before after
-read_to_end (Ok command.Install) before after status owed end zero' = λ told. by before.objects.input.left (answers end (omega (arith, zero')) told) (leaves end (omega (arith, zero')) told)
+read_to_end (Ok command.Install) before after status owed end zero' = λ told.
+    some (settles_end end (omega (arith, zero')) told) before.objects.input.left (answers end (omega (arith, zero')) told) (leaves end (omega (arith, zero')) told)
   where
-    by : (o : Option (List ℕ)) → Rattle.std.specs.Option.IfSome o (λ input. IsAnswered (or_refused (install.outcome before.objects.root.tree input)) before after status)
-        → Rattle.std.specs.Option.IfSome o (λ input. after.objects.input.left ≡ Some (left_by (fixed_dirs before.objects.root.tree) input)) → Rattle.std.specs.Option.IfSome o (λ input. after.objects.input.left ≡ Some [])
-    by None answered left = tt
-    by (Some input) answered left = left ∙ ap Some (done_by before after status before.objects.root.tree input (install.outcome before.objects.root.tree input) refl zero' answered)
-read_to_end (Err e) before after status owed end zero' = λ told. by before.objects.input.left (answers end (omega (arith, zero')) told)
-  where
-    not_done : (f : Failure) → IsAnswer f → IsAnswered (Err f) before after status → ⊥
-    not_done failure.Usage owed answered = omega (arith, zero', answered.ended)
-    not_done (failure.Refused r) owed answered = omega (arith, zero', answered.ended)
-    not_done failure.InputFault owed answered = owed
-    not_done failure.OutputFault owed answered = owed
-    not_done failure.RootFault owed answered = owed
-    not_done failure.RepositoryFault owed answered = owed
-    not_done failure.Memory owed answered = owed
-    not_done (failure.Damaged path) owed answered = owed
+    by : (recovered : Tree) → IsRecoveredTree before.objects.root.tree recovered → (o : Option (List ℕ))
+        → IfSome o (λ input. EachRecovered before.objects.root.tree (λ recovered. IsAnswered (or_refused (install.outcome recovered input)) before after status))
+        → IfSome o (λ input. EachRecovered before.objects.root.tree (λ recovered. after.objects.input.left ≡ Some (left_by (fixed_dirs recovered) input))) → IfSome o (λ input. after.objects.input.left ≡ Some [])
+    by recovered of None answered left = tt
+    by recovered of (Some input) answered left = left recovered of ∙ ap Some (done_by before after status recovered input (install.outcome recovered input) refl zero' (answered recovered of))
 
-    by : (o : Option (List ℕ)) → Rattle.std.specs.Option.IfSome o (λ input. IsAnswered (Err e) before after status) → Rattle.std.specs.Option.IfSome o (λ input. after.objects.input.left ≡ Some [])
-    by None answered = tt
-    by (Some input) answered = absurd (not_done e (owed e refl) answered)
+    some : IsRecoveredRoot before.objects.root after.objects.root ⊎ HasRefusedLog before after status ⊎ HasMissingDir before after status → (o : Option (List ℕ))
+        → IfSome o (λ input. EachRecovered before.objects.root.tree (λ recovered. IsAnswered (or_refused (install.outcome recovered input)) before after status))
+        → IfSome o (λ input. EachRecovered before.objects.root.tree (λ recovered. after.objects.input.left ≡ Some (left_by (fixed_dirs recovered) input))) → IfSome o (λ input. after.objects.input.left ≡ Some [])
+    some (inl root) o answered left = by root.recovers.0 root.recovers.1 o answered left
+    some (inr (inl log)) o answered left = absurd (omega (arith, zero', log.refused.ended))
+    some (inr (inr dirs)) o answered left = absurd (omega (arith, zero', dirs.refused.ended))
+read_to_end (Err e) before after status owed end zero' = absurd (not_done e (owed e refl) (found_end end (omega (arith, zero'))))
+  where
+    not_done : (f : Failure) → IsAnswer f → status ≡ status_of (Err f) → ⊥
+    not_done failure.Usage owed is = omega (arith, zero', is)
+    not_done (failure.Refused r) owed is = omega (arith, zero', is)
+    not_done failure.InputFault owed is = owed
+    not_done failure.OutputFault owed is = owed
+    not_done failure.RootFault owed is = owed
+    not_done failure.RepositoryFault owed is = owed
+    not_done failure.Memory owed is = owed
+    not_done (failure.Damaged path) owed is = owed

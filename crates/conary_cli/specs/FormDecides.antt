@@ -10,7 +10,9 @@ use Rattle.conary_cli.specs.declared.words.Command.TheVariants as command
 use Rattle.conary_cli.specs.declared.manifest.types.Manifest.{Manifest}
 use Rattle.conary_cli.specs.Input.{input_limit}
 use Rattle.conary_cli.specs.ManifestForm.{IsManifest, IsManifestText, spelling}
+use Rattle.tree_disk.specs.Tree.{Tree}
 use Rattle.conary_cli.specs.Call.{WhereTold}
+use Rattle.conary_cli.specs.Recovered.{EachRecovered}
 use Rattle.conary_cli.specs.Install.{fixed_dirs, installs}
 use Rattle.conary_cli.specs.Run.{CallState, or_refused, IsRefused, IsAnswered}
 
@@ -18,14 +20,16 @@ use Rattle.conary_cli.specs.Run.{CallState, or_refused, IsRefused, IsAnswered}
 abbrev pub IsFormRefusal : Refusal → Type 0
 IsFormRefusal r = ((at : ℕ) × (r ≡ refusal.Malformed at)) ⊎ ((size : ℕ) × (r ≡ refusal.TooLarge what.Content size)) ⊎ ((word : List ℕ) × (r ≡ refusal.NotBuilt word))
 
-pub record DecidesForm (input : List ℕ) (before after : CallState) (status : ℕ) : Type 0 where
+-- the form decides the outcome on a tree that the root recovers to
+pub record DecidesForm (input : List ℕ) (recovered : Tree) (before after : CallState) (status : ℕ) : Type 0 where
   -- the text of a manifest is put into the root, or refused for what stands there, and never for its form
-  pub taken : (m : Manifest) → IsManifest m → input ≡ spelling m → IsAnswered (or_refused (installs m before.objects.root.tree)) before after status
+  pub taken : (m : Manifest) → IsManifest m → input ≡ spelling m → IsAnswered (or_refused (installs m recovered)) before after status
   -- any other input is refused for its form
   pub refused : (IsManifestText input → ⊥) → (r : Refusal) × IsFormRefusal r × IsRefused (failure.Refused r) before after status
 
 -- Where the root and the input are told, the fixed directories stand and the input is within its limit, a status up to 2 of
 -- `install` is decided by the form.
 abbrev pub FormDecides : Result Command Failure → CallState → CallState → ℕ → Type 0
-FormDecides (Ok command.Install) before after status = WhereTold before.objects (λ input. fixed_dirs before.objects.root.tree ≡ Ok tt → length input ≤ input_limit → status ≤ 2 → DecidesForm input before after status)
+FormDecides (Ok command.Install) before after status = WhereTold before.objects (λ input. EachRecovered before.objects.root.tree (λ recovered.
+    fixed_dirs recovered ≡ Ok tt → length input ≤ input_limit → status ≤ 2 → DecidesForm input recovered before after status))
 FormDecides (Err e) before after status = Unit

@@ -1,5 +1,5 @@
 -- What `install` means.
-use Rattle.std.specs.Prelude.{ℕ, Bool, true, false, ◌&&◌, ◌||◌, not, List, [], ◌∷◌, ◌++◌, Option, Some, None, Result, Ok, Err, if◌then◌else◌, ◌==◌, codes}
+use Rattle.std.specs.Prelude.{ℕ, Bool, true, false, ◌&&◌, ◌||◌, not, List, [], ◌∷◌, ◌++◌, Option, Some, None, Result, Ok, Err, ◌==◌, codes}
 use Rattle.std.specs.List.{find, list_any}
 use Rattle.std.specs.Str.{bytes_eq}
 use Rattle.std.specs.FinMap.{get, keys}
@@ -10,31 +10,18 @@ use Rattle.cny_base.specs.declared.node.Node.TheVariants as node
 use Rattle.cny_base.specs.declared.refusal.Refusal.{Refusal}
 use Rattle.cny_base.specs.declared.refusal.Refusal.TheVariants as refusal
 use Rattle.tree_disk.specs.Rows.{is_dir_at}
-use Rattle.tree_disk.specs.Tree.{Name, Tree, same_name, put, is_dir, AgreesOutside}
+use Rattle.tree_disk.specs.Tree.{Name, Tree, same_name, put, is_dir}
 use Rattle.conary_cli.specs.declared.manifest.types.Item.{Item}
 use Rattle.conary_cli.specs.declared.manifest.types.Manifest.{Manifest}
 use Rattle.conary_cli.specs.Input.{within_limit, left_after_reading}
 use Rattle.conary_cli.specs.ReadManifest.{manifest_in}
 use Rattle.conary_cli.specs.Call.{Effect, Meaning}
-
-infixl 10 ◌>>=◌
-abbrev pub ◌>>=◌ : {A B : Type 0} → Result A Refusal → (A → Result B Refusal) → Result B Refusal
-(Ok x) >>= f = f x
-(Err e) >>= f = Err e
+pub use Rattle.conary_cli.specs.FixedDirs.{◌>>=◌, fixed_dirs}
 
 -- refused for what was found
 abbrev pub none_of : {A : Type 0} → (A → Refusal) → Option A → Result (Unit {0}) Refusal
 none_of refuse None = Ok tt
 none_of refuse (Some x) = Err (refuse x)
-
--- ---- the fixed directories
-
-abbrev pub dir_at : Tree → Name → Result (Unit {0}) Refusal
-dir_at tree path = if is_dir_at tree path then Ok tt else Err (refusal.Parent path)
-
--- `/`, `/var` and `/var/lib` are directories; the first that isn't is the refusal
-abbrev pub fixed_dirs : Tree → Result (Unit {0}) Refusal
-fixed_dirs tree = dir_at tree (codes "/") >>= λ _. dir_at tree (codes "/var") >>= λ _. dir_at tree (codes "/var/lib")
 
 -- ---- the manifest on the input
 
@@ -123,10 +110,9 @@ left_by (Ok _) input = left_after_reading input
 left_by (Err r) input = input
 
 -- The fixed directories, the input within its limit, the manifest, the tests, and then the tree with the items and one line.
--- A fault or want of memory leaves every path that the manifest doesn't name.
 abbrev pub install : Meaning
 install = record {
   outcome = λ tree input. fixed_dirs tree >>= λ _. read_manifest input >>= λ m. installs m tree;
   left = λ tree input. left_by (fixed_dirs tree) input;
-  cut_short = λ tree input after. AgreesOutside (names_in (read_manifest input)) after tree;
+  names = λ input. names_in (read_manifest input);
 }

@@ -1,5 +1,7 @@
 pub mod Words
 pub mod Input
+pub mod FixedDirs
+pub mod Recovered
 pub mod Call
 pub mod Texts
 pub mod Report
@@ -9,7 +11,8 @@ pub mod ReadManifest
 pub mod Install
 pub mod Seen
 pub mod Parents
-pub mod Making
+pub mod NewPuts
 pub mod OnRoot
+pub mod Ready
 pub mod Run
 pub mod FormDecides

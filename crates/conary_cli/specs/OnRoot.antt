@@ -1,15 +1,22 @@
 -- What a step of a command does on the root, and how it ends.
-use Rattle.std.specs.Prelude.{◌≡◌, ℕ, ◌≤◌, Bool, IsTrue, List, Result, Ok, Err, OnOk}
+use Rattle.std.specs.Prelude.{◌≡◌, ◌⊎◌, ℕ, ◌≤◌, Bool, false, ◌||◌, IsTrue, List, Result, Ok, Err}
 use Rattle.cny_base.specs.Count.{Rose}
 use Rattle.cny_base.specs.declared.refusal.Refusal.{Refusal}
 use Rattle.cny_base.specs.declared.stop.Stop.{Stop}
 use Rattle.cny_base.specs.declared.stop.Stop.TheVariants as stop
 use Rattle.tree_disk.specs.Tree.{Name, Tree, AgreesOutside}
-use Rattle.tree_disk.specs.Disk.{DiskModel}
-use Rattle.tree_disk.specs.Confined.{IsSynced}
+use Rattle.tree_disk.specs.Disk.{DiskModel, HasRead}
+use Rattle.tree_disk.specs.Confined.{IsSynced, LeavesOnly}
+use Rattle.journal_log.specs.declared.put.Put.{Put}
+use Rattle.journal_log.specs.Own.{is_own}
+use Rattle.journal_log.specs.Targets.{with_targets}
+use Rattle.tree_journal.specs.Apply.{IsAtRest, IsBeforeOrAfter, IsOneOf, is_own_or_target}
+use Rattle.tree_journal.specs.Recovery.{is_committed, RecoversTo}
 use Rattle.conary_cli.specs.declared.failure.Failure.{Failure}
 use Rattle.conary_cli.specs.declared.failure.Failure.TheVariants as failure
-use Rattle.conary_cli.specs.Call.{Effect}
+use Rattle.conary_cli.specs.Call.{IsSettled, disk_state, Effect, HasEffect, RecoversToEffect}
+use Rattle.conary_cli.specs.FixedDirs.{fixed_dirs}
+use Rattle.conary_cli.specs.Recovered.{base}
 
 -- a stop of the root's disk, as the failure of a call
 abbrev pub root_failure : Stop → Failure
@@ -39,42 +46,88 @@ Checked told expected (Err (failure.Damaged path)) before now = ⊥
 -- A test of the root changes nothing, and passes or refuses as the tree says.
 pub record ChecksRoot {D : Type 0} (disk : DiskModel D) (test : Tree → Result (Unit {0}) Refusal) (old new : D) (result : Result (Unit {0}) Failure) : Type 0 where
   pub later : disk.faults old ≤ disk.faults new
-  pub same : IsTrue disk.tells → disk.reads new ≡ disk.reads old
+  pub read : IsTrue disk.tells → HasRead disk old new Unit
   pub checked : Checked disk.tells (test (disk.reads old)) result (disk.faults old) (disk.faults new)
 
--- how a change of the root ends
-abbrev pub Made : Bool → (Name → Bool) → Tree → Tree → Tree → Result (Unit {0}) Failure → ℕ → ℕ → Type 0
-Made told names after old new (Ok x) before now = IsTrue told → new ≡ after
-Made told names after old new (Err failure.RootFault) before now = Rose before now × (IsTrue told → AgreesOutside names new old)
-Made told names after old new (Err failure.Memory) before now = IsTrue told → AgreesOutside names new old
-Made told names after old new (Err failure.Usage) before now = ⊥
-Made told names after old new (Err (failure.Refused r)) before now = ⊥
-Made told names after old new (Err failure.InputFault) before now = ⊥
-Made told names after old new (Err failure.OutputFault) before now = ⊥
-Made told names after old new (Err failure.RepositoryFault) before now = ⊥
-Made told names after old new (Err (failure.Damaged path)) before now = ⊥
+-- how a search of the root ends
+abbrev pub Found : {X : Type 0} → Bool → X → Result X Failure → ℕ → ℕ → Type 0
+Found told expected (Ok x) before now = IsTrue told → expected ≡ x
+Found told expected (Err failure.RootFault) before now = Rose before now
+Found told expected (Err failure.Memory) before now = Unit
+Found told expected (Err (failure.Refused r)) before now = ⊥
+Found told expected (Err failure.Usage) before now = ⊥
+Found told expected (Err failure.InputFault) before now = ⊥
+Found told expected (Err failure.OutputFault) before now = ⊥
+Found told expected (Err failure.RepositoryFault) before now = ⊥
+Found told expected (Err (failure.Damaged path)) before now = ⊥
 
--- A change of the root leads to a tree, and nothing of it is unsynced. A fault or want of memory leaves every path but these.
-pub record MakesRoot {D : Type 0} (disk : DiskModel D) (names : Name → Bool) (change : Tree → Tree) (old new : D) (result : Result (Unit {0}) Failure) : Type 0 where
+-- A search of the root changes nothing, and finds what the tree gives.
+pub record SearchesRoot {D X : Type 0} (disk : DiskModel D) (search : Tree → X) (old new : D) (result : Result X Failure) : Type 0 where
   pub later : disk.faults old ≤ disk.faults new
-  pub synced : IsTrue disk.tells → OnOk result (IsSynced disk new)
-  pub made : Made disk.tells names (change (disk.reads old)) (disk.reads old) (disk.reads new) result (disk.faults old) (disk.faults new)
+  pub read : IsTrue disk.tells → HasRead disk old new Unit
+  pub found : Found disk.tells (search (disk.reads old)) result (disk.faults old) (disk.faults new)
+
+-- a root on which a command begins: the fixed directories stand, and it is at rest
+pub record IsReady {D : Type 0} (disk : DiskModel D) (d : D) : Type 0 where
+  pub fixed : fixed_dirs (disk.reads d) ≡ Ok tt
+  pub flag_clear : is_committed base (disk.reads d) ≡ false
+  pub synced : IsSynced disk d
+
+-- how the writes of a command end
+abbrev pub Applied : {D : Type 0} → DiskModel D → List Put → D → D → Result (Unit {0}) Failure → Type 0
+Applied disk puts old new (Ok x) = IsTrue disk.tells → IsAtRest disk base (with_targets puts (disk.reads old)) new
+Applied disk puts old new (Err failure.RootFault) = Rose (disk.faults old) (disk.faults new) × (IsTrue disk.tells → IsOneOf base puts (disk.reads old) (disk.reads new))
+Applied disk puts old new (Err failure.Memory) = IsTrue disk.tells → IsOneOf base puts (disk.reads old) (disk.reads new)
+Applied disk puts old new (Err failure.Usage) = ⊥
+Applied disk puts old new (Err (failure.Refused r)) = ⊥
+Applied disk puts old new (Err failure.InputFault) = ⊥
+Applied disk puts old new (Err failure.OutputFault) = ⊥
+Applied disk puts old new (Err failure.RepositoryFault) = ⊥
+Applied disk puts old new (Err (failure.Damaged path)) = ⊥
+
+-- A write set is put into the root as a whole, or not at all.
+pub record AppliesRoot {D : Type 0} (disk : DiskModel D) (puts : List Put) (old new : D) (result : Result (Unit {0}) Failure) : Type 0 where
+  pub later : disk.faults old ≤ disk.faults new
+  pub any_moment : IsTrue disk.tells → LeavesOnly disk old new (IsBeforeOrAfter disk base puts old)
+  pub outside : IsTrue disk.tells → AgreesOutside (is_own_or_target base puts) (disk.reads new) (disk.reads old)
+  pub applied : Applied disk puts old new result
+
+-- the tree recovers to what the root read, or to the tree of the effect
+abbrev pub IsBeforeOrEffect : Result Effect Refusal → Tree → Tree → Type 0
+IsBeforeOrEffect outcome before tree = RecoversTo base tree before ⊎ RecoversToEffect outcome tree
 
 -- how the part of a command that works on the root alone ends
-abbrev pub Acted : Bool → (Name → Bool) → Result Effect Refusal → Tree → Tree → Result (List ℕ) Failure → ℕ → ℕ → Type 0
-Acted told names outcome old new (Ok out) before now = IsTrue told → outcome ≡ Ok (record { tree = new; out = out })
-Acted told names outcome old new (Err (failure.Refused r)) before now = IsTrue told → (outcome ≡ Err r) × (new ≡ old)
-Acted told names outcome old new (Err failure.RootFault) before now = Rose before now × (IsTrue told → AgreesOutside names new old)
-Acted told names outcome old new (Err failure.Memory) before now = IsTrue told → AgreesOutside names new old
-Acted told names outcome old new (Err failure.Usage) before now = ⊥
-Acted told names outcome old new (Err failure.InputFault) before now = ⊥
-Acted told names outcome old new (Err failure.OutputFault) before now = ⊥
-Acted told names outcome old new (Err failure.RepositoryFault) before now = ⊥
-Acted told names outcome old new (Err (failure.Damaged path)) before now = ⊥
+abbrev pub Acted : Bool → Result Effect Refusal → Tree → Tree → Result (List ℕ) Failure → ℕ → ℕ → Type 0
+Acted told outcome old new (Ok out) before now = IsTrue told → HasEffect outcome out new
+Acted told outcome old new (Err (failure.Refused r)) before now = IsTrue told → (outcome ≡ Err r) × (new ≡ old)
+Acted told outcome old new (Err failure.RootFault) before now = Rose before now × (IsTrue told → IsBeforeOrEffect outcome old new)
+Acted told outcome old new (Err failure.Memory) before now = IsTrue told → IsBeforeOrEffect outcome old new
+Acted told outcome old new (Err failure.Usage) before now = ⊥
+Acted told outcome old new (Err failure.InputFault) before now = ⊥
+Acted told outcome old new (Err failure.OutputFault) before now = ⊥
+Acted told outcome old new (Err failure.RepositoryFault) before now = ⊥
+Acted told outcome old new (Err (failure.Damaged path)) before now = ⊥
 
--- It leaves the tree, with nothing unsynced, and answers the bytes of its outcome, or is refused and leaves all as it was. A fault or want of
--- memory leaves every path but these.
+abbrev pub IsRootAtRest : {D : Type 0} → DiskModel D → D → Type 0
+IsRootAtRest disk d = IsSettled (disk_state disk d)
+
+-- after an answer and after a refusal the root is at rest
+abbrev pub Rests : {D : Type 0} → DiskModel D → D → Result (List ℕ) Failure → Type 0
+Rests disk new (Ok out) = IsRootAtRest disk new
+Rests disk new (Err (failure.Refused r)) = IsRootAtRest disk new
+Rests disk new (Err failure.InputFault) = IsRootAtRest disk new
+Rests disk new (Err failure.RootFault) = Unit
+Rests disk new (Err failure.Memory) = Unit
+Rests disk new (Err failure.Usage) = Unit
+Rests disk new (Err failure.OutputFault) = Unit
+Rests disk new (Err failure.RepositoryFault) = Unit
+Rests disk new (Err (failure.Damaged path)) = Unit
+
+-- What a ready root becomes: it stores the effect's tree and the bytes of the outcome are answered, or it is refused and all is as
+-- it was. At every moment a crash leaves a tree that recovers to what the root read, or to the effect's.
 pub record ActsOnRoot {D : Type 0} (disk : DiskModel D) (names : Name → Bool) (outcome : Tree → Result Effect Refusal) (old new : D) (result : Result (List ℕ) Failure) : Type 0 where
   pub later : disk.faults old ≤ disk.faults new
-  pub synced : IsTrue disk.tells → OnOk result (IsSynced disk new)
-  pub acted : Acted disk.tells names (outcome (disk.reads old)) (disk.reads old) (disk.reads new) result (disk.faults old) (disk.faults new)
+  pub any_moment : IsTrue disk.tells → LeavesOnly disk old new (IsBeforeOrEffect (outcome (disk.reads old)) (disk.reads old))
+  pub outside : IsTrue disk.tells → AgreesOutside (λ p. is_own base p || names p) (disk.reads new) (disk.reads old)
+  pub rests : IsTrue disk.tells → Rests disk new result
+  pub acted : Acted disk.tells (outcome (disk.reads old)) (disk.reads old) (disk.reads new) result (disk.faults old) (disk.faults new)

@@ -1,23 +1,23 @@
 -- What a whole call of the program does.
-use Rattle.std.specs.Prelude.{◌≡◌, ◌⊎◌, ℕ, IsTrue, List, [], Some, Result, Ok, Err}
+use Rattle.std.specs.Prelude.{◌≡◌, ◌⊎◌, ℕ, ◌≤◌, IsTrue, List, [], Some, Result, Ok, Err}
 use Rattle.std.specs.Io.KnownBytes.{Appends, Keeps}
 use Rattle.cny_base.specs.Count.{Rose}
 use Rattle.cny_base.specs.declared.refusal.Refusal.{Refusal}
-use Rattle.cny_flow.specs.Flow.{SourceModel, SinkModel, SinkState, source_state, sink_state, AppendsPart}
+use Rattle.cny_flow.specs.Flow.{SourceModel, SinkModel, SinkState, sink_state, AppendsPart}
 use Rattle.tree_disk.specs.Tree.{Tree}
-use Rattle.tree_disk.specs.Disk.{DiskModel}
+use Rattle.tree_disk.specs.Disk.{DiskModel, IsImageOf}
+use Rattle.journal_log.specs.Own.{log, StoresSame}
+use Rattle.tree_journal.specs.Recovery.{RecoversAsAt, HasDamagedLog}
 use Rattle.conary_cli.specs.declared.failure.Failure.{Failure}
 use Rattle.conary_cli.specs.declared.failure.Failure.TheVariants as failure
 use Rattle.conary_cli.specs.declared.words.Command.{Command}
 use Rattle.conary_cli.specs.declared.words.Command.TheVariants as command
 use Rattle.conary_cli.specs.Words.{command_of}
-use Rattle.conary_cli.specs.Call.{Objects, AllSynced, disk_state, Effect, Meaning, WhereTold, Performs, Writes}
+use Rattle.conary_cli.specs.Call.{Objects, objects, IsSettled, Effect, Meaning, WhereTold, RecoversToEffect, IsCutShort, RefusesLog, IsRecoveredRoot, Performs, Writes}
+use Rattle.conary_cli.specs.FixedDirs.{fixed_dirs}
+use Rattle.conary_cli.specs.Recovered.{base, Recovers, EachRecovered, IsKept}
 use Rattle.conary_cli.specs.Install.{install}
 use Rattle.conary_cli.specs.Report.{End, status_of, error_line, Tells, Reports}
-
--- what a command works on, at one moment
-abbrev pub objects : {I T : Type 0} → SourceModel I → DiskModel T → I → T → Objects
-objects source disk input root = record { input = source_state source input; root = disk_state disk root }
 
 -- all that a call is handed, at one moment: what its command works on, and the two sinks
 pub record CallState : Type 0 where
@@ -52,7 +52,7 @@ abbrev pub or_refused : Result Effect Refusal → Result Effect Failure
 or_refused (Ok e) = Ok e
 or_refused (Err r) = Err (failure.Refused r)
 
--- the outcome of the words' command on the root's tree and the input
+-- the outcome of the words' command on the tree that the root recovers to and the input
 abbrev pub command_outcome : Result Command Failure → Tree → List ℕ → Result Effect Failure
 command_outcome (Ok c) tree input = or_refused ((meaning c).outcome tree input)
 command_outcome (Err e) tree input = Err e
@@ -61,18 +61,19 @@ command_outcome (Err e) tree input = Err e
 abbrev pub WritesLine : Failure → SinkState → SinkState → Type 0
 WritesLine e before after = Rose before.faults after.faults ⊎ Appends before.written after.written (error_line (Err e))
 
--- status 0: the root has the tree of the effect, with nothing unsynced, and its bytes were written
+-- status 0: the root stores the same as the tree of the effect and is at rest, and the effect's bytes were written
 pub record IsDone (e : Effect) (before after : CallState) (status : ℕ) : Type 0 where
   pub ended : status ≡ 0
-  pub tree : after.objects.root.tree ≡ e.tree
-  pub synced : AllSynced after.objects.root
+  pub tree : StoresSame base after.objects.root.tree e.tree
+  pub settled : IsSettled after.objects.root
   pub out : Appends before.out.written after.out.written e.out
   pub err : after.err ≡ before.err
 
--- status 1 or 2: the root has the tree that it had, nothing was written, and the failure's line went to the standard error
+-- Status 1 or 2: the root recovers to what it recovered to, nothing was written, and the failure's line went to the standard
+-- error. Where the commit flag wasn't set, the root has the tree that it had.
 pub record IsRefused (e : Failure) (before after : CallState) (status : ℕ) : Type 0 where
   pub ended : status ≡ status_of (Err e)
-  pub tree : after.objects.root.tree ≡ before.objects.root.tree
+  pub tree : IsKept before.objects.root.tree after.objects.root.tree
   pub out : Keeps before.out.written after.out.written
   pub err : WritesLine e before.err after.err
 
@@ -88,48 +89,101 @@ IsAnswered (Err failure.RepositoryFault) before after status = ⊥
 IsAnswered (Err failure.Memory) before after status = ⊥
 IsAnswered (Err (failure.Damaged path)) before after status = ⊥
 
--- Where the root and the input are told: the call ended as its outcome says.
+-- Where the root and the input are told: the call ended as its outcome on each tree that the root recovered to says. Words that are
+-- no command changed nothing.
+abbrev pub EndsAs : Result Command Failure → CallState → CallState → ℕ → Type 0
+EndsAs (Ok c) before after status = WhereTold before.objects (λ input. EachRecovered before.objects.root.tree (λ recovered.
+    IsAnswered (command_outcome (Ok c) recovered input) before after status))
+EndsAs (Err e) before after status = IsAnswered (Err e) before after status × (after.objects ≡ before.objects)
+
 abbrev pub Answers : List (List ℕ) → CallState → CallState → ℕ → Type 0
-Answers words before after status = WhereTold before.objects (λ input. IsAnswered (command_outcome (command_of words) before.objects.root.tree input) before after status)
+Answers words before after status = EndsAs (command_of words) before after status
+
+-- The root's log can't be put: refused with its first such path, the tree is as it was, and nothing of the input was read.
+pub record HasRefusedLog (before after : CallState) (status : ℕ) : Type 0 where
+  pub refusal : Refusal
+  pub log : RefusesLog refusal before.objects.root.tree after.objects.root.tree
+  pub unread : after.objects.input ≡ before.objects.input
+  pub refused : IsRefused (failure.Refused refusal) before after status
+
+-- A fixed directory isn't one: refused, the tree is as it was, and nothing of the input was read.
+pub record HasMissingDir (before after : CallState) (status : ℕ) : Type 0 where
+  pub refusal : Refusal
+  pub missing : fixed_dirs before.objects.root.tree ≡ Err refusal
+  pub same : after.objects.root.tree ≡ before.objects.root.tree
+  pub unread : after.objects.input ≡ before.objects.input
+  pub refused : IsRefused (failure.Refused refusal) before after status
+
+-- The root was recovered and is at rest; or its log can't be put, or a fixed directory isn't one.
+abbrev pub Settles : Result Command Failure → CallState → CallState → ℕ → Type 0
+Settles (Ok c) before after status = IsTrue before.objects.root.told → IsRecoveredRoot before.objects.root after.objects.root ⊎ HasRefusedLog before after status ⊎ HasMissingDir before after status
+Settles (Err e) before after status = after.objects ≡ before.objects
 
 -- what is left of the input after a call that ended as its outcome says
 abbrev pub LeavesInput : Result Command Failure → CallState → CallState → Type 0
-LeavesInput (Ok c) before after = WhereTold before.objects (λ input. after.objects.input.left ≡ Some ((meaning c).left before.objects.root.tree input))
+LeavesInput (Ok c) before after = WhereTold before.objects (λ input. EachRecovered before.objects.root.tree (λ recovered. after.objects.input.left ≡ Some ((meaning c).left recovered input)))
 LeavesInput (Err e) before after = after.objects ≡ before.objects
 
 -- a call that ended well read its input to its end
 abbrev pub ReadsToEnd : CallState → CallState → Type 0
 ReadsToEnd before after = WhereTold before.objects (λ input. after.objects.input.left ≡ Some [])
 
+-- ---- crashes
+
+-- The tree that a crash left recovers to all that some crash image at entry recovers to; or the root recovers to some tree, and
+-- from each of them the outcome is an effect, to whose tree the crash image recovers.
+abbrev pub IsBeforeOrDone : {D : Type 0} → DiskModel D → Meaning → List ℕ → D → Tree → Type 0
+IsBeforeOrDone disk m input old image = RecoversAsAt disk base old image
+    ⊎ (Recovers (disk.reads old) × EachRecovered (disk.reads old) (λ recovered. RecoversToEffect (m.outcome recovered input) image))
+
+-- the same for words; where they are no command, the image is one at entry
+abbrev pub IsBeforeOrAfterCall : {D : Type 0} → DiskModel D → Result Command Failure → List ℕ → D → Tree → Type 0
+IsBeforeOrAfterCall disk (Ok c) input old image = IsBeforeOrDone disk (meaning c) input old image
+IsBeforeOrAfterCall disk (Err e) input old image = IsImageOf disk old image
+
 -- ---- faults, and what stands after them
 
 -- which trees of the root a fault or want of memory may leave
-abbrev pub CutShort : Result Command Failure → Tree → List ℕ → Tree → Type 0
-CutShort (Ok c) tree input after = (meaning c).cut_short tree input after
-CutShort (Err e) tree input after = after ≡ tree
+abbrev pub CutShort : Result Command Failure → List ℕ → Tree → Tree → Type 0
+CutShort (Ok c) input before after = IsCutShort (meaning c) input before after
+CutShort (Err e) input before after = after ≡ before
 
--- the input failed: the root is as before, and nothing was written
+-- the input failed: the root recovers to what it recovered to, and nothing was written
 pub record HasInputFault (before after : CallState) : Type 0 where
   pub rose : Rose before.objects.input.faults after.objects.input.faults
-  pub tree : IsTrue before.objects.root.told → after.objects.root.tree ≡ before.objects.root.tree
+  pub tree : IsTrue before.objects.root.told → IsKept before.objects.root.tree after.objects.root.tree
   pub out : Keeps before.out.written after.out.written
 
--- the output failed: the effect stands, with nothing unsynced, and a first part of its bytes was written
+-- the output failed: the effect stands, the root is at rest, and a first part of the effect's bytes was written
 pub record HasOutputFault (outcome : Tree → List ℕ → Result Effect Failure) (before after : CallState) : Type 0 where
   pub rose : Rose before.out.faults after.out.faults
-  pub synced : IsTrue before.objects.root.told → AllSynced after.objects.root
-  pub done : WhereTold before.objects (λ input. (e : Effect) × (outcome before.objects.root.tree input ≡ Ok e) × (after.objects.root.tree ≡ e.tree) × AppendsPart before.out.written after.out.written e.out)
+  pub settled : IsTrue before.objects.root.told → IsRecoveredRoot before.objects.root after.objects.root
+  pub done : WhereTold before.objects (λ input. EachRecovered before.objects.root.tree (λ recovered. (e : Effect) × (outcome recovered input ≡ Ok e)
+      × StoresSame base after.objects.root.tree e.tree × AppendsPart before.out.written after.out.written e.out))
 
--- the root failed: every path that the command doesn't name is as before, and nothing was written
-pub record HasRootFault (cut_short : Tree → List ℕ → Tree → Type 0) (before after : CallState) : Type 0 where
+-- the root failed: it recovers to the tree before or to that of the effect, and nothing was written
+pub record HasRootFault (cut_short : List ℕ → Tree → Tree → Type 0) (before after : CallState) : Type 0 where
   pub rose : Rose before.objects.root.faults after.objects.root.faults
-  pub tree : WhereTold before.objects (λ input. cut_short before.objects.root.tree input after.objects.root.tree)
+  pub tree : WhereTold before.objects (λ input. cut_short input before.objects.root.tree after.objects.root.tree)
   pub out : Keeps before.out.written after.out.written
 
--- memory ran out: every path that the command doesn't name is as before, and nothing was written
-pub record HasNoMemory (cut_short : Tree → List ℕ → Tree → Type 0) (before after : CallState) : Type 0 where
-  pub tree : WhereTold before.objects (λ input. cut_short before.objects.root.tree input after.objects.root.tree)
+-- memory ran out: the root recovers to the tree before or to that of the effect, and nothing was written
+pub record HasNoMemory (cut_short : List ℕ → Tree → Tree → Type 0) (before after : CallState) : Type 0 where
+  pub tree : WhereTold before.objects (λ input. cut_short input before.objects.root.tree after.objects.root.tree)
   pub out : Keeps before.out.written after.out.written
+
+-- The log behind a set commit flag isn't whole: the line names it, and the tree is as it was.
+pub record HasDamagedRoot (before after : CallState) (status : ℕ) : Type 0 where
+  pub damaged : HasDamagedLog base before.objects.root.tree
+  pub tree : after.objects.root.tree ≡ before.objects.root.tree
+  pub line : Tells (failure.Damaged (log base)) before.err after.err status
+
+-- status 8: nothing was written or read, and where the root is told, its log is damaged
+pub record HasDamage (before after : CallState) (status : ℕ) : Type 0 where
+  pub ended : status ≡ 8
+  pub unread : after.objects.input ≡ before.objects.input
+  pub out : Keeps before.out.written after.out.written
+  pub root : IsTrue before.objects.root.told → HasDamagedRoot before after status
 
 -- ---- completeness
 
@@ -138,9 +192,10 @@ pub record NoFaults (before after : CallState) : Type 0 where
   pub root : Rose before.objects.root.faults after.objects.root.faults → ⊥
   pub out : Rose before.out.faults after.out.faults → ⊥
 
--- Where the root and the input are told and nothing failed, the call ends as its outcome says, or in want of memory.
+-- Where nothing failed, the call ends in want of memory, or with a damaged log; or as its outcome says, with the root at rest unless its
+-- log can't be put or a fixed directory isn't one.
 abbrev pub Completes : List (List ℕ) → CallState → CallState → ℕ → Type 0
-Completes words before after status = NoFaults before after → (status ≡ 7) ⊎ Answers words before after status
+Completes words before after status = NoFaults before after → (status ≡ 7) ⊎ HasDamage before after status ⊎ ((status ≤ 2) × Answers words before after status × Settles (command_of words) before after status)
 
 -- the bytes on the standard error: by the end that the status is of, and for want of memory nothing where the line may be missing
 abbrev pub ErrorLine : SinkState → SinkState → ℕ → Type 0

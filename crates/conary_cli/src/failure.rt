@@ -10,7 +10,7 @@ use std::alloc::{AllocError, AllocFailed};
 pub enum Failure {
     /// The words are no command.
     Usage,
-    /// The command is refused, and everything is as it was.
+    /// The command is refused, and changed nothing but what a recovery brought to its end.
     Refused(Refusal),
     /// The input failed.
     InputFault,

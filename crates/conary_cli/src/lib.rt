@@ -2,11 +2,13 @@
 #![tactic(auto)]
 
 mod failure;
+mod fixed_dirs;
 mod input;
 mod install;
 mod manifest;
 mod on_root;
 mod program;
+mod ready;
 mod report;
 mod texts;
 mod words;

@@ -1,13 +1,22 @@
 //! A whole call of the program.
-ghost use Rattle.std.specs.Prelude.{◌≡◌, ◌⊎◌, ◌≤◌, string_bytes, map};
+ghost use Rattle.std.specs.Prelude.{◌≡◌, ◌⊎◌, ◌≤◌, IsTrue, Err, string_bytes, map};
+ghost use Rattle.cny_base.specs.declared.refusal.Refusal.{Refusal};
 ghost use Rattle.cny_flow.specs.Flow.{sink_state};
-ghost use Rattle.conary_cli.specs.Call.{Performs, Writes};
-ghost use Rattle.conary_cli.specs.Run.{objects, call_state, meaning, PerformsWords, Runs, Answers, Completes, LeavesInput, ReadsToEnd, command_outcome, CutShort, HasInputFault, HasOutputFault, HasRootFault, HasNoMemory, ErrorLine};
+ghost use Rattle.tree_disk.specs.Confined.{Among, Confined, LeavesOnly};
+ghost use Rattle.tree_disk.specs.Disk.{HasRead};
+ghost use Rattle.tree_disk.specs.Steps.{no_name};
+ghost use Rattle.conary_cli.specs.Call.{objects, WhereTold, Performs, Writes};
+ghost use Rattle.conary_cli.specs.FixedDirs.{fixed_dirs};
+ghost use Rattle.conary_cli.specs.OnRoot.{IsReady};
+ghost use Rattle.conary_cli.specs.Ready.{PerformsReady};
+ghost use Rattle.conary_cli.specs.Recovered.{RecoversToNone};
+ghost use Rattle.conary_cli.specs.Run.{call_state, meaning, PerformsWords, Runs, Answers, Completes, LeavesInput, ReadsToEnd, command_outcome, IsBeforeOrDone, IsBeforeOrAfterCall, Settles, CutShort, HasInputFault, HasOutputFault, HasRootFault, HasNoMemory, HasDamage, ErrorLine};
 ghost use Rattle.conary_cli.specs.FormDecides.{FormDecides};
 ghost use Rattle.conary_cli.specs.Words.{command_of};
 
 use crate::failure::Failure;
 use crate::install::install;
+use crate::ready::ready;
 use crate::report::report;
 use crate::words::{Command, read_words};
 use cny_base::Text;
@@ -15,17 +24,36 @@ use cny_flow::{FlowFault, Sink, Source};
 use std::alloc::Global;
 use tree_disk::TreeDisk;
 
+// Performs a command over a ready root.
+fn perform_ready<I: Source, T: TreeDisk>(
+    alloc: Global,
+    command: Command,
+    input: &mut I,
+    root: &mut T,
+) -> Result<Text, Failure>
+    requires { IsTrue T.disk.tells → IsReady T.disk root.old }
+    ensures { PerformsReady I.source T.disk (meaning command) input.old root.old input.new root.new result }
+{
+    match command {
+        Command::Install => install(alloc, input, root),
+    }
+}
+
+// Makes the root ready, and performs a command.
 fn perform<I: Source, T: TreeDisk>(
     alloc: Global,
     command: Command,
     input: &mut I,
     root: &mut T,
 ) -> Result<Text, Failure>
-    ensures { Performs (meaning command) (objects I.source T.disk input.old root.old) (objects I.source T.disk input.new root.new) result }
+    ensures performs { Performs (meaning command) (objects I.source T.disk input.old root.old) (objects I.source T.disk input.new root.new) result }
+    ensures images { WhereTold (objects I.source T.disk input.old root.old) (λ bytes.
+        LeavesOnly T.disk root.old root.new (IsBeforeOrDone T.disk (meaning command) bytes root.old)) }
+    ensures untouched { IsTrue T.disk.tells → RecoversToNone (T.disk.reads root.old) → Confined T.disk (Among no_name) root.old root.new }
+    ensures missing { IsTrue T.disk.tells → (r : Refusal) → fixed_dirs (T.disk.reads root.old) ≡ Err r → HasRead T.disk root.old root.new Unit }
 {
-    match command {
-        Command::Install => install(alloc, input, root),
-    }
+    ready(alloc, root)?;
+    perform_ready(alloc, command, input, root)
 }
 
 fn perform_words<I: Source, T: TreeDisk>(
@@ -34,8 +62,12 @@ fn perform_words<I: Source, T: TreeDisk>(
     input: &mut I,
     root: &mut T,
 ) -> Result<Text, Failure>
-    ensures { PerformsWords (command_of (map string_bytes words.now)) (objects I.source T.disk input.old root.old)
+    ensures performs { PerformsWords (command_of (map string_bytes words.now)) (objects I.source T.disk input.old root.old)
         (objects I.source T.disk input.new root.new) result }
+    ensures images { WhereTold (objects I.source T.disk input.old root.old) (λ bytes.
+        LeavesOnly T.disk root.old root.new (IsBeforeOrAfterCall T.disk (command_of (map string_bytes words.now)) bytes root.old)) }
+    ensures untouched { IsTrue T.disk.tells → RecoversToNone (T.disk.reads root.old) → Confined T.disk (Among no_name) root.old root.new }
+    ensures missing { IsTrue T.disk.tells → (r : Refusal) → fixed_dirs (T.disk.reads root.old) ≡ Err r → HasRead T.disk root.old root.new Unit }
 {
     let command = read_words(alloc, words)?;
     perform(alloc, command, input, root)
@@ -69,17 +101,30 @@ pub fn run<I: Source, O: Sink, E: Sink, P: TreeDisk, T: TreeDisk>(
     ensures runs { Runs (map string_bytes words.now) (call_state I.source O.sink E.sink T.disk input.old out.old err.old root.old)
         (call_state I.source O.sink E.sink T.disk input.new out.new err.new root.new) result }
 
-    // Where the root and the input are told, a status up to 2 is that of the command's outcome, with its tree and its bytes.
+    // Where the root and the input are told, a status up to 2 is that of the command's outcome on the tree that the root
+    // recovered to as it read, with its tree and its bytes.
     ensures answers { result ≤ 2 → Answers (map string_bytes words.now) (call_state I.source O.sink E.sink T.disk input.old out.old err.old root.old)
         (call_state I.source O.sink E.sink T.disk input.new out.new err.new root.new) result }
-    // Where besides nothing failed, the call ends so, or in want of memory.
+    // Where nothing failed, the call ends so, or in want of memory, or with a damaged log.
     ensures complete { Completes (map string_bytes words.now) (call_state I.source O.sink E.sink T.disk input.old out.old err.old root.old)
         (call_state I.source O.sink E.sink T.disk input.new out.new err.new root.new) result }
     // What is left of the input then.
     ensures input { result ≤ 2 → LeavesInput (command_of (map string_bytes words.now)) (call_state I.source O.sink E.sink T.disk input.old out.old err.old root.old)
         (call_state I.source O.sink E.sink T.disk input.new out.new err.new root.new) }
 
-    // After status 0 that is nothing.
+    // At every moment, also inside each call of the disk and where one fails, a crash leaves a tree of the root that
+    // recovers to all that some crash image at entry recovers to, or to the tree of the command's effect.
+    ensures images { WhereTold (objects I.source T.disk input.old root.old) (λ bytes.
+        LeavesOnly T.disk root.old root.new (IsBeforeOrAfterCall T.disk (command_of (map string_bytes words.now)) bytes root.old)) }
+    // After a status up to 4 of a command whose recovery succeeded the root is at rest: its commit flag isn't set, and a crash
+    // leaves what it reads.
+    ensures settled { result ≤ 4 → Settles (command_of (map string_bytes words.now)) (call_state I.source O.sink E.sink T.disk input.old out.old err.old root.old)
+        (call_state I.source O.sink E.sink T.disk input.new out.new err.new root.new) result }
+    // A root that recovers to no tree is left as it stands, and one of which a fixed directory isn't one is only read.
+    ensures untouched { IsTrue T.disk.tells → RecoversToNone (T.disk.reads root.old) → Confined T.disk (Among no_name) root.old root.new }
+    ensures missing { IsTrue T.disk.tells → (r : Refusal) → fixed_dirs (T.disk.reads root.old) ≡ Err r → HasRead T.disk root.old root.new Unit }
+
+    // After status 0 nothing is left of the input.
     ensures read_to_end { result ≡ 0 → ReadsToEnd (call_state I.source O.sink E.sink T.disk input.old out.old err.old root.old)
         (call_state I.source O.sink E.sink T.disk input.new out.new err.new root.new) }
     // A manifest is refused for its form exactly where it isn't of the form.
@@ -95,7 +140,9 @@ pub fn run<I: Source, O: Sink, E: Sink, P: TreeDisk, T: TreeDisk>(
         (call_state I.source O.sink E.sink T.disk input.new out.new err.new root.new) }
     ensures memory { result ≡ 7 → HasNoMemory (CutShort (command_of (map string_bytes words.now))) (call_state I.source O.sink E.sink T.disk input.old out.old err.old root.old)
         (call_state I.source O.sink E.sink T.disk input.new out.new err.new root.new) }
-    ensures statuses { (result ≤ 5) ⊎ (result ≡ 7) }
+    ensures damaged { result ≡ 8 → HasDamage (call_state I.source O.sink E.sink T.disk input.old out.old err.old root.old)
+        (call_state I.source O.sink E.sink T.disk input.new out.new err.new root.new) result }
+    ensures statuses { (result ≤ 5) ⊎ (result ≡ 7) ⊎ (result ≡ 8) }
 
     // The bytes on the standard error, by the status.
     ensures error_line { ErrorLine (sink_state E.sink err.old) (sink_state E.sink err.new) result }

@@ -4,7 +4,7 @@ ghost use Rattle.std.specs.Fmt.{decimal};
 ghost use Rattle.hex.specs.Hex.{encode_lower};
 ghost use Rattle.conary_cli.specs.Texts.{what_text, refusal_text};
 
-use cny_base::{Refusal, What};
+use cny_base::{OutOfMemory, Path, Refusal, Text, What};
 use std::alloc::{AllocError, Global};
 
 fn text_of_what(what: What) -> &'static str
@@ -21,6 +21,13 @@ fn text_of_what(what: What) -> &'static str
         What::Version => "version",
         What::ChangeSet => "change set",
     }
+}
+
+/// The text of a path.
+pub fn text_of_path(alloc: Global, path: &Path) -> Result<Text, OutOfMemory>
+    ensures { IfOk result (λ text. text ≡ path.now) }
+{
+    Text::new(alloc, path.text())
 }
 
 /// A text behind another.

@@ -70,9 +70,11 @@ pub record IsFirstBlocked (puts : List Put) (tree : Tree) (path : Name) : Type 0
   pub cannot : CanBePut puts tree write → ⊥
   pub first : (p : Put) → Contains puts p → slice_cmp nat_cmp p.path path ≡ Less → CanBePut puts tree p
 
--- the commit flag is set, the log is whole, and this is the path of its first write that can't be put
+-- The commit flag is set, the log is whole, and this is the path of its first write that can't be put. (The log has no
+-- other reading, so the tree recovers to none.)
 pub record HasBlockedLog (base : Name) (tree : Tree) (path : Name) : Type 0 where
   pub committed : is_committed base tree ≡ true
   pub puts : List Put
   pub holds : HoldsLog base puts tree
+  pub only : (others : List Put) → HoldsLog base others tree → others ≡ puts
   pub blocked : IsFirstBlocked puts tree path

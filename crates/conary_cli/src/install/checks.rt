@@ -5,60 +5,22 @@ ghost use Rattle.std.specs.FinMap.{get};
 ghost use Rattle.std.specs.List.{find};
 ghost use Rattle.std.specs.Option.{option_copied};
 ghost use Rattle.std.specs.Str.{bytes_eq};
-ghost use Rattle.cny_base.specs.Path.{is_path, parent};
+ghost use Rattle.cny_base.specs.Path.{parent};
 ghost use Rattle.cny_base.specs.declared.node.Node.TheVariants as node;
 ghost use Rattle.tree_disk.specs.Rows.{is_file_at, bytes_of, look_of};
 ghost use Rattle.tree_disk.specs.Steps.{Tests};
 ghost use Rattle.tree_disk.specs.Tree.{Name, is_dir};
-ghost use Rattle.conary_cli.specs.Install.{dir_at, fixed_dirs, is_forbidden, clashes, clashes_with, unowned, checks};
+ghost use Rattle.conary_cli.specs.Install.{is_forbidden, clashes, clashes_with, unowned, checks};
 ghost use Rattle.conary_cli.specs.ManifestForm.{Rise};
 ghost use Rattle.conary_cli.specs.Parents.{is_made_dir, lacks_dir, parents_with};
-ghost use Rattle.conary_cli.specs.Seen.{is_dir_seen, other_than_dir, other_than_link, no_dir_seen};
+ghost use Rattle.conary_cli.specs.Seen.{other_than_dir, other_than_link, no_dir_seen};
 
 use crate::manifest::Item;
-use cny_base::{Mode, Node, OutOfMemory, Path, Refusal, Stop, Target, Text, TextFault};
+use crate::texts::text_of_path;
+use cny_base::{Mode, Node, OutOfMemory, Path, Refusal, Stop, Target};
 use std::alloc::Global;
 use std::collections::BTreeSet;
 use tree_disk::{Look, TreeDisk, steps};
-
-fn text_of_path(alloc: Global, path: &Path) -> Result<Text, OutOfMemory>
-    ensures { IfOk result (λ text. text ≡ path.now) }
-{
-    Text::new(alloc, path.text())
-}
-
-// Refuses where the path of this text isn't that of a directory.
-fn check_dir<T: TreeDisk>(alloc: Global, root: &mut T, text: &str) -> Result<(), Stop>
-    requires { IsTrue (is_path text.now) }
-    ensures { Tests T.disk (λ done. done) (λ tree. dir_at tree text.now) root.old root.new result }
-{
-    let path = match Path::read(alloc, text) {
-        Ok(path) => path,
-        Err(TextFault::Memory) => return Err(Stop::Memory),
-        Err(TextFault::Bad) => unreachable!(),
-    };
-    let look = steps::look(alloc, root, &path)?;
-    if is_dir_look(&look) {
-        return Ok(());
-    }
-    let path = text_of_path(alloc, &path)?;
-    Err(Stop::Refused(Refusal::Parent { path }))
-}
-
-fn is_dir_look(look: &Look) -> bool
-    ensures { result ≡ is_dir_seen look.now }
-{
-    matches!(look, Look::Dir { .. })
-}
-
-/// Refuses where one of the fixed directories isn't a directory.
-pub fn check_fixed_dirs<T: TreeDisk>(alloc: Global, root: &mut T) -> Result<(), Stop>
-    ensures { Tests T.disk (λ done. done) fixed_dirs root.old root.new result }
-{
-    check_dir(alloc, root, "/")?;
-    check_dir(alloc, root, "/var")?;
-    check_dir(alloc, root, "/var/lib")
-}
 
 fn is_dir_node(node: &Node) -> bool
     ensures { result ≡ is_dir (Some node.now) }

@@ -1,24 +1,27 @@
 //! The command that puts the files of one component into the root.
 ghost use Rattle.std.specs.Prelude.{◌≡◌, [], IfOk, IsTrue};
-ghost use Rattle.conary_cli.specs.Run.{objects};
-ghost use Rattle.conary_cli.specs.Call.{Performs};
+ghost use Rattle.tree_journal.specs.Apply.{CanApply};
 ghost use Rattle.conary_cli.specs.Install as spec;
-ghost use Rattle.conary_cli.specs.Install.{fixed_dirs, checks, installed_line, is_named, with_items, installs};
-ghost use Rattle.conary_cli.specs.Making.{CanMakeAll};
+ghost use Rattle.conary_cli.specs.Install.{checks, installed_line, is_named, installs};
 ghost use Rattle.conary_cli.specs.ManifestForm.{Rise, IsManifest};
-ghost use Rattle.conary_cli.specs.OnRoot.{ChecksRoot, MakesRoot, ActsOnRoot};
+ghost use Rattle.conary_cli.specs.NewPuts.{new_puts};
+ghost use Rattle.conary_cli.specs.OnRoot.{ChecksRoot, SearchesRoot, AppliesRoot, ActsOnRoot, IsReady};
+ghost use Rattle.conary_cli.specs.Ready.{PerformsReady};
+ghost use Rattle.conary_cli.specs.Recovered.{base};
 
 mod checks;
-mod make;
+mod puts;
 
 use crate::failure::Failure;
 use crate::input::read_input;
 use crate::manifest::{Item, Manifest, read_manifest};
 use crate::on_root::on_root;
+use crate::ready::private_directory;
 use cny_base::{OutOfMemory, Text};
 use cny_flow::Source;
 use std::alloc::Global;
 use tree_disk::TreeDisk;
+use tree_journal::{Puts, apply};
 
 fn line_of_manifest(alloc: Global, manifest: &Manifest) -> Result<Text, OutOfMemory>
     ensures { IfOk result (λ line. line ≡ installed_line manifest.now) }
@@ -31,12 +34,6 @@ fn line_of_manifest(alloc: Global, manifest: &Manifest) -> Result<Text, OutOfMem
     Ok(Text::from_string(line))
 }
 
-fn check_fixed_dirs<T: TreeDisk>(alloc: Global, root: &mut T) -> Result<(), Failure>
-    ensures { ChecksRoot T.disk fixed_dirs root.old root.new result }
-{
-    on_root(checks::check_fixed_dirs(alloc, root))
-}
-
 fn check_items<T: TreeDisk>(alloc: Global, root: &mut T, items: &[Item]) -> Result<(), Failure>
     requires { Rise [] items.now }
     ensures { ChecksRoot T.disk (λ tree. checks tree items.now) root.old root.new result }
@@ -44,39 +41,53 @@ fn check_items<T: TreeDisk>(alloc: Global, root: &mut T, items: &[Item]) -> Resu
     on_root(checks::check_items(alloc, root, items))
 }
 
-fn make_items<T: TreeDisk>(alloc: Global, root: &mut T, items: &[Item]) -> Result<(), Failure>
-    requires { IsTrue T.disk.tells → CanMakeAll (T.disk.reads root.old) items.now }
-    ensures { MakesRoot T.disk (is_named items.now) (λ tree. with_items tree items.now) root.old root.new result }
+// The write set of the items that are new.
+fn new_items<T: TreeDisk>(alloc: Global, root: &mut T, items: Vec<Item>) -> Result<Puts, Failure>
+    requires { Rise [] items.items }
+    ensures { SearchesRoot T.disk (λ tree. new_puts tree items.items) root.old root.new result }
 {
-    on_root(make::make_items(alloc, root, items))
+    let puts = on_root(puts::puts_of_new(alloc, root, items))?;
+    match Puts::new(puts) {
+        Some(puts) => Ok(puts),
+        None => unreachable!(),
+    }
+}
+
+fn put_items<T: TreeDisk>(alloc: Global, root: &mut T, puts: &Puts) -> Result<(), Failure>
+    requires { IsTrue T.disk.tells → CanApply T.disk base puts.now root.old }
+    ensures { AppliesRoot T.disk puts.now root.old root.new result }
+{
+    let directory = private_directory(alloc)?;
+    on_root(apply(alloc, root, &directory, puts))
 }
 
 // Puts the items of a manifest into the root, and answers the line that says so.
 fn install_manifest<T: TreeDisk>(
     alloc: Global,
     root: &mut T,
-    manifest: &Manifest,
+    manifest: Manifest,
 ) -> Result<Text, Failure>
-    requires { IsManifest manifest.now }
-    ensures { ActsOnRoot T.disk (is_named manifest.now.items) (installs manifest.now) root.old root.new result }
+    requires valid { IsManifest manifest }
+    requires ready { IsTrue T.disk.tells → IsReady T.disk root.old }
+    ensures { ActsOnRoot T.disk (is_named manifest.items) (installs manifest) root.old root.new result }
 {
-    let line = line_of_manifest(alloc, manifest)?;
-    let items = manifest.items.get();
-    check_items(alloc, root, items)?;
-    make_items(alloc, root, items)?;
+    let line = line_of_manifest(alloc, &manifest)?;
+    check_items(alloc, root, manifest.items.get())?;
+    let puts = new_items(alloc, root, manifest.items.into_vec())?;
+    put_items(alloc, root, &puts)?;
     Ok(line)
 }
 
-/// Installs the component of the manifest on the input, and answers the line that says so.
+/// Installs the component of the manifest on the input, and answers the line that says so. The root is ready.
 pub fn install<I: Source, T: TreeDisk>(
     alloc: Global,
     input: &mut I,
     root: &mut T,
 ) -> Result<Text, Failure>
-    ensures { Performs spec.install (objects I.source T.disk input.old root.old) (objects I.source T.disk input.new root.new) result }
+    requires { IsTrue T.disk.tells → IsReady T.disk root.old }
+    ensures { PerformsReady I.source T.disk spec.install input.old root.old input.new root.new result }
 {
-    check_fixed_dirs(alloc, root)?;
     let bytes = read_input(alloc, input)?;
     let manifest = read_manifest(alloc, bytes.get())?;
-    install_manifest(alloc, root, &manifest)
+    install_manifest(alloc, root, manifest)
 }

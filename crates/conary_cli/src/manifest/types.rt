@@ -38,6 +38,12 @@ impl Items {
     {
         self.items.as_slice()
     }
+
+    pub fn into_vec(self) -> Vec<Item>
+        ensures { result.items ≡ self }
+    {
+        self.items
+    }
 }
 
 /// A component with its directories and files, whose paths strictly rise.

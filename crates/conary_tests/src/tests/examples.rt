@@ -1,24 +1,38 @@
 // The worked examples of one component.
-use super::call::{NONE, Stands, call, check_installed, check_refused, install};
+use super::call::{NONE, call, check_installed, check_refused, install, install_into};
+use super::cases::{CASES, COMPONENT, EMPTY_LOG};
 use super::sources::input_of;
+use super::trees::Stands::{Dir, File};
+use super::trees::root_of;
 use std::test::Fail;
-
-/// A manifest of 121 bytes.
-pub const MANIFEST: &str =
-    "manifest 1\ncomponent foo:runtime\nversion /conary.example.com@ex:devel/1.0-1-1\ndir 0755 /etc\nfile 0644 3 /etc/foo\nabc\nend\n";
-
-/// The component of that manifest.
-pub const TROVE: &str = "foo:runtime=/conary.example.com@ex:devel/1.0-1-1";
-
-/// What it changes where nothing of it stands.
-pub const CHANGED: &str = "/etc dir 0755\n/etc/foo file 0644 abc\n";
 
 #[test]
 fn install_component(rt: HostRuntime) -> Result<(), Fail> {
-    let mut input = input_of(rt.alloc(), MANIFEST)?;
-    let ended = call(rt.alloc(), "install", &[], NONE, &mut input)?;
-    check_installed(&rt, &ended, TROVE, CHANGED, "the manifest")?;
+    let mut root = root_of(rt.alloc(), &[], 0)?;
+    let mut input = input_of(rt.alloc(), COMPONENT.manifest)?;
+    let ended = call(rt.alloc(), "install", &mut root, NONE, &mut input)?;
+    check_installed(
+        &rt,
+        &ended,
+        COMPONENT.line,
+        COMPONENT.changed,
+        COMPONENT.log,
+        "the manifest",
+    )?;
     assert_eq!(rt; input.taken, 121);
+    Ok(())
+}
+
+// What was installed once stands where it is wanted: the second write set is empty.
+#[test]
+fn installed_twice(rt: HostRuntime) -> Result<(), Fail> {
+    for case in CASES {
+        let mut root = root_of(rt.alloc(), &[], 0)?;
+        let first = install_into(rt.alloc(), &mut root, case.manifest)?;
+        check_installed(&rt, &first, case.line, case.changed, case.log, "once")?;
+        let second = install_into(rt.alloc(), &mut root, case.manifest)?;
+        check_installed(&rt, &second, case.line, "", EMPTY_LOG, "twice")?;
+    }
     Ok(())
 }
 
@@ -32,7 +46,7 @@ fn empty_manifest_refused(rt: HostRuntime) -> Result<(), Fail> {
 #[test]
 fn truncated_manifest_refused(rt: HostRuntime) -> Result<(), Fail> {
     for size in 0..121 {
-        let front = MANIFEST.get(..size).ok_or("a longer manifest")?;
+        let front = COMPONENT.manifest.get(..size).ok_or("a longer manifest")?;
         let ended = install(rt.alloc(), &[], front)?;
         let says = format!(in rt.alloc(); "malformed at {size}")?;
         check_refused(&rt, &ended, says.as_str(), front)?;
@@ -42,10 +56,7 @@ fn truncated_manifest_refused(rt: HostRuntime) -> Result<(), Fail> {
 
 #[test]
 fn unowned_file_kept(rt: HostRuntime) -> Result<(), Fail> {
-    let edits = &[
-        ("/etc", Stands::Dir(0o755)),
-        ("/etc/foo", Stands::File(0o644, "xyz")),
-    ];
-    let ended = install(rt.alloc(), edits, MANIFEST)?;
+    let edits = &[("/etc", Dir(0o755)), ("/etc/foo", File(0o644, b"xyz"))];
+    let ended = install(rt.alloc(), edits, COMPONENT.manifest)?;
     check_refused(&rt, &ended, "unowned /etc/foo", "another file stands")
 }

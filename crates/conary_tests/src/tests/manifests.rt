@@ -1,6 +1,7 @@
 // Manifests that are refused, and that are taken.
-use super::call::{Edits, Stands, check_installed, check_refused, install, joined};
-use super::examples::MANIFEST;
+use super::call::{check_installed, check_refused, install};
+use super::cases::EMPTY_LOG;
+use super::trees::{Stands, Table, joined};
 use std::test::Fail;
 
 // The first three lines of a manifest: 36 bytes.
@@ -132,10 +133,10 @@ fn malformed_manifests(rt: HostRuntime) -> Result<(), Fail> {
 }
 
 // What is put into the root before, what stands behind the first three lines, and why it is refused.
-const MISPLACED: [(Edits, &str, &str); 18] = [
+const MISPLACED: [(Table, &str, &str); 18] = [
     (&[("/var/lib", Stands::Nothing)], "x", "parent /var/lib"),
     (
-        &[("/var/lib", Stands::File(0o644, ""))],
+        &[("/var/lib", Stands::File(0o644, b""))],
         "x",
         "parent /var/lib",
     ),
@@ -150,27 +151,27 @@ const MISPLACED: [(Edits, &str, &str); 18] = [
         "reserved /var/lib/conarydb",
     ),
     (
-        &[("/a", Stands::File(0o644, "x"))],
+        &[("/a", Stands::File(0o644, b"x"))],
         "dir 0755 /a\ndir 0755 /var/lib/conarydb\nend\n",
         "reserved /var/lib/conarydb",
     ),
     (
-        &[("/a", Stands::File(0o644, "x"))],
+        &[("/a", Stands::File(0o644, b"x"))],
         "dir 0755 /a\nend\n",
         "unowned /a",
     ),
     (
-        &[("/a", Stands::File(0o644, "x"))],
+        &[("/a", Stands::File(0o644, b"x"))],
         "file 0600 1 /a\nx\nend\n",
         "unowned /a",
     ),
     (
-        &[("/a", Stands::File(0o644, "x"))],
+        &[("/a", Stands::File(0o644, b"x"))],
         "file 0644 1 /a\ny\nend\n",
         "unowned /a",
     ),
     (
-        &[("/a", Stands::File(0o644, "xy"))],
+        &[("/a", Stands::File(0o644, b"xy"))],
         "file 0644 1 /a\nx\nend\n",
         "unowned /a",
     ),
@@ -191,14 +192,14 @@ const MISPLACED: [(Edits, &str, &str); 18] = [
     ),
     (
         &[
-            ("/b", Stands::File(0o644, "")),
-            ("/c", Stands::File(0o644, "")),
+            ("/b", Stands::File(0o644, b"")),
+            ("/c", Stands::File(0o644, b"")),
         ],
         "dir 0755 /a\ndir 0755 /b\ndir 0755 /c\nend\n",
         "unowned /b",
     ),
     (
-        &[("/c", Stands::File(0o644, ""))],
+        &[("/c", Stands::File(0o644, b""))],
         "dir 0755 /a/b\ndir 0755 /c\nend\n",
         "unowned /c",
     ),
@@ -226,47 +227,55 @@ fn misplaced_items(rt: HostRuntime) -> Result<(), Fail> {
     Ok(())
 }
 
-// What is put into the root before, what stands behind the first three lines, and what it changes.
-const TAKEN: [(Edits, &str, &str); 8] = [
-    (&[], "end\n", ""),
-    (&[], "dir 0755 /a b\nend\n", "/a b dir 0755\n"),
-    (&[], "file 7777 0 /f\n\nend\n", "/f file 7777 \n"),
-    (&[], "file 0644 4 /f\nend\n\nend\n", "/f file 0644 end\n\n"),
-    (&[], "dir 0700 /var\nend\n", ""),
+// What is put into the root before, what stands behind the first three lines, what it changes, and the log of the items that
+// are new.
+const TAKEN: [(Table, &str, &str, &[u8]); 8] = [
+    (&[], "end\n", "", EMPTY_LOG),
+    (
+        &[],
+        "dir 0755 /a b\nend\n",
+        "/a b dir 0755\n",
+        b"CNYLG01\n\x31\0\0\0\x06\x01\xed/a b\x3f\0\0\0\x04\0\0\0\x01",
+    ),
+    (
+        &[],
+        "file 7777 0 /f\n\nend\n",
+        "/f file 7777 \n",
+        b"CNYLG01\n\x33\0\0\0\x06\x0f\xff\0\x02/f\x3f\0\0\0\x04\0\0\0\x01",
+    ),
+    (
+        &[],
+        "file 0644 4 /f\nend\n\nend\n",
+        "/f file 0644 end\n\n",
+        b"CNYLG01\n\x33\0\0\0\x0a\x01\xa4\0\x02/fend\n\x3f\0\0\0\x04\0\0\0\x01",
+    ),
+    (&[], "dir 0700 /var\nend\n", "", EMPTY_LOG),
     (
         &[],
         "dir 0755 /var/lib/conarydb-x\nend\n",
         "/var/lib/conarydb-x dir 0755\n",
+        b"CNYLG01\n\x31\0\0\0\x15\x01\xed/var/lib/conarydb-x\x3f\0\0\0\x04\0\0\0\x01",
     ),
     (
-        &[("/a", Stands::File(0o644, "x"))],
+        &[("/a", Stands::File(0o644, b"x"))],
         "file 0644 1 /a\nx\ndir 0755 /b\nend\n",
         "/b dir 0755\n",
+        b"CNYLG01\n\x31\0\0\0\x04\x01\xed/b\x3f\0\0\0\x04\0\0\0\x01",
     ),
     (
         &[("/b", Stands::Dir(0o700))],
         "dir 0755 /b\ndir 0750 /b/c\nend\n",
         "/b/c dir 0750\n",
+        b"CNYLG01\n\x31\0\0\0\x06\x01\xe8/b/c\x3f\0\0\0\x04\0\0\0\x01",
     ),
 ];
 
 #[test]
 fn manifests_are_taken(rt: HostRuntime) -> Result<(), Fail> {
-    for (edits, entries, changed) in TAKEN {
+    for (edits, entries, changed, log) in TAKEN {
         let input = joined(rt.alloc(), &[HEAD, entries])?;
         let ended = install(rt.alloc(), edits, input.as_str())?;
-        check_installed(&rt, &ended, "a:b=/v", changed, entries)?;
+        check_installed(&rt, &ended, "installed a:b=/v\n", changed, log, entries)?;
     }
     Ok(())
-}
-
-// What was installed once stands where it is wanted.
-#[test]
-fn installed_twice(rt: HostRuntime) -> Result<(), Fail> {
-    let edits = &[
-        ("/etc", Stands::Dir(0o755)),
-        ("/etc/foo", Stands::File(0o644, "abc")),
-    ];
-    let ended = install(rt.alloc(), edits, MANIFEST)?;
-    check_installed(&rt, &ended, super::examples::TROVE, "", "the same again")
 }

@@ -1,19 +1,17 @@
 // The words of the command line.
-use super::call::{Edits, Failing, Stands, call, check, check_refused, joined};
+use super::call::{Ended, Failing, call, check, check_refused, check_root};
 use super::sources::failing_input;
+use super::trees::{Stands, Table, joined, root_of};
+use std::alloc::Global;
 use std::test::Fail;
 
 /// The line of status 2.
 pub const USAGE: &str = "usage: conary [--disk ROOT REPO] COMMAND [WORD...]\n";
 
 // There is no `/var`, and each first call would fail.
-const NO_VAR: Edits = &[("/var/lib", Stands::Nothing), ("/var", Stands::Nothing)];
+const NO_VAR: Table = &[("/var/lib", Stands::Nothing), ("/var", Stands::Nothing)];
 
-const FIRST_FAILS: Failing = Failing {
-    out: 1,
-    err: 0,
-    root: 1,
-};
+const FIRST_FAILS: Failing = Failing { out: 1, err: 0 };
 
 // Words that are no command. Each line is a word.
 const USAGE_ERRORS: [&str; 24] = [
@@ -73,21 +71,29 @@ const NOT_BUILT: [(&str, &str); 26] = [
     ("install\n--replace\n--frob", "--replace"),
 ];
 
+// Nothing of the input may be taken.
+fn call_words(alloc: Global, words: &str) -> Result<Ended, Fail> {
+    let mut root = root_of(alloc, NO_VAR, 1)?;
+    let mut input = failing_input(alloc, "x", 1, 1)?;
+    let ended = call(alloc, words, &mut root, FIRST_FAILS, &mut input)?;
+    if input.taken != 0 {
+        return Err(Fail::from("an input that was read"));
+    }
+    Ok(ended)
+}
+
 #[test]
 fn usage_errors(rt: HostRuntime) -> Result<(), Fail> {
     let alloc = rt.alloc();
     for words in USAGE_ERRORS {
-        let mut input = failing_input(alloc, "x", 1, 1)?;
-        let ended = call(alloc, words, NO_VAR, FIRST_FAILS, &mut input)?;
-        check(&rt, &ended, 2, "", USAGE, words);
-        assert_eq!(rt; (ended.changed.as_str(), input.taken), ("", 0));
+        let ended = call_words(alloc, words)?;
+        check(&rt, &ended.answer, 2, "", USAGE, words);
+        check_root(&rt, &ended, "", "", words);
     }
     for (words, word) in NOT_BUILT {
-        let mut input = failing_input(alloc, "x", 1, 1)?;
-        let ended = call(alloc, words, NO_VAR, FIRST_FAILS, &mut input)?;
+        let ended = call_words(alloc, words)?;
         let says = joined(alloc, &["not built ", word])?;
         check_refused(&rt, &ended, says.as_str(), words)?;
-        assert_eq!(rt; input.taken, 0, "at {words}");
     }
     Ok(())
 }
