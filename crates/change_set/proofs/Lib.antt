@@ -1,0 +1,10 @@
+mod ContentValue
+mod ContentsRead
+mod Faults
+mod GoodItems
+mod Indexing
+mod Progress
+mod SameSet
+mod Small
+mod Taking
+mod Written
