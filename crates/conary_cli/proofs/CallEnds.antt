@@ -18,12 +18,14 @@ use Rattle.conary_cli.specs.declared.words.Command.TheVariants as command
 use Rattle.conary_cli.specs.declared.manifest.types.Manifest.{Manifest}
 use Rattle.conary_cli.specs.Call.{Objects, DiskState, Effect, WhereTold, HasEffect, IsCutShort, Refuses, IsRecoveredRoot, Stands, Writes}
 use Rattle.conary_cli.specs.FixedDirs.{◌>>=◌, fixed_dirs}
+use Rattle.conary_cli.specs.Input.{within_limit}
+use Rattle.conary_cli.specs.ShowChangeSet.{Then, IsDescribed}
 use Rattle.conary_cli.specs.Install.{read_manifest, installs, checks, with_items, installed_line, names_in}
 use Rattle.conary_cli.specs.Recovered.{base, EachRecovered, IsKept}
 use Rattle.conary_cli.specs.Report.{End, IsAnswer, Tells, Reports, status_of}
-use Rattle.conary_cli.specs.Run.{CallState, meaning, PerformsWords, or_refused, command_outcome, IsRefused, IsAnswered, EndsAs, HasRefusedLog, HasMissingDir, Settles, CutShort, HasInputFault, HasOutputFault, HasRootFault, HasNoMemory, HasDamage, NoFaults, WritesLine, LeavesInput, ErrorLine}
+use Rattle.conary_cli.specs.Run.{CallState, meaning, PerformsWords, IsEffectOf, IsRefused, IsAnswered, HasOutcome, EndsAs, HasRefusedLog, HasMissingDir, Settles, CutShort, HasInputFault, HasOutputFault, HasRootFault, HasNoMemory, HasDamage, NoFaults, WritesLine, LeavesInput, ErrorLine}
 use Rattle.std.specs.Str.{bytes_eq}
-use Rattle.conary_cli.specs.Words.{is_planned_command, is_planned_option, not_built, install_of, command_of}
+use Rattle.conary_cli.specs.Words.{is_planned_command, is_planned_option, not_built, install_of, show_of, command_of}
 use Rattle.conary_cli.proofs.WithItems.{with_items_outside}
 
 -- ---- what a command may leave
@@ -39,9 +41,16 @@ effect_read tree e (Ok u) (Ok m) h = effect_checked m tree e (checks tree m.item
 effect_read tree e (Ok u) (Err r) h = absurd cc
 effect_read tree e (Err r) m h = absurd cc
 
+-- a description leaves the tree as it is
+shown_tree : (tree : Tree) (e : Effect) (d : Result (Unit {0}) Refusal) (w : Result (List ℕ) Refusal) → Then d (λ _. Then w (IsDescribed tree)) (Ok e) → e.tree ≡ tree
+shown_tree tree e (Ok u) (Ok bytes) h = ap (λ (x : Effect). x.tree) h.2
+shown_tree tree e (Ok u) (Err r) h = absurd cc
+shown_tree tree e (Err r) w h = absurd cc
+
 -- an effect changes the command's names alone
-effect_outside : (c : Command) (tree : Tree) (input : List ℕ) (e : Effect) → (meaning c).outcome tree input ≡ Ok e → AgreesOutside ((meaning c).names input) e.tree tree
+effect_outside : (c : Command) (tree : Tree) (input : List ℕ) (e : Effect) → (meaning c).IsOutcome tree input (Ok e) → AgreesOutside ((meaning c).names input) e.tree tree
 effect_outside command.Install tree input e h = effect_read tree e (fixed_dirs tree) (read_manifest input) h
+effect_outside command.ShowChangeSet tree input e h = λ p other. ap (λ (t : Tree). get t p) (shown_tree tree e (fixed_dirs tree) (within_limit input) h)
 
 neither : (a b : Bool) → (a || b) ≡ false → (a ≡ false) × (b ≡ false)
 neither true b h = absurd cc
@@ -53,7 +62,7 @@ clear_stores tree recovered clear (by_log set puts holds can stores) = absurd (c
 
 -- the effect is one of the trees that may be left, and so is the tree as it was
 done_cut : (c : Command) (out input : List ℕ) (before after : DiskState) → IsRecoveredRoot before after
-    → EachRecovered before.tree (λ recovered. HasEffect ((meaning c).outcome recovered input) out after.tree) → IsCutShort (meaning c) input before.tree after.tree
+    → EachRecovered before.tree (λ recovered. HasEffect ((meaning c).IsOutcome recovered input) out after.tree) → IsCutShort (meaning c) input before.tree after.tree
 done_cut c out input before after root each = record {
   one_of = λ recovered of. let has = each recovered of in inr (record { effect = has.effect; is = has.is; recovers = at_rest root.settled.flag_clear has.stores });
   outside = λ clear p none.
@@ -108,7 +117,7 @@ IsFound (Err e) before after status = status ≡ status_of (Err e)
 pub data CallEnd (cmd : Result Command Failure) (before after : CallState) (status : ℕ) : Type 0 where
   answered : status ≤ 2 → EndsAs cmd before after status → LeavesInput cmd before after → Settles cmd before after status → IsFound cmd before after status → CallEnd cmd before after status
   input_fault : status ≡ 3 → HasInputFault before after → Settles cmd before after status → CallEnd cmd before after status
-  output_fault : status ≡ 4 → HasOutputFault (command_outcome cmd) before after → Settles cmd before after status → CallEnd cmd before after status
+  output_fault : status ≡ 4 → HasOutputFault (IsEffectOf cmd) before after → Settles cmd before after status → CallEnd cmd before after status
   root_fault : status ≡ 5 → HasRootFault (CutShort cmd) before after → CallEnd cmd before after status
   no_memory : status ≡ 7 → HasNoMemory (CutShort cmd) before after → CallEnd cmd before after status
   damaged : status ≡ 8 → HasDamage before after status → CallEnd cmd before after status
@@ -133,15 +142,19 @@ module _ (before after : CallState) (status : ℕ) where
 
   -- ---- a command that answered
 
-  is_done : (c : Command) (out input : List ℕ) (recovered : Tree) → IsRecoveredRoot before.objects.root after.objects.root → HasEffect ((meaning c).outcome recovered input) out after.objects.root.tree
-      → Appends before.out.written after.out.written out → (status ≡ 0) × (after.err ≡ before.err) → IsAnswered (or_refused ((meaning c).outcome recovered input)) before after status
-  is_done c out input recovered root has writes reports = subst (λ o. IsAnswered (or_refused o) before after status) (sym has.is) (record {
-    ended = reports.0;
-    tree = has.stores;
-    settled = root.settled;
-    out = subst (Appends before.out.written after.out.written) (sym has.answered) writes;
-    err = reports.1;
-  })
+  is_done : (c : Command) (out input : List ℕ) (recovered : Tree) → IsRecoveredRoot before.objects.root after.objects.root → HasEffect ((meaning c).IsOutcome recovered input) out after.objects.root.tree
+      → Appends before.out.written after.out.written out → (status ≡ 0) × (after.err ≡ before.err) → HasOutcome ((meaning c).IsOutcome recovered input) before after status
+  is_done c out input recovered root has writes reports = (
+    Ok has.effect,
+    has.is,
+    record {
+      ended = reports.0;
+      tree = has.stores;
+      settled = root.settled;
+      out = subst (Appends before.out.written after.out.written) (sym has.answered) writes;
+      err = reports.1;
+    },
+  )
 
   ok_end : (c : Command) (out : List ℕ) (end : End) → Stands (meaning c) before.objects after.objects (Ok out) → Writes (Ok out) before.out after.out end → Reports end before.err after.err status → CallEnd (Ok c) before after status
   ok_end c out (Ok u) stands writes reports = answered (omega (arith, reports.0))
@@ -152,7 +165,7 @@ module _ (before after : CallState) (status : ℕ) where
   ok_end c out (Err failure.OutputFault) stands writes (inl tells) = output_fault tells.answered (record {
     rose = writes.0;
     settled = stands.0;
-    done = told_map before.objects (λ input h recovered of. let has = (h recovered of).0 in (has.effect, ap or_refused has.is, has.stores, subst (AppendsPart before.out.written after.out.written) (sym has.answered) writes.1)) stands.1;
+    done = told_map before.objects (λ input h recovered of. let has = (h recovered of).0 in (has.effect, has.is, has.stores, subst (AppendsPart before.out.written after.out.written) (sym has.answered) writes.1)) stands.1;
   }) (λ told. inl (stands.0 told))
   ok_end c out (Err failure.OutputFault) stands writes (inr owed) = absurd owed.0
   ok_end c out (Err failure.Memory) stands writes (inl tells) = no_memory tells.answered (record {
@@ -170,11 +183,11 @@ module _ (before after : CallState) (status : ℕ) where
   -- ---- a command that was refused
 
   module _ (c : Command) (r : Refusal) (out : Keeps before.out.written after.out.written) (tells : Tells (failure.Refused r) before.err after.err status) where
-    refused_with : (input : List ℕ) (recovered : Tree) → IsKept before.objects.root.tree after.objects.root.tree → (meaning c).outcome recovered input ≡ Err r → IsAnswered (or_refused ((meaning c).outcome recovered input)) before after status
-    refused_with input recovered kept is = subst (λ o. IsAnswered (or_refused o) before after status) (sym is) (refused (failure.Refused r) tt kept out tells)
+    refused_with : (input : List ℕ) (recovered : Tree) → IsKept before.objects.root.tree after.objects.root.tree → (meaning c).IsOutcome recovered input (Err r) → HasOutcome ((meaning c).IsOutcome recovered input) before after status
+    refused_with input recovered kept is = (Err r, is, refused (failure.Refused r) tt kept out tells)
 
     refused_answer : Refuses (meaning c) r before.objects after.objects
-        → IfSome before.objects.input.left (λ input. EachRecovered before.objects.root.tree (λ recovered. IsAnswered (or_refused ((meaning c).outcome recovered input)) before after status))
+        → IfSome before.objects.input.left (λ input. EachRecovered before.objects.root.tree (λ recovered. HasOutcome ((meaning c).IsOutcome recovered input) before after status))
     refused_answer (inl log) = some_all before.objects.input.left (λ input recovered of. absurd (blocked_none before.objects.root.tree recovered log.0.path log.0.blocked of.recovers))
     refused_answer (inr (inl dirs)) = some_map before.objects.input.left (λ input h recovered of. refused_with input recovered (same_kept before.objects.root.tree after.objects.root.tree dirs.same) (h recovered of).0) dirs.outcome
     refused_answer (inr (inr refuses)) = some_map before.objects.input.left (λ input h recovered of. refused_with input recovered refuses.kept (h recovered of).0) refuses.outcome
@@ -303,13 +316,18 @@ install_owed : (words : List (List ℕ)) (e : Failure) → install_of words ≡ 
 install_owed [] e h = absurd cc
 install_owed (word ∷ words) e h = planned_owed (is_planned_option word) word (Err failure.Usage) usage_owed e h
 
-first_owed : (b : Bool) (word : List ℕ) (words : List (List ℕ)) (e : Failure) → cond b (install_of words) (cond (is_planned_command word) (Err (not_built word)) (Err failure.Usage)) ≡ Err e → IsAnswer e
-first_owed Bool.true word words e h = install_owed words e h
-first_owed Bool.false word words e h = planned_owed (is_planned_command word) word (Err failure.Usage) usage_owed e h
+show_owed : (words : List (List ℕ)) (e : Failure) → show_of words ≡ Err e → IsAnswer e
+show_owed [] e h = absurd cc
+show_owed (word ∷ words) e h = usage_owed e h
+
+first_owed : (b c : Bool) (word : List ℕ) (words : List (List ℕ)) (e : Failure) → cond b (install_of words) (cond c (show_of words) (cond (is_planned_command word) (Err (not_built word)) (Err failure.Usage))) ≡ Err e → IsAnswer e
+first_owed Bool.true c word words e h = install_owed words e h
+first_owed Bool.false Bool.true word words e h = show_owed words e h
+first_owed Bool.false Bool.false word words e h = planned_owed (is_planned_command word) word (Err failure.Usage) usage_owed e h
 
 pub words_owed : (words : List (List ℕ)) (e : Failure) → command_of words ≡ Err e → IsAnswer e
 words_owed [] e h = usage_owed e h
-words_owed (word ∷ words) e h = first_owed (bytes_eq word (codes "install")) word words e h
+words_owed (word ∷ words) e h = first_owed (bytes_eq word (codes "install")) (bytes_eq word (codes "showcs")) word words e h
 
 -- ---- what each status says
 
@@ -354,7 +372,7 @@ module _ {cmd : Result Command Failure} {before after : CallState} {status : ℕ
   input_failed (no_memory is fault) h = absurd (omega (arith, is, h))
   input_failed (damaged is fault) h = absurd (omega (arith, is, h))
 
-  pub output_failed : CallEnd cmd before after status → status ≡ 4 → HasOutputFault (command_outcome cmd) before after
+  pub output_failed : CallEnd cmd before after status → status ≡ 4 → HasOutputFault (IsEffectOf cmd) before after
   output_failed (answered small is left settles found) h = absurd (omega (arith, small, h))
   output_failed (input_fault is fault settles) h = absurd (omega (arith, is, h))
   output_failed (output_fault is fault settles) h = fault

@@ -1,7 +1,6 @@
 -- How an installation over a ready root ends, from its input, its manifest and its root.
-use Rattle.std.proofs.Common.{◌≡◌, ℕ, ◌≤◌, List, Option, Some, None, Result, Ok, Err, IfSome, refl, sym, ap, ◌∙◌, subst, inl, arith}
+use Rattle.std.proofs.Common.{◌≡◌, ℕ, ◌≤◌, List, Some, Result, Ok, Err, sym, ap, ◌∙◌, subst}
 use Rattle.std.specs.Prelude.{IsTrue, ◌||◌}
-use Rattle.cny_base.specs.Count.{Rose}
 use Rattle.cny_base.specs.declared.refusal.Refusal.{Refusal}
 use Rattle.cny_flow.specs.Flow.{SourceModel}
 use Rattle.tree_disk.specs.Tree.{Tree, AgreesOutside}
@@ -11,31 +10,22 @@ use Rattle.journal_log.specs.Own.{is_own}
 use Rattle.conary_cli.specs.declared.failure.Failure.{Failure}
 use Rattle.conary_cli.specs.declared.failure.Failure.TheVariants as failure
 use Rattle.conary_cli.specs.declared.manifest.types.Manifest.{Manifest}
-use Rattle.conary_cli.specs.Call.{Effect, HasEffect, objects}
+use Rattle.conary_cli.specs.Call.{Effect, Equals, HasEffect, objects}
 use Rattle.conary_cli.specs.FixedDirs.{◌>>=◌, fixed_dirs}
-use Rattle.conary_cli.specs.Input.{within_limit, left_after_reading, ReadsInput}
-use Rattle.conary_cli.specs.Install.{read_manifest, installs, install, is_named, names_in, left_by}
+use Rattle.conary_cli.specs.Input.{within_limit, left_after_reading, left_by, ReadsInput}
+use Rattle.conary_cli.specs.Install.{read_manifest, installs, install_outcome, install, is_named, names_in}
 use Rattle.conary_cli.specs.OnRoot.{IsReady, Acted, ActsOnRoot, IsBeforeOrEffect}
 use Rattle.conary_cli.specs.ReadManifest.{manifest_in, ReadsManifest}
 use Rattle.conary_cli.specs.Ready.{StandsReady, PerformsReady}
 use Rattle.conary_cli.specs.Recovered.{base}
-use Rattle.conary_cli.proofs.Applied.{recovers_itself}
-use Rattle.conary_cli.proofs.Installing.{leaves_waiting, rests_any}
-
-some_map : (o : Option (List ℕ)) {P Q : List ℕ → Type 0} → ((input : List ℕ) → P input → Q input) → IfSome o P → IfSome o Q
-some_map None f h = tt
-some_map (Some input) f h = f input h
-
-some_all : (o : Option (List ℕ)) {Q : List ℕ → Type 0} → ((input : List ℕ) → Q input) → IfSome o Q
-some_all None f = tt
-some_all (Some input) f = f input
+use Rattle.conary_cli.proofs.InputEnds.{some_map, ReadsFirst, StopsAs, read_stopped}
 
 -- ---- the meaning, by what was read
 
 manifest_read : (input bytes : List ℕ) → within_limit input ≡ Ok bytes → read_manifest input ≡ manifest_in bytes
 manifest_read input bytes within = ap (λ (w : Result (List ℕ) Refusal). w >>= manifest_in) within
 
-outcome_of : (t : Tree) (input : List ℕ) → fixed_dirs t ≡ Ok tt → (r : Result Manifest Refusal) → read_manifest input ≡ r → install.outcome t input ≡ (r >>= λ m. installs m t)
+outcome_of : (t : Tree) (input : List ℕ) → fixed_dirs t ≡ Ok tt → (r : Result Manifest Refusal) → read_manifest input ≡ r → install_outcome t input ≡ (r >>= λ m. installs m t)
 outcome_of t input fixed r is = ap (λ (f : Result (Unit {0}) Refusal). f >>= λ _. read_manifest input >>= λ m. installs m t) fixed ∙ ap (λ (x : Result Manifest Refusal). x >>= λ m. installs m t) is
 
 left_of : (t : Tree) (input : List ℕ) → fixed_dirs t ≡ Ok tt → install.left t input ≡ left_after_reading input
@@ -44,65 +34,32 @@ left_of t input fixed = ap (λ (f : Result (Unit {0}) Refusal). left_by f input)
 too_large : (input : List ℕ) (r : Refusal) → within_limit input ≡ Err r → read_manifest input ≡ Err r
 too_large input r within = ap (λ (w : Result (List ℕ) Refusal). w >>= manifest_in) within
 
+pub install_reads_first : ReadsFirst install
+install_reads_first = record {
+  too_large = λ tree input r fixed within. outcome_of tree input fixed (Err r) (too_large input r within);
+  left = left_of;
+}
+
+no_manifest : (bytes : List ℕ) (f : Failure) → ReadsManifest bytes (Err f) → StopsAs install bytes f
+no_manifest bytes (failure.Refused r) found = λ tree fixed input within. outcome_of tree input fixed (Err r) (manifest_read input bytes within ∙ found)
+no_manifest bytes failure.Memory found = tt
+no_manifest bytes failure.Usage found = found
+no_manifest bytes failure.InputFault found = found
+no_manifest bytes failure.OutputFault found = found
+no_manifest bytes failure.RootFault found = found
+no_manifest bytes failure.RepositoryFault found = found
+no_manifest bytes (failure.Damaged path) found = found
+
 module _ {I D : Type 0} (source : SourceModel I) (disk : DiskModel D) (laws : IsDisk disk) where
-  -- the root is as it was
-  stays : (input input' : I) (root : D) (f : Failure) → source.faults input ≤ source.faults input' → (IsTrue disk.tells → IsReady disk root)
-      → StandsReady install (objects source disk input root) (objects source disk input' root) (Err f) → PerformsReady source disk install input root input' root (Err f)
-  stays input input' root f later ready stands = record {
-    input_later = later;
-    root_later = omega arith;
-    any_moment = λ told. some_all (source.left input) (λ bytes. leaves_waiting laws (install.outcome (disk.reads root) bytes) root (ready told));
-    outside = λ told. some_all (source.left input) (λ bytes p other. refl);
-    rests = λ told. rests_any laws root (Err f) (ready told);
-    stands = stands;
-  }
-
-  -- ---- the input wasn't read
-
-  unread : (input input' : I) (root : D) (f : Failure) → (IsTrue disk.tells → IsReady disk root) → ReadsInput (source.left input) (source.left input') (Err f)
-      → (f ≡ failure.InputFault → Rose (source.faults input) (source.faults input')) → StandsReady install (objects source disk input root) (objects source disk input' root) (Err f)
-  unread input input' root (failure.Refused r) ready reads failed = (
-    λ told. refl,
-    λ told. some_map (source.left input) (λ bytes h.
-        (outcome_of (disk.reads root) bytes (ready told).fixed (Err r) (too_large bytes r h.0), h.1 ∙ ap Some (sym (left_of (disk.reads root) bytes (ready told).fixed)))) reads,
-  )
-  unread input input' root failure.InputFault ready reads failed = (failed refl, λ told. refl)
-  unread input input' root failure.Memory ready reads failed = λ told. some_all (source.left input) (λ bytes. inl (recovers_itself (disk.reads root) (ready told).flag_clear))
-  unread input input' root failure.Usage ready reads failed = absurd reads
-  unread input input' root failure.OutputFault ready reads failed = absurd reads
-  unread input input' root failure.RootFault ready reads failed = absurd reads
-  unread input input' root failure.RepositoryFault ready reads failed = absurd reads
-  unread input input' root (failure.Damaged path) ready reads failed = absurd reads
-
-  pub input_stopped : (input input' : I) (root : D) (f : Failure) → source.faults input ≤ source.faults input' → (IsTrue disk.tells → IsReady disk root) → ReadsInput (source.left input) (source.left input') (Err f)
-      → (f ≡ failure.InputFault → Rose (source.faults input) (source.faults input')) → PerformsReady source disk install input root input' root (Err f)
-  input_stopped input input' root f later ready reads failed = stays input input' root f later ready (unread input input' root f ready reads failed)
-
-  -- ---- the input is no manifest
-
-  no_manifest : (input input' : I) (root : D) (bytes : List ℕ) (f : Failure) → (IsTrue disk.tells → IsReady disk root) → ReadsInput (source.left input) (source.left input') (Ok bytes)
-      → ReadsManifest bytes (Err f) → StandsReady install (objects source disk input root) (objects source disk input' root) (Err f)
-  no_manifest input input' root bytes (failure.Refused r) ready reads found = (
-    λ told. refl,
-    λ told. some_map (source.left input) (λ all h.
-        (outcome_of (disk.reads root) all (ready told).fixed (Err r) (manifest_read all bytes h.0 ∙ found), h.1 ∙ ap Some (sym (left_of (disk.reads root) all (ready told).fixed)))) reads,
-  )
-  no_manifest input input' root bytes failure.Memory ready reads found = λ told. some_all (source.left input) (λ all. inl (recovers_itself (disk.reads root) (ready told).flag_clear))
-  no_manifest input input' root bytes failure.Usage ready reads found = absurd found
-  no_manifest input input' root bytes failure.InputFault ready reads found = absurd found
-  no_manifest input input' root bytes failure.OutputFault ready reads found = absurd found
-  no_manifest input input' root bytes failure.RootFault ready reads found = absurd found
-  no_manifest input input' root bytes failure.RepositoryFault ready reads found = absurd found
-  no_manifest input input' root bytes (failure.Damaged path) ready reads found = absurd found
-
+  -- the input is no manifest
   pub manifest_stopped : (input input' : I) (root : D) (bytes : List ℕ) (f : Failure) → source.faults input ≤ source.faults input' → (IsTrue disk.tells → IsReady disk root) → ReadsInput (source.left input) (source.left input') (Ok bytes)
       → ReadsManifest bytes (Err f) → PerformsReady source disk install input root input' root (Err f)
-  manifest_stopped input input' root bytes f later ready reads found = stays input input' root f later ready (no_manifest input input' root bytes f ready reads found)
+  manifest_stopped input input' root bytes f later ready reads found = read_stopped source disk laws install install_reads_first input input' root bytes f later ready reads (no_manifest bytes f found)
 
   -- ---- the manifest was installed
 
   module _ (input input' : I) (root root' : D) (bytes : List ℕ) (m : Manifest) (ready : IsTrue disk.tells → IsReady disk root) (reads : ReadsInput (source.left input) (source.left input') (Ok bytes)) (found : manifest_in bytes ≡ Ok m) where
-    outcome_is : IsTrue disk.tells → (all : List ℕ) → within_limit all ≡ Ok bytes → install.outcome (disk.reads root) all ≡ installs m (disk.reads root)
+    outcome_is : IsTrue disk.tells → (all : List ℕ) → within_limit all ≡ Ok bytes → install_outcome (disk.reads root) all ≡ installs m (disk.reads root)
     outcome_is told all within = outcome_of (disk.reads root) all (ready told).fixed (Ok m) (manifest_read all bytes within ∙ found)
 
     left_is : IsTrue disk.tells → (all : List ℕ) → source.left input' ≡ Some (left_after_reading all) → source.left input' ≡ Some (install.left (disk.reads root) all)
@@ -110,10 +67,10 @@ module _ {I D : Type 0} (source : SourceModel I) (disk : DiskModel D) (laws : Is
 
     stands_by : (s : Result (List ℕ) Failure) → Acted disk.tells (installs m (disk.reads root)) (disk.reads root) (disk.reads root') s (disk.faults root) (disk.faults root')
         → StandsReady install (objects source disk input root) (objects source disk input' root') s
-    stands_by (Ok out) acted = λ told. some_map (source.left input) (λ all h. (subst (λ (o : Result Effect Refusal). HasEffect o out (disk.reads root')) (sym (outcome_is told all h.0)) (acted told), left_is told all h.1)) reads
+    stands_by (Ok out) acted = λ told. some_map (source.left input) (λ all h. (subst (λ (o : Result Effect Refusal). HasEffect (Equals o) out (disk.reads root')) (sym (outcome_is told all h.0)) (acted told), left_is told all h.1)) reads
     stands_by (Err (failure.Refused r)) acted = (λ told. (acted told).1, λ told. some_map (source.left input) (λ all h. (outcome_is told all h.0 ∙ (acted told).0, left_is told all h.1)) reads)
-    stands_by (Err failure.RootFault) acted = (acted.0, λ told. some_map (source.left input) (λ all h. subst (λ (o : Result Effect Refusal). IsBeforeOrEffect o (disk.reads root) (disk.reads root')) (sym (outcome_is told all h.0)) (acted.1 told)) reads)
-    stands_by (Err failure.Memory) acted = λ told. some_map (source.left input) (λ all h. subst (λ (o : Result Effect Refusal). IsBeforeOrEffect o (disk.reads root) (disk.reads root')) (sym (outcome_is told all h.0)) (acted told)) reads
+    stands_by (Err failure.RootFault) acted = (acted.0, λ told. some_map (source.left input) (λ all h. subst (λ (o : Result Effect Refusal). IsBeforeOrEffect (Equals o) (disk.reads root) (disk.reads root')) (sym (outcome_is told all h.0)) (acted.1 told)) reads)
+    stands_by (Err failure.Memory) acted = λ told. some_map (source.left input) (λ all h. subst (λ (o : Result Effect Refusal). IsBeforeOrEffect (Equals o) (disk.reads root) (disk.reads root')) (sym (outcome_is told all h.0)) (acted told)) reads
     stands_by (Err failure.Usage) acted = absurd acted
     stands_by (Err failure.InputFault) acted = absurd acted
     stands_by (Err failure.OutputFault) acted = absurd acted
@@ -124,7 +81,7 @@ module _ {I D : Type 0} (source : SourceModel I) (disk : DiskModel D) (laws : Is
     installed s later acts = record {
       input_later = later;
       root_later = acts.later;
-      any_moment = λ told. some_map (source.left input) (λ all h. subst (λ (o : Result Effect Refusal). LeavesOnly disk root root' (IsBeforeOrEffect o (disk.reads root))) (sym (outcome_is told all h.0)) (acts.any_moment told)) reads;
+      any_moment = λ told. some_map (source.left input) (λ all h. subst (λ (o : Result Effect Refusal). LeavesOnly disk root root' (IsBeforeOrEffect (Equals o) (disk.reads root))) (sym (outcome_is told all h.0)) (acts.any_moment told)) reads;
       outside = λ told. some_map (source.left input) (λ all h. subst (λ (r : Result Manifest Refusal). AgreesOutside (λ p. is_own base p || names_in r p) (disk.reads root') (disk.reads root)) (sym (manifest_read all bytes h.0 ∙ found)) (acts.outside told)) reads;
       rests = acts.rests;
       stands = stands_by s acts.acted;

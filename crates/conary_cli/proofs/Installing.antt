@@ -19,7 +19,7 @@ use Rattle.conary_cli.specs.declared.failure.Failure.{Failure}
 use Rattle.conary_cli.specs.declared.failure.Failure.TheVariants as failure
 use Rattle.conary_cli.specs.declared.manifest.types.Item.{Item}
 use Rattle.conary_cli.specs.declared.manifest.types.Manifest.{Manifest}
-use Rattle.conary_cli.specs.Call.{Effect}
+use Rattle.conary_cli.specs.Call.{Effect, Equals}
 use Rattle.conary_cli.specs.FixedDirs.{◌>>=◌, fixed_dirs}
 use Rattle.conary_cli.specs.Install.{checks, installed_line, installs, is_named, with_items}
 use Rattle.conary_cli.specs.ManifestForm.{IsManifest}
@@ -76,8 +76,8 @@ module _ {D : Type 0} {disk : DiskModel D} (laws : IsDisk disk) where
   image_itself : (d : D) → IsReady disk d → (image : Tree) → IsImageOf disk d image → RecoversTo base image (disk.reads d)
   image_itself d ready image crash = subst (λ (t : Tree). RecoversTo base t (disk.reads d)) (sym (only_reads laws d ready.synced image crash)) (recovers_itself (disk.reads d) ready.flag_clear)
 
-  read_leaves : {old new : D} (outcome : Result Effect Refusal) → HasRead disk old new (Unit {0}) → IsReady disk old → LeavesOnly disk old new (IsBeforeOrEffect outcome (disk.reads old))
-  read_leaves {old = old} outcome read ready = leaves_step laws read.time
+  read_leaves : {old new : D} (IsOutcome : Result Effect Refusal → Type 0) → HasRead disk old new (Unit {0}) → IsReady disk old → LeavesOnly disk old new (IsBeforeOrEffect IsOutcome (disk.reads old))
+  read_leaves {old = old} IsOutcome read ready = leaves_step laws read.time
       (λ image crash. inl (image_itself old ready image crash))
       (λ image crash. inl (image_itself old ready image (same_images read.same image crash)))
 
@@ -100,15 +100,15 @@ module _ {D : Type 0} {disk : DiskModel D} (laws : IsDisk disk) where
       → Acted disk.tells (outcome (disk.reads old)) (disk.reads old) (disk.reads new) (Err f) (disk.faults old) (disk.faults new) → ActsOnRoot disk names outcome old new (Err f)
   acts_read {outcome = outcome} {old = old} {new = new} f later read ready acted = record {
     later = later;
-    any_moment = λ told. read_leaves (outcome (disk.reads old)) (read told) (ready told);
+    any_moment = λ told. read_leaves (Equals (outcome (disk.reads old))) (read told) (ready told);
     outside = λ told p other. ap (λ (t : Tree). get t p) (read told).same.reads;
     rests = λ told. rests_any new (Err f) (ready_on (read told) (ready told));
     acted = acted;
   }
 
   -- nothing was done yet
-  pub leaves_waiting : (outcome : Result Effect Refusal) (d : D) → IsReady disk d → LeavesOnly disk d d (IsBeforeOrEffect outcome (disk.reads d))
-  leaves_waiting outcome d ready = record {
+  pub leaves_waiting : (IsOutcome : Result Effect Refusal → Type 0) (d : D) → IsReady disk d → LeavesOnly disk d d (IsBeforeOrEffect IsOutcome (disk.reads d))
+  leaves_waiting IsOutcome d ready = record {
     later = omega arith;
     each = λ image since. inl (image_itself d ready image (laws.only_now d image since));
     before = λ k image le since. inl since;
@@ -174,13 +174,13 @@ module _ {D : Type 0} {disk : DiskModel D} (laws : IsDisk disk) where
     targets_are : IsBegun disk m.items puts old mid → with_targets puts (disk.reads mid) ≡ with_items (disk.reads old) m.items
     targets_are b = ap (λ (ps : List Put). with_targets ps (disk.reads mid)) b.writes ∙ ap (with_targets (new_puts (disk.reads old) m.items)) b.read.same.reads ∙ with_new_puts (disk.reads old) m.items valid.rise
 
-    to_effect : IsBegun disk m.items puts old mid → (tree : Tree) → RecoversTo base tree (with_targets puts (disk.reads mid)) → IsBeforeOrEffect (installs m (disk.reads old)) (disk.reads old) tree
+    to_effect : IsBegun disk m.items puts old mid → (tree : Tree) → RecoversTo base tree (with_targets puts (disk.reads mid)) → IsBeforeOrEffect (Equals (installs m (disk.reads old))) (disk.reads old) tree
     to_effect b tree r = inr (record { effect = effect m (disk.reads old); is = outcome_is m (disk.reads old) b.passed; recovers = subst (RecoversTo base tree) (targets_are b) r })
 
-    one_of : IsBegun disk m.items puts old mid → (tree : Tree) → IsOneOf base puts (disk.reads mid) tree → IsBeforeOrEffect (installs m (disk.reads old)) (disk.reads old) tree
+    one_of : IsBegun disk m.items puts old mid → (tree : Tree) → IsOneOf base puts (disk.reads mid) tree → IsBeforeOrEffect (Equals (installs m (disk.reads old))) (disk.reads old) tree
     one_of b tree h = ⊎_elim (λ r. inl (subst (RecoversTo base tree) b.read.same.reads r)) (λ r. to_effect b tree r) h
 
-    moment_of : IsReady disk old → IsBegun disk m.items puts old mid → (image : Tree) → IsBeforeOrAfter disk base puts mid image → IsBeforeOrEffect (installs m (disk.reads old)) (disk.reads old) image
+    moment_of : IsReady disk old → IsBegun disk m.items puts old mid → (image : Tree) → IsBeforeOrAfter disk base puts mid image → IsBeforeOrEffect (Equals (installs m (disk.reads old))) (disk.reads old) image
     moment_of ready b image h = ⊎_elim
         (λ was. inl (subst (RecoversTo base image) (only_reads laws mid (ready_on b.read ready).synced was.0 was.1 ∙ b.read.same.reads) was.2))
         (λ r. to_effect b image r) h
@@ -224,7 +224,7 @@ module _ {D : Type 0} {disk : DiskModel D} (laws : IsDisk disk) where
         → AppliesRoot disk puts mid new s → ActsOnRoot disk (is_named m.items) (installs m) old new (answer_of s out)
     acts_applied s out line le ready b a = record {
       later = omega (arith, le, a.later);
-      any_moment = λ told. leaves_then (read_leaves (installs m (disk.reads old)) (b told).read (ready told)) (leaves_weaker (moment_of (ready told) (b told)) (a.any_moment told));
+      any_moment = λ told. leaves_then (read_leaves (Equals (installs m (disk.reads old))) (b told).read (ready told)) (leaves_weaker (moment_of (ready told) (b told)) (a.any_moment told));
       outside = λ told. outside_of (b told) (a.outside told);
       rests = λ told. rests_applied s out told a.applied;
       acted = acted_applied s out line le b a.applied;

@@ -18,7 +18,9 @@ pub mod RootSteps
 pub mod Recovering
 pub mod FixedPaths
 pub mod Installing
+pub mod InputEnds
 pub mod InstallEnds
+pub mod ShowEnds
 pub mod DirsRecovered
 pub mod Readying
 pub mod ReservedNames

@@ -18,14 +18,16 @@ use Rattle.conary_cli.specs.declared.words.Command.{Command}
 use Rattle.conary_cli.specs.declared.words.Command.TheVariants as command
 use Rattle.conary_cli.specs.Call.{objects, disk_state, Effect, WhereTold, HasEffect, RecoversToEffect, IsCutShort, RefusesDirs, IsRecoveredRoot, Stands, Performs}
 use Rattle.conary_cli.specs.FixedDirs.{◌>>=◌, fixed_dirs}
-use Rattle.conary_cli.specs.Install.{read_manifest, installs, left_by}
+use Rattle.conary_cli.specs.Input.{within_limit, left_by}
+use Rattle.conary_cli.specs.Install.{read_manifest, installs}
 use Rattle.conary_cli.specs.OnRoot.{IsBeforeOrEffect, IsRootAtRest}
 use Rattle.conary_cli.specs.Ready.{ReadyStops, ReadiesRoot, PerformsReady}
 use Rattle.conary_cli.specs.Recovered.{base, IsRecoveredTree, Recovers, RecoversToNone, IsKept}
 use Rattle.conary_cli.specs.Run.{meaning, IsBeforeOrDone, IsBeforeOrAfterCall}
+use Rattle.conary_cli.specs.ShowChangeSet.{Then, IsDescribed}
 use Rattle.conary_cli.proofs.DirsRecovered.{same_dirs, same_fixed, committed_dirs}
 use Rattle.conary_cli.proofs.FixedPaths.{directory_path}
-use Rattle.conary_cli.proofs.Respects.{SameOutcome, both_done, both_refused, same_outcome}
+use Rattle.conary_cli.proofs.Respects.{SameOutcome, same_outcome}
 
 -- ---- trees that store the same
 
@@ -39,40 +41,28 @@ stores_back t u same p out = sym (same p out)
 -- ---- every command begins with the fixed directories
 
 -- where one is missing, that is the outcome, and the input is left
-begins : (c : Command) (tree : Tree) (input : List ℕ) (r : Refusal) → fixed_dirs tree ≡ Err r → ((meaning c).outcome tree input ≡ Err r) × ((meaning c).left tree input ≡ input)
+begins : (c : Command) (tree : Tree) (input : List ℕ) (r : Refusal) → fixed_dirs tree ≡ Err r → (meaning c).IsOutcome tree input (Err r) × ((meaning c).left tree input ≡ input)
 begins command.Install tree input r is = (ap (λ d. d >>= λ _. read_manifest input >>= λ m. installs m tree) is, ap (λ d. left_by d input) is)
+begins command.ShowChangeSet tree input r is = (
+  subst (λ (d : Result (Unit {0}) Refusal). Then d (λ _. Then (within_limit input) (IsDescribed tree)) (Err r)) (sym is) refl,
+  ap (λ d. left_by d input) is,
+)
 
 same_left : (c : Command) (t u : Tree) (input : List ℕ) → StoresSame base t u → (meaning c).left t input ≡ (meaning c).left u input
 same_left command.Install t u input same = ap (λ d. left_by d input) (same_dirs t u same)
+same_left command.ShowChangeSet t u input same = ap (λ d. left_by d input) (same_dirs t u same)
 
 -- ---- the same effect
 
-one_effect : {o : Result Effect Refusal} {e f : Effect} → o ≡ Ok e → o ≡ Ok f → e ≡ f
-one_effect {o = o} {e = e} {f = f} is is' = ok_is (sym is ∙ is')
-  where
-    ok_is : ◌≡◌ {A = Result Effect Refusal} (Ok e) (Ok f) → e ≡ f
-    ok_is h = cc
+has_effect : {First Second : Result Effect Refusal → Type 0} {out : List ℕ} {after : Tree} → SameOutcome First Second → HasEffect Second out after → HasEffect First out after
+has_effect same has =
+    let like = same.done has.effect has.is in
+    record { effect = like.0; is = like.1; answered = like.3 ∙ has.answered; stores = λ p out. has.stores p out ∙ sym (like.2 p out) }
 
-has_effect : {a b : Result Effect Refusal} {out : List ℕ} {after : Tree} → SameOutcome a b → HasEffect b out after → HasEffect a out after
-has_effect {after = after} (both_done e f of_a of_b stores same) has =
-    let one : f ≡ has.effect = one_effect of_b has.is in
-    record {
-      effect = e;
-      is = of_a;
-      answered = same ∙ ap (λ (x : Effect). x.out) one ∙ has.answered;
-      stores = λ p out. has.stores p out ∙ ap (λ (x : Effect). get x.tree p) (sym one) ∙ sym (stores p out);
-    }
-has_effect (both_refused r of_a of_b) has = absurd (cc (of_b, has.is))
-
-recovers_effect : {a b : Result Effect Refusal} {tree : Tree} → SameOutcome a b → RecoversToEffect b tree → RecoversToEffect a tree
-recovers_effect (both_done e f of_a of_b stores same) has =
-    let one : f ≡ has.effect = one_effect of_b has.is in
-    record { effect = e; is = of_a; recovers = recovers_on has.recovers (λ p out. ap (λ (x : Effect). get x.tree p) (sym one) ∙ sym (stores p out)) }
-recovers_effect (both_refused r of_a of_b) has = absurd (cc (of_b, has.is))
-
-refused_too : {a b : Result Effect Refusal} {r : Refusal} → SameOutcome a b → b ≡ Err r → a ≡ Err r
-refused_too (both_done e f of_a of_b stores same) is = absurd (cc (of_b, is))
-refused_too (both_refused r of_a of_b) is = of_a ∙ sym of_b ∙ is
+recovers_effect : {First Second : Result Effect Refusal → Type 0} {tree : Tree} → SameOutcome First Second → RecoversToEffect Second tree → RecoversToEffect First tree
+recovers_effect same has =
+    let like = same.done has.effect has.is in
+    record { effect = like.0; is = like.1; recovers = recovers_on has.recovers (λ p out. sym (like.2 p out)) }
 
 -- ---- what is known of the input
 
@@ -173,7 +163,7 @@ module _ {I D : Type 0} (source : SourceModel I) {disk : DiskModel D} (laws : Is
     stores_mid : IsTrue disk.tells → (recovered : Tree) → IsRecoveredTree (disk.reads old) recovered → StoresSame base recovered (disk.reads mid)
     stores_mid told recovered of = stores_back recovered (disk.reads mid) ((readies.readied told).stores recovered of.recovers)
 
-    same_as : IsTrue disk.tells → (bytes : List ℕ) (recovered : Tree) → IsRecoveredTree (disk.reads old) recovered → SameOutcome ((meaning c).outcome recovered bytes) ((meaning c).outcome (disk.reads mid) bytes)
+    same_as : IsTrue disk.tells → (bytes : List ℕ) (recovered : Tree) → IsRecoveredTree (disk.reads old) recovered → SameOutcome ((meaning c).IsOutcome recovered bytes) ((meaning c).IsOutcome (disk.reads mid) bytes)
     same_as told bytes recovered of = same_outcome bytes recovered (disk.reads mid) of.well_formed (laws.reads_well_formed mid) (stores_mid told recovered of) c
 
     left_as : IsTrue disk.tells → (bytes : List ℕ) (recovered : Tree) → IsRecoveredTree (disk.reads old) recovered → (meaning c).left recovered bytes ≡ (meaning c).left (disk.reads mid) bytes
@@ -183,7 +173,7 @@ module _ {I D : Type 0} (source : SourceModel I) {disk : DiskModel D} (laws : Is
     kept_as new told same = subst (IsKept (disk.reads old)) (sym same) (readies.kept told)
 
     cut : (new : D) → IsTrue disk.tells → (bytes : List ℕ) → AgreesOutside (λ p. is_own base p || (meaning c).names bytes p) (disk.reads new) (disk.reads mid)
-        → IsBeforeOrEffect ((meaning c).outcome (disk.reads mid) bytes) (disk.reads mid) (disk.reads new) → IsCutShort (meaning c) bytes (disk.reads old) (disk.reads new)
+        → IsBeforeOrEffect ((meaning c).IsOutcome (disk.reads mid) bytes) (disk.reads mid) (disk.reads new) → IsCutShort (meaning c) bytes (disk.reads old) (disk.reads new)
     cut new told bytes outside either = record {
       one_of = λ recovered of. ⊎_elim (λ was. inl (recovers_on was (stores_back (disk.reads mid) recovered (stores_mid told recovered of)))) (λ is. inr (recovers_effect (same_as told bytes recovered of) is)) either;
       outside = λ clear p out. outside p out ∙ ap (λ (t : Tree). get t p) ((readies.kept told).same clear);
@@ -197,7 +187,7 @@ module _ {I D : Type 0} (source : SourceModel I) {disk : DiskModel D} (laws : Is
     stands_then input' new (Err (failure.Refused r)) performs = λ told. inr (inr (record {
       root = recovered_root new told (performs.rests told);
       kept = kept_as new told (performs.stands.0 told);
-      outcome = some_on (source.left input) (λ bytes h recovered of. (refused_too (same_as told bytes recovered of) h.0, h.1 ∙ ap Some (sym (left_as told bytes recovered of)))) (performs.stands.1 told);
+      outcome = some_on (source.left input) (λ bytes h recovered of. ((same_as told bytes recovered of).refused r h.0, h.1 ∙ ap Some (sym (left_as told bytes recovered of)))) (performs.stands.1 told);
     }))
     stands_then input' new (Err failure.InputFault) performs = (performs.stands.0, λ told. (recovered_root new told (performs.rests told), kept_as new told (performs.stands.1 told)))
     stands_then input' new (Err failure.RootFault) performs = (
@@ -219,7 +209,7 @@ module _ {I D : Type 0} (source : SourceModel I) {disk : DiskModel D} (laws : Is
 
     -- ---- crashes
 
-    image_then : IsTrue disk.tells → (bytes : List ℕ) (image : Tree) → IsBeforeOrEffect ((meaning c).outcome (disk.reads mid) bytes) (disk.reads mid) image → IsBeforeOrDone disk (meaning c) bytes old image
+    image_then : IsTrue disk.tells → (bytes : List ℕ) (image : Tree) → IsBeforeOrEffect ((meaning c).IsOutcome (disk.reads mid) bytes) (disk.reads mid) image → IsBeforeOrDone disk (meaning c) bytes old image
     image_then told bytes image either = ⊎_elim
         (λ was. inl (disk.reads old, reads_image laws old, λ tree r. recovers_on was ((readies.readied told).stores tree r)))
         (λ is. inr (recovered_mid told, λ recovered of. recovers_effect (same_as told bytes recovered of) is))

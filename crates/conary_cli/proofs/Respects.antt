@@ -16,10 +16,11 @@ use Rattle.conary_cli.specs.declared.manifest.types.Manifest.{Manifest}
 use Rattle.conary_cli.specs.declared.manifest.fault.Unread.{Unread}
 use Rattle.conary_cli.specs.declared.words.Command.{Command}
 use Rattle.conary_cli.specs.declared.words.Command.TheVariants as command
-use Rattle.conary_cli.specs.Call.{Effect}
+use Rattle.conary_cli.specs.Call.{Effect, Equals}
 use Rattle.conary_cli.specs.FixedDirs.{◌>>=◌, fixed_dirs}
-use Rattle.conary_cli.specs.Install.{read_manifest, none_of, clashes, clashes_with, unowned, with_item, with_item_at, with_items, parents, reserved, checks, installed_line, installs, install}
+use Rattle.conary_cli.specs.Install.{read_manifest, none_of, clashes, clashes_with, unowned, with_item, with_item_at, with_items, parents, reserved, checks, installed_line, installs, install_outcome}
 use Rattle.conary_cli.specs.Input.{within_limit}
+use Rattle.conary_cli.specs.ShowChangeSet.{Then, described, IsDescribed, show_change_set}
 use Rattle.conary_cli.specs.ManifestForm.{IsItem, IsManifest, Rise, max_items}
 use Rattle.conary_cli.specs.ManifestReading.{manifest_at}
 use Rattle.conary_cli.specs.Parents.{is_made_dir, is_parentless_item}
@@ -33,10 +34,32 @@ use Rattle.conary_cli.proofs.ItemParents.{parents_of_items}
 use Rattle.conary_cli.proofs.ReservedNames.{not_own, parent_not_own, not_reserved}
 use Rattle.conary_cli.proofs.Takes.{manifest_takes}
 
+-- For each outcome of the second there is a like one of the first: an effect of the same bytes whose tree stores the same, or the
+-- same refusal.
+pub record SameOutcome (First Second : Result Effect Refusal → Type 0) : Type 0 where
+  pub done : (f : Effect) → Second (Ok f) → (e : Effect) × First (Ok e) × StoresSame base e.tree f.tree × (e.out ≡ f.out)
+  pub refused : (r : Refusal) → Second (Err r) → First (Err r)
+
 -- the same refusal, or effects of the same bytes whose trees store the same
-pub data SameOutcome (a b : Result Effect Refusal) : Type 0 where
-  both_done : (e f : Effect) → a ≡ Ok e → b ≡ Ok f → StoresSame base e.tree f.tree → e.out ≡ f.out → SameOutcome a b
-  both_refused : (r : Refusal) → a ≡ Err r → b ≡ Err r → SameOutcome a b
+data AreAlike (a b : Result Effect Refusal) : Type 0 where
+  both_done : (e f : Effect) → a ≡ Ok e → b ≡ Ok f → StoresSame base e.tree f.tree → e.out ≡ f.out → AreAlike a b
+  both_refused : (r : Refusal) → a ≡ Err r → b ≡ Err r → AreAlike a b
+
+one_effect : {o : Result Effect Refusal} {e f : Effect} → o ≡ Ok e → o ≡ Ok f → e ≡ f
+one_effect {o = o} {e = e} {f = f} is is' = ok_is (sym is ∙ is')
+  where
+    ok_is : ◌≡◌ {A = Result Effect Refusal} (Ok e) (Ok f) → e ≡ f
+    ok_is h = cc
+
+alike_outcomes : (a b : Result Effect Refusal) → AreAlike a b → SameOutcome (Equals a) (Equals b)
+alike_outcomes a b (both_done e f of_a of_b stores same) = record {
+  done = λ g is. let one : f ≡ g = one_effect of_b is in (e, of_a, (λ p out. stores p out ∙ ap (λ (x : Effect). get x.tree p) one), same ∙ ap (λ (x : Effect). x.out) one);
+  refused = λ r is. absurd (cc (of_b, is));
+}
+alike_outcomes a b (both_refused r of_a of_b) = record {
+  done = λ g is. absurd (cc (of_b, is));
+  refused = λ s is. of_a ∙ sym of_b ∙ is;
+}
 
 abbrev AreFree : List Item → Type 0
 AreFree items = AllByRecursion (λ (item : Item). is_reserved item.path ≡ false) items
@@ -129,7 +152,7 @@ module _ (m : Manifest) (valid : IsManifest m) (t u : Tree) (well_t : WellFormed
       first : reserved m.items ≡ Err r → checks u m.items ≡ Ok tt → ⊥
       first e h = cc (sym (ap (λ (x : Result (Unit {0}) Refusal). x >>= λ _. unowned u m.items >>= λ _. parents (with_items u m.items)) e) ∙ h)
 
-  same_by : (c : Result (Unit {0}) Refusal) → checks u m.items ≡ c → SameOutcome (installs m t) (installs m u)
+  same_by : (c : Result (Unit {0}) Refusal) → checks u m.items ≡ c → AreAlike (installs m t) (installs m u)
   same_by (Ok x) is =
       let of_t : checks t m.items ≡ Ok tt = same_checks (reserved m.items) refl ∙ is in
       both_done (done t) (done u) (ap (λ c. c >>= λ _. Ok (done t)) of_t) (ap (λ c. c >>= λ _. Ok (done u)) is)
@@ -138,20 +161,41 @@ module _ (m : Manifest) (valid : IsManifest m) (t u : Tree) (well_t : WellFormed
       let of_t : checks t m.items ≡ Err r = same_checks (reserved m.items) refl ∙ is in
       both_refused r (ap (λ c. c >>= λ _. Ok (done t)) of_t) (ap (λ c. c >>= λ _. Ok (done u)) is)
 
-  same_installs : SameOutcome (installs m t) (installs m u)
+  same_installs : AreAlike (installs m t) (installs m u)
   same_installs = same_by (checks u m.items) refl
 
 module _ (input : List ℕ) (t u : Tree) (well_t : WellFormed t) (well_u : WellFormed u) (same : StoresSame base t u) where
-  by_dirs : (d : Result (Unit {0}) Refusal) → (r : Result Manifest Refusal) → read_manifest input ≡ r → SameOutcome (d >>= λ _. r >>= λ m. installs m t) (d >>= λ _. r >>= λ m. installs m u)
+  by_dirs : (d : Result (Unit {0}) Refusal) → (r : Result Manifest Refusal) → read_manifest input ≡ r → AreAlike (d >>= λ _. r >>= λ m. installs m t) (d >>= λ _. r >>= λ m. installs m u)
   by_dirs (Ok x) (Ok m) is = same_installs m (read_valid input m is) t u well_t well_u same
   by_dirs (Ok x) (Err r) is = both_refused r refl refl
   by_dirs (Err r) read is = both_refused r refl refl
 
-  same_install : SameOutcome (install.outcome t input) (install.outcome u input)
+  same_install : AreAlike (install_outcome t input) (install_outcome u input)
   same_install =
-      subst (λ d. SameOutcome (d >>= λ _. read_manifest input >>= λ m. installs m t) (install.outcome u input)) (sym (same_dirs t u same))
+      subst (λ d. AreAlike (d >>= λ _. read_manifest input >>= λ m. installs m t) (install_outcome u input)) (sym (same_dirs t u same))
       (by_dirs (fixed_dirs u) (read_manifest input) refl)
 
+  -- what comes of the same bytes
+  same_described : (bytes : List ℕ) → SameOutcome (IsDescribed t bytes) (IsDescribed u bytes)
+  same_described bytes = record {
+    done = λ f is. (described t is.0, (is.0, is.1, refl), (λ p out. same p out ∙ ap (λ (x : Effect). get x.tree p) (sym is.2)), ap (λ (x : Effect). x.out) (sym is.2));
+    refused = λ r is. is;
+  }
+
+  same_refused : (r : Refusal) → SameOutcome (Equals (Err r)) (Equals (Err r))
+  same_refused r = record { done = λ f is. absurd cc; refused = λ s is. is }
+
+  same_shown : (d : Result (Unit {0}) Refusal) (w : Result (List ℕ) Refusal) → SameOutcome (Then d (λ _. Then w (IsDescribed t))) (Then d (λ _. Then w (IsDescribed u)))
+  same_shown (Ok x) (Ok bytes) = same_described bytes
+  same_shown (Ok x) (Err r) = same_refused r
+  same_shown (Err r) w = same_refused r
+
+  same_show : SameOutcome (show_change_set.IsOutcome t input) (show_change_set.IsOutcome u input)
+  same_show =
+      subst (λ (d : Result (Unit {0}) Refusal). SameOutcome (Then d (λ _. Then (within_limit input) (IsDescribed t))) (show_change_set.IsOutcome u input)) (sym (same_dirs t u same))
+      (same_shown (fixed_dirs u) (within_limit input))
+
   -- on trees that store the same, a command has the same outcome
-  pub same_outcome : (c : Command) → SameOutcome ((meaning c).outcome t input) ((meaning c).outcome u input)
-  same_outcome command.Install = same_install
+  pub same_outcome : (c : Command) → SameOutcome ((meaning c).IsOutcome t input) ((meaning c).IsOutcome u input)
+  same_outcome command.Install = alike_outcomes (install_outcome t input) (install_outcome u input) same_install
+  same_outcome command.ShowChangeSet = same_show

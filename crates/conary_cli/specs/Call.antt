@@ -47,10 +47,14 @@ pub record Effect : Type 0 where
   pub tree : Tree
   pub out : List ℕ
 
--- What a command means, as functions of the tree that the root recovers to and of the input: its outcome, what it leaves
+-- the outcome is this one
+abbrev pub Equals : Result Effect Refusal → Result Effect Refusal → Type 0
+Equals expected outcome = expected ≡ outcome
+
+-- What a command means, by the tree that the root recovers to and by the input: that this is its outcome, what it leaves
 -- of the input, and which names it may change. A refusal has no tree, since it leaves what it found.
-pub record Meaning : Type 0 where
-  pub outcome : Tree → List ℕ → Result Effect Refusal
+pub record Meaning : Type 1 where
+  pub IsOutcome : Tree → List ℕ → Result Effect Refusal → Type 0
   pub left : Tree → List ℕ → List ℕ
   pub names : List ℕ → Name → Bool
 
@@ -59,22 +63,22 @@ abbrev pub WhereTold : Objects → (List ℕ → Type 0) → Type 0
 WhereTold before P = IsTrue before.root.told → IfSome before.input.left P
 
 -- The outcome is an effect of these bytes, and the root stores the same as its tree.
-pub record HasEffect (outcome : Result Effect Refusal) (out : List ℕ) (after : Tree) : Type 0 where
+pub record HasEffect (IsOutcome : Result Effect Refusal → Type 0) (out : List ℕ) (after : Tree) : Type 0 where
   pub effect : Effect
-  pub is : outcome ≡ Ok effect
+  pub is : IsOutcome (Ok effect)
   pub answered : effect.out ≡ out
   pub stores : StoresSame base after effect.tree
 
 -- The outcome is an effect, and the tree recovers to the effect's.
-pub record RecoversToEffect (outcome : Result Effect Refusal) (tree : Tree) : Type 0 where
+pub record RecoversToEffect (IsOutcome : Result Effect Refusal → Type 0) (tree : Tree) : Type 0 where
   pub effect : Effect
-  pub is : outcome ≡ Ok effect
+  pub is : IsOutcome (Ok effect)
   pub recovers : RecoversTo base tree effect.tree
 
 -- What a fault or want of memory leaves of the root's tree: it recovers to what it recovered to, or to the tree of the
 -- effect. Where the commit flag wasn't set, no name changed but the journal's own and those of the command.
 pub record IsCutShort (m : Meaning) (input : List ℕ) (before after : Tree) : Type 0 where
-  pub one_of : EachRecovered before (λ recovered. RecoversTo base after recovered ⊎ RecoversToEffect (m.outcome recovered input) after)
+  pub one_of : EachRecovered before (λ recovered. RecoversTo base after recovered ⊎ RecoversToEffect (m.IsOutcome recovered input) after)
   pub outside : is_committed base before ≡ false → AgreesOutside (λ p. is_own base p || m.names input p) after before
 
 -- The log behind a set commit flag can't be put: refused with its first such path, and the tree is as it was.
@@ -93,7 +97,7 @@ pub record IsRecoveredRoot (before after : DiskState) : Type 0 where
 -- the outcome is this refusal, and what it leaves of the input is left
 abbrev pub IsOutcomeRefused : Meaning → Refusal → Objects → Objects → Type 0
 IsOutcomeRefused m r before after = IfSome before.input.left (λ input. EachRecovered before.root.tree (λ recovered.
-    (m.outcome recovered input ≡ Err r) × (after.input.left ≡ Some (m.left recovered input))))
+    m.IsOutcome recovered input (Err r) × (after.input.left ≡ Some (m.left recovered input))))
 
 -- A fixed directory isn't one: refused, the tree is as it was, and nothing of the input was read.
 pub record RefusesDirs (m : Meaning) (r : Refusal) (before after : Objects) : Type 0 where
@@ -116,7 +120,7 @@ Refuses m r before after = (RefusesLog r before.root.tree after.root.tree × (af
 -- what stands when a command has ended, by how it ended
 abbrev pub Stands : Meaning → Objects → Objects → Result (List ℕ) Failure → Type 0
 Stands m before after (Ok out) = (IsTrue before.root.told → IsRecoveredRoot before.root after.root) × WhereTold before (λ input. EachRecovered before.root.tree (λ recovered.
-    HasEffect (m.outcome recovered input) out after.root.tree × (after.input.left ≡ Some (m.left recovered input))))
+    HasEffect (m.IsOutcome recovered input) out after.root.tree × (after.input.left ≡ Some (m.left recovered input))))
 Stands m before after (Err (failure.Refused r)) = IsTrue before.root.told → Refuses m r before after
 Stands m before after (Err failure.InputFault) = Rose before.input.faults after.input.faults × (IsTrue before.root.told → IsRecoveredRoot before.root after.root × IsKept before.root.tree after.root.tree)
 Stands m before after (Err failure.RootFault) = Rose before.root.faults after.root.faults × WhereTold before (λ input. IsCutShort m input before.root.tree after.root.tree)

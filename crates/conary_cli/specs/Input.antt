@@ -18,6 +18,11 @@ within_limit input = if nat_lt input_limit (length input) then Err (TooLarge Inp
 abbrev pub left_after_reading : List ℕ → List ℕ
 left_after_reading input = drop (input_limit + 1) input
 
+-- the input is read once the fixed directories stand
+abbrev pub left_by : Result (Unit {0}) Refusal → List ℕ → List ℕ
+left_by (Ok _) input = left_after_reading input
+left_by (Err r) input = input
+
 -- how reading the input ended, from the bytes that were left to those that are
 abbrev pub ReadsInput : Option (List ℕ) → Option (List ℕ) → Result (List ℕ) Failure → Type 0
 ReadsInput left rest (Ok bytes) = IfSome left (λ input. (within_limit input ≡ Ok bytes) × (rest ≡ Some (left_after_reading input)))

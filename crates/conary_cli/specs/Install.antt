@@ -13,9 +13,9 @@ use Rattle.tree_disk.specs.Rows.{is_dir_at}
 use Rattle.tree_disk.specs.Tree.{Name, Tree, same_name, put, is_dir}
 use Rattle.conary_cli.specs.declared.manifest.types.Item.{Item}
 use Rattle.conary_cli.specs.declared.manifest.types.Manifest.{Manifest}
-use Rattle.conary_cli.specs.Input.{within_limit, left_after_reading}
+use Rattle.conary_cli.specs.Input.{within_limit, left_by}
 use Rattle.conary_cli.specs.ReadManifest.{manifest_in}
-use Rattle.conary_cli.specs.Call.{Effect, Meaning}
+use Rattle.conary_cli.specs.Call.{Effect, Equals, Meaning}
 pub use Rattle.conary_cli.specs.FixedDirs.{◌>>=◌, fixed_dirs}
 
 -- refused for what was found
@@ -104,15 +104,13 @@ abbrev pub names_in : Result Manifest Refusal → Name → Bool
 names_in (Ok m) path = is_named m.items path
 names_in (Err r) path = false
 
--- the input is read once the fixed directories stand
-abbrev pub left_by : Result (Unit {0}) Refusal → List ℕ → List ℕ
-left_by (Ok _) input = left_after_reading input
-left_by (Err r) input = input
-
 -- The fixed directories, the input within its limit, the manifest, the tests, and then the tree with the items and one line.
+abbrev pub install_outcome : Tree → List ℕ → Result Effect Refusal
+install_outcome tree input = fixed_dirs tree >>= λ _. read_manifest input >>= λ m. installs m tree
+
 abbrev pub install : Meaning
 install = record {
-  outcome = λ tree input. fixed_dirs tree >>= λ _. read_manifest input >>= λ m. installs m tree;
+  IsOutcome = λ tree input. Equals (install_outcome tree input);
   left = λ tree input. left_by (fixed_dirs tree) input;
   names = λ input. names_in (read_manifest input);
 }

@@ -1,9 +1,9 @@
 pub mod Words
+pub mod Failures
 pub mod Input
 pub mod FixedDirs
 pub mod Recovered
 pub mod Call
-pub mod Texts
 pub mod Report
 pub mod ManifestForm
 pub mod ManifestReading
@@ -14,5 +14,6 @@ pub mod Parents
 pub mod NewPuts
 pub mod OnRoot
 pub mod Ready
+pub mod ShowChangeSet
 pub mod Run
 pub mod FormDecides

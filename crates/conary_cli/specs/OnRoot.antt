@@ -14,7 +14,7 @@ use Rattle.tree_journal.specs.Apply.{IsAtRest, IsBeforeOrAfter, IsOneOf, is_own_
 use Rattle.tree_journal.specs.Recovery.{is_committed, RecoversTo}
 use Rattle.conary_cli.specs.declared.failure.Failure.{Failure}
 use Rattle.conary_cli.specs.declared.failure.Failure.TheVariants as failure
-use Rattle.conary_cli.specs.Call.{IsSettled, disk_state, Effect, HasEffect, RecoversToEffect}
+use Rattle.conary_cli.specs.Call.{IsSettled, disk_state, Effect, Equals, HasEffect, RecoversToEffect}
 use Rattle.conary_cli.specs.FixedDirs.{fixed_dirs}
 use Rattle.conary_cli.specs.Recovered.{base}
 
@@ -93,15 +93,15 @@ pub record AppliesRoot {D : Type 0} (disk : DiskModel D) (puts : List Put) (old 
   pub applied : Applied disk puts old new result
 
 -- the tree recovers to what the root read, or to the tree of the effect
-abbrev pub IsBeforeOrEffect : Result Effect Refusal → Tree → Tree → Type 0
-IsBeforeOrEffect outcome before tree = RecoversTo base tree before ⊎ RecoversToEffect outcome tree
+abbrev pub IsBeforeOrEffect : (Result Effect Refusal → Type 0) → Tree → Tree → Type 0
+IsBeforeOrEffect IsOutcome before tree = RecoversTo base tree before ⊎ RecoversToEffect IsOutcome tree
 
 -- how the part of a command that works on the root alone ends
 abbrev pub Acted : Bool → Result Effect Refusal → Tree → Tree → Result (List ℕ) Failure → ℕ → ℕ → Type 0
-Acted told outcome old new (Ok out) before now = IsTrue told → HasEffect outcome out new
+Acted told outcome old new (Ok out) before now = IsTrue told → HasEffect (Equals outcome) out new
 Acted told outcome old new (Err (failure.Refused r)) before now = IsTrue told → (outcome ≡ Err r) × (new ≡ old)
-Acted told outcome old new (Err failure.RootFault) before now = Rose before now × (IsTrue told → IsBeforeOrEffect outcome old new)
-Acted told outcome old new (Err failure.Memory) before now = IsTrue told → IsBeforeOrEffect outcome old new
+Acted told outcome old new (Err failure.RootFault) before now = Rose before now × (IsTrue told → IsBeforeOrEffect (Equals outcome) old new)
+Acted told outcome old new (Err failure.Memory) before now = IsTrue told → IsBeforeOrEffect (Equals outcome) old new
 Acted told outcome old new (Err failure.Usage) before now = ⊥
 Acted told outcome old new (Err failure.InputFault) before now = ⊥
 Acted told outcome old new (Err failure.OutputFault) before now = ⊥
@@ -127,7 +127,7 @@ Rests disk new (Err (failure.Damaged path)) = Unit
 -- it was. At every moment a crash leaves a tree that recovers to what the root read, or to the effect's.
 pub record ActsOnRoot {D : Type 0} (disk : DiskModel D) (names : Name → Bool) (outcome : Tree → Result Effect Refusal) (old new : D) (result : Result (List ℕ) Failure) : Type 0 where
   pub later : disk.faults old ≤ disk.faults new
-  pub any_moment : IsTrue disk.tells → LeavesOnly disk old new (IsBeforeOrEffect (outcome (disk.reads old)) (disk.reads old))
+  pub any_moment : IsTrue disk.tells → LeavesOnly disk old new (IsBeforeOrEffect (Equals (outcome (disk.reads old))) (disk.reads old))
   pub outside : IsTrue disk.tells → AgreesOutside (λ p. is_own base p || names p) (disk.reads new) (disk.reads old)
   pub rests : IsTrue disk.tells → Rests disk new result
   pub acted : Acted disk.tells (outcome (disk.reads old)) (disk.reads old) (disk.reads new) result (disk.faults old) (disk.faults new)

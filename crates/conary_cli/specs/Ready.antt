@@ -59,12 +59,12 @@ pub record ReadiesRoot {D : Type 0} (disk : DiskModel D) (old new : D) (result :
 
 -- what stands when a command over a ready root has ended, by how it ended
 abbrev pub StandsReady : Meaning → Objects → Objects → Result (List ℕ) Failure → Type 0
-StandsReady m before after (Ok out) = WhereTold before (λ input. HasEffect (m.outcome before.root.tree input) out after.root.tree × (after.input.left ≡ Some (m.left before.root.tree input)))
+StandsReady m before after (Ok out) = WhereTold before (λ input. HasEffect (m.IsOutcome before.root.tree input) out after.root.tree × (after.input.left ≡ Some (m.left before.root.tree input)))
 StandsReady m before after (Err (failure.Refused r)) = (IsTrue before.root.told → after.root.tree ≡ before.root.tree) × WhereTold before (λ input.
-    (m.outcome before.root.tree input ≡ Err r) × (after.input.left ≡ Some (m.left before.root.tree input)))
+    m.IsOutcome before.root.tree input (Err r) × (after.input.left ≡ Some (m.left before.root.tree input)))
 StandsReady m before after (Err failure.InputFault) = Rose before.input.faults after.input.faults × (IsTrue before.root.told → after.root.tree ≡ before.root.tree)
-StandsReady m before after (Err failure.RootFault) = Rose before.root.faults after.root.faults × WhereTold before (λ input. IsBeforeOrEffect (m.outcome before.root.tree input) before.root.tree after.root.tree)
-StandsReady m before after (Err failure.Memory) = WhereTold before (λ input. IsBeforeOrEffect (m.outcome before.root.tree input) before.root.tree after.root.tree)
+StandsReady m before after (Err failure.RootFault) = Rose before.root.faults after.root.faults × WhereTold before (λ input. IsBeforeOrEffect (m.IsOutcome before.root.tree input) before.root.tree after.root.tree)
+StandsReady m before after (Err failure.Memory) = WhereTold before (λ input. IsBeforeOrEffect (m.IsOutcome before.root.tree input) before.root.tree after.root.tree)
 StandsReady m before after (Err failure.Usage) = ⊥
 StandsReady m before after (Err failure.OutputFault) = ⊥
 StandsReady m before after (Err failure.RepositoryFault) = ⊥
@@ -75,7 +75,7 @@ StandsReady m before after (Err (failure.Damaged path)) = ⊥
 pub record PerformsReady {I D : Type 0} (source : SourceModel I) (disk : DiskModel D) (m : Meaning) (input : I) (root : D) (input' : I) (root' : D) (result : Result (List ℕ) Failure) : Type 0 where
   pub input_later : source.faults input ≤ source.faults input'
   pub root_later : disk.faults root ≤ disk.faults root'
-  pub any_moment : WhereTold (objects source disk input root) (λ bytes. LeavesOnly disk root root' (IsBeforeOrEffect (m.outcome (disk.reads root) bytes) (disk.reads root)))
+  pub any_moment : WhereTold (objects source disk input root) (λ bytes. LeavesOnly disk root root' (IsBeforeOrEffect (m.IsOutcome (disk.reads root) bytes) (disk.reads root)))
   pub outside : WhereTold (objects source disk input root) (λ bytes. AgreesOutside (λ p. is_own base p || m.names bytes p) (disk.reads root') (disk.reads root))
   pub rests : IsTrue disk.tells → Rests disk root' result
   pub stands : StandsReady m (objects source disk input root) (objects source disk input' root') result

@@ -3,7 +3,7 @@ use Rattle.std.specs.Prelude.{◌≡◌, ◌⊎◌, ℕ, List, [], ◌++◌, ◌
 use Rattle.std.specs.Io.KnownBytes.{Appends, Keeps}
 use Rattle.cny_base.specs.Count.{Rose}
 use Rattle.cny_flow.specs.Flow.{SinkState}
-use Rattle.conary_cli.specs.Texts.{refusal_text}
+use Rattle.cny_report.specs.Refusals.{refusal_text}
 use Rattle.conary_cli.specs.declared.failure.Failure.{Failure}
 use Rattle.conary_cli.specs.declared.failure.Failure.TheVariants as failure
 

@@ -17,6 +17,7 @@ use Rattle.conary_cli.specs.Call.{Objects, objects, IsSettled, Effect, Meaning, 
 use Rattle.conary_cli.specs.FixedDirs.{fixed_dirs}
 use Rattle.conary_cli.specs.Recovered.{base, Recovers, EachRecovered, IsKept}
 use Rattle.conary_cli.specs.Install.{install}
+use Rattle.conary_cli.specs.ShowChangeSet.{show_change_set}
 use Rattle.conary_cli.specs.Report.{End, status_of, error_line, Tells, Reports}
 
 -- all that a call is handed, at one moment: what its command works on, and the two sinks
@@ -32,6 +33,7 @@ call_state source out_sink err_sink disk input out err root =
 -- what each command means
 abbrev pub meaning : Command → Meaning
 meaning command.Install = install
+meaning command.ShowChangeSet = show_change_set
 
 -- The words are a command and it was performed, or they are none and nothing was done.
 abbrev pub PerformsWords : Result Command Failure → Objects → Objects → Result (List ℕ) Failure → Type 0
@@ -52,10 +54,10 @@ abbrev pub or_refused : Result Effect Refusal → Result Effect Failure
 or_refused (Ok e) = Ok e
 or_refused (Err r) = Err (failure.Refused r)
 
--- the outcome of the words' command on the tree that the root recovers to and the input
-abbrev pub command_outcome : Result Command Failure → Tree → List ℕ → Result Effect Failure
-command_outcome (Ok c) tree input = or_refused ((meaning c).outcome tree input)
-command_outcome (Err e) tree input = Err e
+-- the words are a command, and its outcome on the tree that the root recovers to and the input is this effect
+abbrev pub IsEffectOf : Result Command Failure → Tree → List ℕ → Effect → Type 0
+IsEffectOf (Ok c) tree input e = (meaning c).IsOutcome tree input (Ok e)
+IsEffectOf (Err f) tree input e = ⊥
 
 -- the line of a failure went to the standard error, or that failed
 abbrev pub WritesLine : Failure → SinkState → SinkState → Type 0
@@ -89,11 +91,15 @@ IsAnswered (Err failure.RepositoryFault) before after status = ⊥
 IsAnswered (Err failure.Memory) before after status = ⊥
 IsAnswered (Err (failure.Damaged path)) before after status = ⊥
 
--- Where the root and the input are told: the call ended as its outcome on each tree that the root recovered to says. Words that are
+-- the call ended as an outcome of the command says
+abbrev pub HasOutcome : (Result Effect Refusal → Type 0) → CallState → CallState → ℕ → Type 0
+HasOutcome IsOutcome before after status = (outcome : Result Effect Refusal) × IsOutcome outcome × IsAnswered (or_refused outcome) before after status
+
+-- Where the root and the input are told: the call ended as an outcome on each tree that the root recovered to says. Words that are
 -- no command changed nothing.
 abbrev pub EndsAs : Result Command Failure → CallState → CallState → ℕ → Type 0
 EndsAs (Ok c) before after status = WhereTold before.objects (λ input. EachRecovered before.objects.root.tree (λ recovered.
-    IsAnswered (command_outcome (Ok c) recovered input) before after status))
+    HasOutcome ((meaning c).IsOutcome recovered input) before after status))
 EndsAs (Err e) before after status = IsAnswered (Err e) before after status × (after.objects ≡ before.objects)
 
 abbrev pub Answers : List (List ℕ) → CallState → CallState → ℕ → Type 0
@@ -134,7 +140,7 @@ ReadsToEnd before after = WhereTold before.objects (λ input. after.objects.inpu
 -- from each of them the outcome is an effect, to whose tree the crash image recovers.
 abbrev pub IsBeforeOrDone : {D : Type 0} → DiskModel D → Meaning → List ℕ → D → Tree → Type 0
 IsBeforeOrDone disk m input old image = RecoversAsAt disk base old image
-    ⊎ (Recovers (disk.reads old) × EachRecovered (disk.reads old) (λ recovered. RecoversToEffect (m.outcome recovered input) image))
+    ⊎ (Recovers (disk.reads old) × EachRecovered (disk.reads old) (λ recovered. RecoversToEffect (m.IsOutcome recovered input) image))
 
 -- the same for words; where they are no command, the image is one at entry
 abbrev pub IsBeforeOrAfterCall : {D : Type 0} → DiskModel D → Result Command Failure → List ℕ → D → Tree → Type 0
@@ -155,10 +161,10 @@ pub record HasInputFault (before after : CallState) : Type 0 where
   pub out : Keeps before.out.written after.out.written
 
 -- the output failed: the effect stands, the root is at rest, and a first part of the effect's bytes was written
-pub record HasOutputFault (outcome : Tree → List ℕ → Result Effect Failure) (before after : CallState) : Type 0 where
+pub record HasOutputFault (IsEffect : Tree → List ℕ → Effect → Type 0) (before after : CallState) : Type 0 where
   pub rose : Rose before.out.faults after.out.faults
   pub settled : IsTrue before.objects.root.told → IsRecoveredRoot before.objects.root after.objects.root
-  pub done : WhereTold before.objects (λ input. EachRecovered before.objects.root.tree (λ recovered. (e : Effect) × (outcome recovered input ≡ Ok e)
+  pub done : WhereTold before.objects (λ input. EachRecovered before.objects.root.tree (λ recovered. (e : Effect) × IsEffect recovered input e
       × StoresSame base after.objects.root.tree e.tree × AppendsPart before.out.written after.out.written e.out))
 
 -- the root failed: it recovers to the tree before or to that of the effect, and nothing was written

@@ -14,7 +14,7 @@ is_among words word = list_any (bytes_eq word) words
 -- the commands that aren't built yet
 abbrev pub planned_commands : List (List ℕ)
 planned_commands =
-    codes "cook" ∷ codes "commit" ∷ codes "shadow" ∷ codes "branch" ∷ codes "rq" ∷ codes "changeset" ∷ codes "showcs" ∷ codes "update"
+    codes "cook" ∷ codes "commit" ∷ codes "shadow" ∷ codes "branch" ∷ codes "rq" ∷ codes "changeset" ∷ codes "update"
     ∷ codes "erase" ∷ codes "rollback" ∷ codes "rblist" ∷ codes "q" ∷ codes "verify" ∷ codes "localcs" ∷ codes "batch" ∷ codes "demo" ∷ []
 
 -- the options of `install` that aren't built yet
@@ -35,11 +35,17 @@ abbrev pub install_of : List (List ℕ) → Result Command Failure
 install_of [] = Ok command.Install
 install_of (word ∷ words) = if is_planned_option word then Err (not_built word) else Err failure.Usage
 
+-- `showcs` stands alone
+abbrev pub show_of : List (List ℕ) → Result Command Failure
+show_of [] = Ok command.ShowChangeSet
+show_of (word ∷ words) = Err failure.Usage
+
 -- The command that the words are. The first word alone decides whether it isn't built yet; all else is usage.
 abbrev pub command_of : List (List ℕ) → Result Command Failure
 command_of [] = Err failure.Usage
 command_of (word ∷ words) =
     if bytes_eq word (codes "install") then install_of words
+    else if bytes_eq word (codes "showcs") then show_of words
     else if is_planned_command word then Err (not_built word)
     else Err failure.Usage
 

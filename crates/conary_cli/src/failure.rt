@@ -1,8 +1,9 @@
 //! Why a call of the program ends with a status other than 0.
 ghost use Rattle.std.specs.Prelude.{◌≡◌};
+ghost use Rattle.conary_cli.specs.Failures.{failure_of_fault};
 ghost use Rattle.conary_cli.specs.declared.failure.Failure.TheVariants as failure;
 
-use cny_base::{OutOfMemory, Path, Refusal};
+use cny_base::{Fault, OutOfMemory, Path, Refusal};
 use std::alloc::{AllocError, AllocFailed};
 
 /// Why a call ends with a status other than 0.
@@ -24,6 +25,17 @@ pub enum Failure {
     Memory,
     /// A file of the program's own isn't in its grammar or fails a cross-check.
     Damaged { path: Path },
+}
+
+impl From<Fault> for Failure {
+    ghost from_gives = { λ fault made. made ≡ failure_of_fault fault };
+
+    fn from(fault: Fault) -> Self {
+        match fault {
+            Fault::Refused(refusal) => Failure::Refused(refusal),
+            Fault::Memory => Failure::Memory,
+        }
+    }
 }
 
 impl From<OutOfMemory> for Failure {

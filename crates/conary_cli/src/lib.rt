@@ -10,6 +10,7 @@ mod on_root;
 mod program;
 mod ready;
 mod report;
+mod show;
 mod texts;
 mod words;
 

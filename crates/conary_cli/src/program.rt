@@ -10,7 +10,7 @@ ghost use Rattle.conary_cli.specs.FixedDirs.{fixed_dirs};
 ghost use Rattle.conary_cli.specs.OnRoot.{IsReady};
 ghost use Rattle.conary_cli.specs.Ready.{PerformsReady};
 ghost use Rattle.conary_cli.specs.Recovered.{RecoversToNone};
-ghost use Rattle.conary_cli.specs.Run.{call_state, meaning, PerformsWords, Runs, Answers, Completes, LeavesInput, ReadsToEnd, command_outcome, IsBeforeOrDone, IsBeforeOrAfterCall, Settles, CutShort, HasInputFault, HasOutputFault, HasRootFault, HasNoMemory, HasDamage, ErrorLine};
+ghost use Rattle.conary_cli.specs.Run.{call_state, meaning, PerformsWords, Runs, Answers, Completes, LeavesInput, ReadsToEnd, IsEffectOf, IsBeforeOrDone, IsBeforeOrAfterCall, Settles, CutShort, HasInputFault, HasOutputFault, HasRootFault, HasNoMemory, HasDamage, ErrorLine};
 ghost use Rattle.conary_cli.specs.FormDecides.{FormDecides};
 ghost use Rattle.conary_cli.specs.Words.{command_of};
 
@@ -18,6 +18,7 @@ use crate::failure::Failure;
 use crate::install::install;
 use crate::ready::ready;
 use crate::report::report;
+use crate::show::show_change_set;
 use crate::words::{Command, read_words};
 use cny_base::Text;
 use cny_flow::{FlowFault, Sink, Source};
@@ -36,6 +37,7 @@ fn perform_ready<I: Source, T: TreeDisk>(
 {
     match command {
         Command::Install => install(alloc, input, root),
+        Command::ShowChangeSet => show_change_set(alloc, input, root),
     }
 }
 
@@ -73,17 +75,21 @@ fn perform_words<I: Source, T: TreeDisk>(
     perform(alloc, command, input, root)
 }
 
-// Writes what a command answered, by one call of the sink; where it failed, nothing.
+// Writes what a command answered, by one call of the sink; where that is no byte, or the command failed, by none.
 fn write_answer<O: Sink>(answered: Result<Text, Failure>, out: &mut O) -> Result<(), Failure>
     ensures { Writes answered (sink_state O.sink out.old) (sink_state O.sink out.new) result }
 {
-    match answered {
-        Ok(text) => match out.give(text.get().as_bytes()) {
-            Ok(()) => Ok(()),
-            Err(FlowFault::Failed) => Err(Failure::OutputFault),
-            Err(FlowFault::Memory) => Err(Failure::Memory),
-        },
-        Err(failure) => Err(failure),
+    let text = match answered {
+        Ok(text) => text,
+        Err(failure) => return Err(failure),
+    };
+    if text.get().is_empty() {
+        return Ok(());
+    }
+    match out.give(text.get().as_bytes()) {
+        Ok(()) => Ok(()),
+        Err(FlowFault::Failed) => Err(Failure::OutputFault),
+        Err(FlowFault::Memory) => Err(Failure::Memory),
     }
 }
 
@@ -127,14 +133,15 @@ pub fn run<I: Source, O: Sink, E: Sink, P: TreeDisk, T: TreeDisk>(
     // After status 0 nothing is left of the input.
     ensures read_to_end { result ≡ 0 → ReadsToEnd (call_state I.source O.sink E.sink T.disk input.old out.old err.old root.old)
         (call_state I.source O.sink E.sink T.disk input.new out.new err.new root.new) }
-    // A manifest is refused for its form exactly where it isn't of the form.
+    // `install` refuses an input for its form exactly where it is no manifest's text, and `showcs` describes exactly the
+    // inputs that are change sets.
     ensures form { FormDecides (command_of (map string_bytes words.now)) (call_state I.source O.sink E.sink T.disk input.old out.old err.old root.old)
         (call_state I.source O.sink E.sink T.disk input.new out.new err.new root.new) result }
 
     // When each other status comes, and what stands after it.
     ensures input_fault { result ≡ 3 → HasInputFault (call_state I.source O.sink E.sink T.disk input.old out.old err.old root.old)
         (call_state I.source O.sink E.sink T.disk input.new out.new err.new root.new) }
-    ensures output_fault { result ≡ 4 → HasOutputFault (command_outcome (command_of (map string_bytes words.now))) (call_state I.source O.sink E.sink T.disk input.old out.old err.old root.old)
+    ensures output_fault { result ≡ 4 → HasOutputFault (IsEffectOf (command_of (map string_bytes words.now))) (call_state I.source O.sink E.sink T.disk input.old out.old err.old root.old)
         (call_state I.source O.sink E.sink T.disk input.new out.new err.new root.new) }
     ensures root_fault { result ≡ 5 → HasRootFault (CutShort (command_of (map string_bytes words.now))) (call_state I.source O.sink E.sink T.disk input.old out.old err.old root.old)
         (call_state I.source O.sink E.sink T.disk input.new out.new err.new root.new) }

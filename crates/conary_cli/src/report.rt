@@ -6,34 +6,34 @@ ghost use Rattle.cny_flow.specs.Flow.{sink_state};
 ghost use Rattle.conary_cli.specs.Report.{failure_text, status_of, IsAnswer, Reports};
 
 use crate::failure::Failure;
-use crate::texts::{joined, text_of_refusal};
+use crate::texts::joined;
+use cny_base::{OutOfMemory, Text};
 use cny_flow::{FlowFault, Sink};
-use std::alloc::{AllocError, Global};
+use cny_report::refusal_text;
+use std::alloc::Global;
 
-fn text_of_failure(alloc: Global, failure: &Failure) -> Result<String, AllocError>
-    ensures { IfOk result (λ text. string_bytes text ≡ failure_text failure.now) }
+fn text_of_failure(alloc: Global, failure: &Failure) -> Result<Text, OutOfMemory>
+    ensures { IfOk result (λ text. text ≡ failure_text failure.now) }
 {
     match failure {
-        Failure::Usage => {
-            String::from_str(alloc, "usage: conary [--disk ROOT REPO] COMMAND [WORD...]")
-        }
+        Failure::Usage => Text::new(alloc, "usage: conary [--disk ROOT REPO] COMMAND [WORD...]"),
         Failure::Refused(refusal) => {
-            let text = text_of_refusal(alloc, refusal)?;
-            joined(alloc, "conary: ", text.as_str())
+            let text = refusal_text(alloc, refusal)?;
+            joined(alloc, "conary: ", text.get())
         }
-        Failure::InputFault => String::from_str(alloc, "conary: input fault"),
-        Failure::OutputFault => String::from_str(alloc, "conary: output fault"),
-        Failure::RootFault => String::from_str(alloc, "conary: root fault"),
-        Failure::RepositoryFault => String::from_str(alloc, "conary: repository fault"),
-        Failure::Memory => String::from_str(alloc, "conary: out of memory"),
+        Failure::InputFault => Text::new(alloc, "conary: input fault"),
+        Failure::OutputFault => Text::new(alloc, "conary: output fault"),
+        Failure::RootFault => Text::new(alloc, "conary: root fault"),
+        Failure::RepositoryFault => Text::new(alloc, "conary: repository fault"),
+        Failure::Memory => Text::new(alloc, "conary: out of memory"),
         Failure::Damaged { path } => joined(alloc, "conary: damaged ", path.text()),
     }
 }
 
-fn line_of_failure(alloc: Global, failure: &Failure) -> Result<String, AllocError>
+fn line_of_failure(alloc: Global, failure: &Failure) -> Result<String, OutOfMemory>
     ensures { IfOk result (λ line. string_bytes line ≡ failure_text failure.now ++ 10 ∷ []) }
 {
-    let mut line = text_of_failure(alloc, failure)?;
+    let mut line = text_of_failure(alloc, failure)?.into_string();
     line.push_str("\n")?;
     Ok(line)
 }

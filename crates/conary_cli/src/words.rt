@@ -1,6 +1,6 @@
 //! The words of the command line.
 ghost use Rattle.std.specs.Prelude.{◌≡◌, string_bytes, map};
-ghost use Rattle.conary_cli.specs.Words.{is_planned_command, is_planned_option, command_of, install_of, ReadsWords, not_built};
+ghost use Rattle.conary_cli.specs.Words.{is_planned_command, is_planned_option, command_of, install_of, show_of, ReadsWords, not_built};
 
 use crate::failure::Failure;
 use cny_base::{Refusal, Text};
@@ -11,6 +11,8 @@ use std::alloc::Global;
 pub enum Command {
     /// Puts the files of a manifest's component into the root.
     Install,
+    /// Describes a change set.
+    ShowChangeSet,
 }
 
 /// Whether the word is a command that isn't built yet.
@@ -26,7 +28,6 @@ fn is_planned(word: &str) -> bool
             | "branch"
             | "rq"
             | "changeset"
-            | "showcs"
             | "update"
             | "erase"
             | "rollback"
@@ -68,6 +69,16 @@ fn read_install(alloc: Global, words: &[String]) -> Result<Command, Failure>
     Err(Failure::Usage)
 }
 
+// The words after `showcs`.
+fn read_show(words: &[String]) -> Result<Command, Failure>
+    ensures { ReadsWords (show_of (map string_bytes words.now)) result }
+{
+    if words.is_empty() {
+        return Ok(Command::ShowChangeSet);
+    }
+    Err(Failure::Usage)
+}
+
 /// The command that the words are, or why they are none.
 pub fn read_words(alloc: Global, words: &[String]) -> Result<Command, Failure>
     ensures { ReadsWords (command_of (map string_bytes words.now)) result }
@@ -77,6 +88,9 @@ pub fn read_words(alloc: Global, words: &[String]) -> Result<Command, Failure>
     };
     if word.as_str() == "install" {
         return read_install(alloc, rest);
+    }
+    if word.as_str() == "showcs" {
+        return read_show(rest);
     }
     if is_planned(word.as_str()) {
         return not_built_yet(alloc, word.as_str());

@@ -109,7 +109,7 @@ pub fn install_answer(
         "install",
         root,
         NONE,
-        &mut input_of(alloc, manifest)?,
+        &mut input_of(alloc, manifest.as_bytes())?,
     )
 }
 
@@ -120,7 +120,7 @@ pub fn install_into(alloc: Global, root: &mut MemoryTree, manifest: &str) -> Res
         "install",
         root,
         NONE,
-        &mut input_of(alloc, manifest)?,
+        &mut input_of(alloc, manifest.as_bytes())?,
     )
 }
 

@@ -12,9 +12,9 @@ use tree_memory::MemoryTree;
 // More calls than any of the installations makes.
 const MANY: u32 = 1000;
 
-// Unsynced names as they read; the first, and each 32nd after it, as at the last sync, and the rest as they read; the first
-// 16, and 16 of each 32 after them, torn, and the rest as they read.
-const PICKS: [u64; 3] = [0, 1, 4_294_967_295];
+/// Unsynced names as they read; the first, and each 32nd after it, as at the last sync, and the rest as they read; the first
+/// 16, and 16 of each 32 after them, torn, and the rest as they read.
+pub const PICKS: [u64; 3] = [0, 1, 4_294_967_295];
 
 // A root, and whether the installation that was cut off there came to its end.
 #[derive(Drop)]
@@ -27,7 +27,7 @@ struct Cut {
 fn cut_off(alloc: Global, mut root: MemoryTree, case: Case, calls: u32) -> Result<Cut, Fail> {
     root.stop_after(calls);
     let answer = install_answer(alloc, &mut root, case.manifest)?;
-    let is_done = is_done(&answer, case)?;
+    let is_done = is_done(&answer, case.line)?;
     Ok(Cut { root, is_done })
 }
 

@@ -9,7 +9,7 @@ use std::test::Fail;
 #[test]
 fn install_component(rt: HostRuntime) -> Result<(), Fail> {
     let mut root = root_of(rt.alloc(), &[], 0)?;
-    let mut input = input_of(rt.alloc(), COMPONENT.manifest)?;
+    let mut input = input_of(rt.alloc(), COMPONENT.manifest.as_bytes())?;
     let ended = call(rt.alloc(), "install", &mut root, NONE, &mut input)?;
     check_installed(
         &rt,

@@ -11,9 +11,11 @@ use std::alloc::Global;
 use std::process::Abort;
 use std::test::Fail;
 
-const INPUT_FAULT: &str = "conary: input fault\n";
+/// The line of status 3.
+pub const INPUT_FAULT: &str = "conary: input fault\n";
 
-const OUTPUT_FAULT: &str = "conary: output fault\n";
+/// The line of status 4.
+pub const OUTPUT_FAULT: &str = "conary: output fault\n";
 
 // Each call of a source that gives at most 50 bytes at once: three for the bytes, and one that meets the end.
 #[test]
@@ -21,13 +23,13 @@ fn failing_sources(rt: HostRuntime) -> Result<(), Fail> {
     for case in CASES {
         for number in 1..5 {
             let mut root = root_of(rt.alloc(), &[], 0)?;
-            let mut input = failing_input(rt.alloc(), case.manifest, 50, number)?;
+            let mut input = failing_input(rt.alloc(), case.manifest.as_bytes(), 50, number)?;
             let ended = call(rt.alloc(), "install", &mut root, NONE, &mut input)?;
             check(&rt, &ended.answer, 3, "", INPUT_FAULT, case.line);
             check_root(&rt, &ended, "", "", case.line);
         }
         let mut root = root_of(rt.alloc(), &[], 0)?;
-        let mut input = failing_input(rt.alloc(), case.manifest, 50, 5)?;
+        let mut input = failing_input(rt.alloc(), case.manifest.as_bytes(), 50, 5)?;
         let ended = call(rt.alloc(), "install", &mut root, NONE, &mut input)?;
         check_installed(&rt, &ended, case.line, case.changed, case.log, "no fault")?;
     }
@@ -42,7 +44,7 @@ const STATUSES: [(&str, &str, u8); 2] = [("install", "x\n", 1), ("x", "", 2)];
 fn failing_error_output(rt: HostRuntime) -> Result<(), Fail> {
     for (words, manifest, status) in STATUSES {
         let mut root = root_of(rt.alloc(), &[], 0)?;
-        let mut input = input_of(rt.alloc(), manifest)?;
+        let mut input = input_of(rt.alloc(), manifest.as_bytes())?;
         let failing = Failing { out: 0, err: 1 };
         let ended = call(rt.alloc(), words, &mut root, failing, &mut input)?;
         check(&rt, &ended.answer, status, "", "", words);
@@ -64,7 +66,7 @@ fn failing_output(rt: HostRuntime) -> Result<(), Fail> {
     for case in CASES {
         for (failing, status, is_written, err) in SINKS {
             let mut root = root_of(rt.alloc(), &[], 0)?;
-            let mut input = input_of(rt.alloc(), case.manifest)?;
+            let mut input = input_of(rt.alloc(), case.manifest.as_bytes())?;
             let ended = call(rt.alloc(), "install", &mut root, failing, &mut input)?;
             let out = if is_written { case.line } else { "" };
             check(&rt, &ended.answer, status, out, err, case.line);

@@ -9,6 +9,7 @@ mod faults;
 mod manifests;
 mod outcomes;
 mod recovery;
+mod shows;
 mod sources;
 mod trees;
 mod words;

@@ -46,9 +46,9 @@ fn is_answer(answer: &Answer, status: u8, out: &str, err: &str) -> bool {
     answer.status == status && same_out && same_err
 }
 
-/// Whether an installation came to its end. Else the root's disk failed, and nothing was written.
-pub fn is_done(answer: &Answer, case: Case) -> Result<bool, Fail> {
-    if is_answer(answer, 0, case.line, "") {
+/// Whether a call came to its end, and wrote this. Else the root's disk failed, and nothing was written.
+pub fn is_done(answer: &Answer, out: &str) -> Result<bool, Fail> {
+    if is_answer(answer, 0, out, "") {
         return Ok(true);
     }
     if is_answer(answer, 5, "", ROOT_FAULT) {

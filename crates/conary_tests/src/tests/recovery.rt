@@ -15,8 +15,8 @@ use std::test::Fail;
 const WHOLE: &[u8] =
     b"CNYLG01\n\x31\0\0\0\x04\x01\xe8/x\x33\0\0\0\x0b\x01\x80\0\x04/x/ynew\x30\0\0\0\x02/z\x3f\0\0\0\x04\0\0\0\x03";
 
-// The commit flag is set, and none of the log's targets stands yet.
-const COMMITTED: Table<'static> = &[
+/// The commit flag is set, and none of the log's targets stands yet.
+pub const COMMITTED: Table<'static> = &[
     ("/z", File(0o644, b"old")),
     (BASE, Dir(0o755)),
     (GATE, File(0o600, b"O")),
@@ -25,7 +25,8 @@ const COMMITTED: Table<'static> = &[
 
 const MALFORMED: &str = "conary: malformed at 0\n";
 
-const RECOVERED: &str = "/x dir 0750\n/x/y file 0600 new\n/z nothing\n";
+/// What the replay of that log changes.
+pub const RECOVERED: &str = "/x dir 0750\n/x/y file 0600 new\n/z nothing\n";
 
 // A call over that root.
 #[derive(Clone, Copy)]
@@ -43,13 +44,15 @@ struct Row<'a> {
     journal: Table<'a>,
 }
 
-const STAYS: Table<'static> = &[
+/// The journal before the replay.
+pub const STAYS: Table<'static> = &[
     (BASE, Dir(0o755)),
     (GATE, File(0o600, b"O")),
     (LOG, File(0o600, WHOLE)),
 ];
 
-const REPLAYED: Table<'static> = &[(BASE, Dir(0o755)), (LOG, File(0o600, WHOLE))];
+/// The journal behind the replay.
+pub const REPLAYED: Table<'static> = &[(BASE, Dir(0o755)), (LOG, File(0o600, WHOLE))];
 
 // The words come before the recovery. All else comes after it: the items are held against the tree that it gives.
 const ROWS: [Row<'static>; 13] = [
@@ -211,7 +214,7 @@ const ROWS: [Row<'static>; 13] = [
 fn recovered_before_the_input(rt: HostRuntime) -> Result<(), Fail> {
     for row in ROWS {
         let mut root = root_of(rt.alloc(), COMMITTED, 0)?;
-        let mut input = failing_input(rt.alloc(), row.input, 50, row.failing)?;
+        let mut input = failing_input(rt.alloc(), row.input.as_bytes(), 50, row.failing)?;
         let ended = call(rt.alloc(), row.words, &mut root, NONE, &mut input)?;
         check(&rt, &ended.answer, row.status, row.out, row.err, row.input);
         let journal = lines_of(rt.alloc(), row.journal)?;
@@ -221,10 +224,11 @@ fn recovered_before_the_input(rt: HostRuntime) -> Result<(), Fail> {
     Ok(())
 }
 
-const DAMAGED: &str = "conary: damaged /var/lib/conarydb/log\n";
+/// The line of a log that isn't whole.
+pub const DAMAGED: &str = "conary: damaged /var/lib/conarydb/log\n";
 
-// A log of one file, `/a/x` of mode 0644 and the byte `x`.
-const ONE_FILE: &[u8] = b"CNYLG01\n\x33\0\0\0\x09\x01\xa4\0\x04/a/xx\x3f\0\0\0\x04\0\0\0\x01";
+/// A log of one file, `/a/x` of mode 0644 and the byte `x`.
+pub const ONE_FILE: &[u8] = b"CNYLG01\n\x33\0\0\0\x09\x01\xa4\0\x04/a/xx\x3f\0\0\0\x04\0\0\0\x01";
 
 // The same, of which the last byte is missing.
 const CUT_OFF: &[u8] = b"CNYLG01\n\x33\0\0\0\x09\x01\xa4\0\x04/a/xx\x3f\0\0\0\x04\0\0\0";
@@ -318,7 +322,7 @@ const STUCK: [(Table, u8, &str); 9] = [
 fn call_stuck(alloc: Global, edits: Table) -> Result<(Ended, String), Fail> {
     let mut root = root_of(alloc, edits, 0)?;
     let stands = journal_of(alloc, &root)?;
-    let mut input = failing_input(alloc, COMPONENT.manifest, 50, 1)?;
+    let mut input = failing_input(alloc, COMPONENT.manifest.as_bytes(), 50, 1)?;
     let ended = call(alloc, "install", &mut root, NONE, &mut input)?;
     if input.taken != 0 {
         return Err(Fail::from("an input that was read"));

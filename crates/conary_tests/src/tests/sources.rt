@@ -15,21 +15,21 @@ pub struct Metered<S> {
 /// These bytes, of which a call takes at most so many. The call of this number fails, where it isn't 0.
 pub fn failing_input(
     alloc: Global,
-    text: &str,
+    bytes: &[u8],
     most: usize,
     failing: u64,
 ) -> Result<Metered<MemorySource>, Fail> {
     let fails = Fails::new(vec![in alloc; failing]?);
     Ok(Metered {
-        inner: MemorySource::new(Bytes::new(alloc, text.as_bytes())?, fails),
+        inner: MemorySource::new(Bytes::new(alloc, bytes)?, fails),
         most,
         taken: 0,
     })
 }
 
 /// These bytes, of which a call takes as many as fit.
-pub fn input_of(alloc: Global, text: &str) -> Result<Metered<MemorySource>, Fail> {
-    failing_input(alloc, text, usize::MAX, 0)
+pub fn input_of(alloc: Global, bytes: &[u8]) -> Result<Metered<MemorySource>, Fail> {
+    failing_input(alloc, bytes, usize::MAX, 0)
 }
 
 impl<S: Source> Source for Metered<S> {

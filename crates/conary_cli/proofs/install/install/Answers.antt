@@ -1,14 +1,15 @@
 use Rattle.std.proofs.Common.{Err, ap}
 use Rattle.conary_cli.specs.Install as spec
 use Rattle.conary_cli.specs.Ready.{PerformsReady}
-use Rattle.conary_cli.proofs.InstallEnds.{input_stopped, manifest_stopped, installed}
+use Rattle.conary_cli.proofs.InputEnds.{input_stopped}
+use Rattle.conary_cli.proofs.InstallEnds.{install_reads_first, manifest_stopped, installed}
 use Rattle.conary_cli.proofs.Recovering.{err_is}
 use Rattle.conary_cli.proofs.install.install.Goals as goal
 
 pub returns-in_err-bytes : goal.returns-in_err-bytes
 returns-in_err-bytes g c =
     err_is (PerformsReady g.I.Source.source g.T.TreeDisk.disk spec.install c.args.input.now c.args.root.now c.read_input.new.input c.args.root.now) c.from_residual.result _ c.from_residual.ensures.1
-    (input_stopped g.I.Source.source g.T.TreeDisk.disk g.met.T.TreeDisk.laws c.args.input.now c.read_input.new.input c.args.root.now c.in_err-bytes.field-0.0 c.read_input.ensures.later c.requires c.in_err-bytes.ensures.read (λ is. c.in_err-bytes.ensures.failed (ap Err is)))
+    (input_stopped g.I.Source.source g.T.TreeDisk.disk g.met.T.TreeDisk.laws spec.install install_reads_first c.args.input.now c.read_input.new.input c.args.root.now c.in_err-bytes.field-0.0 c.read_input.ensures.later c.requires c.in_err-bytes.ensures.read (λ is. c.in_err-bytes.ensures.failed (ap Err is)))
 
 pub returns-in_err-manifest : goal.returns-in_err-manifest
 returns-in_err-manifest g c =
