@@ -1,0 +1,9 @@
+//! Slices of bytes compared by SIMD kernels, 64 bytes a step, and the rest byte by byte. Nothing here takes memory.
+#![tactic(auto)]
+
+mod compare;
+mod kernel;
+#[cfg(test)]
+mod tests;
+
+pub use compare::{count_different, equal, first_difference};
