@@ -10,3 +10,4 @@ pub mod Utf8
 pub mod Stop
 pub mod StrField
 pub mod Count
+pub mod Schedule

@@ -3,6 +3,7 @@ use Rattle.std.specs.Prelude.{ℕ, Bool, false, ◌&&◌, ◌||◌, not, List, [
 use Rattle.std.specs.Char.{is_ascii_alphanumeric}
 use Rattle.std.specs.List.{list_all, position}
 use Rattle.cny_base.specs.Below.{begins_with}
+use Rattle.cny_base.specs.declared.limits.TheConstants.{NAME_LIMIT}
 use Rattle.cny_base.specs.declared.name.NameKind.{NameKind}
 use Rattle.cny_base.specs.declared.name.NameKind.TheVariants.{Component, Package, Group}
 
@@ -32,7 +33,7 @@ has_words bytes (Some at) = is_word (take at bytes) && (is_word (drop (at + 1) b
 
 -- a word, or two words with a colon between them; at most 255 bytes
 abbrev pub is_name : List ℕ → Bool
-is_name bytes = nat_le (length bytes) 255 && has_words bytes (colon_place bytes)
+is_name bytes = nat_le (length bytes) NAME_LIMIT && has_words bytes (colon_place bytes)
 
 -- what a name stands for: with a colon a component, with `group-` in front a group, else a package
 abbrev pub kind_of_name : List ℕ → NameKind

@@ -12,6 +12,7 @@ use Rattle.std.specs.Char.{is_ascii_alphanumeric}
 use Rattle.std.specs.Cmp.{first_so, second_so}
 use Rattle.std.specs.List.{slice_split, list_all, join_with_byte}
 use Rattle.std.specs.Str.{IsUtf8, IsAscii, is_utf8}
+use Rattle.cny_base.specs.declared.limits.TheConstants.{NAME_LIMIT}
 use Rattle.cny_base.specs.Joins.{slash_is, not_zero}
 use Rattle.cny_base.specs.Parent.{after_slash}
 use Rattle.cny_base.specs.Name.{is_word_byte, is_word, is_colon, colon_place, begins_as_group, has_words, is_name}
@@ -91,7 +92,7 @@ words_ascii name (Some at) found is =
     colon_byte b is = grind (arith, nat_tests)
 
 pub name_ascii : (name : List ℕ) → is_name name ≡ true → IsAscii name
-name_ascii name is = words_ascii name (colon_place name) refl (second_so (nat_le (length name) 255) (has_words name (colon_place name)) is)
+name_ascii name is = words_ascii name (colon_place name) refl (second_so (nat_le (length name) NAME_LIMIT) (has_words name (colon_place name)) is)
 
 pub name_utf8 : (name : List ℕ) → is_name name ≡ true → is_utf8 name ≡ true
 name_utf8 name is = is_utf8-from_IsUtf8 name (IsUtf8-from_ascii name (name_ascii name is))

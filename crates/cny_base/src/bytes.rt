@@ -1,9 +1,10 @@
 //! Lists of bytes, such as the contents of a file.
-ghost use Rattle.std.specs.Prelude.{◌≡◌, ◌++◌, take, IfOk, OnOk, OnErr};
+ghost use Rattle.std.specs.Prelude.{◌≡◌, ◌++◌, ◌+◌, ◌≤◌, length, take, drop, IfOk, OnOk, OnErr};
 ghost use Rattle.std.specs.Cmp.{partial_equiv_from_equiv};
 ghost use Rattle.std.specs.Cmp.Lexicographic.{nat_list_eq_equiv};
 ghost use Rattle.std.specs.Str.{bytes_eq};
 
+use crate::list::Copies;
 use crate::text::OutOfMemory;
 use std::alloc::Global;
 use std::marker::Model;
@@ -61,17 +62,24 @@ impl Bytes {
         Ok(self.items.extend_from_slice(bytes)?)
     }
 
-    // Cuts off what was added since the list had `len` bytes.
-    pub(crate) fn truncate(&mut self, len: usize)
+    /// Writes bytes over those from a place on.
+    pub fn write_at(&mut self, at: usize, bytes: &[u8])
+        requires { at + length bytes.now ≤ length self.old }
+        ensures { self.new ≡ take at self.old ++ bytes.now ++ drop (at + length bytes.now) self.old }
+    {
+        self.items[at..at + bytes.len()].copy_from_slice(bytes);
+    }
+
+    /// Keeps the first `len` bytes, or all where there are fewer: what was added since the list had `len` bytes is cut off.
+    pub fn truncate(&mut self, len: usize)
         ensures { self.new ≡ take len self.old }
     {
         self.items.truncate(len)
     }
+}
 
-    /// An equal list.
-    pub fn copy(&self) -> Result<Self, OutOfMemory>
-        ensures { IfOk result (λ made. made ≡ self.now) }
-    {
+impl Copies for Bytes {
+    fn copy(&self) -> Result<Self, OutOfMemory> {
         Ok(Bytes {
             items: self.items.clone()?,
         })

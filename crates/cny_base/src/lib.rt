@@ -2,7 +2,8 @@
 #![tactic(auto)]
 
 mod bytes;
-mod lists;
+mod limits;
+mod list;
 mod mode;
 mod name;
 mod node;
@@ -11,6 +12,7 @@ mod options;
 mod path;
 mod path_grammar;
 mod refusal;
+mod schedule;
 mod stop;
 mod str_field;
 mod target;
@@ -19,7 +21,12 @@ mod tests;
 mod text;
 
 pub use bytes::Bytes;
-pub use lists::{Fails, Names, Paths};
+pub use limits::{
+    CHANGE_SET_LIMIT, COMMITS_LIMIT, CONFIG_LIMIT, CONTENT_ITEM_LIMIT, CONTENT_LIMIT, COUNT_LIMIT,
+    DATABASE_LIMIT, DEPS_LIMIT, FILES_LIMIT, INPUT_LIMIT, JOBS_LIMIT, NAME_LIMIT, PARTS_LIMIT,
+    REFS_LIMIT, STACK_LIMIT, VERSION_LIMIT,
+};
+pub use list::{Copies, Fails, ListOf, Names, Paths};
 pub use mode::{Mode, octal, read_octal};
 pub use name::{Name, NameKind, is_word};
 pub use node::Node;
@@ -28,7 +35,8 @@ pub use options::Options;
 pub use path::Path;
 pub use path_grammar::{last_name, parent_of};
 pub use refusal::{Fault, Refusal, What};
+pub use schedule::Schedule;
 pub use stop::Stop;
 pub use str_field::{Span, next_str, put_str};
 pub use target::Target;
-pub use text::{OutOfMemory, Text, TextFault};
+pub use text::{OutOfMemory, Text, TextFault, text_of};

@@ -8,7 +8,9 @@ ghost use Rattle.std.specs.Str.{bytes_eq};
 ghost use Rattle.cny_base.specs.Name as spec;
 ghost use Rattle.cny_base.specs.Name.{is_name, kind_of_name};
 
-use crate::text::{OutOfMemory, TextFault};
+use crate::limits::NAME_LIMIT;
+use crate::list::Copies;
+use crate::text::{OutOfMemory, TextFault, text_of};
 use std::alloc::Global;
 use std::cmp::Ordering;
 use std::marker::Model;
@@ -56,6 +58,19 @@ impl Name {
         })
     }
 
+    /// The name with these bytes as its text. `Bad` exactly where they aren't those of a name.
+    #[tactic(auto, using(crate::proofs::Utf8::no_name))]
+    pub fn read_bytes(alloc: Global, bytes: &[u8]) -> Result<Self, TextFault>
+        ensures value { IfOk result (λ name. name ≡ bytes.now) }
+        ensures ok { OnOk result (IsTrue (is_name bytes.now)) }
+        ensures bad { IsErrOf result TextFault.Bad ↔ (is_name bytes.now ≡ false) }
+    {
+        match text_of(bytes) {
+            Some(text) => Name::read(alloc, text),
+            None => Err(TextFault::Bad),
+        }
+    }
+
     /// The text of the name.
     pub fn text(&self) -> &str
         ensures value { result.now ≡ self.now }
@@ -70,11 +85,10 @@ impl Name {
     {
         kind_of(self.text.as_bytes())
     }
+}
 
-    /// An equal name.
-    pub fn copy(&self) -> Result<Self, OutOfMemory>
-        ensures { IfOk result (λ made. made ≡ self.now) }
-    {
+impl Copies for Name {
+    fn copy(&self) -> Result<Self, OutOfMemory> {
         Ok(Name {
             text: self.text.clone()?,
         })
@@ -175,7 +189,7 @@ fn has_words(bytes: &[u8]) -> bool
 fn is_name(text: &str) -> bool
     ensures { result ≡ is_name text.now }
 {
-    text.len() <= 255 && has_words(text.as_bytes())
+    text.len() <= NAME_LIMIT && has_words(text.as_bytes())
 }
 
 fn kind_of(bytes: &[u8]) -> NameKind

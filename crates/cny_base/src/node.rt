@@ -1,7 +1,6 @@
 //! The nodes of a tree.
-ghost use Rattle.std.specs.Prelude.{◌≡◌, IfOk};
-
 use crate::bytes::Bytes;
+use crate::list::Copies;
 use crate::mode::Mode;
 use crate::target::Target;
 use crate::text::OutOfMemory;
@@ -17,11 +16,8 @@ pub enum Node {
     Link { target: Target },
 }
 
-impl Node {
-    /// An equal node.
-    pub fn copy(&self) -> Result<Self, OutOfMemory>
-        ensures { IfOk result (λ made. made ≡ self.now) }
-    {
+impl Copies for Node {
+    fn copy(&self) -> Result<Self, OutOfMemory> {
         Ok(match self {
             Node::Dir { mode } => Node::Dir { mode: *mode },
             Node::File { mode, bytes } => Node::File {

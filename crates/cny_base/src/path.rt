@@ -5,10 +5,11 @@ ghost use Rattle.std.specs.Cmp.Lexicographic.{slice_cmp, nat_list_cmp_total, nat
 ghost use Rattle.std.specs.Ordering.{nat_cmp};
 ghost use Rattle.std.specs.Str.{bytes_eq};
 ghost use Rattle.cny_base.specs.Path.{is_path, parent, join, root};
-ghost use Rattle.cny_base.specs.Reserved.{is_reserved, is_pinned};
+ghost use Rattle.cny_base.specs.Reserved.{is_reserved, is_pinned, is_forbidden};
 
+use crate::list::Copies;
 use crate::path_grammar;
-use crate::text::{OutOfMemory, TextFault};
+use crate::text::{OutOfMemory, TextFault, text_of};
 use std::alloc::Global;
 use std::cmp::Ordering;
 use std::marker::Model;
@@ -44,6 +45,19 @@ impl Path {
         Ok(Path {
             text: String::from_str(alloc, text)?,
         })
+    }
+
+    /// The path with these bytes as its text. `Bad` exactly where they aren't those of a path.
+    #[tactic(auto, using(crate::proofs::Utf8::no_path))]
+    pub fn read_bytes(alloc: Global, bytes: &[u8]) -> Result<Self, TextFault>
+        ensures value { IfOk result (λ path. path ≡ bytes.now) }
+        ensures ok { OnOk result (IsTrue (is_path bytes.now)) }
+        ensures bad { IsErrOf result TextFault.Bad ↔ (is_path bytes.now ≡ false) }
+    {
+        match text_of(bytes) {
+            Some(text) => Path::read(alloc, text),
+            None => Err(TextFault::Bad),
+        }
     }
 
     /// The text of the path.
@@ -85,16 +99,16 @@ impl Path {
     pub fn join(&self, alloc: Global, last: &str) -> Result<Path, TextFault>
         ensures value { IfOk result (λ path. path ≡ join self.now last.now) }
         ensures ok { OnOk result (IsTrue (is_path (join self.now last.now))) }
-        ensures bad { IsErrOf result TextFault.Bad → is_path (join self.now last.now) ≡ false }
+        ensures bad { IsErrOf result TextFault.Bad ↔ (is_path (join self.now last.now) ≡ false) }
     {
+        if !path_grammar::can_join(self.text.as_str(), last) {
+            return Err(TextFault::Bad);
+        }
         let mut text = String::from_str(alloc, self.text.as_str())?;
         if text.len() > 1 {
             text.push('/')?;
         }
         text.push_str(last)?;
-        if !path_grammar::is_path(text.as_str()) {
-            return Err(TextFault::Bad);
-        }
         Ok(Path { text })
     }
 
@@ -105,17 +119,23 @@ impl Path {
         path_grammar::is_reserved(self.text.as_str())
     }
 
+    /// Whether no trove may record the path: it is reserved, or pinned and recorded as no directory.
+    pub fn is_forbidden(&self, is_dir: bool) -> bool
+        ensures { result ≡ is_forbidden self.now is_dir }
+    {
+        self.is_reserved() || (self.is_pinned() && !is_dir)
+    }
+
     /// Whether the path is one of those above the private directory, which are always directories.
     pub fn is_pinned(&self) -> bool
         ensures { result ≡ is_pinned self.now }
     {
         path_grammar::is_pinned(self.text.as_str())
     }
+}
 
-    /// An equal path.
-    pub fn copy(&self) -> Result<Self, OutOfMemory>
-        ensures { IfOk result (λ made. made ≡ self.now) }
-    {
+impl Copies for Path {
+    fn copy(&self) -> Result<Self, OutOfMemory> {
         Ok(Path {
             text: self.text.clone()?,
         })

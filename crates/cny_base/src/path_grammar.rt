@@ -1,8 +1,8 @@
 //! The grammar of paths, and the parts of a path's text.
-ghost use Rattle.std.specs.Prelude.{◌≡◌, ◌≤◌, ◌<◌, ◌-◌, length, drop, false, slice_index};
+ghost use Rattle.std.specs.Prelude.{◌≡◌, ◌≤◌, ◌<◌, ◌-◌, length, drop, false, slice_index, IsTrue};
 ghost use Rattle.std.specs.List.{list_all};
 ghost use Rattle.cny_base.specs.Path as spec;
-ghost use Rattle.cny_base.specs.Path.{has_slash};
+ghost use Rattle.cny_base.specs.Path.{has_slash, join};
 ghost use Rattle.cny_base.specs.Reserved.{is_reserved, is_pinned};
 
 // Neither a slash nor a control byte.
@@ -58,6 +58,19 @@ pub(crate) fn is_path(text: &str) -> bool
     };
     // 1,024 bytes together with the slash.
     rest.is_empty() || rest.len() <= 1023 && are_parts(rest)
+}
+
+/// Whether a path and a last name, joined by a slash, are the text of a path.
+#[tactic(auto, using(crate::proofs::Joining::join_root, crate::proofs::Joining::join_below, std::proofs::lemmas::Bool::Decides::nat_tests))]
+pub(crate) fn can_join(path: &str, last: &str) -> bool
+    requires { IsTrue (spec.is_path path.now) }
+    ensures { result ≡ spec.is_path (join path.now last.now) }
+{
+    let parts = are_parts(last);
+    if path.len() == 1 {
+        return last.is_empty() || last.len() <= 1023 && parts;
+    }
+    last.len() <= 1023 && path.len() + last.len() <= 1023 && parts
 }
 
 // Where the part after the last slash begins; 0 where there is no slash.

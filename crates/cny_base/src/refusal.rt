@@ -1,7 +1,9 @@
 //! Why a command is refused.
 ghost use Rattle.std.specs.Prelude.{◌≡◌, IfOk};
 ghost use Rattle.cny_base.specs.declared.refusal.Fault.TheVariants as fault;
+ghost use Rattle.cny_base.specs.declared.refusal.Refusal.TheVariants as refusal;
 
+use crate::list::Copies;
 use crate::text::{OutOfMemory, Text};
 use std::alloc::{AllocError, AllocFailed};
 
@@ -26,6 +28,12 @@ pub enum What {
     Version,
     /// A change set that is written.
     ChangeSet,
+    /// The number of a job.
+    Jobs,
+    /// One message of a stream of requests or replies.
+    Message,
+    /// The system model file.
+    Model,
 }
 
 /// Why a command is refused. A refusal leaves everything as it was.
@@ -94,8 +102,6 @@ pub enum Refusal {
     },
     /// There is no job to roll back.
     StackEmpty,
-    /// There is no room for one more job.
-    StackFull,
     /// The path is kept for the program itself.
     Reserved {
         path: Text,
@@ -114,13 +120,20 @@ pub enum Refusal {
     NotBuilt {
         word: Text,
     },
+    /// There are jobs to roll back, but none of this number.
+    NoJob {
+        number: u32,
+    },
+    /// There is no system model file.
+    NoModel,
+    /// A line of the system model file isn't in its grammar; lines count from 1.
+    BadModel {
+        line: u32,
+    },
 }
 
-impl Refusal {
-    /// An equal refusal.
-    pub fn copy(&self) -> Result<Self, OutOfMemory>
-        ensures { IfOk result (λ made. made ≡ self.now) }
-    {
+impl Copies for Refusal {
+    fn copy(&self) -> Result<Self, OutOfMemory> {
         Ok(match self {
             Refusal::Malformed { at } => Refusal::Malformed { at: *at },
             Refusal::TooLarge { what, size } => Refusal::TooLarge {
@@ -141,24 +154,16 @@ impl Refusal {
             },
             Refusal::MissingRef { name } => Refusal::MissingRef { name: name.copy()? },
             Refusal::NotInstalled { name } => Refusal::NotInstalled { name: name.copy()? },
-            Refusal::Unmet { name, dep } => Refusal::Unmet {
-                name: name.copy()?,
-                dep: dep.copy()?,
-            },
+            Refusal::Unmet { name, dep } => unmet(name, dep)?,
             Refusal::Owned {
                 path,
                 first,
                 second,
-            } => Refusal::Owned {
-                path: path.copy()?,
-                first: first.copy()?,
-                second: second.copy()?,
-            },
+            } => owned(path, first, second)?,
             Refusal::Unowned { path } => Refusal::Unowned { path: path.copy()? },
             Refusal::Edited { path } => Refusal::Edited { path: path.copy()? },
             Refusal::Parent { path } => Refusal::Parent { path: path.copy()? },
             Refusal::StackEmpty => Refusal::StackEmpty,
-            Refusal::StackFull => Refusal::StackFull,
             Refusal::Reserved { path } => Refusal::Reserved { path: path.copy()? },
             Refusal::NoLabel => Refusal::NoLabel,
             Refusal::SameLabel { label } => Refusal::SameLabel {
@@ -166,8 +171,32 @@ impl Refusal {
             },
             Refusal::BadConfig { line } => Refusal::BadConfig { line: *line },
             Refusal::NotBuilt { word } => Refusal::NotBuilt { word: word.copy()? },
+            Refusal::NoJob { number } => Refusal::NoJob { number: *number },
+            Refusal::NoModel => Refusal::NoModel,
+            Refusal::BadModel { line } => Refusal::BadModel { line: *line },
         })
     }
+}
+
+fn unmet(name: &Text, dep: &Text) -> Result<Refusal, OutOfMemory>
+    ensures { IfOk result (λ made. made ≡ refusal.Unmet name.now dep.now) }
+{
+    let name = name.copy()?;
+    let dep = dep.copy()?;
+    Ok(Refusal::Unmet { name, dep })
+}
+
+fn owned(path: &Text, first: &Text, second: &Text) -> Result<Refusal, OutOfMemory>
+    ensures { IfOk result (λ made. made ≡ refusal.Owned path.now first.now second.now) }
+{
+    let path = path.copy()?;
+    let first = first.copy()?;
+    let second = second.copy()?;
+    Ok(Refusal::Owned {
+        path,
+        first,
+        second,
+    })
 }
 
 /// A refusal, or want of memory.
@@ -179,11 +208,8 @@ pub enum Fault {
     Memory,
 }
 
-impl Fault {
-    /// An equal fault.
-    pub fn copy(&self) -> Result<Self, OutOfMemory>
-        ensures { IfOk result (λ made. made ≡ self.now) }
-    {
+impl Copies for Fault {
+    fn copy(&self) -> Result<Self, OutOfMemory> {
         Ok(match self {
             Fault::Refused(refusal) => Fault::Refused(refusal.copy()?),
             Fault::Memory => Fault::Memory,

@@ -1,8 +1,9 @@
 //! Why a call over a disk stops.
-ghost use Rattle.std.specs.Prelude.{◌≡◌, IfOk};
+ghost use Rattle.std.specs.Prelude.{◌≡◌};
 ghost use Rattle.cny_base.specs.Stop.{stop_of_fault};
 ghost use Rattle.cny_base.specs.declared.stop.Stop.TheVariants as stop;
 
+use crate::list::Copies;
 use crate::path::Path;
 use crate::refusal::{Fault, Refusal};
 use crate::text::OutOfMemory;
@@ -25,11 +26,8 @@ pub enum Stop {
     FarDamaged { path: Path },
 }
 
-impl Stop {
-    /// An equal reason.
-    pub fn copy(&self) -> Result<Self, OutOfMemory>
-        ensures { IfOk result (λ made. made ≡ self.now) }
-    {
+impl Copies for Stop {
+    fn copy(&self) -> Result<Self, OutOfMemory> {
         Ok(match self {
             Stop::Refused(refusal) => Stop::Refused(refusal.copy()?),
             Stop::Memory => Stop::Memory,

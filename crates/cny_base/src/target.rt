@@ -6,7 +6,8 @@ ghost use Rattle.std.specs.List.{list_all};
 ghost use Rattle.std.specs.Str.{bytes_eq};
 ghost use Rattle.cny_base.specs.Target.{has_target_form, is_target, is_shown};
 
-use crate::text::{OutOfMemory, TextFault};
+use crate::list::Copies;
+use crate::text::{OutOfMemory, TextFault, text_of};
 use std::alloc::Global;
 use std::marker::Model;
 
@@ -42,6 +43,19 @@ impl Target {
         })
     }
 
+    /// The target with these bytes as its text. `Bad` exactly where they aren't those of a target.
+    #[tactic(auto, using(crate::proofs::Utf8::no_target))]
+    pub fn read_bytes(alloc: Global, bytes: &[u8]) -> Result<Self, TextFault>
+        ensures value { IfOk result (λ target. target ≡ bytes.now) }
+        ensures ok { OnOk result (IsTrue (is_target bytes.now)) }
+        ensures bad { IsErrOf result TextFault.Bad ↔ (is_target bytes.now ≡ false) }
+    {
+        match text_of(bytes) {
+            Some(text) => Target::read(alloc, text),
+            None => Err(TextFault::Bad),
+        }
+    }
+
     /// The text of the target.
     pub fn text(&self) -> &str
         ensures value { result.now ≡ self.now }
@@ -49,11 +63,10 @@ impl Target {
     {
         self.text.as_str()
     }
+}
 
-    /// An equal target.
-    pub fn copy(&self) -> Result<Self, OutOfMemory>
-        ensures { IfOk result (λ made. made ≡ self.now) }
-    {
+impl Copies for Target {
+    fn copy(&self) -> Result<Self, OutOfMemory> {
         Ok(Target {
             text: self.text.clone()?,
         })

@@ -1,146 +1,10 @@
 //! Worked cases, with the expected values made by hand.
 use crate::{
-    Bytes, Fails, Fault, Mode, Name, NameKind, Names, Node, OutOfMemory, Path, Paths, Refusal,
-    Span, Stop, Target, Text, TextFault, decimal, is_word, last_name, next_str, octal, parent_of,
-    put_str, read_decimal, read_octal,
+    Bytes, Copies, Fails, Fault, Mode, Name, Names, Node, OutOfMemory, Path, Paths, Refusal,
+    Schedule, Stop, Target, Text, TextFault, is_word, last_name, parent_of,
 };
-use std::alloc::{AllocError, Global};
+use std::alloc::Global;
 use std::test::Fail;
-
-// A text of parts of so many letters, each after a slash.
-fn path_text(alloc: Global, lengths: &[usize]) -> Result<String, AllocError> {
-    let mut text = String::new(alloc);
-    for length in lengths {
-        text.push('/')?;
-        for _ in 0..*length {
-            text.push('a')?;
-        }
-    }
-    Ok(text)
-}
-
-fn is_path(alloc: Global, text: &str) -> bool {
-    Path::read(alloc, text).is_ok()
-}
-
-#[test]
-fn paths(rt: HostRuntime) {
-    for text in ["/", "/a", "/usr/a b-1.0", "/é", "/...", "/.a"] {
-        assert!(rt; is_path(rt.alloc(), text), "{text:?}");
-    }
-    for text in [
-        "", "a", "/a/", "/a//b", "/a/.", "/a/..", "/../a", "/\n", "/\u{1f}", "/\u{7f}",
-    ] {
-        assert!(rt; !is_path(rt.alloc(), text), "{text:?}");
-    }
-}
-
-#[test]
-fn long_paths(rt: HostRuntime) -> Result<(), Fail> {
-    for (lengths, good) in [
-        ([255, 255, 255, 253, 1], true),
-        ([255, 255, 255, 254, 1], false),
-        ([1, 1, 1, 1, 255], true),
-        ([1, 1, 1, 1, 256], false),
-    ] {
-        let text = path_text(rt.alloc(), &lengths)?;
-        assert_eq!(rt; is_path(rt.alloc(), text.as_str()), good);
-    }
-    Ok(())
-}
-
-fn kind_of(alloc: Global, text: &str) -> Option<NameKind> {
-    match Name::read(alloc, text) {
-        Ok(name) => Some(name.kind()),
-        Err(_) => None,
-    }
-}
-
-#[test]
-fn names(rt: HostRuntime) {
-    for (text, kind) in [
-        ("foo", Some(NameKind::Package)),
-        ("9base_a-b.c+d", Some(NameKind::Package)),
-        ("foo:runtime", Some(NameKind::Component)),
-        ("group:runtime", Some(NameKind::Component)),
-        ("group-a", Some(NameKind::Group)),
-        ("group-a:b", None),
-        ("a:b:c", None),
-        ("a:", None),
-        (":a", None),
-        ("-a", None),
-        ("a:-b", None),
-        ("a b", None),
-        ("é", None),
-        ("", None),
-    ] {
-        assert_eq!(rt; kind_of(rt.alloc(), text), kind, "{text:?}");
-    }
-}
-
-#[test]
-fn targets(rt: HostRuntime) {
-    for (text, good) in [
-        ("a", true),
-        ("../lib/é x//", true),
-        ("", false),
-        ("a\n", false),
-        ("\u{7f}", false),
-    ] {
-        assert_eq!(rt; Target::read(rt.alloc(), text).is_ok(), good, "{text:?}");
-    }
-}
-
-fn bits_of(text: &str) -> Option<u16> {
-    match read_octal(text.as_bytes()) {
-        Some(mode) => Some(mode.bits()),
-        None => None,
-    }
-}
-
-fn octal_of(bits: u16) -> Option<[u8; 4]> {
-    match Mode::new(bits) {
-        Some(mode) => Some(octal(mode)),
-        None => None,
-    }
-}
-
-#[test]
-fn modes(rt: HostRuntime) {
-    for (text, bits) in [
-        ("0000", Some(0)),
-        ("0755", Some(0o755)),
-        ("7777", Some(0o7777)),
-        ("644", None),
-        ("07777", None),
-        ("0688", None),
-    ] {
-        assert_eq!(rt; bits_of(text), bits, "{text:?}");
-    }
-    assert_eq!(rt; octal_of(0o4711), Some(*b"4711"));
-    assert_eq!(rt; octal_of(0o10000), None);
-}
-
-#[test]
-fn numbers(rt: HostRuntime) -> Result<(), Fail> {
-    for (text, number) in [
-        ("0", Some(0)),
-        ("1234567890", Some(1_234_567_890)),
-        ("9999999999999999999", Some(9_999_999_999_999_999_999)),
-        ("10000000000000000000", None),
-        ("", None),
-        ("00", None),
-        ("01", None),
-        ("-1", None),
-        ("+1", None),
-        ("1a", None),
-    ] {
-        assert_eq!(rt; read_decimal(text.as_bytes()), number, "{text:?}");
-    }
-    let most = decimal(rt.alloc(), u64::MAX)?;
-    assert!(rt; most.get() == "18446744073709551615");
-    Ok(())
-}
 
 #[test]
 fn reserved_paths(rt: HostRuntime) -> Result<(), Fail> {
@@ -154,6 +18,8 @@ fn reserved_paths(rt: HostRuntime) -> Result<(), Fail> {
         let path = Path::read(rt.alloc(), text)?;
         assert_eq!(rt; path.is_reserved(), reserved, "{text:?}");
         assert_eq!(rt; path.is_pinned(), pinned, "{text:?}");
+        assert_eq!(rt; path.is_forbidden(true), reserved, "{text:?}");
+        assert_eq!(rt; path.is_forbidden(false), reserved || pinned, "{text:?}");
     }
     Ok(())
 }
@@ -164,8 +30,44 @@ fn parents(rt: HostRuntime) -> Result<(), Fail> {
     let above = path.parent_path(rt.alloc())?.ok_or("no parent")?;
     assert!(rt; above.text() == "/usr" && parent_of("/usr") == "/" && last_name("/usr") == "usr");
     assert!(rt; above.join(rt.alloc(), "lib")? == path && above < path);
-    assert!(rt; above.join(rt.alloc(), "..").is_err());
     Ok(())
+}
+
+fn joined(alloc: Global, path: &str, last: &str) -> Result<Text, TextFault> {
+    let path = Path::read(alloc, path)?.join(alloc, last)?;
+    Ok(Text::new(alloc, path.text())?)
+}
+
+#[test]
+fn joins(rt: HostRuntime) -> Result<(), Fail> {
+    for (path, last, wanted) in [("/", "a", "/a"), ("/a", "b/c", "/a/b/c"), ("/", "", "/")] {
+        assert!(rt;
+            joined(rt.alloc(), path, last)?.get() == wanted,
+            "{path:?} {last:?}"
+        );
+    }
+    for (path, last) in [("/a", ".."), ("/a", ""), ("/", "b/"), ("/", "/b")] {
+        assert!(rt;
+            joined(rt.alloc(), path, last) == Err(TextFault::Bad),
+            "{path:?} {last:?}"
+        );
+    }
+    Ok(())
+}
+
+#[test]
+fn bytes_as_texts(rt: HostRuntime) {
+    let bad = b"/\xff";
+    assert!(rt; Path::read_bytes(rt.alloc(), bad) == Err(TextFault::Bad));
+    assert!(rt; Target::read_bytes(rt.alloc(), bad) == Err(TextFault::Bad));
+    assert!(rt; Name::read_bytes(rt.alloc(), bad) == Err(TextFault::Bad));
+    assert!(rt; Text::read_bytes(rt.alloc(), bad) == Err(TextFault::Bad));
+    assert!(rt;
+        Path::read_bytes(rt.alloc(), b"/a").is_ok() && Target::read_bytes(rt.alloc(), b"a").is_ok()
+    );
+    assert!(rt;
+        Name::read_bytes(rt.alloc(), b"a").is_ok() && Text::read_bytes(rt.alloc(), b"a").is_ok()
+    );
 }
 
 fn copied_text(alloc: Global) -> Result<bool, OutOfMemory> {
@@ -236,14 +138,18 @@ fn lists(rt: HostRuntime) -> Result<(), Fail> {
 }
 
 #[test]
-fn str_fields(rt: HostRuntime) -> Result<(), Fail> {
-    let mut out = Bytes::new(rt.alloc(), b"x")?;
-    put_str(&mut out, b"ab")?;
-    put_str(&mut out, b"")?;
-    assert!(rt; out.get() == b"x\x00\x02ab\x00\x00".as_slice());
-    assert!(rt; next_str(out.get(), 1) == Some(Span { from: 3, to: 5 }));
-    assert!(rt; next_str(out.get(), 5) == Some(Span { from: 7, to: 7 }));
-    assert!(rt; next_str(out.get(), 6).is_none() && next_str(out.get(), 7).is_none());
-    assert!(rt; next_str(b"\x01\x00abc", 0).is_none());
+fn schedules(rt: HostRuntime) -> Result<(), Fail> {
+    let mut schedule = Schedule::new(Fails::new(Vec::from_slice(rt.alloc(), &[2])?));
+    assert!(rt; !schedule.fails_next() && schedule.fails_next() && !schedule.fails_next());
+    assert!(rt; schedule.calls == 3 && schedule.faults == 1);
+    Ok(())
+}
+
+#[test]
+fn bytes_written_over(rt: HostRuntime) -> Result<(), Fail> {
+    let mut bytes = Bytes::new(rt.alloc(), b"abcde")?;
+    bytes.write_at(1, b"xy");
+    bytes.truncate(4);
+    assert!(rt; bytes.get() == b"axyd".as_slice());
     Ok(())
 }

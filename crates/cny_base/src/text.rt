@@ -1,10 +1,11 @@
 //! Texts, which contracts see as their bytes, and why a text isn't made.
-ghost use Rattle.std.specs.Prelude.{◌≡◌, IfOk, string_bytes};
+ghost use Rattle.std.specs.Prelude.{◌≡◌, ◌↔◌, false, IfOk, OnOk, IsErrOf, IsTrue, IfSome, IfNone, string_bytes};
 ghost use Rattle.std.specs.Cmp.{partial_equiv_from_equiv};
 ghost use Rattle.std.specs.Cmp.Lexicographic.{nat_list_eq_equiv};
-ghost use Rattle.std.specs.Str.{bytes_eq};
+ghost use Rattle.std.specs.Str.{bytes_eq, is_utf8};
 ghost use Rattle.cny_base.specs.declared.text.TextFault.TheVariants.{Memory};
 
+use crate::list::Copies;
 use std::alloc::{AllocError, AllocFailed, Global};
 use std::marker::Model;
 
@@ -57,6 +58,18 @@ impl<T: Drop> From<AllocFailed<T>> for TextFault {
     }
 }
 
+/// The text with these bytes; none exactly where they aren't UTF-8.
+pub fn text_of(bytes: &[u8]) -> Option<&str>
+    ensures some { IfSome result (λ text. text.now ≡ bytes.now) }
+    ensures utf8 { IfSome result (λ _. IsTrue (is_utf8 bytes.now)) }
+    ensures none { IfNone result (is_utf8 bytes.now ≡ false) }
+{
+    match str::from_utf8(bytes) {
+        Ok(text) => Some(text),
+        Err(_) => None,
+    }
+}
+
 /// Any text; contracts see its bytes.
 #[derive(Debug, Drop)]
 pub struct Text {
@@ -81,6 +94,18 @@ impl Text {
         })
     }
 
+    /// The text with these bytes. `Bad` exactly where they aren't UTF-8.
+    pub fn read_bytes(alloc: Global, bytes: &[u8]) -> Result<Self, TextFault>
+        ensures value { IfOk result (λ text. text ≡ bytes.now) }
+        ensures ok { OnOk result (IsTrue (is_utf8 bytes.now)) }
+        ensures bad { IsErrOf result TextFault.Bad ↔ (is_utf8 bytes.now ≡ false) }
+    {
+        match text_of(bytes) {
+            Some(text) => Ok(Text::new(alloc, text)?),
+            None => Err(TextFault::Bad),
+        }
+    }
+
     /// The same text; takes no memory.
     pub fn from_string(text: String) -> Self
         ensures { result ≡ string_bytes text }
@@ -101,11 +126,10 @@ impl Text {
     {
         self.text.as_str()
     }
+}
 
-    /// An equal text.
-    pub fn copy(&self) -> Result<Self, OutOfMemory>
-        ensures { IfOk result (λ made. made ≡ self.now) }
-    {
+impl Copies for Text {
+    fn copy(&self) -> Result<Self, OutOfMemory> {
         Ok(Text {
             text: self.text.clone()?,
         })

@@ -1,10 +1,5 @@
 -- Sources and sinks in memory, whose calls fail by their numbers.
-use Rattle.std.specs.Prelude.{ℕ, List, Bool, ◌==◌}
-use Rattle.std.specs.List.{list_any}
-
--- the call of this number is to fail
-abbrev pub is_listed : List ℕ → ℕ → Bool
-is_listed fails call = list_any (λ fail. fail == call) fails
+use Rattle.std.specs.Prelude.{ℕ, List}
 
 -- what a source in memory has left, the calls that are to fail, and how many it had and failed
 pub record MemorySourceState : Type 0 where

@@ -5,7 +5,6 @@ mod fault;
 mod flow;
 mod memory_sink;
 mod memory_source;
-mod schedule;
 mod std_sink;
 mod std_source;
 

@@ -1,13 +1,12 @@
 //! Memory as a sink.
 ghost use Rattle.std.specs.Prelude.{◌≡◌, [], ◌++◌, ◌↔◌, OnOk, OnErr, IsErrOf, IsTrue, Some};
 ghost use Rattle.cny_base.specs.Count.{next};
+ghost use Rattle.cny_base.specs.Schedule.{is_listed};
 ghost use Rattle.cny_flow.specs.Flow.{sink_state, HasCause, GiveAppends, faults_after};
-ghost use Rattle.cny_flow.specs.Memory.{is_listed};
 
 use crate::fault::FlowFault;
 use crate::flow::Sink;
-use crate::schedule::Schedule;
-use cny_base::Fails;
+use cny_base::{Fails, Schedule};
 use std::alloc::Global;
 use std::marker::Model;
 

@@ -3,13 +3,12 @@ ghost use Rattle.std.specs.Prelude.{◌≡◌, ◌≤◌, ◌+◌, ◌-◌, ◌+
 ghost use Rattle.std.specs.Io.{ReadsAtMost};
 ghost use Rattle.std.specs.Io.KnownBytes.{ReadConsumes};
 ghost use Rattle.cny_base.specs.Count.{next};
+ghost use Rattle.cny_base.specs.Schedule.{is_listed};
 ghost use Rattle.cny_flow.specs.Flow.{source_state, HasCause, KeepsRest, faults_after};
-ghost use Rattle.cny_flow.specs.Memory.{is_listed};
 
 use crate::fault::FlowFault;
 use crate::flow::Source;
-use crate::schedule::Schedule;
-use cny_base::{Bytes, Fails};
+use cny_base::{Bytes, Fails, Schedule};
 use std::marker::Model;
 
 /// Bytes in memory that are taken from the front. It tells them, and listed calls fail.

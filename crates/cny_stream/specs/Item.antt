@@ -10,6 +10,14 @@ FitsItem value = length value < 2 ^ 32
 abbrev pub item_bytes : ℕ → List ℕ → List ℕ
 item_bytes tag value = (tag ∷ to_be_bytes w32 (length value)) ++ value
 
+-- The head of an item whose length isn't written yet.
+abbrev pub open_head : ℕ → List ℕ
+open_head tag = tag ∷ 0 ∷ 0 ∷ 0 ∷ 0 ∷ []
+
+-- An item that begins at `at` has its head, and a value that fits.
+abbrev pub FitsOpen : ℕ → List ℕ → Type 0
+FitsOpen at bytes = (at + 5 ≤ length bytes) × (length bytes < at + 5 + 2 ^ 32)
+
 -- The item that begins at `at` has this tag, and its value from `from` up to `to`.
 pub record IsItemAt (bytes : List ℕ) (at tag from to : ℕ) : Type 0 where
   pub begins : from ≡ at + 5

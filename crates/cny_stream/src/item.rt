@@ -1,11 +1,9 @@
 //! Items of a stream: a tag of one byte, the length of the value in four bytes, the high byte first, and the value.
 ghost use Rattle.std.specs.Prelude.{◌≡◌, ◌≤◌, ◌+◌, ◌++◌, [], List, ℕ, length, take, drop, slice_index, IsTrue, OnOk, OnErr, IfOk, IfErr, IsOkAnd};
-ghost use Rattle.cny_stream.specs.Item.{FitsItem, IsItemAt, item_bytes, is_expected, fault_place, value_len};
+ghost use Rattle.cny_stream.specs.Item.{FitsItem, FitsOpen, IsItemAt, item_bytes, open_head, is_expected, fault_place, value_len};
 ghost use Rattle.cny_stream.specs.ItemLaws.{SameItem};
 
 use cny_base::{Bytes, OutOfMemory};
-use std::alloc::Global;
-use std::mem;
 
 /// The tag of an item, and where its value stands in the bytes: from `from` up to `to`.
 #[derive(Clone, Copy, Debug, PartialEq, Eq)]
@@ -15,8 +13,15 @@ pub struct Item {
     pub to: usize,
 }
 
+/// An item that was begun: where it stands in the bytes, and its tag.
+#[derive(Clone, Copy, Debug, PartialEq, Eq)]
+pub struct OpenItem {
+    pub at: usize,
+    pub tag: u8,
+}
+
 /// Appends an item; on want of memory `out` is as before. The value is shorter than 2^32 bytes.
-pub fn put_item(alloc: Global, out: &mut Bytes, tag: u8, value: &[u8]) -> Result<(), OutOfMemory>
+pub fn put_item(out: &mut Bytes, tag: u8, value: &[u8]) -> Result<(), OutOfMemory>
     requires { FitsItem value.now }
     ensures ok { OnOk result (out.new ≡ out.old ++ item_bytes tag value.now) }
     ensures err { OnErr result (out.new ≡ out.old) }
@@ -26,18 +31,55 @@ pub fn put_item(alloc: Global, out: &mut Bytes, tag: u8, value: &[u8]) -> Result
     out.push_slice(&[tag, a, b, c, d])?;
     let put = out.push_slice(value);
     if put.is_err() {
-        cut_back(alloc, out, before);
+        out.truncate(before);
     }
     put
 }
 
-// Cuts off what was added since `out` had `len` bytes.
-fn cut_back(alloc: Global, out: &mut Bytes, len: usize)
-    ensures { out.new ≡ take len out.old }
+/// Begins an item: appends a head of five bytes whose length isn't known yet. What is appended behind it, up to
+/// `close_item`, is the value. On want of memory `out` is as before.
+pub fn open_item(out: &mut Bytes, tag: u8) -> Result<OpenItem, OutOfMemory>
+    ensures place { IfOk result (λ begun. (begun.at ≡ length out.old) × (begun.tag ≡ tag)) }
+    ensures ok { OnOk result (out.new ≡ out.old ++ open_head tag) }
+    ensures err { OnErr result (out.new ≡ out.old) }
 {
-    let mut items = mem::replace(out, Bytes::from_vec(Vec::new(alloc))).into_vec();
-    items.truncate(len);
-    *out = Bytes::from_vec(items);
+    let at = out.get().len();
+    out.push_slice(&[tag, 0, 0, 0, 0])?;
+    Ok(OpenItem { at, tag })
+}
+
+// Writes the head of an item that was begun, now that its value is there.
+fn write_head(out: &mut Bytes, begun: OpenItem)
+    requires { FitsOpen begun.at out.old }
+    ensures { out.new ≡ take begun.at out.old ++ item_bytes begun.tag (drop (begun.at + 5) out.old) }
+{
+    let len = out.get().len() - begun.at - 5;
+    let [a, b, c, d] = (len as u32).to_be_bytes();
+    out.write_at(begun.at, &[begun.tag, a, b, c, d]);
+}
+
+/// Ends an item, given how its value was put. Where that was done, the item's length is written into its head, and the
+/// answer is `Ok`. Else all from the item on is cut off, so that `out` is as before the item, and the error is answered.
+/// Takes no memory.
+pub fn close_item(
+    out: &mut Bytes,
+    begun: OpenItem,
+    put: Result<(), OutOfMemory>,
+) -> Result<(), OutOfMemory>
+    requires { OnOk put (FitsOpen begun.at out.old) }
+    ensures ok { OnOk result (out.new ≡ take begun.at out.old ++ item_bytes begun.tag (drop (begun.at + 5) out.old)) }
+    // The same, by what was appended to what.
+    ensures closed { (front head value : List ℕ) → length front ≡ begun.at → length head ≡ 5
+        → out.old ≡ (front ++ head) ++ value → OnOk result (out.new ≡ front ++ item_bytes begun.tag value) }
+    ensures err { OnErr result (out.new ≡ take begun.at out.old) }
+    ensures same { result ≡ put }
+{
+    if put.is_err() {
+        out.truncate(begun.at);
+        return put;
+    }
+    write_head(out, begun);
+    Ok(())
 }
 
 // The length of the value of the item at the front.

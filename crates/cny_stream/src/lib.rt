@@ -5,4 +5,4 @@ mod item;
 #[cfg(test)]
 mod tests;
 
-pub use item::{Item, next_item, one_item, put_item};
+pub use item::{Item, OpenItem, close_item, next_item, one_item, open_item, put_item};
