@@ -1,10 +1,12 @@
 //! Dependencies.
-ghost use Rattle.std.specs.Prelude.{◌≡◌, [], IfOk, Some, IsErrOf, refl};
+ghost use Rattle.std.specs.Prelude.{◌≡◌, List, ℕ, Option, [], IfOk, Some, IsErrOf, IsTrue, refl};
 ghost use Rattle.std.specs.Cmp.{partial_equiv_from_equiv};
 ghost use Rattle.std.specs.Cmp.Lexicographic.{nat_list_eq_equiv, nat_list_cmp_total};
 ghost use Rattle.std.proofs.lemmas.Cmp.{on_equiv, on_total};
 ghost use Rattle.cny_dep.specs.declared.class.Class.TheVariants.{Trove};
-ghost use Rattle.cny_dep.specs.Dep.{Dependency, IsDependency, dep_text};
+ghost use Rattle.cny_dep.specs.Dep.{Dependency, IsDependency, dep_text, with_group};
+ghost use Rattle.cny_dep.specs.Listing.{group_text};
+ghost use Rattle.cny_dep.specs.Part.{is_dep_name};
 ghost use Rattle.cny_dep.specs.Order.{dep_eq, dep_cmp, dep_po, dep_ties};
 ghost use Rattle.cny_dep.specs.Relaxed.{IsRelaxedText};
 
@@ -12,7 +14,7 @@ use crate::class::Class;
 use crate::flag::{Flag, is_dep_name};
 use crate::reading::{class_and_rest, listed_flags, name_and_group};
 use crate::writing::text_of;
-use cny_base::{Name, OutOfMemory, Text, TextFault};
+use cny_base::{Copies, ListOf, Name, OutOfMemory, Text, TextFault};
 use std::alloc::Global;
 use std::cmp::Ordering;
 use std::marker::Model;
@@ -20,11 +22,11 @@ use std::marker::Model;
 /// What a trove requires or provides: a class, a name and at most 64 flags, each above the one
 /// before it by its bytes. A name is 1 to 1,024 bytes of visible ASCII without `(`, `)` and `,`,
 /// a flag 1 to 255 of them.
-#[derive(Debug, Drop)]
+#[derive(Debug)]
 pub struct Dep {
     class: Class,
     name: Text,
-    flags: Vec<Flag>,
+    flags: ListOf<Flag>,
     text: Text,
 }
 
@@ -33,9 +35,21 @@ impl Model for Dep {
 
     ghost Value = { Dependency };
 
-    ghost view = { λ a. record { class = a.class; name = a.name; flags = a.flags.items } };
+    ghost view = { λ a. record { class = a.class; name = a.name; flags = a.flags } };
 
-    ghost invariant = { λ a. IsWritten (record { class = a.class; name = a.name; flags = a.flags.items }) a.text };
+    ghost invariant = { λ a. IsWritten (record { class = a.class; name = a.name; flags = a.flags }) a.text };
+}
+
+// Written by hand, so that to let a value go is a single call wherever a function ends early.
+impl Drop for Dep {
+    fn drop(self) {
+        let Dep {
+            class: _class,
+            name: _name,
+            flags: _flags,
+            text: _text,
+        } = self;
+    }
 }
 
 impl Dep {
@@ -48,19 +62,22 @@ impl Dep {
         Ok(Dep {
             class,
             name: Text::new(alloc, name)?,
-            flags,
+            flags: ListOf::new(flags),
             text,
         })
     }
 
     /// The dependency that the text stands for, where its flags may come in any order, and each
-    /// two have one space or one comma between them. `Bad` only where it stands for none; want of
-    /// memory may be answered there instead.
+    /// two have one space or one comma between them. `Bad` only where it stands for none; always
+    /// where it isn't a class, `: ` and a name, with or without something in parentheses behind
+    /// it, while for wrong flags in them want of memory may be answered instead.
     pub fn read(alloc: Global, text: &str) -> Result<Self, TextFault>
         ensures value { IfOk result (λ dep. IsRelaxedText text.now dep) }
         ensures ok { IfOk result IsDependency }
         ensures bad { IsErrOf result TextFault.Bad
             → (dep : Dependency) → IsDependency dep → IsRelaxedText text.now dep → ⊥ }
+        ensures early { ((class : Class) (name : List ℕ) (group : Option (List ℕ)) → IsTrue (is_dep_name name)
+            → text.now ≡ with_group class name (group_text group) → ⊥) → IsErrOf result TextFault.Bad }
         // The text stands for no other dependency.
         ensures only { IfOk result (λ read.
             (dep : Dependency) → IsDependency dep → IsRelaxedText text.now dep → read ≡ dep) }
@@ -75,13 +92,16 @@ impl Dep {
     }
 
     /// The dependency whose canonical text this is: its flags rise, and one space stands between
-    /// each two. `Bad` only where it is the canonical text of none; want of memory may be
-    /// answered there instead.
+    /// each two. `Bad` only where it is the canonical text of none; always where it isn't a class,
+    /// `: ` and a name, with or without something in parentheses behind it, while for wrong flags
+    /// in them want of memory may be answered instead.
     pub fn read_whole(alloc: Global, text: &str) -> Result<Self, TextFault>
         ensures value { IfOk result (λ dep. text.now ≡ dep_text dep) }
         ensures ok { IfOk result IsDependency }
         ensures bad { IsErrOf result TextFault.Bad
             → (dep : Dependency) → IsDependency dep → text.now ≡ dep_text dep → ⊥ }
+        ensures early { ((class : Class) (name : List ℕ) (group : Option (List ℕ)) → IsTrue (is_dep_name name)
+            → text.now ≡ with_group class name (group_text group) → ⊥) → IsErrOf result TextFault.Bad }
         // The text is that of no other dependency.
         ensures only { IfOk result (λ read.
             (dep : Dependency) → IsDependency dep → text.now ≡ dep_text dep → read ≡ dep) }
@@ -120,7 +140,7 @@ impl Dep {
         ensures value { result.now ≡ self.now.flags }
         ensures dependency { IsDependency self.now }
     {
-        self.flags.as_slice()
+        self.flags.get()
     }
 
     /// The canonical text.
@@ -140,29 +160,17 @@ impl Dep {
     {
         self.text.copy()
     }
+}
 
-    /// An equal dependency.
-    pub fn copy(&self) -> Result<Self, OutOfMemory>
-        ensures { IfOk result (λ made. made ≡ self.now) }
-    {
+impl Copies for Dep {
+    fn copy(&self) -> Result<Self, OutOfMemory> {
         Ok(Dep {
             class: self.class,
             name: self.name.copy()?,
-            flags: copied(&self.flags)?,
+            flags: self.flags.copy()?,
             text: self.text.copy()?,
         })
     }
-}
-
-// Equal flags.
-fn copied(flags: &Vec<Flag>) -> Result<Vec<Flag>, OutOfMemory>
-    ensures { IfOk result (λ made. made.items ≡ flags.now.items) }
-{
-    let mut made = Vec::new(*flags.allocator());
-    for flag in flags {
-        made.push(flag.copy()?)?;
-    }
-    Ok(made)
 }
 
 // Dependencies are equal where their canonical texts are, and their order is that of their texts.

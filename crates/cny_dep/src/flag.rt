@@ -8,7 +8,7 @@ ghost use Rattle.std.specs.Str.{bytes_eq};
 ghost use Rattle.cny_dep.specs.Part as spec;
 ghost use Rattle.cny_dep.specs.Part.{is_flag};
 
-use cny_base::{OutOfMemory, TextFault};
+use cny_base::{Copies, OutOfMemory, TextFault};
 use std::alloc::Global;
 use std::cmp::Ordering;
 use std::marker::Model;
@@ -55,11 +55,10 @@ impl Flag {
     {
         self.text.as_str()
     }
+}
 
-    /// An equal flag.
-    pub fn copy(&self) -> Result<Self, OutOfMemory>
-        ensures { IfOk result (λ made. made ≡ self.now) }
-    {
+impl Copies for Flag {
+    fn copy(&self) -> Result<Self, OutOfMemory> {
         Ok(Flag {
             text: self.text.clone()?,
         })

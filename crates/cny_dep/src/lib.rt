@@ -6,8 +6,6 @@ mod dep;
 mod flag;
 mod reading;
 mod satisfying;
-#[cfg(test)]
-mod tests;
 mod writing;
 
 pub use class::Class;

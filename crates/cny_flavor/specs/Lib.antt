@@ -5,4 +5,3 @@ pub mod Reading
 pub mod Score
 pub mod Spelling
 pub mod Utf8
-pub mod Walk

@@ -15,13 +15,13 @@ use crate::order::is_flavor;
 use crate::parts::{Flags, InstructionSets, Parts};
 use crate::read::parts_of;
 use crate::write::text_of_parts;
-use cny_base::{OutOfMemory, Text, TextFault};
+use cny_base::{Copies, OutOfMemory, Text, TextFault};
 use std::alloc::Global;
 use std::marker::Model;
 
 /// A flavor: flags and instruction sets, each list in the strictly rising order of its words, at most 64 in all.
 /// It keeps its canonical text.
-#[derive(Debug, Drop)]
+#[derive(Debug)]
 pub struct Flavor {
     parts: Parts,
     text: Text,
@@ -37,6 +37,16 @@ impl Model for Flavor {
     ghost view = { λ a. a.parts };
 
     ghost invariant = { λ a. (is_flavor a.parts ≡ true) × (a.text ≡ flavor_text a.parts) };
+}
+
+// Written by hand, so that to let a value go is a single call wherever a function ends early.
+impl Drop for Flavor {
+    fn drop(self) {
+        let Flavor {
+            parts: _parts,
+            text: _text,
+        } = self;
+    }
 }
 
 impl Flavor {
@@ -105,11 +115,10 @@ impl Flavor {
     {
         &self.parts
     }
+}
 
-    /// An equal flavor.
-    pub fn copy(&self) -> Result<Self, OutOfMemory>
-        ensures { IfOk result (λ made. made ≡ self.now) }
-    {
+impl Copies for Flavor {
+    fn copy(&self) -> Result<Self, OutOfMemory> {
         Ok(Flavor {
             parts: self.parts.copy()?,
             text: self.text.copy()?,

@@ -6,8 +6,6 @@ mod order;
 mod parts;
 mod read;
 mod scoring;
-#[cfg(test)]
-mod tests;
 mod write;
 
 pub use flavor::{Flavor, one_text, same_items};

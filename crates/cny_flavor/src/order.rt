@@ -1,12 +1,12 @@
 //! Flags and sets in the order of their words, and which of them are a flavor.
-ghost use Rattle.std.specs.Prelude.{◌≡◌, nat_le, IfOk};
+ghost use Rattle.std.specs.Prelude.{◌≡◌, List, ℕ, nat_le, IfOk};
 ghost use Rattle.std.specs.List.{list_all, prefix_len, sum_by};
 ghost use Rattle.cny_flavor.specs.Canonical as spec;
 ghost use Rattle.cny_flavor.specs.Canonical.{set_count};
 ghost use Rattle.cny_flavor.specs.Order as order;
 ghost use Rattle.cny_flavor.specs.Order.{in_order, rise};
 
-use crate::parts::{Flag, Flags, InstructionSet, InstructionSets, Parts};
+use crate::parts::{Flag, InstructionSet, Parts};
 use cny_base::{OutOfMemory, Text, is_word};
 
 // How many flags a flavor may have, its sets and their flags counted.
@@ -15,79 +15,66 @@ pub(crate) const MOST_FLAGS: usize = 64;
 // How long a word may be.
 const MOST_BYTES: usize = 255;
 
-pub(crate) fn precedes(a: &Text, b: &Text) -> bool
+/// What has a word, by which lists are put in order and searched.
+pub(crate) trait Worded: Drop {
+    ghost word_of: { Self → List ℕ };
+
+    fn word(&self) -> &Text
+        ensures { result.now ≡ word_of self.now };
+}
+
+impl Worded for Flag {
+    ghost word_of = { λ f. f.word };
+
+    fn word(&self) -> &Text {
+        &self.word
+    }
+}
+
+impl Worded for InstructionSet {
+    ghost word_of = { λ s. s.word };
+
+    fn word(&self) -> &Text {
+        &self.word
+    }
+}
+
+fn precedes(a: &Text, b: &Text) -> bool
     ensures { result ≡ order.precedes a.now b.now }
 {
     a.get().cmp(b.get()).is_lt()
 }
 
-// How many flags at the front have words that precede this one.
-fn flag_place(flags: &[Flag], word: &Text) -> usize
-    ensures { result ≡ prefix_len (λ f. order.precedes f.word word.now) flags.now }
+// How many items at the front have words that precede this one.
+fn place_of<T: Worded>(items: &[T], word: &Text) -> usize
+    ensures { result ≡ prefix_len (λ x. order.precedes (T.word_of x) word.now) items.now }
 {
-    flags
+    items
         .iter()
-        .take_while(|flag| precedes(&flag.word, word))
+        .take_while(|item| precedes(item.word(), word))
         .count()
 }
 
-// How many sets at the front have words that precede this one.
-fn set_place(sets: &[InstructionSet], word: &Text) -> usize
-    ensures { result ≡ prefix_len (λ s. order.precedes s.word word.now) sets.now }
+/// The items in the order of their words.
+pub(crate) fn ordered<T: Worded>(mut items: Vec<T>) -> Result<Vec<T>, OutOfMemory>
+    ensures { IfOk result (λ made. made.items ≡ in_order T.word_of items.items) }
 {
-    sets.iter()
-        .take_while(|set| precedes(&set.word, word))
-        .count()
-}
-
-/// The flags in the order of their words.
-pub(crate) fn ordered_flags(mut flags: Vec<Flag>) -> Result<Flags, OutOfMemory>
-    ensures { IfOk result (λ made. made ≡ in_order (λ f. f.word) flags.items) }
-{
-    let mut ordered = Vec::new(*flags.allocator());
-    while let Some(flag) = flags.pop() {
-        let place = flag_place(ordered.as_slice(), &flag.word);
-        ordered.insert(place, flag)?;
+    let mut ordered = Vec::new(*items.allocator());
+    while let Some(item) = items.pop() {
+        let place = place_of(ordered.as_slice(), item.word());
+        ordered.insert(place, item)?;
     }
-    Ok(Flags::new(ordered))
-}
-
-/// The sets in the order of their words.
-pub(crate) fn ordered_sets(mut sets: Vec<InstructionSet>) -> Result<InstructionSets, OutOfMemory>
-    ensures { IfOk result (λ made. made ≡ in_order (λ s. s.word) sets.items) }
-{
-    let mut ordered = Vec::new(*sets.allocator());
-    while let Some(set) = sets.pop() {
-        let place = set_place(ordered.as_slice(), &set.word);
-        ordered.insert(place, set)?;
-    }
-    Ok(InstructionSets::new(ordered))
+    Ok(ordered)
 }
 
 // Whether the words strictly rise.
-fn flags_rise(flags: &[Flag]) -> bool
-    ensures { result ≡ rise (λ f. f.word) flags.now }
+fn rises<T: Worded>(items: &[T]) -> bool
+    ensures { result ≡ rise T.word_of items.now }
 {
-    let mut rest = flags;
+    let mut rest = items;
     while let [first, after @ ..] = rest {
         if let [next, ..] = after {
-            if !precedes(&first.word, &next.word) {
-                return false;
-            }
-        }
-        rest = after;
-    }
-    true
-}
-
-// Whether the words strictly rise.
-fn sets_rise(sets: &[InstructionSet]) -> bool
-    ensures { result ≡ rise (λ s. s.word) sets.now }
-{
-    let mut rest = sets;
-    while let [first, after @ ..] = rest {
-        if let [next, ..] = after {
-            if !precedes(&first.word, &next.word) {
+            if !precedes(first.word(), next.word()) {
                 return false;
             }
         }
@@ -113,7 +100,7 @@ fn are_flags(flags: &[Flag]) -> bool
     ensures { result ≡ spec.are_flags flags.now }
 {
     let words = have_words(flags);
-    let rise = flags_rise(flags);
+    let rise = rises(flags);
     words && rise
 }
 
@@ -135,7 +122,7 @@ fn are_sets(sets: &[InstructionSet]) -> bool
     ensures { result ≡ spec.are_sets sets.now }
 {
     let each = are_each_sets(sets);
-    let rise = sets_rise(sets);
+    let rise = rises(sets);
     each && rise
 }
 

@@ -1,8 +1,5 @@
 //! The flags and instruction sets of a flavor.
-ghost use Rattle.std.specs.Prelude.{◌≡◌, IfOk};
-
-use cny_base::{OutOfMemory, Text};
-use std::marker::Model;
+use cny_base::{Copies, ListOf, OutOfMemory, Text};
 
 /// What a flag asks for.
 #[derive(Clone, Copy, Debug, PartialEq, Eq)]
@@ -24,57 +21,17 @@ pub struct Flag {
     pub word: Text,
 }
 
+impl Copies for Flag {
+    fn copy(&self) -> Result<Self, OutOfMemory> {
+        Ok(Flag {
+            sense: self.sense,
+            word: self.word.copy()?,
+        })
+    }
+}
+
 /// A list of flags.
-#[derive(Debug, Drop)]
-pub struct Flags {
-    items: Vec<Flag>,
-}
-
-impl Model for Flags {
-    ghost use Rattle.std.specs.Prelude.{List};
-    ghost use Rattle.cny_flavor.specs.declared.parts.Flag.{Flag};
-
-    ghost Value = { List Flag };
-
-    ghost view = { λ a. a.items.items };
-}
-
-impl Flags {
-    /// The list of these items; takes no memory.
-    pub fn new(items: Vec<Flag>) -> Self
-        ensures { result ≡ items.items }
-    {
-        Flags { items }
-    }
-
-    /// The items as a `Vec`; takes no memory.
-    pub fn into_vec(self) -> Vec<Flag>
-        ensures { result.items ≡ self }
-    {
-        self.items
-    }
-
-    /// The items.
-    pub fn get(&self) -> &[Flag]
-        ensures { result.now ≡ self.now }
-    {
-        self.items.as_slice()
-    }
-
-    /// An equal list.
-    pub fn copy(&self) -> Result<Self, OutOfMemory>
-        ensures { IfOk result (λ made. made ≡ self.now) }
-    {
-        let mut items = Vec::new(*self.items.allocator());
-        for item in &self.items {
-            items.push(Flag {
-                sense: item.sense,
-                word: item.word.copy()?,
-            })?;
-        }
-        Ok(Flags { items })
-    }
-}
+pub type Flags = ListOf<Flag>;
 
 /// An instruction set, with flags of its own.
 #[derive(Debug, Drop)]
@@ -83,57 +40,17 @@ pub struct InstructionSet {
     pub flags: Flags,
 }
 
+impl Copies for InstructionSet {
+    fn copy(&self) -> Result<Self, OutOfMemory> {
+        Ok(InstructionSet {
+            word: self.word.copy()?,
+            flags: self.flags.copy()?,
+        })
+    }
+}
+
 /// A list of instruction sets.
-#[derive(Debug, Drop)]
-pub struct InstructionSets {
-    items: Vec<InstructionSet>,
-}
-
-impl Model for InstructionSets {
-    ghost use Rattle.std.specs.Prelude.{List};
-    ghost use Rattle.cny_flavor.specs.declared.parts.InstructionSet.{InstructionSet};
-
-    ghost Value = { List InstructionSet };
-
-    ghost view = { λ a. a.items.items };
-}
-
-impl InstructionSets {
-    /// The list of these items; takes no memory.
-    pub fn new(items: Vec<InstructionSet>) -> Self
-        ensures { result ≡ items.items }
-    {
-        InstructionSets { items }
-    }
-
-    /// The items as a `Vec`; takes no memory.
-    pub fn into_vec(self) -> Vec<InstructionSet>
-        ensures { result.items ≡ self }
-    {
-        self.items
-    }
-
-    /// The items.
-    pub fn get(&self) -> &[InstructionSet]
-        ensures { result.now ≡ self.now }
-    {
-        self.items.as_slice()
-    }
-
-    /// An equal list.
-    pub fn copy(&self) -> Result<Self, OutOfMemory>
-        ensures { IfOk result (λ made. made ≡ self.now) }
-    {
-        let mut items = Vec::new(*self.items.allocator());
-        for item in &self.items {
-            items.push(InstructionSet {
-                word: item.word.copy()?,
-                flags: item.flags.copy()?,
-            })?;
-        }
-        Ok(InstructionSets { items })
-    }
-}
+pub type InstructionSets = ListOf<InstructionSet>;
 
 /// The flags and the instruction sets of a flavor.
 #[derive(Debug, Drop)]
@@ -142,11 +59,8 @@ pub struct Parts {
     pub sets: InstructionSets,
 }
 
-impl Parts {
-    /// Equal parts.
-    pub fn copy(&self) -> Result<Self, OutOfMemory>
-        ensures { IfOk result (λ made. made ≡ self.now) }
-    {
+impl Copies for Parts {
+    fn copy(&self) -> Result<Self, OutOfMemory> {
         Ok(Parts {
             flags: self.flags.copy()?,
             sets: self.sets.copy()?,

@@ -6,7 +6,7 @@ ghost use Rattle.cny_base.specs.Name as name;
 ghost use Rattle.cny_flavor.specs.Reading as reading;
 ghost use Rattle.cny_flavor.specs.Reading.{Gives, flag_at, flags_at, ordered_flags_at, own_flags_at, set_at, sets_at, sets_part_at, sets_after_at, parts_at};
 
-use crate::order::{MOST_FLAGS, ordered_flags, ordered_sets};
+use crate::order::{MOST_FLAGS, ordered};
 use crate::parts::{Flag, Flags, InstructionSet, InstructionSets, Parts, Sense};
 use cny_base::{OutOfMemory, Text, TextFault};
 use std::alloc::Global;
@@ -115,7 +115,7 @@ fn flags_of(alloc: Global, bytes: &[u8]) -> Result<(Flags, &[u8]), TextFault>
     ensures { Gives (λ r. (r.0, r.1.now)) result (ordered_flags_at bytes.now) }
 {
     let (flags, rest) = written_flags(alloc, bytes)?;
-    Ok((ordered_flags(flags)?, rest))
+    Ok((Flags::new(ordered(flags)?), rest))
 }
 
 // The flags in parentheses at the front, none where there are no parentheses, and the bytes after them.
@@ -180,7 +180,10 @@ fn sets_part_of(alloc: Global, bytes: &[u8]) -> Result<InstructionSets, TextFaul
     ensures { Gives (λ sets. sets) result (sets_part_at bytes.now) }
 {
     match after_is(bytes) {
-        Some(rest) => Ok(ordered_sets(written_sets(alloc, skip_spaces(rest))?)?),
+        Some(rest) => {
+            let sets = written_sets(alloc, skip_spaces(rest))?;
+            Ok(InstructionSets::new(ordered(sets)?))
+        }
         None => Err(TextFault::Bad),
     }
 }

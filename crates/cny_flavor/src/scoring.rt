@@ -1,15 +1,13 @@
 //! How well a trove's flavor fits a system's.
-ghost use Rattle.std.specs.Prelude.{◌≡◌, ◌≤◌, ◌*◌, true, pos, ◌≤ℤ◌, neg_ℤ, length, IfSome};
+ghost use Rattle.std.specs.Prelude.{◌≡◌, ◌≤◌, ◌*◌, pos, ◌≤ℤ◌, neg_ℤ, length, IfSome};
 ghost use Rattle.std.specs.List.{flat_map, sum_by};
 ghost use Rattle.std.specs.Option.{option_map, option_copied};
-ghost use Rattle.cny_flavor.specs.Canonical.{are_sets, set_count};
-ghost use Rattle.cny_flavor.specs.Order.{rise};
+ghost use Rattle.cny_flavor.specs.Canonical.{set_count};
 ghost use Rattle.cny_flavor.specs.Score as spec;
-ghost use Rattle.cny_flavor.specs.Score.{total, flag_cells, cells_with, set_cells, flavor_score};
-ghost use Rattle.cny_flavor.specs.Walk.{from_word, first_named};
+ghost use Rattle.cny_flavor.specs.Score.{total, flag_cell, flag_cells, cells_with, set_cells, flavor_score};
 
 use crate::flavor::Flavor;
-use crate::order::precedes;
+use crate::order::Worded;
 use crate::parts::{Flag, InstructionSet, Sense};
 use cny_base::Text;
 
@@ -38,102 +36,68 @@ fn cell(trove: Sense, system: Option<Sense>) -> Option<i32>
     }
 }
 
-// The flags from the first on whose word doesn't precede this one.
-fn flags_from<'a>(flags: &'a [Flag], word: &Text) -> &'a [Flag]
-    ensures { result.now ≡ from_word (λ f. f.word) word.now flags.now }
+// The item of this word, if there is one.
+fn named<'a, T: Worded>(items: &'a [T], word: &Text) -> Option<&'a T>
+    ensures { option_copied result ≡ spec.named T.word_of word.now items.now }
 {
-    let mut rest = flags;
+    let mut rest = items;
     while let [first, after @ ..] = rest {
-        if !precedes(&first.word, word) {
-            break;
+        if *first.word() == *word {
+            return Some(first);
         }
         rest = after;
     }
-    rest
+    None
 }
 
-// The sets from the first on whose word doesn't precede this one.
-fn sets_from<'a>(sets: &'a [InstructionSet], word: &Text) -> &'a [InstructionSet]
-    ensures { result.now ≡ from_word (λ s. s.word) word.now sets.now }
+// What a flag of the trove is worth beside these flags of the system.
+fn flag_worth(flag: &Flag, system: &[Flag]) -> Option<i32>
+    ensures value { result ≡ flag_cell system.now flag.now }
+    ensures low { IfSome result (λ worth. neg_ℤ (pos 2) ≤ℤ worth) }
+    ensures high { IfSome result (λ worth. worth ≤ℤ pos 2) }
 {
-    let mut rest = sets;
-    while let [first, after @ ..] = rest {
-        if !precedes(&first.word, word) {
-            break;
-        }
-        rest = after;
-    }
-    rest
-}
-
-// The sense of the first flag, where that is the one of this word.
-fn first_sense(flags: &[Flag], word: &Text) -> Option<Sense>
-    ensures { result ≡ option_map (λ f. f.sense) (first_named (λ f. f.word) word.now flags.now) }
-{
-    match flags {
-        [first, ..] if first.word == *word => Some(first.sense),
-        _ => None,
+    match named(system, &flag.word) {
+        Some(other) => cell(flag.sense, Some(other.sense)),
+        None => cell(flag.sense, None),
     }
 }
 
-// The first set, where that is the one of this word.
-fn first_set<'a>(sets: &'a [InstructionSet], word: &Text) -> Option<&'a InstructionSet>
-    ensures { option_copied result ≡ first_named (λ s. s.word) word.now sets.now }
-{
-    match sets {
-        [first, ..] if first.word == *word => Some(first),
-        _ => None,
-    }
-}
-
-// The sum over flags. Both lists are in the order of their words, and each is walked once.
+// The sum over flags.
 fn flags_score(trove: &[Flag], system: &[Flag]) -> Option<i32>
-    requires count { length trove.now ≤ 64 }
-    requires trove_rises { rise (λ f. f.word) trove.now ≡ true }
-    requires system_rises { rise (λ f. f.word) system.now ≡ true }
+    requires { length trove.now ≤ 64 }
     ensures value { result ≡ total (flag_cells system.now trove.now) }
     ensures low { IfSome result (λ score. neg_ℤ (pos (2 * length trove.now)) ≤ℤ score) }
     ensures high { IfSome result (λ score. score ≤ℤ pos (2 * length trove.now)) }
 {
     let mut score = 0;
-    let mut rest = system;
     for flag in trove {
-        rest = flags_from(rest, &flag.word);
-        score += cell(flag.sense, first_sense(rest, &flag.word))?;
+        score += flag_worth(flag, system)?;
     }
     Some(score)
 }
 
-// The sum over a set of the trove and its flags, with the system's set of the same word.
-fn set_score(set: &InstructionSet, system: Option<&InstructionSet>) -> Option<i32>
-    requires count { length set.now.flags ≤ 64 }
-    requires trove_rises { rise (λ f. f.word) set.now.flags ≡ true }
-    requires system_rises { IfSome (option_copied system) (λ other. rise (λ f. f.word) other.flags ≡ true) }
-    ensures value { result ≡ total (cells_with set.now (option_copied system.entry)) }
+// The sum over a set of the trove and its flags, which counts 2 for the set itself.
+fn set_score(set: &InstructionSet, system: &[InstructionSet]) -> Option<i32>
+    requires { length set.now.flags ≤ 64 }
+    ensures value { result ≡ total (set_cells system.now set.now) }
     ensures low { IfSome result (λ score. neg_ℤ (pos (2 * set_count set.now)) ≤ℤ score) }
     ensures high { IfSome result (λ score. score ≤ℤ pos (2 * set_count set.now)) }
 {
     // A set that the system lacks refuses, as a required flag does.
-    let other = system?;
-    let own = cell(Sense::Required, Some(Sense::Required))?;
-    let flags = flags_score(set.flags.get(), other.flags.get())?;
-    Some(own + flags)
+    let other = named(system, &set.word)?;
+    Some(2 + flags_score(set.flags.get(), other.flags.get())?)
 }
 
-// The sum over sets. Both lists are in the order of their words, and each is walked once.
+// The sum over sets.
 fn sets_score(trove: &[InstructionSet], system: &[InstructionSet]) -> Option<i32>
-    requires count { sum_by set_count trove.now ≤ 64 }
-    requires trove_sets { are_sets trove.now ≡ true }
-    requires system_sets { are_sets system.now ≡ true }
+    requires { sum_by set_count trove.now ≤ 64 }
     ensures value { result ≡ total (flat_map (set_cells system.now) trove.now) }
     ensures low { IfSome result (λ score. neg_ℤ (pos 128) ≤ℤ score) }
     ensures high { IfSome result (λ score. score ≤ℤ pos 128) }
 {
     let mut score = 0;
-    let mut rest = system;
     for set in trove {
-        rest = sets_from(rest, &set.word);
-        score += set_score(set, first_set(rest, &set.word))?;
+        score += set_score(set, system)?;
     }
     Some(score)
 }

@@ -10,8 +10,8 @@ use Rattle.cny_version.specs.declared.revision.Revision.{Revision}
 use Rattle.cny_version.specs.Revision.{fits_32_bits, ends_above_zero, is_count, is_build, is_revision}
 use Rattle.cny_version.specs.Made.{filled_up, raised, next_count}
 use Rattle.cny_version.specs.Next.{count_in_question, latest_count, with_count, number_to_raise}
-use Rattle.cny_version.proofs.Counts.{count_parts, count_is}
-use Rattle.cny_version.proofs.Revisions.{revision_parts, revision_is}
+use Rattle.cny_version.proofs.CountTexts.{count_parts, count_is}
+use Rattle.cny_version.proofs.RevisionTexts.{revision_parts, revision_is}
 
 abbrev zeros : ℕ → List ℕ
 zeros n = replicate n 0
@@ -19,9 +19,6 @@ zeros n = replicate n 0
 length_zeros : (n : ℕ) → length (zeros n) ≡ n
 length_zeros zero = refl
 length_zeros (suc n) = ap suc (length_zeros n)
-
-length_filled : (depth : ℕ) (numbers : List ℕ) → length numbers ≤ depth + 1 → length (filled_up depth numbers) ≡ depth + 1
-length_filled depth numbers short = omega (arith, length-append numbers (replicate (depth + 1 - length numbers) 0), length_zeros (depth + 1 - length numbers))
 
 longer_filled : (depth : ℕ) (numbers : List ℕ) → depth + 1 ≤ length (filled_up depth numbers)
 longer_filled depth numbers = omega (arith, length-append numbers (replicate (depth + 1 - length numbers) 0), length_zeros (depth + 1 - length numbers))
@@ -40,10 +37,15 @@ pub number_filled : (depth : ℕ) (numbers : List ℕ) (i : ℕ) → get_or (fil
 number_filled depth numbers i = filled_at numbers (depth + 1 - length numbers) i
 
 -- one number more
-pub one_more : (depth : ℕ) (numbers : List ℕ) (i : ℕ) → i < depth → take (i + 1) (filled_up depth numbers) ≡ take i (filled_up depth numbers) ++ get_or numbers i 0 ∷ []
+one_more : (depth : ℕ) (numbers : List ℕ) (i : ℕ) → i < depth → take (i + 1) (filled_up depth numbers) ≡ take i (filled_up depth numbers) ++ get_or numbers i 0 ∷ []
 one_more depth numbers i below =
     take_more (filled_up depth numbers) i 0 (omega (arith, longer_filled depth numbers))
     ∙ ap (λ n. take i (filled_up depth numbers) ++ n ∷ []) (number_filled depth numbers i)
+
+pub one_pushed : (depth : ℕ) (numbers : List ℕ) (i number : ℕ) (items pushed : List ℕ) → i < depth → items ≡ take i (filled_up depth numbers) → number ≡ get_or numbers i 0
+    → pushed ≡ items ++ number ∷ [] → pushed ≡ take (i + 1) (filled_up depth numbers)
+one_pushed depth numbers i number items pushed below items_are number_is is =
+    is ∙ ap (λ l. l ++ number ∷ []) items_are ∙ ap (λ n. take i (filled_up depth numbers) ++ n ∷ []) number_is ∙ sym (one_more depth numbers i below)
 
 zeros_before : (n : ℕ) → take n (zeros (n + 1)) ≡ zeros n
 zeros_before zero = refl

@@ -7,19 +7,17 @@ ghost use Rattle.cny_version.specs.Made.{shadowed, branched};
 ghost use Rattle.cny_version.specs.Reading.{branch_at};
 
 use crate::label::Label;
-use crate::part::{Labels, VersionPart};
-use crate::revision::Revision;
-use crate::revision_text::push_revision;
+use crate::part::{VersionPart, copy_labels, last_after};
+use crate::revision::{Revision, push_revision};
 use cny_base::OutOfMemory;
 use std::alloc::Global;
 use std::marker::Model;
 
 /// The parts of a version before the last one, and the labels of the last one.
-#[derive(Debug)]
 pub(crate) struct Branch {
     before: Vec<VersionPart>,
     first: Label,
-    shadows: Labels,
+    shadows: Vec<Label>,
     // How many shadows there are in all.
     depth: u32,
     text: String,
@@ -32,10 +30,10 @@ impl Model for Branch {
 
     ghost Value = { WholeBranch };
 
-    ghost view = { λ a. record { before = a.before.items; first = a.first; shadows = a.shadows } };
+    ghost view = { λ a. record { before = a.before.items; first = a.first; shadows = a.shadows.items } };
 
     ghost invariant = { λ a.
-        let parts : WholeBranch = record { before = a.before.items; first = a.first; shadows = a.shadows } in
+        let parts : WholeBranch = record { before = a.before.items; first = a.first; shadows = a.shadows.items } in
         IsBranchWith parts a.depth (string_bytes a.text) };
 }
 
@@ -62,7 +60,7 @@ impl Branch {
         Ok(Branch {
             before: Vec::new(alloc),
             first: label,
-            shadows: Labels::new(alloc),
+            shadows: Vec::new(alloc),
             depth: 0,
             text,
         })
@@ -89,7 +87,7 @@ impl Branch {
     pub fn label(&self) -> &Label
         ensures { result.now ≡ last_label self.now }
     {
-        self.shadows.last_after(&self.first)
+        last_after(&self.first, &self.shadows)
     }
 
     /// The branch with one more shadow.
@@ -141,7 +139,7 @@ impl Branch {
         Ok(Branch {
             before,
             first: label,
-            shadows: Labels::new(alloc),
+            shadows: Vec::new(alloc),
             depth,
             text,
         })
@@ -158,7 +156,7 @@ impl Branch {
         Ok(Branch {
             before,
             first: self.first.copy()?,
-            shadows: self.shadows.copy()?,
+            shadows: copy_labels(*self.shadows.allocator(), &self.shadows)?,
             depth: self.depth,
             text: self.text.clone()?,
         })

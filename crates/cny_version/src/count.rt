@@ -7,7 +7,7 @@ ghost use Rattle.std.specs.Str.{bytes_eq};
 ghost use Rattle.cny_version.specs.Revision.{count_text};
 ghost use Rattle.cny_version.specs.Reading.{Gives, pieces, number_found, count_found};
 
-use crate::text::cut;
+use crate::cut::cut;
 use cny_base::{OutOfMemory, TextFault, read_decimal};
 use itoa::Buffer;
 use std::alloc::Global;

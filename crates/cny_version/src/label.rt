@@ -11,13 +11,14 @@ ghost use Rattle.cny_version.specs.Label.{LabelParts, label_text, is_label, IsLa
 ghost use Rattle.cny_version.specs.Reading.{Reads, checked_label, label_found};
 ghost use Rattle.cny_version.specs.Slices.{parts_of};
 
-use crate::text::cut;
+use crate::cut::cut;
 use cny_base::{OutOfMemory, TextFault};
 use std::alloc::Global;
+use std::fmt;
+use std::fmt::Debug;
 use std::marker::Model;
 
 /// Where versions are made: `host@namespace:tag`, of at most 255 bytes.
-#[derive(Debug)]
 pub struct Label {
     host: String,
     namespace: String,
@@ -47,6 +48,13 @@ impl Drop for Label {
             tag: _tag,
             text: _text,
         } = self;
+    }
+}
+
+// As its text.
+impl Debug for Label {
+    fn fmt<W: fmt::Write>(&self, f: &mut fmt::Formatter<W>) -> fmt::Result {
+        Debug::fmt(self.text(), f)
     }
 }
 
@@ -126,7 +134,7 @@ impl Eq for Label {
 }
 
 /// The parts of a label, lent from a text.
-#[derive(Clone, Copy, Debug)]
+#[derive(Clone, Copy)]
 pub(crate) struct LabelText<'a> {
     pub host: &'a str,
     pub namespace: &'a str,

@@ -1,18 +1,20 @@
 //! Labels, revisions and versions of troves, with their texts.
+//!
+//! Begin at `version` and `next`, which hold what other crates call. In the order in which each stands on
+//! the ones before it: `cut` (a text cut at a byte), `label`, `count`, `revision`, `part` and `branch` (the
+//! parts of a version), `scan` (whether a text is that of a version, without memory), `read` (the version
+//! made from it), `version`, `next` (the revision after the latest one).
 #![tactic(auto)]
 
 mod branch;
 mod count;
+mod cut;
 mod label;
 mod next;
 mod part;
 mod read;
 mod revision;
-mod revision_text;
 mod scan;
-#[cfg(test)]
-mod tests;
-mod text;
 mod version;
 
 pub use count::Count;

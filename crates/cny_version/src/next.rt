@@ -12,7 +12,7 @@ ghost use Rattle.cny_version.specs.TooLarge.{TooLargeOrMemory};
 
 use crate::count::Count;
 use crate::revision::Revision;
-use cny_base::{Fault, OutOfMemory, Refusal, What};
+use cny_base::{Copies, Fault, OutOfMemory, Refusal, What};
 use std::alloc::Global;
 
 /// The revision after the latest one of its branch. It keeps the upstream of the wanted revision

@@ -9,7 +9,7 @@ ghost use Rattle.cny_version.specs.Slices.{parts_of};
 
 use crate::branch::Branch;
 use crate::label::{Label, LabelText};
-use crate::revision_text::read_revision;
+use crate::revision::read_revision;
 use crate::scan::{Step, first_label, next_step, size_after};
 use crate::version::Version;
 use cny_base::TextFault;
@@ -41,14 +41,15 @@ fn longer_branch(
     requires { IsTrue (is_label (parts_of label)) }
     ensures { Gives result (step_to branch between.now (parts_of label.entry)) }
 {
-    if size_after(branch.text().len(), between, &label).is_none() {
+    let Some(_longer) = size_after(branch.text().len(), between, &label) else {
         return Err(TextFault::Bad);
+    };
+    if between.is_empty() {
+        let label = Label::of(alloc, label)?;
+        Ok(branch.shadow(label)?)
+    } else {
+        branch_from(alloc, branch, between, label)
     }
-    if !between.is_empty() {
-        return branch_from(alloc, branch, between, label);
-    }
-    let label = Label::of(alloc, label)?;
-    Ok(branch.shadow(label)?)
 }
 
 // The version that a last piece makes of a branch.

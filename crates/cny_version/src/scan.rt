@@ -5,9 +5,9 @@ ghost use Rattle.cny_version.specs.Reading.{pieces, revision_found, version_on, 
 ghost use Rattle.cny_version.specs.Slices.{parts_of};
 ghost use Rattle.cny_version.specs.Steps.{IsStep};
 
+use crate::cut::cut;
 use crate::label::LabelText;
-use crate::revision_text::is_revision_text;
-use crate::text::cut;
+use crate::revision::is_revision_text;
 
 /// The first label of a version's text, and what stands after the slash behind it. None where
 /// the text begins in no such way.

@@ -6,6 +6,7 @@ ghost use Rattle.std.specs.Str.{bytes_eq};
 ghost use Rattle.cny_base.specs.declared.refusal.Fault.TheVariants as fault;
 ghost use Rattle.cny_base.specs.declared.refusal.Refusal.TheVariants as refusal;
 ghost use Rattle.cny_base.specs.declared.refusal.What.TheVariants as what;
+ghost use Rattle.cny_version.specs.Label.{LabelParts, label_text, is_label};
 ghost use Rattle.cny_version.specs.Revision.{is_revision};
 ghost use Rattle.cny_version.specs.Version.{WholeBranch, WholeVersion, branch_text, version_text, last_label, depth, IsVersion, IsVersionText};
 ghost use Rattle.cny_version.specs.Filled.{AbbreviatedVersion, filled, abbreviated_text, IsAbbreviationOf, IsAbbreviatedText};
@@ -16,15 +17,15 @@ ghost use Rattle.cny_version.specs.TooLarge.{TooLargeOrMemory};
 use crate::branch::Branch;
 use crate::label::Label;
 use crate::read::read_parts;
-use crate::revision::Revision;
-use crate::revision_text::{push_revision, revision_len};
+use crate::revision::{Revision, push_revision, revision_len};
 use crate::scan::is_version;
 use cny_base::{Fault, OutOfMemory, Refusal, TextFault, What};
 use std::alloc::Global;
+use std::fmt;
+use std::fmt::Debug;
 use std::marker::Model;
 
 /// A version: where a trove was made and which one it is there. Its text has at most 512 bytes.
-#[derive(Debug)]
 pub struct Version {
     branch: Branch,
     revision: Revision,
@@ -55,6 +56,13 @@ impl Drop for Version {
     }
 }
 
+// As its text.
+impl Debug for Version {
+    fn fmt<W: fmt::Write>(&self, f: &mut fmt::Formatter<W>) -> fmt::Result {
+        Debug::fmt(self.text(), f)
+    }
+}
+
 impl Version {
     /// The version with this text, in which a label after the first may leave out its host, or
     /// its host and namespace, where they are those of the label before it. `Bad` exactly where
@@ -64,6 +72,9 @@ impl Version {
         ensures ok { IfOk result IsVersion }
         ensures only { (version : AbbreviatedVersion) → IsVersion (filled version) → text.now ≡ abbreviated_text version → IfOk result (λ read. read ≡ filled version) }
         ensures bad { IsErrOf result TextFault.Bad ↔ ¬ IsAbbreviatedText text.now }
+        // A version's own text, with whole labels, is read as that version.
+        ensures whole { (version : WholeVersion) → IsVersion version → text.now ≡ version_text version
+            → IfOk result (λ read. read ≡ version) × ¬ IsErrOf result TextFault.Bad }
     {
         Version::found(alloc, false, text)
     }
@@ -77,6 +88,13 @@ impl Version {
         ensures bad { IsErrOf result TextFault.Bad ↔ ¬ IsVersionText text.now }
     {
         Version::found(alloc, true, text)
+    }
+
+    /// Whether the text is that of a version, with whole labels; takes no memory.
+    pub fn is_whole(text: &str) -> bool
+        ensures { IsTrue result ↔ IsVersionText text.now }
+    {
+        is_version(true, text)
     }
 
     // What the readers answer, as what is found in the text.
@@ -250,9 +268,10 @@ impl Eq for Version {
     ghost laws = { on_equiv version_text nat_list_eq_equiv };
 }
 
-/// No two versions have one text.
+/// No two versions have one text, and no two labels.
 pub fn distinct_texts()
-    ensures { (v w : WholeVersion) → IsVersion v → IsVersion w → version_text v ≡ version_text w → v ≡ w }
+    ensures versions { (v w : WholeVersion) → IsVersion v → IsVersion w → version_text v ≡ version_text w → v ≡ w }
+    ensures labels { (l m : LabelParts) → IsTrue (is_label l) → IsTrue (is_label m) → label_text l ≡ label_text m → l ≡ m }
 {}
 
 // A version would have so many bytes.

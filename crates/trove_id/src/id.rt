@@ -1,28 +1,47 @@
 //! Ids of troves.
-ghost use Rattle.std.specs.Prelude.{◌≡◌, ◌≤◌, ◌++◌, List, ℕ, length, Some, IfOk, IsTrue, refl};
+ghost use Rattle.std.specs.Prelude.{◌≡◌, ◌≤◌, ◌++◌, List, ℕ, length, Some, IsTrue, refl};
 ghost use Rattle.std.specs.Cmp.{partial_equiv_from_equiv};
 ghost use Rattle.trove_id.specs.declared.id.TroveId.{TroveId};
 ghost use Rattle.trove_id.specs.Id.{IsTroveId, id_text_of, id_bytes};
 ghost use Rattle.trove_id.specs.Order.{id_eq, id_cmp, id_equiv, id_total, id_po, id_ties};
 
-use cny_base::{Name, OutOfMemory};
+use cny_base::{Copies, Name, OutOfMemory};
 use cny_flavor::{Flavor, one_text};
 use cny_version::{Version, distinct_texts};
 use std::cmp::Ordering;
 
 /// Which trove it is: its name, its version and its flavor.
-#[derive(Debug, Drop)]
+#[derive(Debug)]
 pub struct TroveId {
     pub name: Name,
     pub version: Version,
     pub flavor: Flavor,
 }
 
+// Written by hand, so that to let an id go is a single call wherever a function ends early.
+impl Drop for TroveId {
+    fn drop(self) {
+        let TroveId {
+            name: _name,
+            version: _version,
+            flavor: _flavor,
+        } = self;
+    }
+}
+
 impl TroveId {
-    /// An equal id.
-    pub fn copy(&self) -> Result<Self, OutOfMemory>
-        ensures { IfOk result (λ made. made ≡ self.now) }
+    /// A law: each id has a name, a version and a flavor by their rules.
+    pub fn is_valid(&self)
+        ensures { IsTroveId self.now }
     {
+        let _name = self.name.text();
+        let _version = self.version.text();
+        let _flavor = self.flavor.text();
+    }
+}
+
+impl Copies for TroveId {
+    fn copy(&self) -> Result<Self, OutOfMemory> {
         Ok(TroveId {
             name: self.name.copy()?,
             version: self.version.copy()?,

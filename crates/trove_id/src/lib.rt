@@ -3,10 +3,8 @@
 
 mod id;
 mod stream;
-#[cfg(test)]
-mod tests;
 mod text;
 
 pub use id::{TroveId, distinct_ids, short_ids};
-pub use stream::{IdAt, next_id, put_id};
-pub use text::{id_text, read_id};
+pub use stream::{IdAt, id_of_bytes, next_id, put_id};
+pub use text::{id_of_texts, id_text, read_id};

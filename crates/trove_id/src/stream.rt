@@ -1,6 +1,8 @@
 //! Ids in streams.
-ghost use Rattle.std.specs.Prelude.{◌≡◌, ◌++◌, ◌+◌, ◌≤◌, List, ℕ, drop, length, IfOk, OnOk, OnErr, IfSome, IfNone, IsErrOf};
+ghost use Rattle.std.specs.Prelude.{◌≡◌, ◌++◌, ◌+◌, ◌≤◌, List, ℕ, drop, length, IfOk, OnOk, OnErr, IfSome, IfNone, IsErrOf, IsTrue};
+ghost use Rattle.cny_base.specs.Name.{is_name};
 ghost use Rattle.cny_base.specs.StrField.{FitsStr, str};
+ghost use Rattle.cny_version.specs.Version.{IsVersionText};
 ghost use Rattle.trove_id.specs.declared.id.TroveId.{TroveId};
 ghost use Rattle.trove_id.specs.Id.{IsTroveId, id_bytes, IsIdAt};
 ghost use Rattle.trove_id.specs.Parts.{AreTextsOf, three_strs, AreStrsAt};
@@ -66,8 +68,8 @@ fn part_spans(bytes: &[u8], at: usize) -> Option<PartSpans>
     })
 }
 
-// The id whose parts have these texts. `Bad` where they are those of none.
-fn id_of_bytes(
+/// The id whose parts have the texts of these bytes, as `id_of_texts`.
+pub fn id_of_bytes(
     alloc: Global,
     name: &[u8],
     version: &[u8],
@@ -76,6 +78,7 @@ fn id_of_bytes(
     ensures value { IfOk result (λ id. AreTextsOf id name.now version.now flavor.now) }
     ensures bad { IsErrOf result TextFault.Bad
         → (id : TroveId) → AreTextsOf id name.now version.now flavor.now → ⊥ }
+    ensures early { (IsTrue (is_name name.now) → IsVersionText version.now → ⊥) → IsErrOf result TextFault.Bad }
     ensures only { IfOk result (λ read.
         (id : TroveId) → AreTextsOf id name.now version.now flavor.now → read ≡ id) }
 {
@@ -91,13 +94,16 @@ fn id_of_bytes(
     id_of_texts(alloc, name, version, flavor)
 }
 
-/// The id whose bytes begin at `at`, and its end. `Bad` only where none begins there; want of memory may be answered then
-/// instead.
+/// The id whose bytes begin at `at`, and its end. `Bad` only where none begins there; always where no three fields
+/// begin there of which the first is a name and the second a version, while for a third one that is no flavor want of
+/// memory may be answered instead.
 pub fn next_id(alloc: Global, bytes: &[u8], at: usize) -> Result<IdAt, TextFault>
     requires { at ≤ length bytes.now }
     ensures found { IfOk result (λ found. IsIdAt bytes.now at found.id found.to) }
     ensures bad { IsErrOf result TextFault.Bad
         → (id : TroveId) (rest : List ℕ) → IsTroveId id → drop at bytes.now ≡ id_bytes id ++ rest → ⊥ }
+    ensures early { ((name version flavor rest : List ℕ) → IsTrue (is_name name) → IsVersionText version → FitsStr flavor
+        → drop at bytes.now ≡ three_strs name version flavor ++ rest → ⊥) → IsErrOf result TextFault.Bad }
     // No other id begins there, nor does it end elsewhere.
     ensures only { IfOk result (λ found. (id : TroveId) (rest : List ℕ) → IsTroveId id
         → drop at bytes.now ≡ id_bytes id ++ rest → (found.id ≡ id) × (drop found.to bytes.now ≡ rest)) }

@@ -1,5 +1,7 @@
 //! Texts of ids.
-ghost use Rattle.std.specs.Prelude.{◌≡◌, ◌++◌, ◌∷◌, List, ℕ, IfOk, OnOk, IfSome, IfNone, IsErrOf, string_bytes};
+ghost use Rattle.std.specs.Prelude.{◌≡◌, ◌++◌, ◌∷◌, List, ℕ, IfOk, OnOk, IfSome, IfNone, IsErrOf, IsTrue, string_bytes};
+ghost use Rattle.cny_base.specs.Name.{is_name};
+ghost use Rattle.cny_version.specs.Version.{IsVersionText};
 ghost use Rattle.trove_id.specs.declared.id.TroveId.{TroveId};
 ghost use Rattle.trove_id.specs.Id.{IsTroveId, in_brackets, id_text_of};
 ghost use Rattle.trove_id.specs.Parts.{AreTextsOf, IsCutAtBracket};
@@ -35,8 +37,9 @@ pub fn id_text(alloc: Global, id: &TroveId) -> Result<Text, OutOfMemory>
     Ok(Text::from_string(text))
 }
 
-/// The id whose parts have these texts. `Bad` where they are those of none.
-pub(crate) fn id_of_texts(
+/// The id whose parts have these texts. `Bad` only where they are those of none; for a text of no name or of no version
+/// always, for a text of no flavor want of memory may be answered instead.
+pub fn id_of_texts(
     alloc: Global,
     name: &str,
     version: &str,
@@ -45,10 +48,15 @@ pub(crate) fn id_of_texts(
     ensures value { IfOk result (λ id. AreTextsOf id name.now version.now flavor.now) }
     ensures bad { IsErrOf result TextFault.Bad
         → (id : TroveId) → AreTextsOf id name.now version.now flavor.now → ⊥ }
+    ensures early { (IsTrue (is_name name.now) → IsVersionText version.now → ⊥) → IsErrOf result TextFault.Bad }
     // They are those of no other id.
     ensures only { IfOk result (λ read.
         (id : TroveId) → AreTextsOf id name.now version.now flavor.now → read ≡ id) }
 {
+    // Before the first allocation, so that memory doesn't decide between the two faults.
+    if !Version::is_whole(version) {
+        return Err(TextFault::Bad);
+    }
     let name = Name::read(alloc, name)?;
     let version = Version::read_whole(alloc, version)?;
     let flavor = Flavor::read_whole(alloc, flavor)?;
@@ -76,13 +84,16 @@ fn version_and_flavor(text: &str) -> Option<(&str, &str)>
     }
 }
 
-/// The id with this text. `Bad` only where the text is that of none, where want of memory may be answered instead. A text
-/// with `[]` is none's.
+/// The id with this text. `Bad` only where the text is that of none; always where it isn't a name, `=` and a version,
+/// with or without something in brackets behind it, while for a text of no flavor in them want of memory may be
+/// answered instead. A text with `[]` is none's.
 pub fn read_id(alloc: Global, text: &str) -> Result<TroveId, TextFault>
     ensures value { IfOk result (λ id. text.now ≡ id_text_of id) }
     ensures ok { IfOk result IsTroveId }
     ensures bad { IsErrOf result TextFault.Bad
         → (id : TroveId) → IsTroveId id → text.now ≡ id_text_of id → ⊥ }
+    ensures early { ((name version flavor : List ℕ) → IsTrue (is_name name) → IsVersionText version
+        → text.now ≡ name ++ 61 ∷ (version ++ in_brackets flavor) → ⊥) → IsErrOf result TextFault.Bad }
     // The text is that of no other id.
     ensures only { IfOk result (λ read.
         (id : TroveId) → IsTroveId id → text.now ≡ id_text_of id → read ≡ id) }

@@ -1,9 +1,8 @@
 use Rattle.std.proofs.Common.{◌≡◌, ◌∙◌, ◌≤◌, ◌*◌, ℕ, ℤ, pos, neg_ℤ, ◌≤ℤ◌, Some, ◌+ℤ◌, to_z, of_z, w32, length, FitsSigned, ap, arith}
 use Rattle.std.proofs.lemmas.Int.{ints}
 use Rattle.std.specs.List.{flat_map}
-use Rattle.cny_flavor.specs.Canonical.{are_sets}
 use Rattle.cny_flavor.specs.Score.{flag_cells, set_cells, total}
-use Rattle.cny_flavor.proofs.Totals.{first_refuses, second_refuses, both_add, good_sets, few_flags}
+use Rattle.cny_flavor.proofs.Totals.{first_refuses, second_refuses, both_add, few_flags}
 use Rattle.cny_flavor.proofs.scoring.score.Goals as goal
 
 sum_fits : (a b : ℤ) (k : ℕ) → k ≤ 64 → neg_ℤ (pos (2 * k)) ≤ℤ a → a ≤ℤ pos (2 * k) → neg_ℤ (pos 128) ≤ℤ b → b ≤ℤ pos 128 → FitsSigned w32 (to_z w32 (of_z w32 a) +ℤ to_z w32 (of_z w32 b))
@@ -22,12 +21,6 @@ returns-in_err-flags c =
     c.from_residual.ensures
     ∙ first_refuses (flag_cells system.flags trove.flags) (flat_map (set_cells system.sets) trove.sets)
     (c.in_err-flags.ensures.value ∙ ap (λ l. total (flag_cells l c.get.result.now)) system_flags ∙ ap (λ l. total (flag_cells system.flags l)) trove_flags)
-
-pub sets_score-requires-clause-trove_sets : goal.sets_score-requires-clause-trove_sets
-sets_score-requires-clause-trove_sets c = ap are_sets (c.get-3.ensures ∙ ap (λ p. p.sets) c.parts-trove.ensures.value) ∙ good_sets c.args.trove.now c.parts-trove.ensures.flavor
-
-pub sets_score-requires-clause-system_sets : goal.sets_score-requires-clause-system_sets
-sets_score-requires-clause-system_sets c = ap are_sets (c.get-4.ensures ∙ ap (λ p. p.sets) c.parts-system.ensures.value) ∙ good_sets c.args.system.now c.parts-system.ensures.flavor
 
 pub returns-in_err-sets : goal.returns-in_err-sets
 returns-in_err-sets c =

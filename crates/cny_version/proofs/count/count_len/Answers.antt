@@ -1,7 +1,7 @@
 use Rattle.std.proofs.Common.{◌+◌, ◌-◌, take, drop, get_or, length, sym, ap, ◌∙◌, length-append}
 use Rattle.std.specs.Fmt.{decimal}
 use Rattle.std.proofs.lemmas.List.{take_all}
-use Rattle.cny_version.proofs.CountTexts.{more_text, count_text_split}
+use Rattle.cny_version.proofs.CountLoops.{more_text, count_text_split}
 use Rattle.cny_version.proofs.count.count_len.Goals as goal
 
 pub returns-clause-len : goal.returns-clause-len

@@ -1,5 +1,5 @@
 use Rattle.std.proofs.Common.{◌≡◌, ◌+◌, ◌*◌, ◌≤◌, length, take}
-use Rattle.cny_version.proofs.CountTexts.{more_text}
+use Rattle.cny_version.proofs.CountLoops.{more_text}
 use Rattle.cny_version.proofs.count.count_len.Given as goal
 
 abbrev pub invariant-loop-number : goal.invariant-loop-number

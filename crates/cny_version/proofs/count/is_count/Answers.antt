@@ -1,6 +1,6 @@
 use Rattle.std.proofs.Common.{sym, ap, ◌∙◌, arith, rules}
 use Rattle.std.specs.Option.{is_some}
-use Rattle.cny_version.proofs.CountSteps.{count_no_room, still_some}
+use Rattle.cny_version.proofs.CountLoops.{count_no_room, still_some}
 use Rattle.cny_version.proofs.count.is_count.Goals as goal
 
 pub returns-then-room-eq0 : goal.returns-then-room-eq0

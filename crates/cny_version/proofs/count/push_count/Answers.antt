@@ -1,7 +1,7 @@
 use Rattle.std.proofs.Common.{◌++◌, ◌-◌, string_bytes, take, drop, get_or, length, sym, ap, ◌∙◌, append_assoc}
 use Rattle.std.specs.Fmt.{decimal}
 use Rattle.std.proofs.lemmas.List.{take_all}
-use Rattle.cny_version.proofs.CountTexts.{more_text, count_text_split}
+use Rattle.cny_version.proofs.CountLoops.{more_text, count_text_split}
 use Rattle.cny_version.proofs.count.push_count.Goals as goal
 
 pub returns-after-loop-number : goal.returns-after-loop-number

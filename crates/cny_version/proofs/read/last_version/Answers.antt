@@ -1,5 +1,5 @@
 use Rattle.std.proofs.Common.{length, ap, arith}
-use Rattle.cny_version.proofs.Scans.{end_oversized}
+use Rattle.cny_version.proofs.VersionSteps.{end_oversized}
 use Rattle.cny_version.proofs.read.last_version.Goals as goal
 
 pub returns-then-text-piece-gt512 : goal.returns-then-text-piece-gt512

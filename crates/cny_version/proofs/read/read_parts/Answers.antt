@@ -2,8 +2,8 @@ use Rattle.std.proofs.Common.{◌≡◌, None, sym, ap, ◌∙◌, rules}
 use Rattle.std.proofs.lemmas.Result.{err_from_is_err_and}
 use Rattle.cny_version.specs.Reading.{step_to, label_found, version_found}
 use Rattle.cny_version.specs.Slices.{parts_of}
-use Rattle.cny_version.proofs.Exact.{gives_err}
-use Rattle.cny_version.proofs.Scans.{step_last, on_longer, on_no_longer}
+use Rattle.cny_version.proofs.ReaderAnswers.{gives_err}
+use Rattle.cny_version.proofs.VersionSteps.{step_last, on_longer, on_no_longer}
 use Rattle.cny_version.proofs.read.read_parts.Goals as goal
 
 pub returns-in_err-branch-in-Label : goal.returns-in_err-branch-in-Label

@@ -1,6 +1,6 @@
 use Rattle.std.proofs.Common.{◌≡◌, true, false, eqb, length, sym, arith}
 use Rattle.cny_version.specs.Slices.{parts_of}
-use Rattle.cny_version.proofs.Scans.{no_first_slash, text_before_slash, no_second_slash, no_first_label, from_first_label}
+use Rattle.cny_version.proofs.VersionSteps.{no_first_slash, text_before_slash, no_second_slash, no_first_label, from_first_label}
 use Rattle.cny_version.proofs.scan.first_label.Goals as goal
 
 pub returns-in_default-clause-found : goal.returns-in_default-clause-found

@@ -2,7 +2,7 @@ use Rattle.std.proofs.Common.{◌+◌, sym, ap, ◌∙◌, subst, arith, rules}
 use Rattle.std.specs.Option.{is_some}
 use Rattle.cny_version.specs.Reading.{version_found}
 use Rattle.cny_version.specs.Slices.{parts_of}
-use Rattle.cny_version.proofs.Scans.{IsAt, at_first, at_next, at_not_deep, at_oversized, at_end, still_shallow, still_short}
+use Rattle.cny_version.proofs.VersionSteps.{IsAt, at_first, at_next, at_not_deep, at_oversized, at_end, still_shallow, still_short}
 use Rattle.cny_version.proofs.scan.is_version.Goals as goal
 
 pub labels-init : goal.labels-init

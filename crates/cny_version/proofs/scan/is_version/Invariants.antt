@@ -3,7 +3,7 @@ use Rattle.std.specs.Str.{IsUtf8}
 use Rattle.cny_version.specs.Label.{is_label}
 use Rattle.cny_version.specs.Reading.{version_found}
 use Rattle.cny_version.specs.Slices.{parts_of}
-use Rattle.cny_version.proofs.Scans.{IsAt}
+use Rattle.cny_version.proofs.VersionSteps.{IsAt}
 use Rattle.cny_version.proofs.scan.is_version.Given as goal
 
 abbrev pub invariant-labels : goal.invariant-labels

@@ -1,6 +1,6 @@
 use Rattle.std.proofs.Common.{sym}
 use Rattle.cny_version.specs.Slices.{parts_of}
-use Rattle.cny_version.proofs.Scans.{no_label_behind, bad_label}
+use Rattle.cny_version.proofs.VersionSteps.{no_label_behind, bad_label}
 use Rattle.cny_version.proofs.scan.next_step.Goals as goal
 
 pub returns-in_default-cut : goal.returns-in_default-cut

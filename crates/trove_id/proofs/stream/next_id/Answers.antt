@@ -1,4 +1,4 @@
-use Rattle.std.proofs.Common.{◌≡◌, Result, Err, ap}
+use Rattle.std.proofs.Common.{◌≡◌, Result, Err, ap, ◌∙◌}
 use Rattle.std.proofs.lemmas.Result.{err_from_is_err_and}
 use Rattle.cny_base.specs.declared.text.TextFault.{TextFault}
 use Rattle.cny_base.specs.declared.text.TextFault.TheVariants.{Bad}
@@ -29,3 +29,11 @@ returns-clause-only c id rest is spelled = (
 
 pub returns-clause-found : goal.returns-clause-found
 returns-clause-found c = id_there c.args.bytes.now c.args.at c.in-Some.spans c.in_ok-id.id c.in-Some.ensures.some c.in_ok-id.ensures.value
+
+pub returns-in_err-id-clause-early : goal.returns-in_err-id-clause-early
+returns-in_err-id-clause-early c none =
+    let strs = c.in-Some.ensures.some in
+    let bad = c.in_err-id.ensures.early (λ name version. none _ _ _ _ name version strs.flavor_fits strs.spelled) in
+    let told = err_from_is_err_and c.from_residual.result c.from_residual.ensures.1 in
+    let met : c.in_err-id.field-0.0 ≡ Bad = cc bad in
+    told.1 ∙ ap Err (told.2 ∙ met)

@@ -1,4 +1,4 @@
-use Rattle.std.proofs.Common.{◌≡◌, Some, None, lit<}
+use Rattle.std.proofs.Common.{◌≡◌, ◌∷◌, ◌++◌, Some, None, ap, ◌∙◌, lit<}
 use Rattle.std.proofs.lemmas.Result.{IfOk-weaker}
 use Rattle.std.proofs.lemmas.Str.Pattern.{split_parts}
 use Rattle.trove_id.specs.declared.id.TroveId.{TroveId}
@@ -40,3 +40,9 @@ returns-clause-only c =
     (λ read. (id : TroveId) → IsTroveId id → c.args.text.now ≡ id_text_of id → read ≡ id)
     (λ read only id is same. only id (texts_of c.args.text.now c.in-Some.name.now c.in-Some.rest.now found.version.now found.flavor.now id cut found.ensures.some is same))
     c.id_of_texts.ensures.only
+
+pub returns-clause-early : goal.returns-clause-early
+returns-clause-early c none =
+    let parts = split_parts 61 c.args.text.now (Some (c.in-Some.name, c.in-Some.rest)) c.in-Some.ensures.cases (lit< tt) in
+    let found = c.in-Some-version_and_flavor in
+    c.id_of_texts.ensures.early (λ name version. none c.in-Some.name.now found.version.now found.flavor.now name version (parts.0 ∙ ap (λ l. c.in-Some.name.now ++ 61 ∷ l) found.ensures.some.whole))

@@ -54,3 +54,10 @@ returns-clause-only c dep is relaxed =
     let lists : Lists parts.group c.in_ok-flags.flags.items = subst (λ group. Lists group c.in_ok-flags.flags.items) second.1 c.in_ok-flags.ensures.found in
     let made : Dependency = record { class = c.in_ok-class.class; name = c.in_ok-name.name.now; flags = c.in_ok-flags.flags.items } in
     c.in_ok-make.ensures ∙ same_dep made dep (record { class = first.0; name = second.0; flags = one_list parts.group c.in_ok-flags.flags.items dep.flags lists parts.lists })
+
+pub returns-in_err-flags-clause-early : goal.returns-in_err-flags-clause-early
+returns-in_err-flags-clause-early c none =
+    let valid : is_dep_name c.in_ok-name.name.now ≡ true = ap is_dep_name (sym c.as_bytes.ensures.value) ∙ sym c.is_dep_name.ensures ∙ c.if-not-is_dep_name.false in
+    let first = rw c.in_ok-class.ensures.ok_part at c.class_and_rest.ensures.found in
+    let second = rw c.in_ok-name.ensures.ok_part at c.name_and_group.ensures.found in
+    absurd (none c.in_ok-class.class c.in_ok-name.name.now (option_map (λ inner. inner.now) c.in_ok-name.group) valid (first ∙ ap (λ l. class_text c.in_ok-class.class ++ 58 ∷ 32 ∷ l) second))

@@ -1,6 +1,6 @@
 use Rattle.std.proofs.Common.{◌≡◌, ◌-◌, Some, sym, ap, ◌∙◌, arith, rules}
 use Rattle.cny_version.specs.Reading.{number_found, pieces, count_found}
-use Rattle.cny_version.proofs.CountSteps.{behind, count_no_room, still_behind}
+use Rattle.cny_version.proofs.CountLoops.{behind, count_no_room, still_behind}
 use Rattle.cny_version.proofs.count.Count.read.Goals as goal
 
 pub returns-then-room-eq0 : goal.returns-then-room-eq0

@@ -1,7 +1,7 @@
 use Rattle.std.proofs.Common.{◌≡◌, length}
 use Rattle.std.specs.Str.{IsUtf8}
 use Rattle.cny_version.specs.Reading.{pieces, count_found}
-use Rattle.cny_version.proofs.CountSteps.{behind}
+use Rattle.cny_version.proofs.CountLoops.{behind}
 use Rattle.cny_version.proofs.count.Count.read.Given as goal
 
 abbrev pub invariant-loop-first : goal.invariant-loop-first

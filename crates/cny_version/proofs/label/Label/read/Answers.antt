@@ -2,8 +2,8 @@ use Rattle.std.proofs.Common.{◌≡◌, IsTrue, true, refl, sym, ap, ◌∙◌}
 use Rattle.cny_version.specs.Filled.{no_label}
 use Rattle.cny_version.specs.Label.{label_text, is_label}
 use Rattle.cny_version.specs.Reading.{label_found}
-use Rattle.cny_version.proofs.Exact.{ok_found, only_found, bad_exactly}
-use Rattle.cny_version.proofs.Labels.{whole_back, label_sound}
+use Rattle.cny_version.proofs.ReaderAnswers.{ok_found, only_found, bad_exactly}
+use Rattle.cny_version.proofs.LabelTexts.{whole_back, label_sound}
 use Rattle.cny_version.proofs.label.Label.read.Goals as goal
 
 pub returns-clause-value : goal.returns-clause-value

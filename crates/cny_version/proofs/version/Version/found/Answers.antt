@@ -1,7 +1,7 @@
 use Rattle.std.proofs.Common.{◌≡◌, true, arith}
 use Rattle.std.specs.Option.{is_some}
 use Rattle.cny_version.specs.Reading.{version_found}
-use Rattle.cny_version.proofs.Exact.{reads_from_gives}
+use Rattle.cny_version.proofs.ReaderAnswers.{reads_from_gives}
 use Rattle.cny_version.proofs.version.Version.found.Goals as goal
 
 pub returns : goal.returns

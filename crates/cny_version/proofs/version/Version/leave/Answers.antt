@@ -2,7 +2,7 @@ use Rattle.std.proofs.Common.{◌≡◌, true, sym, subst, arith}
 use Rattle.cny_version.specs.Revision.{is_revision}
 use Rattle.cny_version.specs.Version.{depth}
 use Rattle.cny_version.specs.Made.{branched}
-use Rattle.cny_version.proofs.Readings.{fits_branch}
+use Rattle.cny_version.proofs.VersionReaders.{fits_branch}
 use Rattle.cny_version.proofs.version.Version.leave.Goals as goal
 
 pub on-requires-clause-fits : goal.on-requires-clause-fits

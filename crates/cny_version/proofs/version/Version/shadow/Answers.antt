@@ -2,7 +2,7 @@ use Rattle.std.proofs.Common.{◌≡◌, true, sym, subst, arith}
 use Rattle.cny_version.specs.Revision.{is_revision}
 use Rattle.cny_version.specs.Version.{depth}
 use Rattle.cny_version.specs.Made.{shadowed}
-use Rattle.cny_version.proofs.Readings.{fits_shadow}
+use Rattle.cny_version.proofs.VersionReaders.{fits_shadow}
 use Rattle.cny_version.proofs.version.Version.shadow.Goals as goal
 
 pub on-requires-clause-fits : goal.on-requires-clause-fits

@@ -1,9 +1,0 @@
-use Rattle.std.proofs.Common.{◌≡◌, length}
-use Rattle.cny_flavor.specs.Order.{rise}
-use Rattle.cny_flavor.proofs.order.sets_rise.Given as goal
-
-abbrev pub invariant-loop-rest : goal.invariant-loop-rest
-invariant-loop-rest l = rise (λ s. s.word) l.sets ≡ rise (λ s. s.word) l.rest
-
-abbrev pub decreases-loop-rest : goal.decreases-loop-rest
-decreases-loop-rest l = length l.rest

@@ -1,9 +1,0 @@
-use Rattle.std.proofs.Common.{◌≡◌, length}
-use Rattle.cny_flavor.specs.Walk.{from_word}
-use Rattle.cny_flavor.proofs.scoring.sets_from.Given as goal
-
-abbrev pub invariant-loop-rest : goal.invariant-loop-rest
-invariant-loop-rest l = from_word (λ s. s.word) l.word l.rest ≡ from_word (λ s. s.word) l.word l.sets
-
-abbrev pub decreases-loop-rest : goal.decreases-loop-rest
-decreases-loop-rest l = length l.rest

@@ -1,0 +1,238 @@
+#!/usr/bin/env python3
+"""Prints the calls that the program text_vectors is run on, or the answers that it has to give.
+
+Usage: tools/text_vectors.py stdin >crates/text_vectors/stdin
+       tools/text_vectors.py stdout >crates/text_vectors/stdout
+
+A line of the calls is the name of a call and its arguments, with a tab before each: a text, or `0x` and the hexadecimal
+digits of its bytes. A line of the answers is the answer to the call of its number. The answers come from
+tools/text_model.py, which is made from docs/FORMATS.md alone; nothing is shared with the program that is tested. The calls
+are the worked cases of tools/text_cases.py, whose answers are also written out there, then texts made from good ones by
+small changes, and texts made at random, the same in each run.
+"""
+import sys
+
+# So that a run leaves nothing behind in tools/.
+sys.dont_write_bytecode = True
+
+from text_cases import IDS, worked_cases
+from text_model import (
+    ANSWERS,
+    CLASSES,
+    GREATEST,
+    SENSES,
+    dep_of,
+    dep_text,
+    flavor_of,
+    flavor_text,
+    id_bytes,
+    id_of,
+    id_text,
+    is_utf8,
+    revision_text,
+    version_at,
+)
+
+# ---- further calls
+
+
+class Draw:
+    """Numbers that look random and are the same in each run."""
+
+    def __init__(self):
+        self.state = 1
+
+    def below(self, limit):
+        self.state = (self.state * 6364136223846793005 + 1442695040888963407) % 2**64
+        return (self.state >> 33) % limit
+
+    def one_of(self, items):
+        return items[self.below(len(items))]
+
+    def some_of(self, items, most):
+        """Up to so many different ones, in any order."""
+        left, taken = list(items), []
+        for _ in range(self.below(most + 1)):
+            taken.append(left.pop(self.below(len(left))))
+        return taken
+
+    def changed(self, text, letters):
+        """The text with one to three of its letters left out, put in, replaced or exchanged."""
+        text = list(text.decode())
+        for _ in range(1 + self.below(3)):
+            at = self.below(len(text) + 1)
+            kind = self.below(4)
+            if kind == 0:
+                text[at : at + 1] = []
+            elif kind == 1:
+                text[at:at] = [self.one_of(letters)]
+            elif kind == 2:
+                text[at : at + 1] = [self.one_of(letters)]
+            else:
+                text[at : at + 2] = text[at : at + 2][::-1]
+        return "".join(text).encode()
+
+
+def random_label(draw):
+    return draw.one_of((b"h@n:t", b"g@m:u", b"a.b-c@d_e:1.0-1", b"H@N:T"))
+
+
+def random_revision(draw, depth):
+    def count():
+        numbers = [draw.one_of((0, 1, 9, 10, GREATEST)) for _ in range(draw.below(depth + 1))]
+        return numbers + [draw.one_of((1, 2, 9, 10, GREATEST - 1, GREATEST))]
+
+    upstream = draw.one_of((b"1", b"1.0", b"a_+~.1"))
+    return upstream, count(), count() if draw.below(2) else None
+
+
+def random_version(draw, whole):
+    text, depth = b"", 0
+    for place in range(1 + draw.below(2)):
+        if place == 0 or whole or draw.below(2):
+            text += b"/" + random_label(draw)
+        else:
+            text += b"/" + draw.one_of((b"u", b"m:v"))
+        for _ in range(draw.below(3)):
+            text += b"//" + (random_label(draw) if whole else draw.one_of((b"v", b"n:w", b"1.0-1", b"g@m:x")))
+            depth += 1
+        text += b"/" + revision_text(random_revision(draw, depth))
+    return text
+
+
+WORDS = (b"a", b"b", b"is", b"A", b"a-b", b"x86", b"10", b"9")
+
+
+def random_flags(draw, most, spaces):
+    flags = [draw.one_of(tuple(SENSES)) + word for word in draw.some_of(WORDS, most)]
+    return b"".join(flag + (b"," + b" " * draw.below(spaces) if place + 1 < len(flags) else b"") for place, flag in enumerate(flags))
+
+
+def random_flavor(draw):
+    flags = random_flags(draw, 5, 3)
+    sets = []
+    for word in draw.some_of(WORDS, 4):
+        own = random_flags(draw, 4, 3)
+        sets.append(word + (b"(" + own + b")" if own else b""))
+    spelled = (b"is:" + b" " * draw.below(3) + (b" " * (1 + draw.below(2))).join(sets)) if sets else b""
+    return flags + (b" " * (1 + draw.below(2)) if flags and sets else b"") + spelled
+
+
+def random_dep(draw):
+    flags = draw.some_of(WORDS, 4)
+    listed = b"".join(flag + (draw.one_of((b" ", b",")) if place + 1 < len(flags) else b"") for place, flag in enumerate(flags))
+    return draw.one_of(CLASSES[:3]) + b": " + draw.one_of((b"x", b"y")) + (b"(" + listed + b")" if flags else b"")
+
+
+def random_id(draw):
+    version = random_version(draw, True)
+    flavor = flavor_text(flavor_of(random_flavor(draw)))
+    return id_text((draw.one_of((b"foo", b"foo:doc", b"group-a")), version, flavor))
+
+
+# For the changed texts: the calls, good texts, and the letters that are put in.
+CHANGED = [
+    (["name"], [b"foo", b"foo:runtime", b"group-a", b"group:a", b"9.a_b-c+d:e"], "a0_-.+: A:é"),
+    (["path"], [b"/usr/lib", b"/a.b/..c", b"/var/lib/conarydb/w", "/é/a b".encode()], "a/./.é \x1f\x7f~"),
+    (["target"], [b"../lib", "é//x".encode()], "a/.é \x1f\x7f~\x00"),
+    (["mode"], [b"0755", b"7777"], "01789a-"),
+    (["number"], [b"0", b"1234567890", b"9999999999999999999"], "019a-+ "),
+    (["label"], [b"h@n:t", b"a.b_c-d@e.f:g-1"], "a0.-_@:+/ "),
+    (["version", "whole_version"], [b"/h@n:t/1.0-1-1", b"/h@n:t//g@m:u/1-0.1/h@n:w/2-1.1-1", b"/h@n:t//u//v/1-0.0.2"], "a0.-_@:/+~1/ "),
+    (["flavor", "whole_flavor"], [b"!a,~!b,~c is: x(a,b) y", b"is is: is(is)", b"sse,~ssl is: x86(~i686,sse2)", b"a, b"], "ab,~!() is:-é"),
+    (["dep", "whole_dep"], [b"abi: ELF32(SysV x86)", b"soname: c(a b ab)", b"trove: foo:doc", b"perl: x(a,b)"], "ab (),:~é!"),
+    (["id"], [text for text in IDS[2:]], "a0=[]/@:-,.1 "),
+]
+
+
+def changed_calls(draw):
+    for calls, texts, letters in CHANGED:
+        for _ in range(110):
+            text = draw.changed(draw.one_of(texts), letters)
+            yield from ((call, text) for call in calls)
+
+
+def made_calls(draw):
+    """Calls on texts that are made to be good."""
+    for _ in range(100):
+        version, label = random_version(draw, False), random_label(draw)
+        yield "version", version
+        yield "whole_version", version
+        yield "shadow", version, label
+        yield "branch", version, label
+        yield "first", version, b"%d" % draw.below(4)
+        flavor, other = random_flavor(draw), random_flavor(draw)
+        yield "flavor", flavor
+        yield "whole_flavor", flavor_text(flavor_of(flavor))
+        yield "score", flavor, other
+        yield "score", flavor, flavor
+        yield "flavor_equality", flavor, other
+        dep, other = random_dep(draw), random_dep(draw)
+        yield "dep", dep
+        yield "whole_dep", dep_text(dep_of(dep))
+        yield "satisfies", dep, other
+        yield "dep_order", dep, other
+        text, other = random_id(draw), random_id(draw)
+        yield "id", text
+        yield "id_order", text, other
+        yield "next_id", b"!" + id_bytes(id_of(text)) + b"!", b"1"
+
+
+def version_calls(draw):
+    """Calls on two versions, where they fit each other."""
+    for _ in range(200):
+        first, second = random_version(draw, False), random_version(draw, False)
+        one, other = version_at(first), version_at(second)
+        if one.revision[2] is None or other.revision[2] is not None:
+            yield "next", first, second
+        if one.depth == other.depth:
+            yield "revise", first, second
+
+
+def byte_calls(draw):
+    """Ids in bytes, and fields, of which one byte is changed or the end is cut off."""
+    for _ in range(110):
+        data = bytearray(id_bytes(id_of(draw.one_of(IDS))))
+        at = draw.below(len(data))
+        if draw.below(3) == 0:
+            del data[at:]
+        else:
+            data[at] = draw.one_of((0, 1, 2, 3, ord("a"), ord("-"), ord("/"), 0x7F, 0xFF))
+        yield "next_id", bytes(data), b"0"
+        yield "next_str", bytes(data), b"%d" % draw.below(len(data) + 1)
+
+
+def further_calls():
+    draw = Draw()
+    yield from changed_calls(draw)
+    yield from made_calls(draw)
+    yield from version_calls(draw)
+    yield from byte_calls(draw)
+
+
+# ---- the lines
+
+
+def argument(data):
+    """As a text, where that can be read in an editor."""
+    shown = is_utf8(data) and data.decode().isprintable() and data.strip() == data != b"" and not data.startswith(b"0x")
+    return data if shown else b"0x" + data.hex().encode()
+
+
+def answer_of(call):
+    return b"\t".join(ANSWERS[call[0]](*call[1:]))
+
+
+def main():
+    if sys.argv[1:] not in (["stdin"], ["stdout"]):
+        sys.exit(__doc__)
+    worked = list(worked_cases())
+    for call, wanted in worked:
+        if not answer_of(call).startswith(wanted):
+            sys.exit(f"{call} is answered {answer_of(call)} and not {wanted}")
+    for call in dict.fromkeys([call for call, _ in worked] + list(further_calls())):
+        line = b"\t".join([call[0].encode()] + [argument(data) for data in call[1:]])
+        sys.stdout.buffer.write((line if sys.argv[1] == "stdin" else answer_of(call)) + b"\n")
+
+
+main()
