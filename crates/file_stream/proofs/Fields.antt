@@ -1,16 +1,17 @@
 -- Fields of records: flags, numbers and strs, read and written.
-use Rattle.std.proofs.Common.{◌≡◌, ℕ, ◌+◌, ◌^◌, ◌<◌, ◌≤◌, Bool, true, false, cond, zero, suc, List, [], ◌∷◌, ◌++◌, length, take, drop, get_or, nat_le, ◌&&◌, ◌==◌, Option, Some, None, refl, sym, ap, ◌∙◌, arith, inl, inr, ◌⊎◌}
+use Rattle.std.proofs.Common.{◌≡◌, ℕ, ◌+◌, ◌^◌, ◌<◌, ◌≤◌, Bool, true, false, cond, zero, suc, List, [], ◌∷◌, ◌++◌, length, take, drop, get_or, nat_le, ◌&&◌, ◌==◌, Option, Some, None, refl, sym, ap, ◌∙◌, subst, arith, inl, inr, ◌⊎◌}
 use Rattle.std.specs.Cmp.{first_so, second_so}
 use Rattle.std.specs.Cmp.Derive.{both_true}
 use Rattle.std.specs.Int.{w16, to_be_bytes, from_be_bytes}
 use Rattle.std.proofs.lemmas.Bool.{cases_lt}
 use Rattle.std.proofs.lemmas.Bool.Decides.{nat_tests}
-use Rattle.std.proofs.lemmas.List.{take-append-drop, length-take, length-drop, get_or-take, get_or-drop, get_or_past, append-nil}
+use Rattle.std.proofs.Math.Seq.{take-append_seam, drop-append_seam}
+use Rattle.std.proofs.lemmas.List.{take-append-drop, length-take, length-take-le, length-append, append_assoc, get_or-take, get_or-drop, get_or_past}
 use Rattle.std.proofs.lemmas.Nat.{be_bytes_2, from_be_bytes-to_be_bytes_2}
 use Rattle.cny_base.specs.StrField.{FitsStr, str}
 use Rattle.file_stream.specs.declared.record.Flags.{Flags}
 use Rattle.file_stream.specs.Record.{flag_bits}
-use Rattle.file_stream.specs.Reading.{flags_of, str_value}
+use Rattle.file_stream.specs.Reading.{flags_of, str_front}
 
 abbrev pub IsBytes : List ℕ → Type 0
 IsBytes bytes = (i : ℕ) → get_or bytes i 0 < 256
@@ -82,29 +83,48 @@ bits_taken (suc (suc (suc (suc (suc (suc (suc (suc bits)))))))) small = absurd (
 pub two_below : (bytes : List ℕ) → IsBytes bytes → from_be_bytes w16 bytes < 2 ^ 16
 two_below bytes fits = omega (arith, fits 0, fits 1)
 
--- ---- strs
+-- ---- a str at the front
 
-pub str_taken : (bytes value : List ℕ) → IsBytes bytes → str_value bytes ≡ Some value → FitsStr value × (bytes ≡ str value)
-str_taken bytes value fits e =
-    let found = guarded (nat_le 2 (length bytes) && from_be_bytes w16 (take 2 bytes) + 2 == length bytes) (drop 2 bytes) value e in
-    let long : 2 ≤ length bytes = at_most 2 (length bytes) (first_so (nat_le 2 (length bytes)) (from_be_bytes w16 (take 2 bytes) + 2 == length bytes) found.0) in
-    let whole : from_be_bytes w16 (take 2 bytes) + 2 ≡ length bytes =
-    same_number (from_be_bytes w16 (take 2 bytes) + 2) (length bytes) (second_so (nat_le 2 (length bytes)) (from_be_bytes w16 (take 2 bytes) + 2 == length bytes) found.0) in
-    let len : length value ≡ from_be_bytes w16 (take 2 bytes) = omega (arith, ap length found.1, length-drop 2 bytes) in
-    let below : from_be_bytes w16 (take 2 bytes) < 2 ^ 16 = two_below (take 2 bytes) (take_bytes 2 bytes fits) in
+-- what was found at the front: a value that fits, spelled so, and bytes behind it
+pub record IsFront (bytes value rest : List ℕ) : Type 0 where
+  pub fits : FitsStr value
+  pub spelled : bytes ≡ str value ++ rest
+  pub behind : IsBytes rest
+
+pub front_taken : (bytes value rest : List ℕ) → IsBytes bytes → str_front bytes ≡ Some (value, rest) → IsFront bytes value rest
+front_taken bytes value rest fits e =
+    let n : ℕ = from_be_bytes w16 (take 2 bytes) in
+    let more : List ℕ = drop 2 bytes in
+    let found = guarded (nat_le 2 (length bytes) && nat_le n (length more)) (take n more, drop n more) (value, rest) e in
+    let long : 2 ≤ length bytes = at_most 2 (length bytes) (first_so (nat_le 2 (length bytes)) (nat_le n (length more)) found.0) in
+    let enough : n ≤ length more = at_most n (length more) (second_so (nat_le 2 (length bytes)) (nat_le n (length more)) found.0) in
+    let is_value : take n more ≡ value = ap (λ (p : List ℕ × List ℕ). p.0) found.1 in
+    let is_rest : drop n more ≡ rest = ap (λ (p : List ℕ × List ℕ). p.1) found.1 in
+    let len : length value ≡ n = sym (ap length is_value) ∙ length-take-le n more enough in
+    let below : n < 2 ^ 16 = two_below (take 2 bytes) (take_bytes 2 bytes fits) in
     let told : to_be_bytes w16 (length value) ≡ take 2 bytes = be_bytes_2 (take 2 bytes) (length value) (omega (arith, length-take 2 bytes)) (take_bytes 2 bytes fits) len in
-    (omega arith, sym (take-append-drop 2 bytes) ∙ ap (λ l. l ++ drop 2 bytes) (sym told) ∙ ap (λ l. to_be_bytes w16 (length value) ++ l) found.1)
+    record {
+      fits = omega arith;
+      spelled =
+          sym (take-append-drop 2 bytes) ∙ ap (λ l. take 2 bytes ++ l) (sym (take-append-drop n more))
+          ∙ ap (λ l. take 2 bytes ++ (l ++ drop n more)) is_value ∙ ap (λ l. take 2 bytes ++ (value ++ l)) is_rest
+          ∙ ap (λ l. l ++ (value ++ rest)) (sym told) ∙ sym (append_assoc (to_be_bytes w16 (length value)) value rest);
+      behind = subst IsBytes is_rest (drop_bytes n more (drop_bytes 2 bytes fits));
+    }
 
-pub str_again : (value : List ℕ) → FitsStr value → str_value (str value) ≡ Some value
-str_again value fits =
-    let len : from_be_bytes w16 (take 2 (str value)) ≡ length value = from_be_bytes-to_be_bytes_2 (length value) fits in
-    let tests : (nat_le 2 (length (str value)) && from_be_bytes w16 (take 2 (str value)) + 2 == length (str value)) ≡ true =
-    both_true (most_at 2 (length (str value)) (omega arith)) (number_same (from_be_bytes w16 (take 2 (str value)) + 2) (length (str value)) (omega (arith, len))) in
-    ap (λ b. cond b (Some value) None) tests
+pub front_again : (value rest : List ℕ) → FitsStr value → str_front (str value ++ rest) ≡ Some (value, rest)
+front_again value rest fits =
+    let bytes : List ℕ = str value ++ rest in
+    let len : from_be_bytes w16 (take 2 bytes) ≡ length value = from_be_bytes-to_be_bytes_2 (length value) fits in
+    let tests : (nat_le 2 (length bytes) && nat_le (from_be_bytes w16 (take 2 bytes)) (length (value ++ rest))) ≡ true =
+    both_true (most_at 2 (length bytes) (omega arith)) (most_at (from_be_bytes w16 (take 2 bytes)) (length (value ++ rest)) (omega (arith, len, length-append value rest))) in
+    ap (λ b. cond b (Some (take (from_be_bytes w16 (take 2 bytes)) (value ++ rest), drop (from_be_bytes w16 (take 2 bytes)) (value ++ rest))) None) tests
+    ∙ ap (λ (n : ℕ). Some (take n (value ++ rest), drop n (value ++ rest))) len
+    ∙ ap (λ l. Some (l, drop (length value) (value ++ rest))) (take-append_seam value rest) ∙ ap (λ l. Some (value, l)) (drop-append_seam value rest)
 
-pub no_str : (bytes : List ℕ) (found : Option (List ℕ)) → str_value bytes ≡ found → IsBytes bytes
-    → ((value rest : List ℕ) → FitsStr value → bytes ≡ str value ++ rest → ⊥) → str_value bytes ≡ None
-no_str bytes None is fits never = is
-no_str bytes (Some value) is fits never =
-    let taken = str_taken bytes value fits is in
-    absurd (never value [] taken.0 (taken.1 ∙ sym (append-nil (str value))))
+pub no_front : (bytes : List ℕ) (found : Option (List ℕ × List ℕ)) → str_front bytes ≡ found → IsBytes bytes
+    → ((value rest : List ℕ) → FitsStr value → bytes ≡ str value ++ rest → ⊥) → str_front bytes ≡ None
+no_front bytes None is fits never = is
+no_front bytes (Some found) is fits never =
+    let taken = front_taken bytes found.0 found.1 fits is in
+    absurd (never found.0 found.1 taken.fits taken.spelled)

@@ -1,2 +1,3 @@
+pub mod Owner
 pub mod Record
 pub mod Reading

@@ -1,60 +1,135 @@
 //! The record that some bytes spell.
-ghost use Rattle.std.specs.Prelude.{◌≡◌, ◌↔◌, Some, None, IfOk, IsErrOf};
+ghost use Rattle.std.specs.Prelude.{◌≡◌, ◌↔◌, true, false, Some, None, IfOk, IsErrOf, IfSome, IfNone};
 ghost use Rattle.std.specs.Option.{option_map};
+ghost use Rattle.file_stream.specs.declared.encoding.Encoding.TheVariants.{Compact, Explicit};
 ghost use Rattle.file_stream.specs.declared.record.FileRec.{FileRec};
-ghost use Rattle.file_stream.specs.Record.{IsFileRecord, IsRecordBytes, file_record_bytes};
-ghost use Rattle.file_stream.specs.Reading.{str_value, dir_at, file_at, link_at, kind_at, record_of};
+ghost use Rattle.file_stream.specs.Owner as names;
+ghost use Rattle.file_stream.specs.Record.{IsFileRecord, IsRecordBytes, record_bytes, file_record_bytes, full_record_bytes};
+ghost use Rattle.file_stream.specs.Reading as spec;
+ghost use Rattle.file_stream.specs.Reading.{str_front, dir_at, file_at, link_at, kind_at, form_at, record_of, is_named_rightly};
 
+use crate::encoding::Encoding;
+use crate::owner::{Owner, ROOT, is_owner_word};
 use crate::record::{FileRec, Flags};
-use cny_base::{Mode, Target, TextFault, next_str};
+use cny_base::{CONTENT_LIMIT, Mode, Target, TextFault, next_str};
 use std::alloc::Global;
 
-// The greatest size of a file.
-const SIZE_LIMIT: u32 = 16_777_216;
-
-// The directory of these fields; none where they aren't those of one.
-fn dir_of(flags: u8, mode: u16, rest: &[u8]) -> Option<FileRec>
-    ensures { result ≡ dir_at flags mode rest.now }
-{
-    let mode = Mode::new(mode)?;
-    if flags != 0 || !rest.is_empty() {
-        return None;
-    }
-    Some(FileRec::Dir { mode })
+// An owner's names, and what stands behind them.
+#[derive(Clone, Copy)]
+struct OwnerAt<'a> {
+    user: &'a str,
+    group: &'a str,
+    rest: &'a [u8],
 }
 
-// The file of these fields; none where they aren't those of one.
-fn file_of(flags: u8, mode: u16, rest: &[u8]) -> Option<FileRec>
-    ensures { result ≡ file_at flags mode rest.now }
+// A str's value, and what stands behind it.
+#[derive(Clone, Copy)]
+struct StrAt<'a> {
+    value: &'a [u8],
+    rest: &'a [u8],
+}
+
+// The str at the front.
+fn front_str(bytes: &[u8]) -> Option<StrAt<'_>>
+    ensures { option_map (λ found. (found.value.now, found.rest.now)) result ≡ str_front bytes.now }
 {
-    let mode = Mode::new(mode)?;
-    let flags = Flags::of_bits(flags)?;
-    if rest.len() != 24 {
+    let span = next_str(bytes, 0)?;
+    Some(StrAt {
+        value: &bytes[span.from..span.to],
+        rest: &bytes[span.to..],
+    })
+}
+
+// The text that is a user or a group; none where the bytes are neither.
+fn owner_word(bytes: &[u8]) -> Option<&str>
+    ensures some { IfSome result (λ text. (text.now ≡ bytes.now) × (names.is_owner_word bytes.now ≡ true)) }
+    ensures none { IfNone result (names.is_owner_word bytes.now ≡ false) }
+{
+    let Ok(text) = str::from_utf8(bytes) else {
         return None;
+    };
+    if !is_owner_word(text) {
+        return None;
+    }
+    Some(text)
+}
+
+// The owner at the front; root, where none is named.
+fn owner_at(named: bool, bytes: &[u8]) -> Option<OwnerAt<'_>>
+    ensures value { option_map (λ found. (record { user = found.user.now; group = found.group.now }, found.rest.now)) result ≡ spec.owner_at named bytes.now }
+    ensures owner { IfSome result (λ found. names.is_owner (record { user = found.user.now; group = found.group.now }) ≡ true) }
+{
+    if !named {
+        return Some(OwnerAt {
+            user: ROOT,
+            group: ROOT,
+            rest: bytes,
+        });
+    }
+    let user = front_str(bytes)?;
+    let group = front_str(user.rest)?;
+    Some(OwnerAt {
+        user: owner_word(user.value)?,
+        group: owner_word(group.value)?,
+        rest: group.rest,
+    })
+}
+
+// The directory of these fields. `Bad` exactly where they aren't those of one.
+fn dir_of(
+    alloc: Global,
+    flags: u8,
+    mode: u16,
+    user: &str,
+    group: &str,
+    rest: &[u8],
+) -> Result<FileRec, TextFault>
+    requires { names.is_owner (record { user = user.now; group = group.now }) ≡ true }
+    ensures value { IfOk result (λ rec. dir_at flags mode (record { user = user.now; group = group.now }) rest.now ≡ Some rec) }
+    ensures bad { IsErrOf result TextFault.Bad
+        ↔ (dir_at flags mode (record { user = user.now; group = group.now }) rest.now ≡ None) }
+{
+    let mode = Mode::new(mode).ok_or(TextFault::Bad)?;
+    if flags != 0 || !rest.is_empty() {
+        return Err(TextFault::Bad);
+    }
+    let owner = Owner::of_words(alloc, user, group)?;
+    Ok(FileRec::Dir { mode, owner })
+}
+
+// The file of these fields. `Bad` exactly where they aren't those of one.
+fn file_of(
+    alloc: Global,
+    flags: u8,
+    mode: u16,
+    user: &str,
+    group: &str,
+    rest: &[u8],
+) -> Result<FileRec, TextFault>
+    requires { names.is_owner (record { user = user.now; group = group.now }) ≡ true }
+    ensures value { IfOk result (λ rec. file_at flags mode (record { user = user.now; group = group.now }) rest.now ≡ Some rec) }
+    ensures bad { IsErrOf result TextFault.Bad
+        ↔ (file_at flags mode (record { user = user.now; group = group.now }) rest.now ≡ None) }
+{
+    let mode = Mode::new(mode).ok_or(TextFault::Bad)?;
+    let flags = Flags::of_bits(flags).ok_or(TextFault::Bad)?;
+    if rest.len() != 24 {
+        return Err(TextFault::Bad);
     }
     let (size, name) = rest.split_at(4);
     let size = u32::from_be_bytes([size[0], size[1], size[2], size[3]]);
-    if size > SIZE_LIMIT {
-        return None;
+    if size > CONTENT_LIMIT {
+        return Err(TextFault::Bad);
     }
-    let name = *name.as_array::<20>()?;
-    Some(FileRec::File {
+    let name = *name.as_array::<20>().ok_or(TextFault::Bad)?;
+    let owner = Owner::of_words(alloc, user, group)?;
+    Ok(FileRec::File {
         mode,
+        owner,
         flags,
         size,
         name,
     })
-}
-
-// The value, where the bytes are one whole str.
-fn whole_str(bytes: &[u8]) -> Option<&[u8]>
-    ensures { option_map (λ value. value.now) result ≡ str_value bytes.now }
-{
-    let span = next_str(bytes, 0)?;
-    if span.to != bytes.len() {
-        return None;
-    }
-    Some(&bytes[span.from..])
 }
 
 // The link of these fields. `Bad` exactly where they aren't those of one.
@@ -65,53 +140,129 @@ fn link_of(alloc: Global, flags: u8, mode: u16, rest: &[u8]) -> Result<FileRec, 
     if flags != 0 || mode != 0 {
         return Err(TextFault::Bad);
     }
-    let target = whole_str(rest).ok_or(TextFault::Bad)?;
-    match str::from_utf8(target) {
-        Ok(text) => Ok(FileRec::Link {
-            target: Target::read(alloc, text)?,
-        }),
-        Err(_) => Err(TextFault::Bad),
+    let found = front_str(rest).ok_or(TextFault::Bad)?;
+    if !found.rest.is_empty() {
+        return Err(TextFault::Bad);
     }
+    Ok(FileRec::Link {
+        target: Target::read_bytes(alloc, found.value)?,
+    })
 }
 
 // The record of this kind. `Bad` exactly where the fields aren't those of one.
 #[tactic(auto, unfolding(crate::specs::Reading::kind_at))]
-fn of_kind(alloc: Global, kind: u8, flags: u8, mode: u16, rest: &[u8]) -> Result<FileRec, TextFault>
-    ensures value { IfOk result (λ rec. kind_at kind flags mode rest.now ≡ Some rec) }
-    ensures bad { IsErrOf result TextFault.Bad ↔ (kind_at kind flags mode rest.now ≡ None) }
+fn of_kind(
+    alloc: Global,
+    kind: u8,
+    flags: u8,
+    mode: u16,
+    user: &str,
+    group: &str,
+    rest: &[u8],
+) -> Result<FileRec, TextFault>
+    requires { names.is_owner (record { user = user.now; group = group.now }) ≡ true }
+    ensures value { IfOk result (λ rec. kind_at kind flags mode (record { user = user.now; group = group.now }) rest.now ≡ Some rec) }
+    ensures bad { IsErrOf result TextFault.Bad
+        ↔ (kind_at kind flags mode (record { user = user.now; group = group.now }) rest.now ≡ None) }
 {
     match kind {
-        b'd' => dir_of(flags, mode, rest).ok_or(TextFault::Bad),
-        b'f' => file_of(flags, mode, rest).ok_or(TextFault::Bad),
+        b'd' => dir_of(alloc, flags, mode, user, group, rest),
+        b'f' => file_of(alloc, flags, mode, user, group, rest),
         b'l' => link_of(alloc, flags, mode, rest),
         _ => Err(TextFault::Bad),
     }
 }
 
+// Whether a record of this kind names its owner as the encoding has it; a link names none.
+fn is_named_rightly(encoding: Encoding, kind: u8, named: bool, user: &str, group: &str) -> bool
+    ensures { result ≡ is_named_rightly encoding kind named (record { user = user.now; group = group.now }) }
+{
+    let is_root = user == ROOT && group == ROOT;
+    let wanted = kind != b'l' && encoding.names(is_root);
+    named == wanted
+}
+
+// The record behind the form. `Bad` exactly where there is none.
+#[tactic(auto, unfolding(crate::specs::Reading::form_at))]
+fn of_form(
+    alloc: Global,
+    encoding: Encoding,
+    named: bool,
+    kind: u8,
+    flags: u8,
+    mode: u16,
+    rest: &[u8],
+) -> Result<FileRec, TextFault>
+    ensures value { IfOk result (λ rec. form_at encoding named kind flags mode rest.now ≡ Some rec) }
+    ensures bad { IsErrOf result TextFault.Bad ↔ (form_at encoding named kind flags mode rest.now ≡ None) }
+{
+    let Some(found) = owner_at(named, rest) else {
+        return Err(TextFault::Bad);
+    };
+    if !is_named_rightly(encoding, kind, named, found.user, found.group) {
+        return Err(TextFault::Bad);
+    }
+    of_kind(
+        alloc,
+        kind,
+        flags,
+        mode,
+        found.user,
+        found.group,
+        found.rest,
+    )
+}
+
 // The record that the bytes spell. `Bad` exactly where they spell none.
-fn record_in(alloc: Global, bytes: &[u8]) -> Result<FileRec, TextFault>
-    ensures value { IfOk result (λ rec. record_of bytes.now ≡ Some rec) }
-    ensures bad { IsErrOf result TextFault.Bad ↔ (record_of bytes.now ≡ None) }
+fn record_in(alloc: Global, encoding: Encoding, bytes: &[u8]) -> Result<FileRec, TextFault>
+    ensures value { IfOk result (λ rec. record_of encoding bytes.now ≡ Some rec) }
+    ensures bad { IsErrOf result TextFault.Bad ↔ (record_of encoding bytes.now ≡ None) }
 {
     match bytes {
-        // Every record is of form 1.
-        [1, kind, flags, high, low, rest @ ..] => {
+        [form, kind, flags, high, low, rest @ ..] => {
+            if *form != 1 && *form != 2 {
+                return Err(TextFault::Bad);
+            }
             let mode = u16::from_be_bytes([*high, *low]);
-            of_kind(alloc, *kind, *flags, mode, rest)
+            of_form(alloc, encoding, *form == 2, *kind, *flags, mode, rest)
         }
         _ => Err(TextFault::Bad),
     }
 }
 
-/// The record that the bytes spell, all of them. `Bad` exactly where they spell none, which is
+/// The record that the bytes spell in this encoding, all of them. `Bad` exactly where they spell none, which is
 /// exactly outside the grammar of file records.
+pub fn decode_as(alloc: Global, encoding: Encoding, bytes: &[u8]) -> Result<FileRec, TextFault>
+    ensures value { IfOk result (λ rec. bytes.now ≡ record_bytes encoding rec) }
+    ensures ok { IfOk result IsFileRecord }
+    ensures bad { IsErrOf result TextFault.Bad ↔ ¬ IsRecordBytes encoding bytes.now }
+    // The bytes spell no other record.
+    ensures only { IfOk result (λ read.
+        (rec : FileRec) → IsFileRecord rec → bytes.now ≡ record_bytes encoding rec → read ≡ rec) }
+{
+    record_in(alloc, encoding, bytes)
+}
+
+/// The record that the bytes spell in the compact encoding, all of them. `Bad` exactly where they spell none.
 pub fn decode(alloc: Global, bytes: &[u8]) -> Result<FileRec, TextFault>
     ensures value { IfOk result (λ rec. bytes.now ≡ file_record_bytes rec) }
     ensures ok { IfOk result IsFileRecord }
-    ensures bad { IsErrOf result TextFault.Bad ↔ ¬ IsRecordBytes bytes.now }
+    ensures bad { IsErrOf result TextFault.Bad ↔ ¬ IsRecordBytes Compact bytes.now }
     // The bytes spell no other record.
     ensures only { IfOk result (λ read.
         (rec : FileRec) → IsFileRecord rec → bytes.now ≡ file_record_bytes rec → read ≡ rec) }
 {
-    record_in(alloc, bytes)
+    decode_as(alloc, Encoding::Compact, bytes)
+}
+
+/// The record that the bytes spell in the explicit encoding, all of them. `Bad` exactly where they spell none.
+pub fn decode_full(alloc: Global, bytes: &[u8]) -> Result<FileRec, TextFault>
+    ensures value { IfOk result (λ rec. bytes.now ≡ full_record_bytes rec) }
+    ensures ok { IfOk result IsFileRecord }
+    ensures bad { IsErrOf result TextFault.Bad ↔ ¬ IsRecordBytes Explicit bytes.now }
+    // The bytes spell no other record.
+    ensures only { IfOk result (λ read.
+        (rec : FileRec) → IsFileRecord rec → bytes.now ≡ full_record_bytes rec → read ≡ rec) }
+{
+    decode_as(alloc, Encoding::Explicit, bytes)
 }

@@ -1,9 +1,11 @@
 //! File records and their flags.
-ghost use Rattle.std.specs.Prelude.{◌≡◌, IfOk};
-ghost use Rattle.file_stream.specs.Record.{flag_bits};
+ghost use Rattle.std.specs.Prelude.{◌≡◌, ◌↔◌, IsTrue};
+ghost use Rattle.file_stream.specs.Record as spec;
+ghost use Rattle.file_stream.specs.Record.{IsFileRecord, flag_bits};
 ghost use Rattle.file_stream.specs.Reading.{flags_at};
 
-use cny_base::{Mode, OutOfMemory, Target};
+use crate::owner::Owner;
+use cny_base::{CONTENT_LIMIT, Copies, Mode, OutOfMemory, Target};
 
 /// What a trove asks for a file beside its contents.
 #[derive(Clone, Copy, Debug, PartialEq, Eq)]
@@ -43,15 +45,17 @@ impl Flags {
 }
 
 /// What a trove records of a path.
-#[derive(Debug, Drop, PartialEq, Eq)]
+#[derive(Debug, PartialEq, Eq)]
 pub enum FileRec {
     /// A directory.
     Dir {
         mode: Mode,
+        owner: Owner,
     },
     /// A regular file: its size in bytes, and its contents by their SHA-1.
     File {
         mode: Mode,
+        owner: Owner,
         flags: Flags,
         size: u32,
         name: [u8; 20],
@@ -62,20 +66,75 @@ pub enum FileRec {
     },
 }
 
+// Written by hand, so that to let a value go is a single call.
+impl Drop for FileRec {
+    fn drop(self) {
+        match self {
+            FileRec::Dir {
+                mode: _mode,
+                owner: _owner,
+            } => {}
+            FileRec::File {
+                mode: _mode,
+                owner: _owner,
+                flags: _flags,
+                size: _size,
+                name: _name,
+            } => {}
+            FileRec::Link { target: _target } => {}
+        }
+    }
+}
+
 impl FileRec {
-    /// An equal record.
-    pub fn copy(&self) -> Result<Self, OutOfMemory>
-        ensures { IfOk result (λ made. made ≡ self.now) }
+    /// Whether the record has bytes: a file's size may be above its limit, all else the types hold.
+    pub fn is_valid(&self) -> bool
+        ensures { IsTrue result ↔ IsFileRecord self.now }
     {
-        Ok(match self {
-            FileRec::Dir { mode } => FileRec::Dir { mode: *mode },
+        match self {
+            FileRec::Dir { mode, owner } => {
+                let _owner = owner.is_root();
+                mode.bits() <= 0o7777
+            }
             FileRec::File {
                 mode,
+                owner,
+                size,
+                name,
+                ..
+            } => {
+                let _owner = owner.is_root();
+                let is_name = name.as_slice().len() == 20;
+                is_name && mode.bits() <= 0o7777 && *size <= CONTENT_LIMIT
+            }
+            FileRec::Link { target } => !target.text().is_empty(),
+        }
+    }
+
+    /// Whether it is a directory.
+    pub fn is_dir(&self) -> bool
+        ensures { result ≡ spec.is_dir self.now }
+    {
+        matches!(self, FileRec::Dir { .. })
+    }
+}
+
+impl Copies for FileRec {
+    fn copy(&self) -> Result<Self, OutOfMemory> {
+        Ok(match self {
+            FileRec::Dir { mode, owner } => FileRec::Dir {
+                mode: *mode,
+                owner: owner.copy()?,
+            },
+            FileRec::File {
+                mode,
+                owner,
                 flags,
                 size,
                 name,
             } => FileRec::File {
                 mode: *mode,
+                owner: owner.copy()?,
                 flags: *flags,
                 size: *size,
                 name: *name,

@@ -11,20 +11,20 @@ use Rattle.std.proofs.lemmas.Str.{IsAscii-append, IsUtf8-from_ascii, IsUtf8-from
 use Rattle.std.proofs.lemmas.Str.Ascii.{IsAscii-nil, IsAscii-cons}
 use Rattle.cny_base.specs.Path.{is_path}
 use Rattle.cny_base.specs.StrField.{FitsStr, IsStrAt, str}
-use Rattle.cny_base.specs.Utf8.{path_utf8}
 use Rattle.cny_dep.specs.declared.class.Class.{Class}
 use Rattle.cny_dep.specs.declared.class.Class.TheVariants.{Abi, File, Trove, Soname, UserInfo, GroupInfo, Python, Perl}
 use Rattle.cny_dep.specs.Dep.{Dependency, IsDependency, class_text, flags_text, dep_text}
 use Rattle.cny_dep.specs.Part.{is_part_byte, is_dep_name, is_flag}
 use Rattle.cny_stream.specs.ItemLaws.{same_front}
-use Rattle.file_stream.specs.Record.{file_record_bytes}
+use Rattle.file_stream.specs.declared.encoding.Encoding.{Encoding}
+use Rattle.file_stream.specs.Record.{record_bytes}
 use Rattle.trove_items.specs.declared.files.FileAt.{FileAt}
 use Rattle.trove_items.specs.Files.{IsFileAt, file_value}
 use Rattle.trove_items.proofs.Lengths.{path_short}
 
 -- ---- files
 
-same_str : (a b r q : List ℕ) → FitsStr a → FitsStr b → str a ++ r ≡ str b ++ q → (a ≡ b) × (r ≡ q)
+pub same_str : (a b r q : List ℕ) → FitsStr a → FitsStr b → str a ++ r ≡ str b ++ q → (a ≡ b) × (r ≡ q)
 same_str a b r q a_fits b_fits e =
     let both = same_front (to_be_bytes w16 (length a)) (to_be_bytes w16 (length b)) (a ++ r) (b ++ q) refl
     (sym (append_assoc (to_be_bytes w16 (length a)) a r) ∙ e ∙ append_assoc (to_be_bytes w16 (length b)) b q) in
@@ -34,13 +34,10 @@ same_str a b r q a_fits b_fits e =
 pub path_fits : (path : List ℕ) → IsTrue (is_path path) → FitsStr path
 path_fits path is = omega (arith, path_short path is)
 
-pub file_there : (bytes : List ℕ) (from to : ℕ) (file : FileAt) → IsStrAt bytes 0 from to → IsFileAt file → bytes ≡ file_value file
-    → (slice_range bytes from to ≡ file.path) × (drop to bytes ≡ file_record_bytes file.rec)
-file_there bytes from to file field valid same =
-    same_str (slice_range bytes from to) file.path (drop to bytes) (file_record_bytes file.rec) field.fits (path_fits file.path valid.path) (sym field.spelled ∙ same)
-
-pub path_is_utf8 : (path : List ℕ) → IsTrue (is_path path) → IsUtf8 path
-path_is_utf8 path is = IsUtf8-from_is_utf8 path (path_utf8 path is)
+pub file_there : (encoding : Encoding) (bytes : List ℕ) (from to : ℕ) (file : FileAt) → IsStrAt bytes 0 from to → IsFileAt file → bytes ≡ file_value encoding file
+    → (slice_range bytes from to ≡ file.path) × (drop to bytes ≡ record_bytes encoding file.rec)
+file_there encoding bytes from to file field valid same =
+    same_str (slice_range bytes from to) file.path (drop to bytes) (record_bytes encoding file.rec) field.fits (path_fits file.path valid.path) (sym field.spelled ∙ same)
 
 -- ---- dependencies
 

@@ -8,6 +8,7 @@ use Rattle.std.specs.Str.{is_utf8}
 use Rattle.std.proofs.lemmas.Bool.{leb-true}
 use Rattle.std.proofs.lemmas.Bool.Decides.{nat_tests}
 use Rattle.cny_base.specs.StrField.{FitsStr, str}
+use Rattle.cny_base.specs.Name.{is_word}
 use Rattle.cny_base.specs.Path.{is_path, are_parts}
 use Rattle.cny_base.specs.Target.{is_target, is_shown, has_target_form}
 use Rattle.cny_dep.specs.declared.class.Class.{Class}
@@ -16,7 +17,9 @@ use Rattle.cny_dep.specs.Dep.{Dependency, IsDependency, class_text, flags_text, 
 use Rattle.cny_dep.specs.Part.{is_part_byte, is_dep_name, is_flag}
 use Rattle.file_stream.specs.declared.record.FileRec.{FileRec}
 use Rattle.file_stream.specs.declared.record.FileRec.TheVariants as rec
-use Rattle.file_stream.specs.Record.{IsFileRecord, flag_bits, head, file_record_bytes}
+use Rattle.file_stream.specs.declared.encoding.Encoding.{Encoding}
+use Rattle.file_stream.specs.Owner.{OwnerNames, is_owner_word, is_owner}
+use Rattle.file_stream.specs.Record.{IsFileRecord, flag_bits, head, owner_bytes, names_owner, owned, record_bytes}
 use Rattle.trove_items.specs.declared.files.FileAt.{FileAt}
 use Rattle.trove_items.specs.Files.{IsFileAt, file_value}
 
@@ -46,13 +49,33 @@ target_short target is =
 str_length : (value : List ℕ) → length (str value) ≡ 2 + length value
 str_length value = length-append (to_be_bytes w16 (length value)) value
 
-record_short : (r : FileRec) → IsFileRecord r → length (file_record_bytes r) ≤ 1031
-record_short (rec.Dir mode) is = omega arith
-record_short (rec.File mode flags size name) is = omega (arith, is.2, length-append (head 102 (flag_bits flags) mode) (to_be_bytes w32 size ++ name), length-append (to_be_bytes w32 size) name)
-record_short (rec.Link target) is = omega (arith, length-append (head 108 0 0) (str target), str_length target, target_short target is)
+owner_word_short : (word : List ℕ) → is_owner_word word ≡ true → length word ≤ 32
+owner_word_short word is = leb-true (length word) 32 (first_so (nat_le (length word) 32) (is_word word) is)
 
-pub file_short : (file : FileAt) → IsFileAt file → length (file_value file) ≤ 2057
-file_short file is = omega (arith, length-append (str file.path) (file_record_bytes file.rec), str_length file.path, path_short file.path is.path, record_short file.rec is.rec)
+owner_short : (named : Bool) (owner : OwnerNames) → is_owner owner ≡ true → length (owner_bytes named owner) ≤ 68
+owner_short true owner is =
+    omega (
+      arith,
+      length-append (str owner.user) (str owner.group),
+      str_length owner.user,
+      str_length owner.group,
+      owner_word_short owner.user (first_so (is_owner_word owner.user) (is_owner_word owner.group) is),
+      owner_word_short owner.group (second_so (is_owner_word owner.user) (is_owner_word owner.group) is),
+    )
+owner_short false owner is = omega arith
+
+owned_short : (named : Bool) (kind flags mode : ℕ) (owner : OwnerNames) (rest : List ℕ) → is_owner owner ≡ true → length (owned named kind flags mode owner rest) ≤ 73 + length rest
+owned_short named kind flags mode owner rest is =
+    omega (arith, length-append (head named kind flags mode) (owner_bytes named owner ++ rest), length-append (owner_bytes named owner) rest, owner_short named owner is)
+
+record_short : (encoding : Encoding) (r : FileRec) → IsFileRecord r → length (record_bytes encoding r) ≤ 1031
+record_short encoding (rec.Dir mode owner) is = omega (arith, owned_short (names_owner encoding owner) 100 0 mode owner [] is.1)
+record_short encoding (rec.File mode owner flags size name) is =
+    omega (arith, is.2, owned_short (names_owner encoding owner) 102 (flag_bits flags) mode owner (to_be_bytes w32 size ++ name) is.3, length-append (to_be_bytes w32 size) name)
+record_short encoding (rec.Link target) is = omega (arith, length-append (head false 108 0 0) (str target), str_length target, target_short target is)
+
+pub file_short : (encoding : Encoding) (file : FileAt) → IsFileAt file → length (file_value encoding file) ≤ 2057
+file_short encoding file is = omega (arith, length-append (str file.path) (record_bytes encoding file.rec), str_length file.path, path_short file.path is.path, record_short encoding file.rec is.rec)
 
 -- ---- dependencies
 

@@ -3,3 +3,4 @@ mod Taking
 mod Writing
 mod Lengths
 mod Fields
+mod OneList

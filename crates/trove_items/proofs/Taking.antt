@@ -11,10 +11,10 @@ use Rattle.trove_items.specs.Items.{items_bytes, begins_with_tag, IsRisingList, 
 use Rattle.trove_items.proofs.Rising.{rising_front}
 
 -- the elements are those of the items from `at` up to `end`
-pub record IsReadTo {A : Type 0} (value : A → List ℕ) (IsValid : A → Type 0) (compare : A → A → Ordering) (limit : ℕ) (bytes : List ℕ) (at tag : ℕ) (xs : List A) (end : ℕ) : Type 0 where
+pub record IsReadTo {A : Type 0} (value : A → List ℕ) (IsValid : A → Type 0) (compare : A → A → Ordering) (bytes : List ℕ) (at tag : ℕ) (xs : List A) (end : ℕ) : Type 0 where
   pub order : at ≤ end
   pub within : end ≤ length bytes
-  pub list : IsRisingList IsValid compare limit xs
+  pub list : IsRisingList IsValid compare xs
   pub spelled : drop at bytes ≡ items_bytes value tag xs ++ drop end bytes
 
 -- what is left of all elements, and how it is spelled
@@ -35,9 +35,9 @@ module _ {A : Type 0} (value : A → List ℕ) (IsValid : A → Type 0) (tag : �
   pub none_read : (from : List ℕ) → IsFrontOfAll value IsValid tag from from []
   none_read from all rest valid begins = (all, record { split = refl; valid = valid; spelled = begins.spelled })
 
-  pub none_to : (compare : A → A → Ordering) (limit : ℕ) (bytes : List ℕ) (at : ℕ) → at ≤ length bytes → IsReadTo value IsValid compare limit bytes at tag [] at
+  pub none_to : (compare : A → A → Ordering) (bytes : List ℕ) (at : ℕ) → at ≤ length bytes → IsReadTo value IsValid compare bytes at tag [] at
   unfolding IsStrictlySortedBy
-  none_to compare limit bytes at within = record { order = omega arith; within = within; list = record { valid = All-nil IsValid; rising = tt; few = omega arith }; spelled = refl }
+  none_to compare bytes at within = record { order = omega arith; within = within; list = record { valid = All-nil IsValid; rising = tt }; spelled = refl }
 
   -- where no further item begins, none is left
   pub no_tail : (all front tail : List A) (bytes rest : List ℕ) → IsTail value IsValid tag all front tail bytes rest → begins_with_tag tag bytes ≡ false → (front ≡ all) × (bytes ≡ rest)
@@ -64,9 +64,6 @@ module _ {A : Type 0} (value : A → List ℕ) (IsValid : A → Type 0) (tag : �
       spelled = t.spelled ∙ append_assoc (item_bytes tag (value x)) (items_bytes value tag tail) rest;
     },
   )
-
-  pub longer : (all front : List A) (bytes rest : List ℕ) (x : A) (more : List A) → IsNext all front bytes rest x more → length front < length all
-  longer all front bytes rest x more next = omega (arith, ap length next.split, length-append front (x ∷ more))
 
   pushed : (front more : List A) (x : A) → front ++ x ∷ more ≡ (front ++ x ∷ []) ++ more
   pushed front more x = sym (append_assoc front (x ∷ []) more)
@@ -95,15 +92,15 @@ module _ {A : Type 0} (value : A → List ℕ) (IsValid : A → Type 0) (tag : �
       sym (append_assoc (items_bytes value tag front) (item_bytes tag (value x)) rest)
       ∙ ap (λ l. l ++ rest) (ap (λ l. items_bytes value tag front ++ l) (sym (append-nil (item_bytes tag (value x)))) ∙ sym (flat_map-append (λ y. item_bytes tag (value y)) front (x ∷ [])))
 
-  pub read_more : (compare : A → A → Ordering) (limit : ℕ) (bytes : List ℕ) (at end to : ℕ) (xs : List A) (x : A) → IsReadTo value IsValid compare limit bytes at tag xs end → length xs < limit
-      → IsValueAt value bytes end tag x to → IsValid x → IsStrictlySortedBy compare (xs ++ x ∷ []) → IsReadTo value IsValid compare limit bytes at tag (xs ++ x ∷ []) to
-  read_more compare limit bytes at end to xs x read room item valid rising =
+  pub read_more : (compare : A → A → Ordering) (bytes : List ℕ) (at end to : ℕ) (xs : List A) (x : A) → IsReadTo value IsValid compare bytes at tag xs end
+      → IsValueAt value bytes end tag x to → IsValid x → IsStrictlySortedBy compare (xs ++ x ∷ []) → IsReadTo value IsValid compare bytes at tag (xs ++ x ∷ []) to
+  read_more compare bytes at end to xs x read item valid rising =
       let before = read.order in
       let step = item.order in
       record {
         order = omega arith;
         within = item.within;
-        list = record { valid = All-push IsValid xs x read.list.valid valid; rising = rising; few = omega (arith, length-append xs (x ∷ [])) };
+        list = record { valid = All-push IsValid xs x read.list.valid valid; rising = rising };
         spelled = read.spelled ∙ ap (λ l. items_bytes value tag xs ++ l) item.spelled ∙ items_push xs x (drop to bytes);
       }
 

@@ -4,9 +4,9 @@ use Rattle.cny_dep.specs.Dep.{Dependency, IsDependency, dep_text}
 use Rattle.cny_dep.specs.Order.{dep_cmp}
 use Rattle.trove_items.specs.Items.{items_bytes, IsRisingList}
 
--- at most so many, their texts strictly rising by their bytes
-abbrev pub AreDeps : ℕ → List Dependency → Type 0
-AreDeps limit deps = IsRisingList IsDependency dep_cmp limit deps
+-- their texts strictly rise by their bytes
+abbrev pub AreDeps : List Dependency → Type 0
+AreDeps deps = IsRisingList IsDependency dep_cmp deps
 
 abbrev pub deps_bytes : ℕ → List Dependency → List ℕ
 deps_bytes tag deps = items_bytes dep_text tag deps

@@ -5,7 +5,8 @@ use Rattle.std.specs.Ordering.{nat_cmp}
 use Rattle.std.specs.declared.cmp.Ordering.{Ordering}
 use Rattle.cny_base.specs.Path.{is_path}
 use Rattle.cny_base.specs.StrField.{str}
-use Rattle.file_stream.specs.Record.{FitsSize, IsFileRecord, file_record_bytes}
+use Rattle.file_stream.specs.declared.encoding.Encoding.{Encoding}
+use Rattle.file_stream.specs.Record.{FitsSize, IsFileRecord, record_bytes}
 use Rattle.trove_items.specs.declared.files.FileAt.{FileAt}
 use Rattle.trove_items.specs.Items.{items_bytes, IsRisingList}
 
@@ -19,8 +20,8 @@ abbrev pub FitsFile : FileAt → Type 0
 FitsFile file = FitsSize file.rec
 
 -- the path as a field, and the record
-abbrev pub file_value : FileAt → List ℕ
-file_value file = str file.path ++ file_record_bytes file.rec
+abbrev pub file_value : Encoding → FileAt → List ℕ
+file_value encoding file = str file.path ++ record_bytes encoding file.rec
 
 abbrev pub path_of : FileAt → List ℕ
 path_of file = file.path
@@ -29,9 +30,9 @@ path_of file = file.path
 abbrev pub file_cmp : FileAt → FileAt → Ordering
 file_cmp a b = slice_cmp nat_cmp (path_of a) (path_of b)
 
--- at most so many, their paths strictly rising
-abbrev pub AreFiles : ℕ → List FileAt → Type 0
-AreFiles limit files = IsRisingList IsFileAt file_cmp limit files
+-- their paths strictly rise
+abbrev pub AreFiles : List FileAt → Type 0
+AreFiles files = IsRisingList IsFileAt file_cmp files
 
-abbrev pub files_bytes : ℕ → List FileAt → List ℕ
-files_bytes tag files = items_bytes file_value tag files
+abbrev pub files_bytes : Encoding → ℕ → List FileAt → List ℕ
+files_bytes encoding tag files = items_bytes (file_value encoding) tag files

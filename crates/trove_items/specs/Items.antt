@@ -14,16 +14,21 @@ abbrev pub begins_with_tag : ℕ → List ℕ → Bool
 begins_with_tag tag [] = false
 begins_with_tag tag (b ∷ bytes) = b == tag
 
--- elements that are valid, each below those after it, and so many at most
-pub record IsRisingList {A : Type 0} (IsValid : A → Type 0) (compare : A → A → Ordering) (limit : ℕ) (xs : List A) : Type 0 where
+-- elements that are valid, each below those after it
+pub record IsRisingList {A : Type 0} (IsValid : A → Type 0) (compare : A → A → Ordering) (xs : List A) : Type 0 where
   pub valid : All IsValid xs
   pub rising : IsStrictlySortedBy compare xs
-  pub few : length xs ≤ limit
 
 -- The bytes are the items of these elements and then the rest, which doesn't go on with that tag.
 pub record BeginsWithItems {A : Type 0} (value : A → List ℕ) (tag : ℕ) (bytes : List ℕ) (xs : List A) (rest : List ℕ) : Type 0 where
   pub spelled : bytes ≡ items_bytes value tag xs ++ rest
   pub ended : begins_with_tag tag rest ≡ false
+
+-- Lists of valid elements whose items the same bytes begin with are one list, with the same rest.
+abbrev pub AreOfOneList : {A : Type 0} (value value' : A → List ℕ) (IsValid : A → Type 0) → Type 0
+AreOfOneList {A} value value' IsValid =
+    (tag : ℕ) (bytes : List ℕ) (xs ys : List A) (rest rest' : List ℕ) → All IsValid xs → All IsValid ys
+    → BeginsWithItems value tag bytes xs rest → BeginsWithItems value' tag bytes ys rest' → (xs ≡ ys) × (rest ≡ rest')
 
 -- All items of this tag that begin at `at`, one behind the other, are those of these elements, and end at `to`.
 pub record AreItemsAt {A : Type 0} (value : A → List ℕ) (bytes : List ℕ) (at tag : ℕ) (xs : List A) (to : ℕ) : Type 0 where

@@ -17,9 +17,9 @@ path_value path = path
 abbrev pub path_cmp : List ℕ → List ℕ → Ordering
 path_cmp a b = slice_cmp nat_cmp a b
 
--- at most so many, strictly rising
-abbrev pub ArePaths : ℕ → List (List ℕ) → Type 0
-ArePaths limit paths = IsRisingList IsPath path_cmp limit paths
+-- strictly rising
+abbrev pub ArePaths : List (List ℕ) → Type 0
+ArePaths paths = IsRisingList IsPath path_cmp paths
 
 abbrev pub paths_bytes : ℕ → List (List ℕ) → List ℕ
 paths_bytes tag paths = items_bytes path_value tag paths

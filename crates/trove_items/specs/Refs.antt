@@ -5,9 +5,9 @@ use Rattle.trove_id.specs.Id.{IsTroveId, id_bytes}
 use Rattle.trove_id.specs.Order.{id_cmp}
 use Rattle.trove_items.specs.Items.{items_bytes, IsRisingList}
 
--- at most so many, strictly rising by name, version text and flavor text
-abbrev pub AreRefs : ℕ → List TroveId → Type 0
-AreRefs limit refs = IsRisingList IsTroveId id_cmp limit refs
+-- strictly rising by name, version text and flavor text
+abbrev pub AreRefs : List TroveId → Type 0
+AreRefs refs = IsRisingList IsTroveId id_cmp refs
 
 abbrev pub refs_bytes : ℕ → List TroveId → List ℕ
 refs_bytes tag refs = items_bytes id_bytes tag refs

@@ -5,20 +5,21 @@ ghost use Rattle.std.specs.List.Sorted.{IsStrictlySortedBy};
 ghost use Rattle.std.specs.Ordering.{is_lt};
 ghost use Rattle.std.specs.declared.cmp.Ordering.{Ordering};
 ghost use Rattle.cny_stream.specs.Item.{FitsItem, item_bytes};
-ghost use Rattle.trove_items.specs.Items.{items_bytes, begins_with_tag, IsRisingList, BeginsWithItems, AreItemsAt, IsValueAt};
+ghost use Rattle.file_stream.specs.declared.encoding.Encoding.{Encoding};
+ghost use Rattle.trove_items.specs.Items.{items_bytes, begins_with_tag, IsRisingList, BeginsWithItems, AreItemsAt, IsValueAt, AreOfOneList};
 
 use cny_base::{Bytes, OutOfMemory, TextFault};
 use cny_stream::next_item;
+use file_stream::Encoding;
 use std::alloc::Global;
-use std::mem;
 
 /// An element of a list that a stream holds as items.
 pub(crate) trait Element {
     /// What the type and the rules hold of an element.
     ghost is_valid: { Self → Type 0 };
 
-    /// The value of its item.
-    ghost value: { Self → List ℕ };
+    /// The value of its item in an encoding.
+    ghost value: { Encoding → Self → List ℕ };
 
     /// What has to hold of an element beside its type for its item to be written.
     ghost can_put: { Self → Type 0 };
@@ -27,16 +28,22 @@ pub(crate) trait Element {
     ghost compare: { Self → Self → Ordering };
 
     /// The element with this value. `Bad` only where it is that of none.
-    fn read(alloc: Global, bytes: &[u8]) -> Result<Self, TextFault>
-        ensures value { IfOk result (λ x. bytes.now ≡ value x) }
+    fn read(alloc: Global, encoding: Encoding, bytes: &[u8]) -> Result<Self, TextFault>
+        ensures value { IfOk result (λ x. bytes.now ≡ value encoding x) }
         ensures ok { IfOk result is_valid }
-        ensures bad { IsErrOf result TextFault.Bad → (x : Self) → is_valid x → bytes.now ≡ value x → ⊥ }
-        ensures only { IfOk result (λ read. (x : Self) → is_valid x → bytes.now ≡ value x → read ≡ x) };
+        ensures bad { IsErrOf result TextFault.Bad → (x : Self) → is_valid x → bytes.now ≡ value encoding x → ⊥ }
+        ensures only { IfOk result (λ read. (x : Self) → is_valid x → bytes.now ≡ value encoding x → read ≡ x) };
 
     /// Appends the item of the element; on want of memory `out` is as before.
-    fn put(&self, alloc: Global, tag: u8, out: &mut Bytes) -> Result<(), OutOfMemory>
+    fn put(
+        &self,
+        alloc: Global,
+        encoding: Encoding,
+        tag: u8,
+        out: &mut Bytes,
+    ) -> Result<(), OutOfMemory>
         requires { can_put self.now }
-        ensures ok { OnOk result (out.new ≡ out.old ++ item_bytes tag (value self.now)) }
+        ensures ok { OnOk result (out.new ≡ out.old ++ item_bytes tag (value encoding self.now)) }
         ensures err { OnErr result (out.new ≡ out.old) }
         ensures valid { OnOk result (is_valid self.now) };
 
@@ -50,9 +57,21 @@ pub(crate) trait Element {
 
     /// Each value has room in an item.
     fn values_fit()
-        ensures { (x : Self) → is_valid x → FitsItem (value x) };
+        ensures { (encoding : Encoding) (x : Self) → is_valid x → FitsItem (value encoding x) };
+
+    /// No two elements have one value, whichever the encodings.
+    fn values_differ()
+        ensures { (one other : Encoding) (x y : Self) → is_valid x → is_valid y → value one x ≡ value other y → x ≡ y };
 
     ghost total: { IsTotalOrder compare };
+}
+
+/// No bytes begin with the items of two lists.
+pub(crate) fn one_list<T: Element>()
+    ensures { (one other : Encoding) → AreOfOneList (T.value one) (T.value other) T.is_valid }
+{
+    T::values_fit();
+    T::values_differ();
 }
 
 // Whether the elements are valid.
@@ -74,13 +93,10 @@ fn are_rising<T: Element>(items: &[T]) -> bool
     items.is_sorted_by(|earlier, later| earlier.is_below(later))
 }
 
-/// Whether the elements are valid and strictly rise, at most so many.
-pub(crate) fn are_listed<T: Element>(items: &[T], limit: usize) -> bool
-    ensures { IsTrue result ↔ IsRisingList T.is_valid T.compare limit items.now }
+/// Whether the elements are valid and strictly rise.
+pub(crate) fn are_listed<T: Element>(items: &[T]) -> bool
+    ensures { IsTrue result ↔ IsRisingList T.is_valid T.compare items.now }
 {
-    if items.len() > limit {
-        return false;
-    }
     if !are_good(items) {
         return false;
     }
@@ -90,46 +106,39 @@ pub(crate) fn are_listed<T: Element>(items: &[T], limit: usize) -> bool
 // Appends the items of the elements; on want of memory some of them may be there.
 fn push_items<T: Element>(
     alloc: Global,
+    encoding: Encoding,
     out: &mut Bytes,
     tag: u8,
     items: &[T],
 ) -> Result<(), OutOfMemory>
     requires { All T.can_put items.now }
-    ensures ok { OnOk result (out.new ≡ out.old ++ items_bytes T.value tag items.now) }
+    ensures ok { OnOk result (out.new ≡ out.old ++ items_bytes (T.value encoding) tag items.now) }
     ensures err { OnErr result (take (length out.old) out.new ≡ out.old) }
     ensures valid { OnOk result (All T.is_valid items.now) }
 {
     for item in items {
-        item.put(alloc, tag, out)?;
+        item.put(alloc, encoding, tag, out)?;
     }
     Ok(())
-}
-
-// Cuts off what was added since `out` had `len` bytes.
-fn cut_back(alloc: Global, out: &mut Bytes, len: usize)
-    ensures { out.new ≡ take len out.old }
-{
-    let mut items = mem::replace(out, Bytes::from_vec(Vec::new(alloc))).into_vec();
-    items.truncate(len);
-    *out = Bytes::from_vec(items);
 }
 
 /// Appends the items of the elements; on want of memory `out` is as before.
 pub(crate) fn put_items<T: Element>(
     alloc: Global,
+    encoding: Encoding,
     out: &mut Bytes,
     tag: u8,
     items: &[T],
 ) -> Result<(), OutOfMemory>
     requires { All T.can_put items.now }
-    ensures ok { OnOk result (out.new ≡ out.old ++ items_bytes T.value tag items.now) }
+    ensures ok { OnOk result (out.new ≡ out.old ++ items_bytes (T.value encoding) tag items.now) }
     ensures err { OnErr result (out.new ≡ out.old) }
     ensures valid { OnOk result (All T.is_valid items.now) }
 {
     let before = out.get().len();
-    let put = push_items(alloc, out, tag, items);
+    let put = push_items(alloc, encoding, out, tag, items);
     if put.is_err() {
-        cut_back(alloc, out, before);
+        out.truncate(before);
     }
     put
 }
@@ -138,24 +147,25 @@ pub(crate) fn put_items<T: Element>(
 /// begins there.
 pub(crate) fn take_item<T: Element + Drop>(
     alloc: Global,
+    encoding: Encoding,
     bytes: &[u8],
     at: usize,
     tag: u8,
 ) -> Result<(T, usize), TextFault>
     requires { at ≤ length bytes.now }
-    ensures found { IfOk result (λ found. IsValueAt T.value bytes.now at tag found.0 found.1) }
+    ensures found { IfOk result (λ found. IsValueAt (T.value encoding) bytes.now at tag found.0 found.1) }
     ensures ok { IfOk result (λ found. T.is_valid found.0) }
     ensures goes_on { IfOk result (λ found. at < found.1) }
     ensures bad { IsErrOf result TextFault.Bad → (x : T) (rest : List ℕ) → T.is_valid x
-        → drop at bytes.now ≡ item_bytes tag (T.value x) ++ rest → ⊥ }
+        → drop at bytes.now ≡ item_bytes tag (T.value encoding x) ++ rest → ⊥ }
     ensures only { IfOk result (λ found. (x : T) (rest : List ℕ) → T.is_valid x
-        → drop at bytes.now ≡ item_bytes tag (T.value x) ++ rest → (found.0 ≡ x) × (drop found.1 bytes.now ≡ rest)) }
+        → drop at bytes.now ≡ item_bytes tag (T.value encoding x) ++ rest → (found.0 ≡ x) × (drop found.1 bytes.now ≡ rest)) }
 {
     T::values_fit();
     let Ok(item) = next_item(bytes, at, &[tag]) else {
         return Err(TextFault::Bad);
     };
-    let element = T::read(alloc, &bytes[item.from..item.to])?;
+    let element = T::read(alloc, encoding, &bytes[item.from..item.to])?;
     Ok((element, item.to))
 }
 
@@ -182,21 +192,21 @@ fn is_next<T: Element>(items: &[T], element: &T) -> bool
 }
 
 /// The elements of all items of this tag that begin at `at`, one behind the other, and their end.
-/// `Bad` only where they aren't those of a rising list of at most `limit` valid elements.
+/// `Bad` only where they aren't those of a rising list of valid elements.
 pub(crate) fn take_items<T: Element + Drop>(
     alloc: Global,
+    encoding: Encoding,
     bytes: &[u8],
     at: usize,
     tag: u8,
-    limit: usize,
 ) -> Result<(Vec<T>, usize), TextFault>
     requires { at ≤ length bytes.now }
-    ensures found { IfOk result (λ found. AreItemsAt T.value bytes.now at tag found.0.items found.1) }
-    ensures ok { IfOk result (λ found. IsRisingList T.is_valid T.compare limit found.0.items) }
-    ensures bad { IsErrOf result TextFault.Bad → (xs : List T) (rest : List ℕ) → IsRisingList T.is_valid T.compare limit xs
-        → BeginsWithItems T.value tag (drop at bytes.now) xs rest → ⊥ }
-    ensures only { IfOk result (λ found. (xs : List T) (rest : List ℕ) → IsRisingList T.is_valid T.compare limit xs
-        → BeginsWithItems T.value tag (drop at bytes.now) xs rest → (found.0.items ≡ xs) × (drop found.1 bytes.now ≡ rest)) }
+    ensures found { IfOk result (λ found. AreItemsAt (T.value encoding) bytes.now at tag found.0.items found.1) }
+    ensures ok { IfOk result (λ found. IsRisingList T.is_valid T.compare found.0.items) }
+    ensures bad { IsErrOf result TextFault.Bad → (xs : List T) (rest : List ℕ) → IsRisingList T.is_valid T.compare xs
+        → BeginsWithItems (T.value encoding) tag (drop at bytes.now) xs rest → ⊥ }
+    ensures only { IfOk result (λ found. (xs : List T) (rest : List ℕ) → IsRisingList T.is_valid T.compare xs
+        → BeginsWithItems (T.value encoding) tag (drop at bytes.now) xs rest → (found.0.items ≡ xs) × (drop found.1 bytes.now ≡ rest)) }
 {
     let mut items: Vec<T> = Vec::new(alloc);
     let mut end = at;
@@ -204,10 +214,7 @@ pub(crate) fn take_items<T: Element + Drop>(
         if !begins_with(bytes, end, tag) {
             return Ok((items, end));
         }
-        if items.len() >= limit {
-            return Err(TextFault::Bad);
-        }
-        let (element, to) = take_item::<T>(alloc, bytes, end, tag)?;
+        let (element, to) = take_item::<T>(alloc, encoding, bytes, end, tag)?;
         if !is_next(items.as_slice(), &element) {
             return Err(TextFault::Bad);
         }

@@ -7,26 +7,30 @@ ghost use Rattle.trove_items.specs.Paths.{IsPath, path_value, path_cmp, ArePaths
 use crate::items::{Element, are_listed, put_items, take_items};
 use cny_base::{Bytes, OutOfMemory, Path, Paths, TextFault};
 use cny_stream::put_item;
+use file_stream::Encoding;
 use std::alloc::Global;
 
 impl Element for Path {
     ghost is_valid = { IsPath };
 
-    ghost value = { path_value };
+    ghost value = { λ _. path_value };
 
     ghost can_put = { λ _. Unit {0} };
 
     ghost compare = { path_cmp };
 
-    fn read(alloc: Global, bytes: &[u8]) -> Result<Self, TextFault> {
-        match str::from_utf8(bytes) {
-            Ok(text) => Path::read(alloc, text),
-            Err(_) => Err(TextFault::Bad),
-        }
+    fn read(alloc: Global, _encoding: Encoding, bytes: &[u8]) -> Result<Self, TextFault> {
+        Path::read_bytes(alloc, bytes)
     }
 
-    fn put(&self, alloc: Global, tag: u8, out: &mut Bytes) -> Result<(), OutOfMemory> {
-        put_item(alloc, out, tag, self.text().as_bytes())
+    fn put(
+        &self,
+        alloc: Global,
+        _encoding: Encoding,
+        tag: u8,
+        out: &mut Bytes,
+    ) -> Result<(), OutOfMemory> {
+        put_item(out, tag, self.text().as_bytes())
     }
 
     // What the type of a path holds is all that is asked of it.
@@ -40,14 +44,16 @@ impl Element for Path {
 
     fn values_fit() {}
 
+    fn values_differ() {}
+
     ghost total = { nat_list_cmp_total };
 }
 
-/// Whether the paths are a list of at most `limit` that strictly rises by the bytes. Takes no memory.
-pub fn are_paths(paths: &[Path], limit: usize) -> bool
-    ensures { IsTrue result ↔ ArePaths limit paths.now }
+/// Whether the paths strictly rise by their bytes. Takes no memory.
+pub fn are_paths(paths: &[Path]) -> bool
+    ensures { IsTrue result ↔ ArePaths paths.now }
 {
-    are_listed(paths, limit)
+    are_listed(paths)
 }
 
 /// Appends an item of this tag for each path; on want of memory `out` is as before.
@@ -56,11 +62,11 @@ pub fn put_paths(alloc: Global, out: &mut Bytes, tag: u8, paths: &[Path]) -> Res
     ensures err { OnErr result (out.new ≡ out.old) }
     ensures valid { OnOk result (All IsPath paths.now) }
 {
-    put_items(alloc, out, tag, paths)
+    put_items(alloc, Encoding::Compact, out, tag, paths)
 }
 
 /// Paths whose items stand in the bytes of a stream, and their end.
-#[derive(Debug, Drop)]
+#[derive(Drop)]
 pub struct PathsAt {
     pub paths: Paths,
     /// The place behind the last of their items.
@@ -68,25 +74,19 @@ pub struct PathsAt {
 }
 
 /// The paths of all items of this tag that begin at `at`, one behind the other, and their end. `Bad` only where an
-/// item of this tag there isn't a path, where the paths don't strictly rise, or where there are more than `limit`;
-/// want of memory may be answered then instead.
-pub fn take_paths(
-    alloc: Global,
-    bytes: &[u8],
-    at: usize,
-    tag: u8,
-    limit: usize,
-) -> Result<PathsAt, TextFault>
+/// item of this tag there isn't a path, or where the paths don't strictly rise; want of memory may be answered then
+/// instead.
+pub fn take_paths(alloc: Global, bytes: &[u8], at: usize, tag: u8) -> Result<PathsAt, TextFault>
     requires { at ≤ length bytes.now }
     ensures found { IfOk result (λ found. AreItemsAt path_value bytes.now at tag found.paths found.to) }
-    ensures ok { IfOk result (λ found. ArePaths limit found.paths) }
-    ensures bad { IsErrOf result TextFault.Bad → (paths : List (List ℕ)) (rest : List ℕ) → ArePaths limit paths
+    ensures ok { IfOk result (λ found. ArePaths found.paths) }
+    ensures bad { IsErrOf result TextFault.Bad → (paths : List (List ℕ)) (rest : List ℕ) → ArePaths paths
         → BeginsWithItems path_value tag (drop at bytes.now) paths rest → ⊥ }
     // No other paths stand there, nor do their items end elsewhere.
-    ensures only { IfOk result (λ found. (paths : List (List ℕ)) (rest : List ℕ) → ArePaths limit paths
+    ensures only { IfOk result (λ found. (paths : List (List ℕ)) (rest : List ℕ) → ArePaths paths
         → BeginsWithItems path_value tag (drop at bytes.now) paths rest → (found.paths ≡ paths) × (drop found.to bytes.now ≡ rest)) }
 {
-    let (items, to) = take_items::<Path>(alloc, bytes, at, tag, limit)?;
+    let (items, to) = take_items::<Path>(alloc, Encoding::Compact, bytes, at, tag)?;
     Ok(PathsAt {
         paths: Paths::new(items),
         to,

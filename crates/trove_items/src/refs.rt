@@ -8,60 +8,14 @@ ghost use Rattle.trove_items.specs.Items.{BeginsWithItems, AreItemsAt, IsValueAt
 ghost use Rattle.trove_items.specs.Refs.{AreRefs, refs_bytes};
 
 use crate::items::{Element, are_listed, put_items, take_item, take_items};
-use cny_base::{Bytes, OutOfMemory, TextFault};
+use cny_base::{Bytes, ListOf, OutOfMemory, TextFault};
 use cny_stream::put_item;
+use file_stream::Encoding;
 use std::alloc::Global;
-use std::marker::Model;
-use trove_id::{IdAt, TroveId, next_id, put_id, short_ids};
+use trove_id::{IdAt, TroveId, distinct_ids, next_id, put_id, short_ids};
 
 /// A list of ids.
-#[derive(Debug, Drop)]
-pub struct Refs {
-    items: Vec<TroveId>,
-}
-
-impl Model for Refs {
-    ghost use Rattle.std.specs.Prelude.{List};
-    ghost use Rattle.trove_id.specs.declared.id.TroveId.{TroveId};
-
-    ghost Value = { List TroveId };
-
-    ghost view = { λ a. a.items.items };
-}
-
-impl Refs {
-    /// The list of these ids; takes no memory.
-    pub fn new(items: Vec<TroveId>) -> Self
-        ensures { result ≡ items.items }
-    {
-        Refs { items }
-    }
-
-    /// The ids as a `Vec`; takes no memory.
-    pub fn into_vec(self) -> Vec<TroveId>
-        ensures { result.items ≡ self }
-    {
-        self.items
-    }
-
-    /// The ids.
-    pub fn get(&self) -> &[TroveId]
-        ensures { result.now ≡ self.now }
-    {
-        self.items.as_slice()
-    }
-
-    /// An equal list.
-    pub fn copy(&self) -> Result<Self, OutOfMemory>
-        ensures { IfOk result (λ made. made ≡ self.now) }
-    {
-        let mut items = Vec::new(*self.items.allocator());
-        for item in &self.items {
-            items.push(item.copy()?)?;
-        }
-        Ok(Refs { items })
-    }
-}
+pub type Refs = ListOf<TroveId>;
 
 // The bytes of an id.
 fn value_of(alloc: Global, id: &TroveId) -> Result<Bytes, OutOfMemory>
@@ -76,13 +30,13 @@ fn value_of(alloc: Global, id: &TroveId) -> Result<Bytes, OutOfMemory>
 impl Element for TroveId {
     ghost is_valid = { IsTroveId };
 
-    ghost value = { id_bytes };
+    ghost value = { λ _. id_bytes };
 
     ghost can_put = { λ _. Unit {0} };
 
     ghost compare = { id_cmp };
 
-    fn read(alloc: Global, bytes: &[u8]) -> Result<Self, TextFault> {
+    fn read(alloc: Global, _encoding: Encoding, bytes: &[u8]) -> Result<Self, TextFault> {
         let found = next_id(alloc, bytes, 0)?;
         if found.to != bytes.len() {
             return Err(TextFault::Bad);
@@ -90,10 +44,16 @@ impl Element for TroveId {
         Ok(found.id)
     }
 
-    fn put(&self, alloc: Global, tag: u8, out: &mut Bytes) -> Result<(), OutOfMemory> {
+    fn put(
+        &self,
+        alloc: Global,
+        _encoding: Encoding,
+        tag: u8,
+        out: &mut Bytes,
+    ) -> Result<(), OutOfMemory> {
         short_ids();
         let value = value_of(alloc, self)?;
-        put_item(alloc, out, tag, value.get())
+        put_item(out, tag, value.get())
     }
 
     // What the types of an id hold is all that is asked of it.
@@ -112,15 +72,18 @@ impl Element for TroveId {
         short_ids();
     }
 
+    fn values_differ() {
+        distinct_ids();
+    }
+
     ghost total = { id_total };
 }
 
-/// Whether the ids can be the references of a trove: at most `limit`, strictly rising by the name, then the text of
-/// the version, then that of the flavor. Takes no memory.
-pub fn are_refs(refs: &[TroveId], limit: usize) -> bool
-    ensures { IsTrue result ↔ AreRefs limit refs.now }
+/// Whether the ids strictly rise by the name, then the text of the version, then that of the flavor. Takes no memory.
+pub fn are_refs(refs: &[TroveId]) -> bool
+    ensures { IsTrue result ↔ AreRefs refs.now }
 {
-    are_listed(refs, limit)
+    are_listed(refs)
 }
 
 /// Appends an item of this tag for each id; on want of memory `out` is as before.
@@ -134,11 +97,11 @@ pub fn put_refs(
     ensures err { OnErr result (out.new ≡ out.old) }
     ensures valid { OnOk result (All IsTroveId refs.now) }
 {
-    put_items(alloc, out, tag, refs)
+    put_items(alloc, Encoding::Compact, out, tag, refs)
 }
 
 /// Ids whose items stand in the bytes of a stream, and their end.
-#[derive(Debug, Drop)]
+#[derive(Drop)]
 pub struct RefsAt {
     pub refs: Refs,
     /// The place behind the last of their items.
@@ -146,25 +109,19 @@ pub struct RefsAt {
 }
 
 /// The ids of all items of this tag that begin at `at`, one behind the other, and their end. `Bad` only where an item
-/// of this tag there isn't that of an id, where the ids don't strictly rise, or where there are more than `limit`;
-/// want of memory may be answered then instead.
-pub fn take_refs(
-    alloc: Global,
-    bytes: &[u8],
-    at: usize,
-    tag: u8,
-    limit: usize,
-) -> Result<RefsAt, TextFault>
+/// of this tag there isn't that of an id, or where the ids don't strictly rise; want of memory may be answered then
+/// instead.
+pub fn take_refs(alloc: Global, bytes: &[u8], at: usize, tag: u8) -> Result<RefsAt, TextFault>
     requires { at ≤ length bytes.now }
     ensures found { IfOk result (λ found. AreItemsAt id_bytes bytes.now at tag found.refs found.to) }
-    ensures ok { IfOk result (λ found. AreRefs limit found.refs) }
-    ensures bad { IsErrOf result TextFault.Bad → (refs : List TroveId) (rest : List ℕ) → AreRefs limit refs
+    ensures ok { IfOk result (λ found. AreRefs found.refs) }
+    ensures bad { IsErrOf result TextFault.Bad → (refs : List TroveId) (rest : List ℕ) → AreRefs refs
         → BeginsWithItems id_bytes tag (drop at bytes.now) refs rest → ⊥ }
     // No other ids stand there, nor do their items end elsewhere.
-    ensures only { IfOk result (λ found. (refs : List TroveId) (rest : List ℕ) → AreRefs limit refs
+    ensures only { IfOk result (λ found. (refs : List TroveId) (rest : List ℕ) → AreRefs refs
         → BeginsWithItems id_bytes tag (drop at bytes.now) refs rest → (found.refs ≡ refs) × (drop found.to bytes.now ≡ rest)) }
 {
-    let (items, to) = take_items::<TroveId>(alloc, bytes, at, tag, limit)?;
+    let (items, to) = take_items::<TroveId>(alloc, Encoding::Compact, bytes, at, tag)?;
     Ok(RefsAt {
         refs: Refs::new(items),
         to,
@@ -177,7 +134,7 @@ pub fn put_id_item(alloc: Global, out: &mut Bytes, tag: u8, id: &TroveId) -> Res
     ensures err { OnErr result (out.new ≡ out.old) }
     ensures valid { OnOk result (IsTroveId id.now) }
 {
-    id.put(alloc, tag, out)
+    id.put(alloc, Encoding::Compact, tag, out)
 }
 
 /// The id of the one item that begins at `at`, and the item's end. `Bad` only where no item of this tag that holds an
@@ -192,6 +149,6 @@ pub fn take_id_item(alloc: Global, bytes: &[u8], at: usize, tag: u8) -> Result<I
     ensures only { IfOk result (λ found. (id : TroveId) (rest : List ℕ) → IsTroveId id
         → drop at bytes.now ≡ item_bytes tag (id_bytes id) ++ rest → (found.id ≡ id) × (drop found.to bytes.now ≡ rest)) }
 {
-    let (id, to) = take_item::<TroveId>(alloc, bytes, at, tag)?;
+    let (id, to) = take_item::<TroveId>(alloc, Encoding::Compact, bytes, at, tag)?;
     Ok(IdAt { id, to })
 }

@@ -3,3 +3,4 @@ mod Equal
 mod Parts
 mod Handed
 mod Whole
+mod OneRel

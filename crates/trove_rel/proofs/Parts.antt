@@ -3,6 +3,7 @@ use Rattle.std.proofs.Common.{◌≡◌, ℕ, ◌+◌, ◌<◌, false, List, [],
 use Rattle.std.proofs.lemmas.Bool.Decides.{nat_tests}
 use Rattle.cny_dep.specs.Dep.{dep_text}
 use Rattle.cny_stream.specs.Item.{item_bytes}
+use Rattle.file_stream.specs.declared.encoding.Encoding.{Encoding}
 use Rattle.trove_id.specs.declared.id.TroveId.{TroveId}
 use Rattle.trove_id.specs.Id.{id_bytes}
 use Rattle.trove_items.specs.Items.{items_bytes, begins_with_tag, BeginsWithItems, AreItemsAt, IsValueAt}
@@ -78,8 +79,8 @@ requires_part rel = pair_bytes dep_text dep_text 0x27 rel.requires_gone rel.requ
 abbrev pub refs_part : RelParts → List ℕ
 refs_part rel = pair_bytes id_bytes id_bytes 0x25 rel.refs_gone rel.refs_added ++ requires_part rel
 
-abbrev pub files_part : RelParts → List ℕ
-files_part rel = pair_bytes path_value file_value 0x23 rel.paths_gone rel.files_set ++ refs_part rel
+abbrev pub files_part : Encoding → RelParts → List ℕ
+files_part encoding rel = pair_bytes path_value (file_value encoding) 0x23 rel.paths_gone rel.files_set ++ refs_part rel
 
 provides_end : (tag : ℕ) (rel : RelParts) → tag < 0x29 → begins_with_tag tag (provides_part rel) ≡ false
 provides_end tag rel below = ends_before_pair dep_text dep_text tag 0x29 rel.provides_gone rel.provides_added below
@@ -92,8 +93,8 @@ refs_end : (tag : ℕ) (rel : RelParts) → tag < 0x25 → begins_with_tag tag (
 refs_end tag rel below =
     ends_before_pair_and id_bytes id_bytes tag 0x25 rel.refs_gone rel.refs_added (requires_part rel) below (requires_end tag rel (omega arith))
 
-pub begins_files : (bytes : List ℕ) (rel : RelParts) → bytes ≡ files_part rel → BeginsWithPair path_value file_value 0x23 bytes rel.paths_gone rel.files_set (refs_part rel)
-begins_files bytes rel is = record { spelled = is; first_ended = refs_end 0x23 rel (omega arith); second_ended = refs_end 0x24 rel (omega arith) }
+pub begins_files : (encoding : Encoding) (bytes : List ℕ) (rel : RelParts) → bytes ≡ files_part encoding rel → BeginsWithPair path_value (file_value encoding) 0x23 bytes rel.paths_gone rel.files_set (refs_part rel)
+begins_files encoding bytes rel is = record { spelled = is; first_ended = refs_end 0x23 rel (omega arith); second_ended = refs_end 0x24 rel (omega arith) }
 
 pub begins_refs : (bytes : List ℕ) (rel : RelParts) → bytes ≡ refs_part rel → BeginsWithPair id_bytes id_bytes 0x25 bytes rel.refs_gone rel.refs_added (requires_part rel)
 begins_refs bytes rel is = record { spelled = is; first_ended = requires_end 0x25 rel (omega arith); second_ended = requires_end 0x26 rel (omega arith) }

@@ -11,14 +11,6 @@ use Rattle.trove_items.specs.Deps.{AreDeps}
 use Rattle.trove_rel.specs.declared.rel.RelParts.{RelParts}
 use Rattle.trove_rel.specs.Disjoint.{AreDisjoint}
 
--- at most so many files or references, as in a trove
-abbrev pub file_limit : ℕ
-file_limit = 65535
-
--- at most so many requirements, and as many provides
-abbrev pub dep_limit : ℕ
-dep_limit = 4096
-
 -- a path is that of a file
 abbrev pub IsPathOf : List ℕ → FileAt → Type 0
 IsPathOf path file = path ≡ path_of file
@@ -29,18 +21,18 @@ IsSameId one other = one ≡ other
 abbrev pub IsSameDep : Dependency → Dependency → Type 0
 IsSameDep one other = one ≡ other
 
--- each part is valid by itself: two ids, and eight strictly rising lists within the limits of a trove
+-- each part is valid by itself: two ids, and eight strictly rising lists
 pub record AreParts (rel : RelParts) : Type 0 where
   pub old : IsTroveId rel.old
   pub fresh : IsTroveId rel.fresh
-  pub paths_gone : ArePaths file_limit rel.paths_gone
-  pub files_set : AreFiles file_limit rel.files_set
-  pub refs_gone : AreRefs file_limit rel.refs_gone
-  pub refs_added : AreRefs file_limit rel.refs_added
-  pub requires_gone : AreDeps dep_limit rel.requires_gone
-  pub requires_added : AreDeps dep_limit rel.requires_added
-  pub provides_gone : AreDeps dep_limit rel.provides_gone
-  pub provides_added : AreDeps dep_limit rel.provides_added
+  pub paths_gone : ArePaths rel.paths_gone
+  pub files_set : AreFiles rel.files_set
+  pub refs_gone : AreRefs rel.refs_gone
+  pub refs_added : AreRefs rel.refs_added
+  pub requires_gone : AreDeps rel.requires_gone
+  pub requires_added : AreDeps rel.requires_added
+  pub provides_gone : AreDeps rel.provides_gone
+  pub provides_added : AreDeps rel.provides_added
 
 -- The parts go together: one name and two ids, no path both gone and set, no element both gone and added.
 pub record GoTogether (rel : RelParts) : Type 0 where

@@ -5,7 +5,6 @@ ghost use Rattle.std.specs.List.Sorted.{IsStrictlySortedBy};
 ghost use Rattle.std.specs.declared.cmp.Ordering.{Ordering};
 ghost use Rattle.std.specs.declared.cmp.Ordering.TheVariants.{Less, Equal, Greater};
 ghost use Rattle.cny_dep.specs.Order.{dep_cmp};
-ghost use Rattle.trove_id.specs.Id.{IsTroveId};
 ghost use Rattle.trove_id.specs.Order.{id_cmp, id_total};
 ghost use Rattle.trove_items.specs.Files.{path_of, file_cmp};
 ghost use Rattle.trove_items.specs.Paths.{path_cmp};
@@ -66,15 +65,6 @@ impl Meets<FileAt> for Path {
     ghost beyond = { λ x y z. above nat_list_cmp_total x y (path_of z) };
 }
 
-// What the types of an id hold.
-pub(crate) fn parts_of(id: &TroveId)
-    ensures { IsTroveId id.now }
-{
-    let _name = id.name.text();
-    let _version = id.version.text();
-    let _flavor = id.flavor.text();
-}
-
 impl Meets<TroveId> for TroveId {
     ghost is_same = { IsSameId };
 
@@ -85,8 +75,8 @@ impl Meets<TroveId> for TroveId {
     ghost other_order = { id_cmp };
 
     fn meet(&self, other: &TroveId) -> Ordering {
-        parts_of(self);
-        parts_of(other);
+        self.is_valid();
+        other.is_valid();
         distinct_ids();
         self.cmp(other)
     }

@@ -6,10 +6,11 @@ ghost use Rattle.trove_items.specs.Refs.{refs_bytes};
 ghost use Rattle.trove_items.specs.Deps.{deps_bytes};
 ghost use Rattle.trove_rel.specs.Pairs.{ids_bytes};
 ghost use Rattle.trove_rel.specs.Rel.{IsRel};
-ghost use Rattle.trove_rel.specs.RelBytes.{rel_bytes};
+ghost use Rattle.trove_rel.specs.RelBytes.{rel_stream_bytes, rel_bytes, full_rel_bytes};
 
 use crate::rel::{RelParts, RelTrove};
 use cny_base::{Bytes, OutOfMemory};
+use file_stream::Encoding;
 use std::alloc::Global;
 use trove_items::{put_deps, put_files, put_id_item, put_paths, put_refs};
 
@@ -34,25 +35,48 @@ pub(crate) const PROVIDES_GONE: u8 = 0x29;
 
 pub(crate) const PROVIDES_ADDED: u8 = 0x2a;
 
-/// Appends the stream of a relative trove; on want of memory `out` is as before.
+/// Appends the stream of a relative trove in the compact encoding; on want of memory `out` is as before.
 pub fn encode_rel(alloc: Global, rel: &RelTrove, out: &mut Bytes) -> Result<(), OutOfMemory>
     ensures ok { OnOk result (out.new ≡ out.old ++ rel_bytes rel.now) }
     ensures err { OnErr result (out.new ≡ out.old) }
     ensures rel { OnOk result (IsRel rel.now) }
 {
-    let bytes = bytes_of(alloc, rel.parts())?;
+    encode_rel_as(alloc, Encoding::Compact, rel, out)
+}
+
+/// Appends the stream of a relative trove in the explicit encoding; on want of memory `out` is as before.
+pub fn encode_rel_full(alloc: Global, rel: &RelTrove, out: &mut Bytes) -> Result<(), OutOfMemory>
+    ensures ok { OnOk result (out.new ≡ out.old ++ full_rel_bytes rel.now) }
+    ensures err { OnErr result (out.new ≡ out.old) }
+    ensures rel { OnOk result (IsRel rel.now) }
+{
+    encode_rel_as(alloc, Encoding::Explicit, rel, out)
+}
+
+// Appends the stream of a relative trove in this encoding.
+fn encode_rel_as(
+    alloc: Global,
+    encoding: Encoding,
+    rel: &RelTrove,
+    out: &mut Bytes,
+) -> Result<(), OutOfMemory>
+    ensures ok { OnOk result (out.new ≡ out.old ++ rel_stream_bytes encoding rel.now) }
+    ensures err { OnErr result (out.new ≡ out.old) }
+    ensures rel { OnOk result (IsRel rel.now) }
+{
+    let bytes = bytes_of(alloc, encoding, rel.parts())?;
     out.push_slice(bytes.get())?;
     Ok(())
 }
 
 // The stream of these parts.
-fn bytes_of(alloc: Global, parts: &RelParts) -> Result<Bytes, OutOfMemory>
+fn bytes_of(alloc: Global, encoding: Encoding, parts: &RelParts) -> Result<Bytes, OutOfMemory>
     requires { All FitsFile parts.now.files_set }
-    ensures { IfOk result (λ bytes. bytes ≡ rel_bytes parts.now) }
+    ensures { IfOk result (λ bytes. bytes ≡ rel_stream_bytes encoding parts.now) }
 {
     let mut out = Bytes::new(alloc, b"")?;
     push_ids(alloc, &mut out, parts)?;
-    push_files(alloc, &mut out, parts)?;
+    push_files(alloc, encoding, &mut out, parts)?;
     push_refs(alloc, &mut out, parts)?;
     push_requires(alloc, &mut out, parts)?;
     push_provides(alloc, &mut out, parts)?;
@@ -66,12 +90,17 @@ fn push_ids(alloc: Global, out: &mut Bytes, parts: &RelParts) -> Result<(), OutO
     put_id_item(alloc, out, FRESH, &parts.fresh)
 }
 
-fn push_files(alloc: Global, out: &mut Bytes, parts: &RelParts) -> Result<(), OutOfMemory>
+fn push_files(
+    alloc: Global,
+    encoding: Encoding,
+    out: &mut Bytes,
+    parts: &RelParts,
+) -> Result<(), OutOfMemory>
     requires { All FitsFile parts.now.files_set }
-    ensures { OnOk result (out.new ≡ out.old ++ (paths_bytes 0x23 parts.now.paths_gone ++ files_bytes 0x24 parts.now.files_set)) }
+    ensures { OnOk result (out.new ≡ out.old ++ (paths_bytes 0x23 parts.now.paths_gone ++ files_bytes encoding 0x24 parts.now.files_set)) }
 {
     put_paths(alloc, out, PATH_GONE, parts.paths_gone.get())?;
-    put_files(alloc, out, FILE_SET, parts.files_set.get())
+    put_files(alloc, encoding, out, FILE_SET, parts.files_set.get())
 }
 
 fn push_refs(alloc: Global, out: &mut Bytes, parts: &RelParts) -> Result<(), OutOfMemory>

@@ -4,11 +4,11 @@
 mod decode;
 mod disjoint;
 mod encode;
+mod laws;
 mod rel;
-#[cfg(test)]
-mod tests;
 mod together;
 
-pub use decode::decode_rel;
-pub use encode::encode_rel;
+pub use decode::{decode_rel, decode_rel_full};
+pub use encode::{encode_rel, encode_rel_full};
+pub use laws::distinct_rels;
 pub use rel::{RelParts, RelTrove};

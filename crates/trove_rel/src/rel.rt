@@ -4,7 +4,7 @@ ghost use Rattle.trove_rel.specs.declared.rel.RelParts.{RelParts};
 ghost use Rattle.trove_rel.specs.Rel.{AreParts, IsRel};
 
 use crate::together::{are_parts, go_together};
-use cny_base::{OutOfMemory, Paths, TextFault};
+use cny_base::{Copies, OutOfMemory, Paths, TextFault};
 use std::marker::Model;
 use trove_id::TroveId;
 use trove_items::{Deps, Files, Refs};
@@ -28,32 +28,107 @@ pub struct RelParts {
     pub provides_added: Deps,
 }
 
-impl RelParts {
-    /// Equal parts.
-    pub fn copy(&self) -> Result<Self, OutOfMemory>
-        ensures { IfOk result (λ made. made ≡ self.now) }
-    {
-        Ok(RelParts {
-            old: self.old.copy()?,
-            fresh: self.fresh.copy()?,
-            paths_gone: self.paths_gone.copy()?,
-            files_set: self.files_set.copy()?,
-            refs_gone: self.refs_gone.copy()?,
-            refs_added: self.refs_added.copy()?,
-            requires_gone: self.requires_gone.copy()?,
-            requires_added: self.requires_added.copy()?,
-            provides_gone: self.provides_gone.copy()?,
-            provides_added: self.provides_added.copy()?,
-        })
+impl Copies for RelParts {
+    fn copy(&self) -> Result<Self, OutOfMemory> {
+        let ids = copied(&self.old, &self.fresh)?;
+        let files = copied(&self.paths_gone, &self.files_set)?;
+        let refs = copied(&self.refs_gone, &self.refs_added)?;
+        let required = copied(&self.requires_gone, &self.requires_added)?;
+        let provided = copied(&self.provides_gone, &self.provides_added)?;
+        Ok(RelParts::of_pairs(ids, files, refs, required, provided))
     }
+}
+
+impl RelParts {
+    // The parts of these pairs.
+    pub(crate) fn of_pairs(
+        ids: Pair<TroveId, TroveId>,
+        files: Pair<Paths, Files>,
+        refs: Pair<Refs, Refs>,
+        required: Pair<Deps, Deps>,
+        provided: Pair<Deps, Deps>,
+    ) -> Self
+        ensures { result ≡ record {
+          old = ids.old;
+          fresh = ids.fresh;
+          paths_gone = files.old;
+          files_set = files.fresh;
+          refs_gone = refs.old;
+          refs_added = refs.fresh;
+          requires_gone = required.old;
+          requires_added = required.fresh;
+          provides_gone = provided.old;
+          provides_added = provided.fresh;
+        } }
+    {
+        let (old, fresh) = ids.split();
+        let (paths_gone, files_set) = files.split();
+        let (refs_gone, refs_added) = refs.split();
+        let (requires_gone, requires_added) = required.split();
+        let (provides_gone, provides_added) = provided.split();
+        RelParts {
+            old,
+            fresh,
+            paths_gone,
+            files_set,
+            refs_gone,
+            refs_added,
+            requires_gone,
+            requires_added,
+            provides_gone,
+            provides_added,
+        }
+    }
+}
+
+/// What belongs to the old trove, and what belongs to the new one.
+pub(crate) struct Pair<A, B> {
+    pub(crate) old: A,
+    pub(crate) fresh: B,
+}
+
+impl<A: Drop, B: Drop> Drop for Pair<A, B> {
+    fn drop(self) {
+        let Pair {
+            old: _old,
+            fresh: _fresh,
+        } = self;
+    }
+}
+
+impl<A: Drop, B: Drop> Pair<A, B> {
+    fn split(self) -> (A, B)
+        ensures old { result.0 ≡ self.old }
+        ensures fresh { result.1 ≡ self.fresh }
+    {
+        let Pair { old, fresh } = self;
+        (old, fresh)
+    }
+}
+
+// Equal values.
+fn copied<A: Copies, B: Copies>(old: &A, fresh: &B) -> Result<Pair<A, B>, OutOfMemory>
+    ensures old { IfOk result (λ made. made.old ≡ old.now) }
+    ensures fresh { IfOk result (λ made. made.fresh ≡ fresh.now) }
+{
+    let old = old.copy()?;
+    let fresh = fresh.copy()?;
+    Ok(Pair { old, fresh })
 }
 
 /// What leads from one trove to another of its name: two ids of one name; paths that are gone, and others that are set
 /// to a record; references, requirements and provides that are gone, and others that are added. Each list strictly
-/// rises and is within the limits of a trove: 65,535 files or references, 4,096 requirements and as many provides.
-#[derive(Debug, Drop)]
+/// rises, and has any number of elements.
+#[derive(Debug)]
 pub struct RelTrove {
     parts: RelParts,
+}
+
+// Written by hand, so that to let a value go is a single call.
+impl Drop for RelTrove {
+    fn drop(self) {
+        let RelTrove { parts: _parts } = self;
+    }
 }
 
 impl Model for RelTrove {
@@ -69,7 +144,7 @@ impl Model for RelTrove {
 
 impl RelTrove {
     /// The relative trove of these parts. `Bad` exactly where they aren't those of one: where a list doesn't strictly
-    /// rise or is too long, a file's size is too great, the ids are equal or differ in their names, a path is both gone
+    /// rise, a file's size is too great, the ids are equal or differ in their names, a path is both gone
     /// and set, or an element both gone and added. Takes no memory.
     pub fn make(parts: RelParts) -> Result<Self, TextFault>
         ensures value { IfOk result (λ made. made ≡ parts) }
@@ -108,13 +183,13 @@ impl RelTrove {
         ensures value { result ≡ self }
         ensures rules { IsRel result }
     {
-        self.parts
+        let RelTrove { parts } = self;
+        parts
     }
+}
 
-    /// An equal relative trove.
-    pub fn copy(&self) -> Result<Self, OutOfMemory>
-        ensures { IfOk result (λ made. made ≡ self.now) }
-    {
+impl Copies for RelTrove {
+    fn copy(&self) -> Result<Self, OutOfMemory> {
         Ok(RelTrove {
             parts: self.parts.copy()?,
         })

@@ -49,9 +49,6 @@ texts_short id short =
 pub fits_item : (n : ℕ) → n ≤ 17290 → n < 2 ^ 32
 fits_item n short = omega arith
 
-pub fits_str : (n : ℕ) → n ≤ 17290 → n < 2 ^ 16
-fits_str n short = omega arith
-
 -- ---- the items of an id
 
 pub there : (bytes : List ℕ) (items : HeadItems) (id : TroveId) (rest : List ℕ) → AreHeadItems bytes items → IsTroveId id → length (id_bytes id) ≤ 17290 → bytes ≡ head_bytes id ++ rest
@@ -66,33 +63,3 @@ there bytes items id rest are valid short same =
     let two = same_item 2 2 (version_in bytes items) v (item_bytes 3 (flavor_in bytes items) ++ behind) (item_bytes 3 f ++ rest) are.version_fits (fits_item (length v) texts.version) one.rests in
     let three = same_item 3 3 (flavor_in bytes items) f behind rest are.flavor_fits (fits_item (length f) texts.flavor) two.rests in
     (record { valid = valid; name_is = one.values; version_is = two.values; flavor_is = three.values }, three.rests)
-
--- ---- the id that has three texts
-
-same_str : (a b r q : List ℕ) → FitsStr a → FitsStr b → str a ++ r ≡ str b ++ q → (a ≡ b) × (r ≡ q)
-same_str a b r q a_fits b_fits e =
-    let both = same_front (to_be_bytes w16 (length a)) (to_be_bytes w16 (length b)) (a ++ r) (b ++ q) refl
-    (sym (append_assoc (to_be_bytes w16 (length a)) a r) ∙ e ∙ append_assoc (to_be_bytes w16 (length b)) b q) in
-    let lengths : length a ≡ length b = sym (from_be_bytes-to_be_bytes_2 (length a) a_fits) ∙ ap (from_be_bytes w16) both.0 ∙ from_be_bytes-to_be_bytes_2 (length b) b_fits in
-    same_front a b r q lengths both.1
-
-strs_and : (a b c rest : List ℕ) → three_strs a b c ++ rest ≡ str a ++ (str b ++ (str c ++ rest))
-strs_and a b c rest = append_assoc (str a) (str b ++ str c) rest ∙ ap (λ l. str a ++ l) (append_assoc (str b) (str c) rest)
-
-pub texts_are : (bytes name version flavor : List ℕ) (id : TroveId) (to : ℕ) → FitsStr name → FitsStr version → FitsStr flavor → bytes ≡ three_strs name version flavor
-    → length (id_bytes id) ≤ 17290 → IsIdAt bytes 0 id to → AreTextsOf id name version flavor
-texts_are bytes name version flavor id to name_fits version_fits flavor_fits same short found =
-    let texts = texts_short id short in
-    let v = version_text id.version in
-    let f = flavor_text id.flavor in
-    let behind = drop to bytes in
-    let one = same_str name id.name (str version ++ (str flavor ++ [])) (str v ++ (str f ++ behind)) name_fits (fits_str (length id.name) texts.name)
-    (sym (strs_and name version flavor []) ∙ append-nil (three_strs name version flavor) ∙ sym same ∙ found.spelled ∙ strs_and id.name v f behind) in
-    let two = same_str version v (str flavor ++ []) (str f ++ behind) version_fits (fits_str (length v) texts.version) one.1 in
-    let three = same_str flavor f [] behind flavor_fits (fits_str (length f) texts.flavor) two.1 in
-    record { valid = found.valid; name_is = one.0; version_is = two.0; flavor_is = three.0 }
-
-pub fields_are : (bytes name version flavor : List ℕ) (id : TroveId) → bytes ≡ three_strs name version flavor → AreTextsOf id name version flavor → bytes ≡ id_bytes id ++ []
-fields_are bytes name version flavor id same texts =
-    same ∙ ap (λ a. three_strs a version flavor) texts.name_is ∙ ap (λ b. three_strs id.name b flavor) texts.version_is ∙ ap (λ c. three_strs id.name (version_text id.version) c) texts.flavor_is
-    ∙ sym (append-nil (id_bytes id))

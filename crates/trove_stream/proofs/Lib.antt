@@ -1,5 +1,6 @@
-mod Barring
+mod Forbidding
 mod Names
 mod Heads
 mod Lists
 mod Handing
+mod OneTrove

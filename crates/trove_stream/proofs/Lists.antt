@@ -3,6 +3,7 @@ use Rattle.std.proofs.Common.{◌≡◌, ℕ, ◌≤◌, false, List, [], ◌∷
 use Rattle.std.specs.Prelude.{◌==◌}
 use Rattle.std.proofs.lemmas.List.{length-drop}
 use Rattle.cny_dep.specs.Dep.{dep_text}
+use Rattle.file_stream.specs.declared.encoding.Encoding.{Encoding}
 use Rattle.trove_id.specs.Id.{id_bytes}
 use Rattle.trove_items.specs.Deps.{deps_bytes}
 use Rattle.trove_items.specs.Files.{file_value, files_bytes}
@@ -10,7 +11,7 @@ use Rattle.trove_items.specs.Items.{begins_with_tag, BeginsWithItems, AreItemsAt
 use Rattle.trove_items.specs.ItemsLaws.{other_tag}
 use Rattle.trove_items.specs.Refs.{refs_bytes}
 use Rattle.trove_stream.specs.declared.parts.TroveParts.{TroveParts}
-use Rattle.trove_stream.specs.Stream.{head_bytes, lists_bytes, trove_bytes, IsHeadOf}
+use Rattle.trove_stream.specs.Stream.{head_bytes, lists_bytes, stream_bytes, IsHeadOf}
 
 abbrev pub behind_refs : TroveParts → List ℕ
 behind_refs t = deps_bytes 6 t.requires_ ++ deps_bytes 7 t.provides
@@ -25,8 +26,8 @@ provides_end tag t differ = subst (λ (l : List ℕ). begins_with_tag tag l ≡ 
 requires_end : (tag : ℕ) (t : TroveParts) → (6 == tag) ≡ false → (7 == tag) ≡ false → begins_with_tag tag (behind_refs t) ≡ false
 requires_end tag t six seven = other_tag dep_text tag 6 t.requires_ (deps_bytes 7 t.provides) six (provides_end tag t seven)
 
-pub files_begin : (bytes : List ℕ) (t : TroveParts) → bytes ≡ lists_bytes t → BeginsWithItems file_value 4 bytes t.files (behind_files t)
-files_begin bytes t same = record { spelled = same; ended = other_tag id_bytes 4 5 t.refs (behind_refs t) refl (requires_end 4 t refl refl) }
+pub files_begin : (encoding : Encoding) (bytes : List ℕ) (t : TroveParts) → bytes ≡ lists_bytes encoding t → BeginsWithItems (file_value encoding) 4 bytes t.files (behind_files t)
+files_begin encoding bytes t same = record { spelled = same; ended = other_tag id_bytes 4 5 t.refs (behind_refs t) refl (requires_end 4 t refl refl) }
 
 pub refs_begin : (bytes : List ℕ) (t : TroveParts) → bytes ≡ behind_files t → BeginsWithItems id_bytes 5 bytes t.refs (behind_refs t)
 refs_begin bytes t same = record { spelled = same; ended = requires_end 5 t refl refl }
@@ -48,12 +49,12 @@ nothing_behind bytes to end = empty (drop to bytes) (omega (arith, length-drop t
     empty (x ∷ l) e = absurd (omega arith)
 
 -- the lists that were read, one behind the other, are the whole stream
-pub whole : (bytes : List ℕ) (t : TroveParts) (h f r q p : ℕ) → IsHeadOf bytes t.id h → AreItemsAt file_value bytes h 4 t.files f → AreItemsAt id_bytes bytes f 5 t.refs r
-    → AreItemsAt dep_text bytes r 6 t.requires_ q → AreItemsAt dep_text bytes q 7 t.provides p → p ≡ length bytes → bytes ≡ trove_bytes t
-whole bytes t h f r q p head files refs required provided end =
+pub whole : (encoding : Encoding) (bytes : List ℕ) (t : TroveParts) (h f r q p : ℕ) → IsHeadOf bytes t.id h → AreItemsAt (file_value encoding) bytes h 4 t.files f → AreItemsAt id_bytes bytes f 5 t.refs r
+    → AreItemsAt dep_text bytes r 6 t.requires_ q → AreItemsAt dep_text bytes q 7 t.provides p → p ≡ length bytes → bytes ≡ stream_bytes encoding t
+whole encoding bytes t h f r q p head files refs required provided end =
     let last : drop q bytes ≡ deps_bytes 7 t.provides = provided.begins.spelled ∙ ap (λ l. deps_bytes 7 t.provides ++ l) (nothing_behind bytes p end) ∙ append-nil (deps_bytes 7 t.provides) in
     head.spelled
     ∙ ap (λ l. head_bytes t.id ++ l) (files.begins.spelled
-    ∙ ap (λ l. files_bytes 4 t.files ++ l) (refs.begins.spelled
+    ∙ ap (λ l. files_bytes encoding 4 t.files ++ l) (refs.begins.spelled
     ∙ ap (λ l. refs_bytes 5 t.refs ++ l) (required.begins.spelled
     ∙ ap (λ l. deps_bytes 6 t.requires_ ++ l) last)))

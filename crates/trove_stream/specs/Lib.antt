@@ -1,4 +1,4 @@
 pub mod Trove
 pub mod Stream
-pub mod Reserved
+pub mod Forbidden
 pub mod Head

@@ -3,6 +3,8 @@ use Rattle.std.specs.Prelude.{◌≡◌, ℕ, ◌≤◌, List, ◌++◌, length,
 use Rattle.cny_flavor.specs.Canonical.{flavor_text}
 use Rattle.cny_stream.specs.Item.{item_bytes}
 use Rattle.cny_version.specs.Version.{version_text}
+use Rattle.file_stream.specs.declared.encoding.Encoding.{Encoding}
+use Rattle.file_stream.specs.declared.encoding.Encoding.TheVariants.{Compact, Explicit}
 use Rattle.trove_id.specs.declared.id.TroveId.{TroveId}
 use Rattle.trove_id.specs.Id.{IsTroveId}
 use Rattle.trove_items.specs.Deps.{deps_bytes}
@@ -18,12 +20,20 @@ abbrev pub head_bytes : TroveId → List ℕ
 head_bytes id = three_items id.name (version_text id.version) (flavor_text id.flavor)
 
 -- an item for each file, each reference, each dependency that is required and each that is provided
-abbrev pub lists_bytes : TroveParts → List ℕ
-lists_bytes t = files_bytes 4 t.files ++ (refs_bytes 5 t.refs ++ (deps_bytes 6 t.requires_ ++ deps_bytes 7 t.provides))
+abbrev pub lists_bytes : Encoding → TroveParts → List ℕ
+lists_bytes encoding t = files_bytes encoding 4 t.files ++ (refs_bytes 5 t.refs ++ (deps_bytes 6 t.requires_ ++ deps_bytes 7 t.provides))
 
--- the one stream of a trove
+-- the one stream of a trove in this encoding
+abbrev pub stream_bytes : Encoding → TroveParts → List ℕ
+stream_bytes encoding t = head_bytes t.id ++ lists_bytes encoding t
+
+-- in change sets and commits
 abbrev pub trove_bytes : TroveParts → List ℕ
-trove_bytes t = head_bytes t.id ++ lists_bytes t
+trove_bytes t = stream_bytes Compact t
+
+-- in databases and rollback records
+abbrev pub full_trove_bytes : TroveParts → List ℕ
+full_trove_bytes t = stream_bytes Explicit t
 
 -- the bytes begin with the items of the id, which end at `to`
 pub record IsHeadOf (bytes : List ℕ) (id : TroveId) (to : ℕ) : Type 0 where

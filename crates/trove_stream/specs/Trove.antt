@@ -1,8 +1,9 @@
 -- The rules of troves.
-use Rattle.std.specs.Prelude.{◌≡◌, ◌≢◌, ℕ, Bool, false, ◌-◌, ◌&&◌, ◌==◌, not, is_some, IsTrue, List, [], ◌∷◌, length, drop, codes, All}
+use Rattle.std.specs.Prelude.{◌≡◌, ◌≢◌, ℕ, ◌≤◌, Bool, false, ◌-◌, ◌&&◌, ◌==◌, not, is_some, IsTrue, List, [], ◌∷◌, length, drop, codes, All}
 use Rattle.std.specs.Str.{bytes_eq}
 use Rattle.cny_base.specs.Below.{begins_with}
 use Rattle.cny_base.specs.Name.{kind_of_name}
+use Rattle.cny_base.specs.declared.limits.TheConstants.{FILES_LIMIT, REFS_LIMIT, DEPS_LIMIT}
 use Rattle.cny_base.specs.declared.name.NameKind.{NameKind}
 use Rattle.cny_base.specs.declared.name.NameKind.TheVariants.{Component, Package, Group}
 use Rattle.trove_id.specs.declared.id.TroveId.{TroveId}
@@ -11,17 +12,6 @@ use Rattle.trove_items.specs.Deps.{AreDeps}
 use Rattle.trove_items.specs.Files.{AreFiles}
 use Rattle.trove_items.specs.Refs.{AreRefs}
 use Rattle.trove_stream.specs.declared.parts.TroveParts.{TroveParts}
-
--- ---- limits
-
-abbrev pub files_limit : ℕ
-files_limit = 65535
-
-abbrev pub refs_limit : ℕ
-refs_limit = 65535
-
-abbrev pub deps_limit : ℕ
-deps_limit = 4096
 
 -- ---- build counts
 
@@ -70,15 +60,23 @@ KeepsKind Group t = HasRefsAlone t × All (HasOtherName t.id) t.refs
 
 -- ---- troves
 
--- an id, and lists in their order and within their limits
+-- an id, and lists in their order
 pub record HasLists (t : TroveParts) : Type 0 where
   pub id : IsTroveId t.id
-  pub files : AreFiles files_limit t.files
-  pub refs : AreRefs refs_limit t.refs
-  pub requires : AreDeps deps_limit t.requires_
-  pub provides : AreDeps deps_limit t.provides
+  pub files : AreFiles t.files
+  pub refs : AreRefs t.refs
+  pub requires : AreDeps t.requires_
+  pub provides : AreDeps t.provides
+
+-- no list has more elements than its limit
+pub record IsWithinLimits (t : TroveParts) : Type 0 where
+  pub files : length t.files ≤ FILES_LIMIT
+  pub refs : length t.refs ≤ REFS_LIMIT
+  pub requires : length t.requires_ ≤ DEPS_LIMIT
+  pub provides : length t.provides ≤ DEPS_LIMIT
 
 pub record KeepsRules (t : TroveParts) : Type 0 where
+  pub limits : IsWithinLimits t
   pub build : HasRightBuild t.id
   pub kind : KeepsKind (kind_of_name t.id.name) t
 

@@ -1,18 +1,16 @@
 //! The id of a trove, from the items with which its stream begins.
-ghost use Rattle.std.specs.Prelude.{◌≡◌, ◌↔◌, ◌++◌, List, ℕ, drop, IsTrue, IfOk, IsErrOf, IfSome, IfNone};
-ghost use Rattle.cny_base.specs.StrField.{FitsStr};
+ghost use Rattle.std.specs.Prelude.{◌≡◌, ◌++◌, List, ℕ, drop, IfOk, IsErrOf, IfSome, IfNone};
 ghost use Rattle.cny_stream.specs.Item.{FitsItem};
 ghost use Rattle.trove_id.specs.declared.id.TroveId.{TroveId};
 ghost use Rattle.trove_id.specs.Id.{IsTroveId};
-ghost use Rattle.trove_id.specs.Parts.{AreTextsOf, three_strs};
 ghost use Rattle.trove_stream.specs.Stream.{three_items, head_bytes, IsHeadOf};
 ghost use Rattle.trove_stream.specs.Head.{AreHeadItems};
 
 use crate::writing::{FLAVOR, NAME, VERSION};
-use cny_base::{Bytes, OutOfMemory, TextFault, put_str};
+use cny_base::TextFault;
 use cny_stream::{Item, next_item};
 use std::alloc::Global;
-use trove_id::{IdAt, TroveId, next_id, short_ids};
+use trove_id::{IdAt, id_of_bytes, short_ids};
 
 /// Where the texts of an id stand.
 #[derive(Clone, Copy)]
@@ -44,47 +42,6 @@ fn head_items(bytes: &[u8]) -> Option<HeadItems>
     })
 }
 
-// The three texts as fields, which are the bytes of an id that has them.
-fn fields_of(
-    alloc: Global,
-    name: &[u8],
-    version: &[u8],
-    flavor: &[u8],
-) -> Result<Bytes, OutOfMemory>
-    requires name { FitsStr name.now }
-    requires version { FitsStr version.now }
-    requires flavor { FitsStr flavor.now }
-    ensures { IfOk result (λ bytes. bytes ≡ three_strs name.now version.now flavor.now) }
-{
-    let mut bytes = Bytes::new(alloc, b"")?;
-    put_str(&mut bytes, name)?;
-    put_str(&mut bytes, version)?;
-    put_str(&mut bytes, flavor)?;
-    Ok(bytes)
-}
-
-// The id whose parts have these texts. `Bad` only where they are those of none.
-fn id_of(alloc: Global, name: &[u8], version: &[u8], flavor: &[u8]) -> Result<TroveId, TextFault>
-    ensures value { IfOk result (λ id. AreTextsOf id name.now version.now flavor.now) }
-    ensures bad { IsErrOf result TextFault.Bad
-        → (id : TroveId) → AreTextsOf id name.now version.now flavor.now → ⊥ }
-    ensures only { IfOk result (λ read.
-        (id : TroveId) → AreTextsOf id name.now version.now flavor.now → read ≡ id) }
-{
-    short_ids();
-    if !is_field(name) || !is_field(version) || !is_field(flavor) {
-        return Err(TextFault::Bad);
-    }
-    let bytes = fields_of(alloc, name, version, flavor)?;
-    Ok(next_id(alloc, bytes.get(), 0)?.id)
-}
-
-fn is_field(value: &[u8]) -> bool
-    ensures { IsTrue result ↔ FitsStr value.now }
-{
-    value.len() < 65_536
-}
-
 /// The id whose items the bytes begin with, and their end. `Bad` only where they begin with those of none.
 pub(crate) fn take_head(alloc: Global, bytes: &[u8]) -> Result<IdAt, TextFault>
     ensures found { IfOk result (λ found. IsHeadOf bytes.now found.id found.to) }
@@ -97,7 +54,7 @@ pub(crate) fn take_head(alloc: Global, bytes: &[u8]) -> Result<IdAt, TextFault>
     let Some(items) = head_items(bytes) else {
         return Err(TextFault::Bad);
     };
-    let id = id_of(
+    let id = id_of_bytes(
         alloc,
         &bytes[items.name.from..items.name.to],
         &bytes[items.version.from..items.version.to],

@@ -1,7 +1,5 @@
 //! The parts of troves.
-ghost use Rattle.std.specs.Prelude.{◌≡◌, IfOk};
-
-use cny_base::OutOfMemory;
+use cny_base::{Copies, OutOfMemory};
 use trove_id::TroveId;
 use trove_items::{Deps, Files, Refs};
 
@@ -19,17 +17,19 @@ pub struct TroveParts {
     pub provides: Deps,
 }
 
-impl TroveParts {
-    /// Equal parts.
-    pub fn copy(&self) -> Result<Self, OutOfMemory>
-        ensures { IfOk result (λ made. made ≡ self.now) }
-    {
+impl Copies for TroveParts {
+    fn copy(&self) -> Result<Self, OutOfMemory> {
+        let id = self.id.copy()?;
+        let files = self.files.copy()?;
+        let refs = self.refs.copy()?;
+        let requires_ = self.requires_.copy()?;
+        let provides = self.provides.copy()?;
         Ok(TroveParts {
-            id: self.id.copy()?,
-            files: self.files.copy()?,
-            refs: self.refs.copy()?,
-            requires_: self.requires_.copy()?,
-            provides: self.provides.copy()?,
+            id,
+            files,
+            refs,
+            requires_,
+            provides,
         })
     }
 }

@@ -1,45 +1,36 @@
 //! The rules of troves.
 ghost use Rattle.std.specs.Prelude.{◌≡◌, ◌↔◌, [], IsTrue, All};
 ghost use Rattle.cny_base.specs.Name.{kind_of_name};
-ghost use Rattle.trove_id.specs.Id.{IsTroveId};
 ghost use Rattle.trove_stream.specs.Trove as spec;
-ghost use Rattle.trove_stream.specs.Trove.{HasRightBuild, IsComponentOf, HasOtherName, HasRefsAlone, KeepsKind, HasLists, KeepsRules};
+ghost use Rattle.trove_stream.specs.Trove.{HasRightBuild, IsComponentOf, HasOtherName, HasRefsAlone, KeepsKind, HasLists, IsWithinLimits, KeepsRules};
 
 use crate::parts::TroveParts;
-use cny_base::NameKind;
+use cny_base::{DEPS_LIMIT, FILES_LIMIT, NameKind, REFS_LIMIT};
 use cny_version::{Version, distinct_texts};
 use trove_id::TroveId;
 use trove_items::{are_deps, are_files, are_refs};
 
-/// The greatest number of files of a trove.
-pub(crate) const FILES_LIMIT: usize = 65_535;
-
-/// The greatest number of references of a trove.
-pub(crate) const REFS_LIMIT: usize = 65_535;
-
-/// The greatest number of requirements of a trove, and of what it provides.
-pub(crate) const DEPS_LIMIT: usize = 4_096;
-
-// What the types of an id hold is all that is asked of it.
-fn is_id(id: &TroveId) -> bool
-    ensures { IsTrue result ↔ IsTroveId id.now }
-{
-    let _name = id.name.text();
-    let _version = id.version.text();
-    let _flavor = id.flavor.text();
-    true
-}
-
-/// Whether the lists are in their order and within their limits.
+/// Whether the lists are in their order.
 pub(crate) fn has_lists(parts: &TroveParts) -> bool
     ensures { IsTrue result ↔ HasLists parts.now }
 {
-    let id = is_id(&parts.id);
-    let files = are_files(parts.files.get(), FILES_LIMIT);
-    let refs = are_refs(parts.refs.get(), REFS_LIMIT);
-    let required = are_deps(parts.requires_.get(), DEPS_LIMIT);
-    let provided = are_deps(parts.provides.get(), DEPS_LIMIT);
-    id && files && refs && required && provided
+    parts.id.is_valid();
+    let files = are_files(parts.files.get());
+    let refs = are_refs(parts.refs.get());
+    let required = are_deps(parts.requires_.get());
+    let provided = are_deps(parts.provides.get());
+    files && refs && required && provided
+}
+
+// Whether no list has more elements than its limit.
+fn is_within_limits(parts: &TroveParts) -> bool
+    ensures { IsTrue result ↔ IsWithinLimits parts.now }
+{
+    let files = parts.files.get().len() <= FILES_LIMIT;
+    let refs = parts.refs.get().len() <= REFS_LIMIT;
+    let required = parts.requires_.get().len() <= DEPS_LIMIT;
+    let provided = parts.provides.get().len() <= DEPS_LIMIT;
+    files && refs && required && provided
 }
 
 fn is_source(name: &[u8]) -> bool
@@ -146,6 +137,7 @@ fn keeps_kind(parts: &TroveParts) -> bool
 pub(crate) fn keeps_rules(parts: &TroveParts) -> bool
     ensures { IsTrue result ↔ KeepsRules parts.now }
 {
+    let limits = is_within_limits(parts);
     let build = has_right_build(&parts.id);
-    build && keeps_kind(parts)
+    limits && build && keeps_kind(parts)
 }

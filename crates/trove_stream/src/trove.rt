@@ -4,7 +4,7 @@ ghost use Rattle.trove_stream.specs.Trove.{HasLists, IsTrove};
 
 use crate::parts::TroveParts;
 use crate::rules::{has_lists, keeps_rules};
-use cny_base::{OutOfMemory, TextFault};
+use cny_base::{Copies, OutOfMemory, TextFault};
 use cny_dep::Dep;
 use std::marker::Model;
 use trove_id::TroveId;
@@ -13,9 +13,16 @@ use trove_items::{Deps, FileAt, Files, Refs};
 /// A version of a component, of a package or of a group. A component holds files, and what it requires and provides; a
 /// package refers to its components of the same version and flavor, a group to other troves. A component `NAME:source` has
 /// no build count, every other trove has one.
-#[derive(Debug, Drop)]
+#[derive(Debug)]
 pub struct Trove {
     parts: TroveParts,
+}
+
+// Written by hand, so that to let a value go is a single call.
+impl Drop for Trove {
+    fn drop(self) {
+        let Trove { parts: _parts } = self;
+    }
 }
 
 impl Model for Trove {
@@ -119,13 +126,13 @@ impl Trove {
         ensures value { result ≡ self }
         ensures trove { IsTrove result }
     {
-        self.parts
+        let Trove { parts } = self;
+        parts
     }
+}
 
-    /// An equal trove.
-    pub fn copy(&self) -> Result<Self, OutOfMemory>
-        ensures { IfOk result (λ made. made ≡ self.now) }
-    {
+impl Copies for Trove {
+    fn copy(&self) -> Result<Self, OutOfMemory> {
         Ok(Trove {
             parts: self.parts.copy()?,
         })

@@ -1,11 +1,12 @@
 //! The stream of a trove.
 ghost use Rattle.std.specs.Prelude.{◌≡◌, ◌++◌, IfOk, OnOk, OnErr};
-ghost use Rattle.trove_stream.specs.Stream.{head_bytes, trove_bytes};
+ghost use Rattle.trove_stream.specs.Stream.{head_bytes, stream_bytes, trove_bytes, full_trove_bytes};
 ghost use Rattle.trove_stream.specs.Trove.{IsTrove};
 
 use crate::trove::Trove;
 use cny_base::{Bytes, OutOfMemory};
 use cny_stream::put_item;
+use file_stream::Encoding;
 use std::alloc::Global;
 use trove_id::{TroveId, short_ids};
 use trove_items::{put_deps, put_files, put_refs};
@@ -32,32 +33,55 @@ fn head_of(alloc: Global, id: &TroveId) -> Result<Bytes, OutOfMemory>
     // Each text is short enough for an item.
     short_ids();
     let mut bytes = Bytes::new(alloc, b"")?;
-    put_item(alloc, &mut bytes, NAME, id.name.text().as_bytes())?;
-    put_item(alloc, &mut bytes, VERSION, id.version.text().as_bytes())?;
-    put_item(alloc, &mut bytes, FLAVOR, id.flavor.text().as_bytes())?;
+    put_item(&mut bytes, NAME, id.name.text().as_bytes())?;
+    put_item(&mut bytes, VERSION, id.version.text().as_bytes())?;
+    put_item(&mut bytes, FLAVOR, id.flavor.text().as_bytes())?;
     Ok(bytes)
 }
 
-// The bytes of a trove.
-fn bytes_of(alloc: Global, trove: &Trove) -> Result<Bytes, OutOfMemory>
-    ensures value { IfOk result (λ bytes. bytes ≡ trove_bytes trove.now) }
+// The bytes of a trove in this encoding.
+fn bytes_of(alloc: Global, encoding: Encoding, trove: &Trove) -> Result<Bytes, OutOfMemory>
+    ensures value { IfOk result (λ bytes. bytes ≡ stream_bytes encoding trove.now) }
     ensures trove { OnOk result (IsTrove trove.now) }
 {
     let mut bytes = head_of(alloc, trove.id())?;
-    put_files(alloc, &mut bytes, FILE, trove.files())?;
+    put_files(alloc, encoding, &mut bytes, FILE, trove.files())?;
     put_refs(alloc, &mut bytes, REF, trove.refs())?;
     put_deps(alloc, &mut bytes, REQUIRE, trove.requires_())?;
     put_deps(alloc, &mut bytes, PROVIDE, trove.provides())?;
     Ok(bytes)
 }
 
-/// Appends the stream of a trove; on want of memory `out` is as before.
+// Appends the stream of a trove in this encoding.
+fn encode_as(
+    alloc: Global,
+    encoding: Encoding,
+    trove: &Trove,
+    out: &mut Bytes,
+) -> Result<(), OutOfMemory>
+    ensures ok { OnOk result (out.new ≡ out.old ++ stream_bytes encoding trove.now) }
+    ensures err { OnErr result (out.new ≡ out.old) }
+    ensures trove { OnOk result (IsTrove trove.now) }
+{
+    let bytes = bytes_of(alloc, encoding, trove)?;
+    out.push_slice(bytes.get())?;
+    Ok(())
+}
+
+/// Appends the stream of a trove in the compact encoding; on want of memory `out` is as before.
 pub fn encode(alloc: Global, trove: &Trove, out: &mut Bytes) -> Result<(), OutOfMemory>
     ensures ok { OnOk result (out.new ≡ out.old ++ trove_bytes trove.now) }
     ensures err { OnErr result (out.new ≡ out.old) }
     ensures trove { OnOk result (IsTrove trove.now) }
 {
-    let bytes = bytes_of(alloc, trove)?;
-    out.push_slice(bytes.get())?;
-    Ok(())
+    encode_as(alloc, Encoding::Compact, trove, out)
+}
+
+/// Appends the stream of a trove in the explicit encoding; on want of memory `out` is as before.
+pub fn encode_full(alloc: Global, trove: &Trove, out: &mut Bytes) -> Result<(), OutOfMemory>
+    ensures ok { OnOk result (out.new ≡ out.old ++ full_trove_bytes trove.now) }
+    ensures err { OnErr result (out.new ≡ out.old) }
+    ensures trove { OnOk result (IsTrove trove.now) }
+{
+    encode_as(alloc, Encoding::Explicit, trove, out)
 }

@@ -12,22 +12,22 @@ handed_on r met told given is = cc (given.1, given.2, is)
 
 pub items-init : goal.items-init
 items-init g c =
-    let value = g.T.Element.value in
+    let value = g.T.Element.value c.args.encoding in
     let valid = g.T.Element.is_valid in
     let from = drop c.args.at c.args.bytes.now in
-    subst (λ (l : List g.row.T.Denot). IsReadTo value valid g.T.Element.compare c.args.limit c.args.bytes.now c.args.at c.args.tag l c.args.at × IsFrontOfAll value valid c.args.tag from from l)
-    (sym c.new-items.ensures.items) (none_to value valid c.args.tag g.T.Element.compare c.args.limit c.args.bytes.now c.args.at c.requires, none_read value valid c.args.tag from)
+    subst (λ (l : List g.row.T.Denot). IsReadTo value valid g.T.Element.compare c.args.bytes.now c.args.at c.args.tag l c.args.at × IsFrontOfAll value valid c.args.tag from from l)
+    (sym c.new-items.ensures.items) (none_to value valid c.args.tag g.T.Element.compare c.args.bytes.now c.args.at c.requires, none_read value valid c.args.tag from)
 
 pub returns-then-not-begins_with-clause-only : goal.returns-then-not-begins_with-clause-only
 returns-then-not-begins_with-clause-only g c xs rest list begins =
-    let value = g.T.Element.value in
+    let value = g.T.Element.value c.args.encoding in
     let valid = g.T.Element.is_valid in
     let t = c.items.invariant.1 xs rest list.valid begins in
     no_tail value valid c.args.tag xs c.items.items.items t.0 (drop c.items.end c.args.bytes.now) rest t.1 (sym c.begins_with.ensures ∙ c.if-not-begins_with.true)
 
 pub returns-in_err-element-clause-bad : goal.returns-in_err-element-clause-bad
 returns-in_err-element-clause-bad g c h xs rest list begins =
-    let value = g.T.Element.value in
+    let value = g.T.Element.value c.args.encoding in
     let valid = g.T.Element.is_valid in
     let t = c.items.invariant.1 xs rest list.valid begins in
     let next = next_of value valid c.args.tag xs c.items.items.items t.0 (drop c.items.end c.args.bytes.now) rest t.1 (sym c.begins_with.ensures ∙ c.if-not-begins_with.false) begins.ended in
@@ -36,7 +36,7 @@ returns-in_err-element-clause-bad g c h xs rest list begins =
 
 pub returns-then-not-is_next-clause-bad : goal.returns-then-not-is_next-clause-bad
 returns-then-not-is_next-clause-bad g c _ xs rest list begins =
-    let value = g.T.Element.value in
+    let value = g.T.Element.value c.args.encoding in
     let valid = g.T.Element.is_valid in
     let t = c.items.invariant.1 xs rest list.valid begins in
     let next = next_of value valid c.args.tag xs c.items.items.items t.0 (drop c.items.end c.args.bytes.now) rest t.1 (sym c.begins_with.ensures ∙ c.if-not-begins_with.false) begins.ended in
@@ -46,13 +46,13 @@ returns-then-not-is_next-clause-bad g c _ xs rest list begins =
 
 pub items-preserved : goal.items-preserved
 items-preserved g c =
-    let value = g.T.Element.value in
+    let value = g.T.Element.value c.args.encoding in
     let valid = g.T.Element.is_valid in
     let begins = sym c.begins_with.ensures ∙ c.if-not-begins_with.false in
     let more = one_more value valid c.args.tag (drop c.args.at c.args.bytes.now) (drop c.items.end c.args.bytes.now) (drop c.in_ok-element.to c.args.bytes.now) c.items.items.items c.in_ok-element.element
     c.items.invariant.1 begins c.in_ok-element.ensures.only in
-    let read = read_more value valid c.args.tag g.T.Element.compare c.args.limit c.args.bytes.now c.args.at c.items.end c.in_ok-element.to c.items.items.items c.in_ok-element.element
-    c.items.invariant.0 (omega (arith, c.items.items.ok.0)) c.in_ok-element.ensures.found c.in_ok-element.ensures.ok
+    let read = read_more value valid c.args.tag g.T.Element.compare c.args.bytes.now c.args.at c.items.end c.in_ok-element.to c.items.items.items c.in_ok-element.element
+    c.items.invariant.0 c.in_ok-element.ensures.found c.in_ok-element.ensures.ok
     (taken value valid c.args.tag g.T.Element.compare c.is_next.result c.as_slice.result.now c.items.items.items c.in_ok-element.element c.is_next.ensures c.if-not-is_next.false c.as_slice.ensures.value) in
-    subst (λ (l : List g.row.T.Denot). IsReadTo value valid g.T.Element.compare c.args.limit c.args.bytes.now c.args.at c.args.tag l c.in_ok-element.to
+    subst (λ (l : List g.row.T.Denot). IsReadTo value valid g.T.Element.compare c.args.bytes.now c.args.at c.args.tag l c.in_ok-element.to
     × IsFrontOfAll value valid c.args.tag (drop c.args.at c.args.bytes.now) (drop c.in_ok-element.to c.args.bytes.now) l) (sym c.in_ok-push.ensures.items) (read, more)

@@ -13,25 +13,25 @@ returns-in_err-gone-clause-bad c h gone added rest gone_is added_is begins =
     let bytes = c.args.bytes.now in
     let from = drop c.args.at bytes in
     let met : c.in_err-gone.field-0.0 ≡ Bad = handed_on c.from_residual.result c.in_err-gone.field-0.0 Bad (err_from_is_err_and c.from_residual.result c.from_residual.ensures.1) h in
-    c.in_err-gone.ensures.bad (ap Err met) gone (items_bytes file_value 0x24 added ++ rest) gone_is (first_of_pair path_value file_value 0x23 from gone added rest begins)
+    c.in_err-gone.ensures.bad (ap Err met) gone (items_bytes (file_value c.args.encoding) 0x24 added ++ rest) gone_is (first_of_pair path_value (file_value c.args.encoding) 0x23 from gone added rest begins)
 
 pub returns-in_err-set-clause-bad : goal.returns-in_err-set-clause-bad
 returns-in_err-set-clause-bad c h gone added rest gone_is added_is begins =
     let bytes = c.args.bytes.now in
     let from = drop c.args.at bytes in
     let met : c.in_err-set.field-0.0 ≡ Bad = handed_on c.from_residual-in_err-set.result c.in_err-set.field-0.0 Bad (err_from_is_err_and c.from_residual-in_err-set.result c.from_residual-in_err-set.ensures.1) h in
-    let first = c.in_ok-gone.ensures.only gone (items_bytes file_value 0x24 added ++ rest) gone_is (first_of_pair path_value file_value 0x23 from gone added rest begins) in
-    c.in_err-set.ensures.bad (ap Err met) added rest added_is (second_of_pair path_value file_value 0x23 from (drop c.in_ok-gone.gone.to bytes) gone added rest begins first.1)
+    let first = c.in_ok-gone.ensures.only gone (items_bytes (file_value c.args.encoding) 0x24 added ++ rest) gone_is (first_of_pair path_value (file_value c.args.encoding) 0x23 from gone added rest begins) in
+    c.in_err-set.ensures.bad (ap Err met) added rest added_is (second_of_pair path_value (file_value c.args.encoding) 0x23 from (drop c.in_ok-gone.gone.to bytes) gone added rest begins first.1)
 
 pub returns-clause-found : goal.returns-clause-found
 returns-clause-found c =
-    pair_at path_value file_value 0x23 c.args.bytes.now c.args.at c.in_ok-gone.gone.to c.in_ok-set.set.to c.in_ok-gone.gone.paths c.in_ok-set.set.files
+    pair_at path_value (file_value c.args.encoding) 0x23 c.args.bytes.now c.args.at c.in_ok-gone.gone.to c.in_ok-set.set.to c.in_ok-gone.gone.paths c.in_ok-set.set.files
     c.in_ok-gone.ensures.found c.in_ok-set.ensures.found
 
 pub returns-clause-only : goal.returns-clause-only
 returns-clause-only c gone added rest gone_is added_is begins =
     let bytes = c.args.bytes.now in
     let from = drop c.args.at bytes in
-    let first = c.in_ok-gone.ensures.only gone (items_bytes file_value 0x24 added ++ rest) gone_is (first_of_pair path_value file_value 0x23 from gone added rest begins) in
-    let second = c.in_ok-set.ensures.only added rest added_is (second_of_pair path_value file_value 0x23 from (drop c.in_ok-gone.gone.to bytes) gone added rest begins first.1) in
+    let first = c.in_ok-gone.ensures.only gone (items_bytes (file_value c.args.encoding) 0x24 added ++ rest) gone_is (first_of_pair path_value (file_value c.args.encoding) 0x23 from gone added rest begins) in
+    let second = c.in_ok-set.ensures.only added rest added_is (second_of_pair path_value (file_value c.args.encoding) 0x23 from (drop c.in_ok-gone.gone.to bytes) gone added rest begins first.1) in
     (first.0, second.0, second.1)

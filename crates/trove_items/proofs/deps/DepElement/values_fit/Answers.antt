@@ -6,4 +6,4 @@ small : (n : ℕ) → n ≤ 17421 → n < 2 ^ 32
 small n le = omega arith
 
 pub returns : goal.returns
-returns c x valid = small _ (dep_short x valid)
+returns c encoding x valid = small _ (dep_short x valid)

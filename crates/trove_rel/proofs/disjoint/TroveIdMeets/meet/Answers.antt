@@ -4,4 +4,4 @@ use Rattle.trove_rel.proofs.disjoint.TroveIdMeets.meet.Goals as goal
 
 pub returns-clause-equal : goal.returns-clause-equal
 returns-clause-equal c is =
-    c.distinct_ids.ensures.equal c.args.self.now c.args.other.now c.parts_of.ensures c.parts_of-2.ensures (equal_ids c.args.self.now c.args.other.now (sym c.cmp.ensures ∙ is))
+    c.distinct_ids.ensures.equal c.args.self.now c.args.other.now c.is_valid.ensures c.is_valid-2.ensures (equal_ids c.args.self.now c.args.other.now (sym c.cmp.ensures ∙ is))

@@ -1,0 +1,6 @@
+use Rattle.trove_stream.proofs.OneTrove.{one_trove}
+use Rattle.trove_stream.proofs.laws.distinct_troves.Goals as goal
+
+pub returns : goal.returns
+returns c one other a b a_is b_is =
+    one_trove one other a b a_is b_is c.short_ids.ensures c.distinct_ids.ensures.bytes (c.distinct_lists.ensures.files one other) c.distinct_lists.ensures.refs c.distinct_lists.ensures.deps

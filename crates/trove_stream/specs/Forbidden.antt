@@ -1,0 +1,22 @@
+-- Paths that no trove may record.
+use Rattle.std.specs.Prelude.{◌≡◌, ℕ, Bool, if◌then◌else◌, List, [], ◌∷◌, Option, Some, None}
+use Rattle.cny_base.specs.Reserved.{is_forbidden}
+use Rattle.cny_base.specs.declared.refusal.Fault.{Fault}
+use Rattle.cny_base.specs.declared.refusal.Fault.TheVariants.{Refused, Memory}
+use Rattle.cny_base.specs.declared.refusal.Refusal.TheVariants.{Reserved}
+use Rattle.file_stream.specs.Record.{is_dir}
+use Rattle.trove_items.specs.declared.files.FileAt.{FileAt}
+
+-- no trove may record its path as it does
+abbrev pub is_forbidden_file : FileAt → Bool
+is_forbidden_file file = is_forbidden file.path (is_dir file.rec)
+
+-- the path of the first such file
+abbrev pub first_forbidden : List FileAt → Option (List ℕ)
+first_forbidden [] = None
+first_forbidden (file ∷ files) = if is_forbidden_file file then Some file.path else first_forbidden files
+
+-- the refusal of this path, or want of memory
+abbrev pub IsReservedOrMemory : List ℕ → Fault → Type 0
+IsReservedOrMemory path (Refused refusal) = refusal ≡ Reserved path
+IsReservedOrMemory path Memory = Unit {0}
