@@ -1,9 +1,16 @@
--- The bytes determine a change set, where each of its parts is the only one of its item.
-use Rattle.std.proofs.Common.{◌≡◌, ℕ, ◌≤◌, List, [], ◌∷◌, ◌++◌, length, flat_map, All, refl, sym, ◌∙◌, arith, append_assoc, append-nil, length-append}
+-- The bytes determine a change set.
+use Rattle.std.proofs.Common.{◌≡◌, ℕ, ◌≤◌, List, [], ◌∷◌, ◌++◌, length, flat_map, All, refl, sym, ap, ◌∙◌, arith, append_assoc, append-nil, length-append}
 use Rattle.std.proofs.lemmas.List.{append_cancel_left}
 use Rattle.std.proofs.lemmas.List.Elements.{All-head, All-tail, All-weaker}
 use Rattle.cny_stream.specs.Item.{FitsItem}
 use Rattle.cny_stream.specs.ItemLaws.{same_front, same_item}
+use Rattle.file_stream.specs.declared.encoding.Encoding.{Encoding}
+use Rattle.file_stream.specs.declared.encoding.Encoding.TheVariants.{Compact}
+use Rattle.trove_rel.specs.declared.rel.RelParts.{RelParts}
+use Rattle.trove_rel.specs.RelBytes.{IsStreamOf, rel_bytes}
+use Rattle.trove_stream.specs.declared.parts.TroveParts.{TroveParts}
+use Rattle.trove_stream.specs.Stream.{stream_bytes}
+use Rattle.trove_stream.specs.Trove.{IsTrove}
 use Rattle.change_set.specs.declared.change.Part.{Part}
 use Rattle.change_set.specs.declared.change.Part.TheVariants.{Whole, Relative}
 use Rattle.change_set.specs.declared.change.Carried.{Carried}
@@ -93,10 +100,28 @@ same_all (p ∷ ps) (q ∷ qs) cs ds only valid f g h k e =
 
 -- ---- change sets
 
-pub same_set : (set other : ChangeSet) (bytes : List ℕ) → IsSetStream set bytes → All IsOnlyPart set.parts → IsSetStream other bytes → set ≡ other
+same_set : (set other : ChangeSet) (bytes : List ℕ) → IsSetStream set bytes → All IsOnlyPart set.parts → IsSetStream other bytes → set ≡ other
 same_set set other bytes is only too =
     let e = append_cancel_left magic (all_of set.parts set.contents) (all_of other.parts other.contents) (sym is.text ∙ too.text) in
     let one = same_all set.parts other.parts set.contents other.contents only too.set_is.parts is.set_is.fits too.set_is.fits
     (All-weaker (IsContentOf set.parts) IsHeld (held set.parts is.set_is.parts) set.contents is.set_is.has_contents.contents)
     (All-weaker (IsContentOf other.parts) IsHeld (held other.parts too.set_is.parts) other.contents too.set_is.has_contents.contents) e in
     λ i. record { parts = sym one.0 i; contents = sym one.1 i }
+
+-- no bytes are the streams of two troves, nor of two relative troves
+abbrev TrovesDiffer : Type 0
+TrovesDiffer = (one other : Encoding) (a b : TroveParts) → IsTrove a → IsTrove b → stream_bytes one a ≡ stream_bytes other b → a ≡ b
+
+abbrev RelsDiffer : Type 0
+RelsDiffer = (one other : Encoding) (a b : RelParts) (bytes : List ℕ) → IsStreamOf one a bytes → IsStreamOf other b bytes → a ≡ b
+
+only_part : TrovesDiffer → RelsDiffer → (part : Part) → IsPart part → IsOnlyPart part
+only_part troves rels (Whole a) valid (Whole b) is = ap Whole (troves Compact Compact b a is.valid valid (sym is.spelled))
+only_part troves rels (Whole a) valid (Relative b) is = let tagged = is.tagged in absurd (omega arith)
+only_part troves rels (Relative a) valid (Whole b) is = let tagged = is.tagged in absurd (omega arith)
+only_part troves rels (Relative a) valid (Relative b) is =
+    ap Relative (rels Compact Compact b a (rel_bytes b) (record { rel_is = is.valid; text = refl }) (record { rel_is = valid; text = sym is.spelled }))
+
+pub one_set : TrovesDiffer → RelsDiffer → (set other : ChangeSet) (bytes : List ℕ) → IsSetStream set bytes → IsSetStream other bytes → set ≡ other
+one_set troves rels set other bytes is too =
+    same_set set other bytes is (All-weaker IsPart IsOnlyPart (only_part troves rels) set.parts is.set_is.parts) too

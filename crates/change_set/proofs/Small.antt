@@ -7,18 +7,18 @@ use Rattle.std.proofs.lemmas.List.Elements.{All-contains}
 use Rattle.std.proofs.lemmas.List.Folds.{Any-from_list_any}
 use Rattle.file_stream.specs.declared.record.FileRec.{FileRec}
 use Rattle.file_stream.specs.declared.record.FileRec.TheVariants.{Dir, File, Link}
-use Rattle.file_stream.specs.Record.{IsFileRecord}
+use Rattle.file_stream.specs.Record.{IsFileRecord, has_name_and_size}
 use Rattle.trove_items.specs.declared.files.FileAt.{FileAt}
 use Rattle.trove_items.specs.Files.{IsFileAt}
 use Rattle.change_set.specs.declared.change.Part.{Part}
 use Rattle.change_set.specs.declared.change.Part.TheVariants.{Whole, Relative}
-use Rattle.change_set.specs.ChangeSet.{IsPart, has_name_and_size, has_record}
+use Rattle.change_set.specs.ChangeSet.{IsPart, has_record}
 use Rattle.change_set.specs.FirstFault.{StreamItem, Progress, IsItemOf, IsRecorded, IsNextContent, IsNext, content_limit}
 use Rattle.change_set.specs.Reading.{IsSmall}
 
 size_of_record : (name : List ℕ) (size : ℕ) (rec : FileRec) → IsFileRecord rec → has_name_and_size name size rec ≡ true → size ≤ 16777216
-size_of_record name size (Dir mode) valid h = absurd (cc h)
-size_of_record name size (File mode flags of_size of_name) valid h =
+size_of_record name size (Dir mode owner) valid h = absurd (cc h)
+size_of_record name size (File mode owner flags of_size of_name) valid h =
     let same : of_size ≡ size = eqb-true of_size size (and_parts (of_size == size) (bytes_eq of_name name) h).0 in
     let small : of_size ≤ 16777216 = valid.1 in
     omega arith

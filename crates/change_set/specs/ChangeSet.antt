@@ -1,15 +1,13 @@
 -- Change sets and their one spelling.
-use Rattle.std.specs.Prelude.{◌≡◌, ℕ, ◌≤◌, Bool, false, ◌&&◌, ◌==◌, IsTrue, List, [], ◌∷◌, ◌++◌, length, flat_map, All}
+use Rattle.std.specs.Prelude.{◌≡◌, ℕ, ◌≤◌, Bool, IsTrue, List, [], ◌∷◌, ◌++◌, length, flat_map, All}
 use Rattle.std.specs.Cmp.Lexicographic.{slice_cmp}
 use Rattle.std.specs.List.{list_any}
 use Rattle.std.specs.List.Sorted.{IsStrictlySortedBy}
 use Rattle.std.specs.Ordering.{nat_cmp}
-use Rattle.std.specs.Str.{bytes_eq}
 use Rattle.std.specs.declared.cmp.Ordering.{Ordering}
 use Rattle.sha1.specs.Sha1.{sha1}
 use Rattle.cny_stream.specs.Item.{FitsItem, item_bytes}
-use Rattle.file_stream.specs.declared.record.FileRec.{FileRec}
-use Rattle.file_stream.specs.declared.record.FileRec.TheVariants.{Dir, File, Link}
+use Rattle.file_stream.specs.Record.{has_name_and_size}
 use Rattle.trove_items.specs.declared.files.FileAt.{FileAt}
 use Rattle.trove_rel.specs.Rel.{IsRel}
 use Rattle.trove_rel.specs.RelBytes.{rel_bytes}
@@ -52,12 +50,6 @@ files_of (Whole trove) = trove.files
 files_of (Relative rel) = rel.files_set
 
 -- ---- contents
-
--- the record is that of a file whose contents have this name and this size
-abbrev pub has_name_and_size : List ℕ → ℕ → FileRec → Bool
-has_name_and_size name size (Dir mode) = false
-has_name_and_size name size (File mode flags of_size of_name) = of_size == size && bytes_eq of_name name
-has_name_and_size name size (Link target) = false
 
 -- a file record of the part has this name and this size
 abbrev pub has_record : List ℕ → ℕ → Part → Bool

@@ -3,11 +3,12 @@ use Rattle.std.specs.Prelude.{◌≡◌, ℕ, Bool, ◌&&◌, ◌==◌, List}
 use Rattle.std.specs.BTreeSet.{BTreeSet}
 use Rattle.std.specs.List.{list_any}
 use Rattle.std.specs.Str.{bytes_eq}
+use Rattle.file_stream.specs.Record.{has_name_and_size}
 use Rattle.trove_items.specs.declared.files.FileAt.{FileAt}
 use Rattle.change_set.specs.declared.change.Part.{Part}
 use Rattle.change_set.specs.declared.recorded.Key.{Key}
 use Rattle.change_set.specs.declared.recorded.Index.{Index}
-use Rattle.change_set.specs.ChangeSet.{has_name_and_size, has_record}
+use Rattle.change_set.specs.ChangeSet.{has_record}
 
 abbrev pub is_key : List ℕ → ℕ → Key → Bool
 is_key name size key = key.size == size && bytes_eq key.name name

@@ -1,8 +1,7 @@
 //! Change sets and what they hold.
-ghost use Rattle.std.specs.Prelude.{◌≡◌, IfOk};
+ghost use Rattle.std.specs.Prelude.{◌≡◌};
 
-use cny_base::{Bytes, OutOfMemory};
-use std::marker::Model;
+use cny_base::{Bytes, Copies, ListOf, OutOfMemory};
 use trove_rel::RelTrove;
 use trove_stream::Trove;
 
@@ -15,11 +14,8 @@ pub enum Part {
     Relative(RelTrove),
 }
 
-impl Part {
-    /// An equal part.
-    pub fn copy(&self) -> Result<Self, OutOfMemory>
-        ensures { IfOk result (λ made. made ≡ self.now) }
-    {
+impl Copies for Part {
+    fn copy(&self) -> Result<Self, OutOfMemory> {
         Ok(match self {
             Part::Whole(trove) => Part::Whole(trove.copy()?),
             Part::Relative(rel) => Part::Relative(rel.copy()?),
@@ -28,53 +24,7 @@ impl Part {
 }
 
 /// A list of parts.
-#[derive(Debug, Drop)]
-pub struct Parts {
-    items: Vec<Part>,
-}
-
-impl Model for Parts {
-    ghost use Rattle.std.specs.Prelude.{List};
-    ghost use Rattle.change_set.specs.declared.change.Part.{Part};
-
-    ghost Value = { List Part };
-
-    ghost view = { λ a. a.items.items };
-}
-
-impl Parts {
-    /// The list of these parts; takes no memory.
-    pub fn new(items: Vec<Part>) -> Self
-        ensures { result ≡ items.items }
-    {
-        Parts { items }
-    }
-
-    /// The parts as a `Vec`; takes no memory.
-    pub fn into_vec(self) -> Vec<Part>
-        ensures { result.items ≡ self }
-    {
-        self.items
-    }
-
-    /// The parts.
-    pub fn get(&self) -> &[Part]
-        ensures { result.now ≡ self.now }
-    {
-        self.items.as_slice()
-    }
-
-    /// An equal list.
-    pub fn copy(&self) -> Result<Self, OutOfMemory>
-        ensures { IfOk result (λ made. made ≡ self.now) }
-    {
-        let mut items = Vec::new(*self.items.allocator());
-        for item in &self.items {
-            items.push(item.copy()?)?;
-        }
-        Ok(Parts { items })
-    }
-}
+pub type Parts = ListOf<Part>;
 
 /// A content that a change set carries.
 #[derive(Debug, Drop)]
@@ -84,11 +34,8 @@ pub struct Carried {
     pub bytes: Bytes,
 }
 
-impl Carried {
-    /// An equal content.
-    pub fn copy(&self) -> Result<Self, OutOfMemory>
-        ensures { IfOk result (λ made. made ≡ self.now) }
-    {
+impl Copies for Carried {
+    fn copy(&self) -> Result<Self, OutOfMemory> {
         Ok(Carried {
             name: self.name,
             bytes: self.bytes.copy()?,
@@ -97,53 +44,7 @@ impl Carried {
 }
 
 /// A list of contents.
-#[derive(Debug, Drop)]
-pub struct CarriedList {
-    items: Vec<Carried>,
-}
-
-impl Model for CarriedList {
-    ghost use Rattle.std.specs.Prelude.{List};
-    ghost use Rattle.change_set.specs.declared.change.Carried.{Carried};
-
-    ghost Value = { List Carried };
-
-    ghost view = { λ a. a.items.items };
-}
-
-impl CarriedList {
-    /// The list of these contents; takes no memory.
-    pub fn new(items: Vec<Carried>) -> Self
-        ensures { result ≡ items.items }
-    {
-        CarriedList { items }
-    }
-
-    /// The contents as a `Vec`; takes no memory.
-    pub fn into_vec(self) -> Vec<Carried>
-        ensures { result.items ≡ self }
-    {
-        self.items
-    }
-
-    /// The contents.
-    pub fn get(&self) -> &[Carried]
-        ensures { result.now ≡ self.now }
-    {
-        self.items.as_slice()
-    }
-
-    /// An equal list.
-    pub fn copy(&self) -> Result<Self, OutOfMemory>
-        ensures { IfOk result (λ made. made ≡ self.now) }
-    {
-        let mut items = Vec::new(*self.items.allocator());
-        for item in &self.items {
-            items.push(item.copy()?)?;
-        }
-        Ok(CarriedList { items })
-    }
-}
+pub type CarriedList = ListOf<Carried>;
 
 /// Parts, and contents of the files that they record. A set carries what its maker chose: any of the contents may be
 /// missing.
@@ -156,11 +57,8 @@ pub struct ChangeSet {
     pub contents: CarriedList,
 }
 
-impl ChangeSet {
-    /// An equal change set.
-    pub fn copy(&self) -> Result<Self, OutOfMemory>
-        ensures { IfOk result (λ made. made ≡ self.now) }
-    {
+impl Copies for ChangeSet {
+    fn copy(&self) -> Result<Self, OutOfMemory> {
         Ok(ChangeSet {
             parts: self.parts.copy()?,
             contents: self.contents.copy()?,

@@ -5,6 +5,9 @@ ghost use Rattle.change_set.specs.declared.change.ChangeSet.{ChangeSet};
 ghost use Rattle.change_set.specs.ChangeSet.{IsChangeSet, IsSetStream, change_bytes};
 ghost use Rattle.change_set.specs.FirstFault.{IsFirstFault};
 
+use trove_rel::distinct_rels;
+use trove_stream::distinct_troves;
+
 /// Bytes have one first fault at most, and none where they are the stream of a change set. No stream of a change set is a
 /// proper prefix of another.
 pub fn one_fault()
@@ -14,3 +17,11 @@ pub fn one_fault()
     ensures no_prefix { (set set' : ChangeSet) (rest : List ℕ) → IsChangeSet set → IsChangeSet set'
         → change_bytes set ++ rest ≡ change_bytes set' → rest ≡ [] }
 {}
+
+/// Bytes are the stream of one change set at most.
+pub fn unique_set()
+    ensures { (set other : ChangeSet) (bytes : List ℕ) → IsSetStream set bytes → IsSetStream other bytes → set ≡ other }
+{
+    distinct_troves();
+    distinct_rels();
+}

@@ -8,11 +8,9 @@ mod laws;
 mod parts;
 mod reading;
 mod recorded;
-#[cfg(test)]
-mod tests;
 mod writing;
 
 pub use change::{Carried, CarriedList, ChangeSet, Part, Parts};
-pub use laws::one_fault;
+pub use laws::{one_fault, unique_set};
 pub use reading::decode;
 pub use writing::encode;

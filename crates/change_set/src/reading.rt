@@ -1,22 +1,20 @@
 //! The change set that bytes spell.
-ghost use Rattle.std.specs.Prelude.{◌≡◌, All, IfOk, IfErr, MatchResult};
+ghost use Rattle.std.specs.Prelude.{◌≡◌, IfOk, IfErr, MatchResult};
 ghost use Rattle.cny_base.specs.declared.refusal.Refusal.{Refusal};
 ghost use Rattle.change_set.specs.declared.change.ChangeSet.{ChangeSet};
 ghost use Rattle.change_set.specs.ChangeSet.{IsSetStream};
 ghost use Rattle.change_set.specs.FirstFault.{IsFirstFault, IsFaultOf, IsRefusalOrMemory};
-ghost use Rattle.change_set.specs.Reading.{IsOnlyPart};
 
 use crate::change::{CarriedList, ChangeSet, Parts};
 use crate::contents::take_contents;
-use crate::laws::one_fault;
+use crate::laws::{one_fault, unique_set};
 use crate::parts::{check_magic, take_parts};
 use cny_base::Fault;
 use std::alloc::Global;
 
-// The change set, of which each part is the only one with its item, or the first fault.
+// The change set, or the first fault.
 fn read_set(alloc: Global, bytes: &[u8]) -> Result<ChangeSet, Fault>
     ensures value { IfOk result (λ set. IsSetStream set bytes.now) }
-    ensures only { IfOk result (λ set. All IsOnlyPart set.parts) }
     ensures refused { IfErr result (IsFaultOf bytes.now) }
 {
     if let Err(refusal) = check_magic(bytes) {
@@ -45,6 +43,7 @@ pub fn decode(alloc: Global, bytes: &[u8]) -> Result<ChangeSet, Fault>
         → MatchResult result (λ read. ⊥) (IsRefusalOrMemory refusal) }
 {
     one_fault();
+    unique_set();
     let set = read_set(alloc, bytes)?;
     Ok(set)
 }

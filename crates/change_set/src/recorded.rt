@@ -1,8 +1,9 @@
 //! The names and sizes of contents that the file records of parts have.
 ghost use Rattle.std.specs.Prelude.{◌≡◌, ◌||◌, IfOk, OnOk, List, ℕ};
 ghost use Rattle.std.specs.List.{list_any};
+ghost use Rattle.file_stream.specs.Record.{has_name_and_size};
 ghost use Rattle.change_set.specs.declared.change.Part.{Part};
-ghost use Rattle.change_set.specs.ChangeSet.{has_name_and_size, files_of, has_record};
+ghost use Rattle.change_set.specs.ChangeSet.{files_of, has_record};
 ghost use Rattle.change_set.specs.Index.{has_key, has_file, IsIndexOf};
 
 use crate::change::Part;

@@ -52,7 +52,7 @@ fn bytes_of(alloc: Global, change: &ChangeSet) -> Result<Bytes, OutOfMemory>
     let mut out = Bytes::new(alloc, MAGIC)?;
     put_parts(alloc, &mut out, change.parts.get())?;
     put_contents(alloc, &mut out, change.contents.get())?;
-    put_item(alloc, &mut out, END, &[])?;
+    put_item(&mut out, END, &[])?;
     Ok(out)
 }
 
@@ -65,7 +65,7 @@ fn put_parts(alloc: Global, out: &mut Bytes, parts: &[Part]) -> Result<(), OutOf
 {
     for part in parts {
         let value = value_of(alloc, part)?;
-        put_item(alloc, out, tag_of(part), value.get())?;
+        put_item(out, tag_of(part), value.get())?;
     }
     Ok(())
 }
@@ -78,7 +78,7 @@ fn put_contents(alloc: Global, out: &mut Bytes, contents: &[Carried]) -> Result<
     for content in contents {
         let mut value = Bytes::new(alloc, &content.name)?;
         value.push_slice(content.bytes.get())?;
-        put_item(alloc, out, CONTENT, value.get())?;
+        put_item(out, CONTENT, value.get())?;
     }
     Ok(())
 }

@@ -18,6 +18,9 @@ what_text what.Commits = codes "commits"
 what_text what.Count = codes "count"
 what_text what.Version = codes "version"
 what_text what.ChangeSet = codes "change set"
+what_text what.Jobs = codes "jobs"
+what_text what.Message = codes "message"
+what_text what.Model = codes "model"
 
 -- what was refused: the words that name it, then what it concerns
 abbrev pub refusal_text : Refusal → List ℕ
@@ -36,9 +39,11 @@ refusal_text (refusal.Unowned path) = codes "unowned " ++ path
 refusal_text (refusal.Edited path) = codes "edited " ++ path
 refusal_text (refusal.Parent path) = codes "parent " ++ path
 refusal_text refusal.StackEmpty = codes "stack empty"
-refusal_text refusal.StackFull = codes "stack full"
 refusal_text (refusal.Reserved path) = codes "reserved " ++ path
 refusal_text refusal.NoLabel = codes "no label"
 refusal_text (refusal.SameLabel label) = codes "same label " ++ label
 refusal_text (refusal.BadConfig n) = codes "bad config line " ++ decimal n
 refusal_text (refusal.NotBuilt word) = codes "not built " ++ word
+refusal_text (refusal.NoJob n) = codes "no job r." ++ decimal n
+refusal_text refusal.NoModel = codes "no model"
+refusal_text (refusal.BadModel n) = codes "bad model line " ++ decimal n

@@ -4,8 +4,6 @@
 mod changes;
 mod digits;
 mod refusals;
-#[cfg(test)]
-mod tests;
 mod troves;
 
 pub use changes::change_text;

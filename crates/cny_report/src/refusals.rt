@@ -21,6 +21,9 @@ fn text_of_what(what: What) -> &'static str
         What::Count => "count",
         What::Version => "version",
         What::ChangeSet => "change set",
+        What::Jobs => "jobs",
+        What::Message => "message",
+        What::Model => "model",
     }
 }
 
@@ -92,12 +95,14 @@ fn written(alloc: Global, refusal: &Refusal) -> Result<String, AllocError>
         Refusal::Edited { path } => told(alloc, "edited ", path.get()),
         Refusal::Parent { path } => told(alloc, "parent ", path.get()),
         Refusal::StackEmpty => String::from_str(alloc, "stack empty"),
-        Refusal::StackFull => String::from_str(alloc, "stack full"),
         Refusal::Reserved { path } => told(alloc, "reserved ", path.get()),
         Refusal::NoLabel => String::from_str(alloc, "no label"),
         Refusal::SameLabel { label } => told(alloc, "same label ", label.get()),
         Refusal::BadConfig { line } => format!(in alloc; "bad config line {line}"),
         Refusal::NotBuilt { word } => told(alloc, "not built ", word.get()),
+        Refusal::NoJob { number } => format!(in alloc; "no job r.{number}"),
+        Refusal::NoModel => String::from_str(alloc, "no model"),
+        Refusal::BadModel { line } => format!(in alloc; "bad model line {line}"),
     }
 }
 

@@ -5,7 +5,6 @@ use Rattle.cny_base.specs.declared.refusal.Fault.{Fault}
 use Rattle.cny_base.specs.declared.refusal.Fault.TheVariants.{Refused, Memory}
 use Rattle.change_set.specs.declared.change.ChangeSet.{ChangeSet}
 use Rattle.change_set.specs.FirstFault.{IsFirstFault, IsFaultOf, IsRefusalOrMemory}
-use Rattle.change_set.proofs.SameSet.{same_set}
 use Rattle.change_set.proofs.reading.decode.Goals as goal
 
 -- without a first fault only want of memory is left
@@ -33,7 +32,7 @@ returns-in_err-set-clause-exact c refusal is =
     (refused_alone c.args.bytes.now c.in_err-set.field-0.0 refusal c.in_err-set.ensures.refused (λ r fault. c.one_fault.ensures.unique c.args.bytes.now r refusal fault is))
 
 pub returns-clause-only : goal.returns-clause-only
-returns-clause-only c set is = same_set c.in_ok-set.set set c.args.bytes.now c.in_ok-set.ensures.value c.in_ok-set.ensures.only is
+returns-clause-only c set is = c.unique_set.ensures c.in_ok-set.set set c.args.bytes.now c.in_ok-set.ensures.value is
 
 pub returns-clause-exact : goal.returns-clause-exact
 returns-clause-exact c refusal is = c.one_fault.ensures.excluded c.args.bytes.now refusal c.in_ok-set.set is c.in_ok-set.ensures.value

@@ -1,0 +1,426 @@
+#!/usr/bin/env python3
+"""Makes the vectors of the stream formats: calls, and what they have to answer.
+
+    tools/stream_vectors.py stdin   >crates/stream_vectors/stdin     a call and its arguments in each line
+    tools/stream_vectors.py stdout  >crates/stream_vectors/stdout    what each has to answer
+    tools/stream_vectors.py count                                    how many lines and answers there are, by topic
+
+The answers come from tools/stream_model.py, which is made from docs/FORMATS.md alone, the texts of refusals from
+docs/COMMANDS.md; neither shares anything with the program.
+"""
+import hashlib
+import sys
+
+sys.dont_write_bytecode = True
+
+import stream_model as model
+from stream_model import NotOfForm, directory, id_bytes, id_of_text, id_text, item, items, link, need, regular, str_field
+from stream_cases import CASES, Terms
+
+# So many elements of a list are shown.
+SHOWN = 8
+
+
+# ---- answers as texts
+
+
+def shown(elements):
+    """The number of the elements, and the first of them."""
+    return "; ".join([str(len(elements))] + [element.decode() for element in elements[:SHOWN]])
+
+
+def record_text(record):
+    owner = b" ".join(record.owner).decode()
+    if record.kind == "d":
+        return f"dir {record.mode:04o} {owner}"
+    if record.kind == "f":
+        flags = "".join(letter if record.flags & bit else "-" for letter, bit in zip("cit", (1, 2, 4)))
+        return f"file {record.mode:04o} {owner} {flags} {record.size} {record.name.hex()}"
+    return f"link {record.target.decode()}"
+
+
+def files_text(files):
+    return shown([path + b" " + record_text(record).encode() for path, record in files])
+
+
+def refs_text(refs):
+    return shown([id_text(ref) for ref in refs])
+
+
+def digest(text):
+    return f"{len(text)} {hashlib.sha1(text).hexdigest()}"
+
+
+def on_a_line(text):
+    return digest(text) if len(text) > 1_000 else text.decode().replace("\n", "|")
+
+
+def told(holds):
+    return "true" if holds else "false"
+
+
+def fields(*texts):
+    return "\t".join(texts)
+
+
+def written(again, text):
+    return "same" if again == text else (b"x" + again).hex()
+
+
+# ---- calls on records
+
+
+def record(text, full=False):
+    found = model.read_record(text, full)
+    file_id = hashlib.sha1(model.record_bytes(found)).hexdigest()
+    return fields(record_text(found), file_id, written(model.record_bytes(found, full), text))
+
+
+def made_record(kind, *rest):
+    if kind == b"link":
+        return link(rest[0])
+    owner = model.Owner(rest[1], rest[2])
+    need(model.is_owner(owner))
+    if kind == b"dir":
+        return directory(int(rest[0], 8), owner)
+    flags = sum(bit for bit, letter in zip((1, 2, 4), rest[3]) if letter != ord("-"))
+    return regular(int(rest[0], 8), flags, int(rest[4]), rest[5], owner)
+
+
+def make_record(*arguments):
+    found = made_record(*arguments)
+    short, full = model.record_bytes(found), model.record_bytes(found, True)
+    return fields(record_text(found), hashlib.sha1(short).hexdigest(), short.hex(), full.hex())
+
+
+def same_record(first, second):
+    return told(model.read_record(first, True) == model.read_record(second, True))
+
+
+def owner(user, group):
+    found = model.Owner(user, group)
+    need(model.is_owner(found))
+    return fields(user.decode(), group.decode(), told(found == model.ROOT))
+
+
+# ---- calls on lists
+
+
+def take(text, at, tag, read, key, show, spell):
+    """The elements of all items of a tag from a place on."""
+    at, end, found = int(at), int(at), []
+    while end < len(text) and text[end] == tag[0]:
+        need(len(text) >= end + 5)
+        length = model.number(text[end + 1 : end + 5])
+        need(len(text) >= end + 5 + length)
+        found.append(read(text[end + 5 : end + 5 + length]))
+        need(model.rises([key(one) for one in found[-2:]]))
+        end += 5 + length
+    return fields(str(end), show(found), written(items(tag[0], map(spell, found)), text[at:end]))
+
+
+def first(pair):
+    return pair[0]
+
+
+def itself(one):
+    return one
+
+
+def files(text, at, tag, full=False):
+    def read(value):
+        return model.read_file(value, full)
+
+    return take(text, at, tag, read, first, files_text, lambda file: model.file_value(file, full))
+
+
+def refs(text, at, tag):
+    return take(text, at, tag, model.read_id, itself, refs_text, id_bytes)
+
+
+def deps(text, at, tag):
+    return take(text, at, tag, model.read_dependency, itself, shown, itself)
+
+
+def paths(text, at, tag):
+    return take(text, at, tag, model.read_path, itself, shown, itself)
+
+
+def id_item(text, at, tag):
+    at = int(at)
+    need(len(text) >= at + 5 and text[at] == tag[0])
+    end = at + 5 + model.number(text[at + 1 : at + 5])
+    need(len(text) >= end)
+    found = model.read_id(text[at + 5 : end])
+    return fields(str(end), id_text(found).decode(), written(item(tag[0], id_bytes(found)), text[at:end]))
+
+
+def elements(text, tag, read):
+    """The elements of items of a tag, in the order given."""
+    found = model.inner_items(text)
+    assert all(one == tag for one, _ in found)
+    return [read(value) for _, value in found]
+
+
+def are(tag, read, key):
+    def answer(text):
+        return told(model.rises([key(one) for one in elements(text, tag, read)]))
+
+    return answer
+
+
+def sized_file(size, name):
+    return told(int(size) <= 16_777_216 and len(name) == 20)
+
+
+# ---- calls on troves and relative troves
+
+
+def trove_text(trove):
+    return fields(
+        id_text(trove.identity).decode(),
+        files_text(trove.files),
+        refs_text(trove.refs),
+        shown(trove.requires),
+        shown(trove.provides),
+    )
+
+
+def trove(text, full=False):
+    found = model.read_trove(text, full)
+    return fields(trove_text(found), written(model.trove_bytes(found, full), text))
+
+
+def made_trove(identity, own_files, own_refs, required, provided):
+    return model.check_trove(
+        model.Trove(
+            id_of_text(identity),
+            elements(own_files, 4, model.read_file),
+            elements(own_refs, 5, model.read_id),
+            elements(required, 6, model.read_dependency),
+            elements(provided, 7, model.read_dependency),
+        )
+    )
+
+
+def make_trove(*arguments):
+    found = made_trove(*arguments)
+    return fields(trove_text(found), digest(b"x" + model.trove_bytes(found)), digest(b"x" + model.trove_bytes(found, True)))
+
+
+def check(text):
+    path = model.barred_path(model.read_trove(text))
+    return "ok" if path is None else f"reserved {path.decode()}"
+
+
+def troves_text(*streams):
+    troves = [model.read_trove(text) for text in streams if text]
+    return on_a_line(b"".join(id_text(one.identity) + b"\n" for one in troves))
+
+
+def relative_text(relative):
+    lists = relative.lists
+    return fields(
+        id_text(relative.old).decode(),
+        id_text(relative.new).decode(),
+        shown(lists[0x23]),
+        files_text(lists[0x24]),
+        refs_text(lists[0x25]),
+        refs_text(lists[0x26]),
+        *[shown(lists[tag]) for tag in (0x27, 0x28, 0x29, 0x2A)],
+    )
+
+
+def relative(text, full=False):
+    found = model.read_relative(text, full)
+    return fields(relative_text(found), written(model.relative_bytes(found, full), text))
+
+
+def make_relative(old, new, *lists):
+    readers = [model.read_path, model.read_file, model.read_id, model.read_id] + [model.read_dependency] * 4
+    read = {tag: elements(text, tag, one) for tag, text, one in zip(range(0x23, 0x2B), lists, readers)}
+    found = model.check_relative(model.Relative(id_of_text(old), id_of_text(new), read))
+    short, full = model.relative_bytes(found), model.relative_bytes(found, True)
+    return fields(relative_text(found), digest(b"x" + short), digest(b"x" + full))
+
+
+# ---- calls on change sets
+
+
+def change_set(text):
+    try:
+        found = model.read_set(text)
+    except model.Fault as fault:
+        return str(fault)
+    return fields("ok", on_a_line(model.set_text(found)), written(model.set_bytes(*found), text))
+
+
+def joined(*streams):
+    try:
+        return digest(model.set_bytes([part for text in streams for part in model.read_set(text).parts], []))
+    except model.Fault as fault:
+        return str(fault)
+
+
+def is_read(text, kind):
+    """`ok`, `bad`, or the refusal."""
+    readers = {
+        b"record": lambda: model.read_record(text),
+        b"record_full": lambda: model.read_record(text, True),
+        b"trove": lambda: model.read_trove(text),
+        b"trove_full": lambda: model.read_trove(text, True),
+        b"relative": lambda: model.read_relative(text),
+        b"relative_full": lambda: model.read_relative(text, True),
+        b"set": lambda: model.read_set(text),
+    }
+    try:
+        readers[kind]()
+    except NotOfForm:
+        return "bad"
+    except model.Fault as fault:
+        return str(fault)
+    return "ok"
+
+
+def runs(given):
+    """Runs of equal answers: the lowest and the highest number, and the answer."""
+    line, low = "", 0
+    for high, text in enumerate(given):
+        if high + 1 == len(given) or given[high + 1] != text:
+            line += f"{low}..{high}: {text}; "
+            low = high + 1
+    return line
+
+
+def beginnings(kind, text):
+    return runs([is_read(text[:length], kind) for length in range(len(text) + 1)])
+
+
+def changes(kind, text, place):
+    place = int(place)
+    return runs([is_read(text[:place] + bytes([value]) + text[place + 1 :], kind) for value in range(256)])
+
+
+# ---- refusals
+
+REFUSALS = {
+    b"Malformed": "malformed at {}",
+    b"TooLarge": "too large: {} {}",
+    b"Exists": "exists {}",
+    b"MissingTrove": "missing trove {}",
+    b"MissingBase": "missing base {}",
+    b"MissingContent": "missing content {}",
+    b"Collision": "collision {} at {}",
+    b"MissingRef": "missing ref {}",
+    b"NotInstalled": "not installed {}",
+    b"Unmet": "unmet {} {}",
+    b"Owned": "owned {} {} {}",
+    b"Unowned": "unowned {}",
+    b"Edited": "edited {}",
+    b"Parent": "parent {}",
+    b"StackEmpty": "stack empty",
+    b"Reserved": "reserved {}",
+    b"NoLabel": "no label",
+    b"SameLabel": "same label {}",
+    b"BadConfig": "bad config line {}",
+    b"NotBuilt": "not built {}",
+    b"NoJob": "no job r.{}",
+    b"NoModel": "no model",
+    b"BadModel": "bad model line {}",
+}
+
+
+def refusal(kind, *rest):
+    named = kind in (b"MissingContent", b"Collision")
+    texts = [text.hex() if named and place == 0 else text.decode() for place, text in enumerate(rest)]
+    if kind == b"TooLarge":
+        texts[0] = {"ChangeSet": "change set"}.get(texts[0], texts[0].lower())
+    return REFUSALS[kind].format(*texts)
+
+
+CALLS = {
+    "record": record,
+    "record_full": lambda text: record(text, True),
+    "make_record": make_record,
+    "same_record": same_record,
+    "owner": owner,
+    "files": files,
+    "files_full": lambda *arguments: files(*arguments, full=True),
+    "refs": refs,
+    "deps": deps,
+    "paths": paths,
+    "id_item": id_item,
+    "are_files": are(4, model.read_file, first),
+    "are_refs": are(5, model.read_id, itself),
+    "are_deps": are(6, model.read_dependency, itself),
+    "are_paths": are(0x23, model.read_path, itself),
+    "sized_file": sized_file,
+    "trove": trove,
+    "trove_full": lambda text: trove(text, True),
+    "make_trove": make_trove,
+    "check": check,
+    "troves_text": troves_text,
+    "relative": relative,
+    "relative_full": lambda text: relative(text, True),
+    "make_relative": make_relative,
+    "set": change_set,
+    "joined": joined,
+    "beginnings": beginnings,
+    "changes": changes,
+    "refusal": refusal,
+}
+
+
+# ---- lines
+
+
+def argument_text(argument):
+    if isinstance(argument, Terms):
+        return argument.text()
+    if isinstance(argument, str) and argument and " " not in argument:
+        return "=" + argument
+    return argument_bytes(argument).hex() or "-"
+
+
+def argument_bytes(argument):
+    if isinstance(argument, Terms):
+        return argument.bytes()
+    return argument.encode() if isinstance(argument, str) else argument
+
+
+def answer(call, arguments):
+    try:
+        return CALLS[call](*map(argument_bytes, arguments))
+    except NotOfForm:
+        return "bad"
+
+
+def answers_in(call, arguments):
+    """How many answers a line holds."""
+    if call == "changes":
+        return 256
+    return len(argument_bytes(arguments[1])) + 1 if call == "beginnings" else 1
+
+
+def main(mode):
+    total = [0, 0]
+    for topic, cases in CASES:
+        number = [0, 0]
+        for call, *arguments in cases():
+            if mode == "stdin":
+                print(call, *map(argument_text, arguments))
+            elif mode == "stdout":
+                print(answer(call, arguments))
+            number = [number[0] + 1, number[1] + answers_in(call, arguments)]
+        if mode == "count":
+            print(f"{topic}: {number[0]} lines, {number[1]} answers")
+        total = [total[0] + number[0], total[1] + number[1]]
+    if mode == "count":
+        print(f"all: {total[0]} lines, {total[1]} answers")
+
+
+if __name__ == "__main__":
+    if len(sys.argv) != 2 or sys.argv[1] not in ("stdin", "stdout", "count"):
+        sys.exit(__doc__)
+    sys.stdout.reconfigure(encoding="utf-8", newline="\n")
+    main(sys.argv[1])
