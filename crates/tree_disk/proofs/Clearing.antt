@@ -1,21 +1,20 @@
 -- A name and all names below it, taken away.
-use Rattle.std.proofs.Common.{◌≡◌, ◌≢◌, ◌⊎◌, inl, inr, ⊎_elim, ℕ, zero, suc, ◌+◌, ◌<◌, ◌≤◌, Bool, true, false, cond, not, ◌||◌, ◌&&◌, List, [], ◌∷◌, ◌++◌, map, length, Option, Some, None, is_some, ◌==◌, nat_le, refl, sym, ◌∙◌, ap, subst, arith, get_or, take, length-append}
+use Rattle.std.proofs.Common.{◌≡◌, ◌≢◌, ⊎_elim, ℕ, suc, ◌+◌, ◌<◌, Bool, true, false, cond, not, ◌||◌, ◌&&◌, List, [], ◌∷◌, ◌++◌, map, length, Option, Some, None, is_some, ◌==◌, refl, sym, ◌∙◌, ap, subst, arith, get_or, take}
 use Rattle.std.proofs.lemmas.Bool.{cases_Bool}
-use Rattle.std.proofs.lemmas.Bool.Decides.{nat_tests}
 use Rattle.std.proofs.lemmas.List.{take_more}
-use Rattle.std.specs.List.{list_any, filter}
+use Rattle.std.specs.List.{list_any}
 use Rattle.std.specs.FinMap.{get, keys, contains_key-keys}
 use Rattle.cny_base.specs.Path.{is_path, root, parent, last_name, join}
-use Rattle.cny_base.specs.Joins.{join_parent}
-use Rattle.cny_base.specs.Below.{is_below, below_rest, below_parent, child_below, none_below_root, parent_shorter}
+use Rattle.cny_base.specs.Below.{is_below, child_below}
 use Rattle.cny_base.specs.declared.node.Node.{Node}
 use Rattle.cny_base.specs.declared.node.Node.TheVariants.{Dir, File, Link}
 use Rattle.tree_disk.specs.Tree.{Name, Tree, same_name, is_dir, is_file, is_link, is_child, children, WellFormed}
 use Rattle.tree_disk.specs.Rows.{is_childless, can_remove, without, seen_as, look_of}
-use Rattle.tree_disk.specs.Laws.{same_means, same_itself, get_put, same_tree}
-use Rattle.tree_disk.specs.Clear.{is_within, without_tree, without_each, sees_nothing, sees_dir}
-use Rattle.tree_disk.specs.ClearLaws.{or_left, or_right, or_cases, by_name, below_trans, below_within, within_itself, join_is, within_join_below, get-without_tree}
-use Rattle.tree_disk.specs.Children.{clash, none_any, not_below_itself, stands_or_not, some_dir, none_below, covered_up, filter_none}
+use Rattle.tree_disk.specs.Laws.{same_means, get_put, same_tree}
+use Rattle.tree_disk.specs.Clear.{is_within, without_tree, without_each}
+use Rattle.tree_disk.specs.Looks.{sees_nothing, sees_dir}
+use Rattle.tree_disk.specs.ClearLaws.{or_right, by_name, within_join_below, get-without_tree}
+use Rattle.tree_disk.specs.Children.{none_any, not_below_itself, none_below, covered_up, filter_none}
 
 get-without_each : (t : Tree) (p : Name) (names : List (List ℕ)) (q : Name)
     → get (without_each t p names) q ≡ cond (list_any (λ last. is_within (join p last) q) names) None (get t q)
@@ -119,24 +118,6 @@ module _ (t : Tree) (p : Name) (well : WellFormed t) (path : is_path p ≡ true)
   may_remove_leaf some no_dir = removable t (seen_removable (get t p) (is_childless t p) some no_dir)
 
 -- ---- what a look shows
-
-seen_dir : (o : Option Node) → sees_dir (seen_as o) ≡ is_dir o
-seen_dir None = refl
-seen_dir (Some (Dir mode)) = refl
-seen_dir (Some (File mode bytes)) = refl
-seen_dir (Some (Link target)) = refl
-
-pub dir_seen : (t : Tree) (p : Name) → sees_dir (look_of t p) ≡ is_dir (get t p)
-dir_seen t p = seen_dir (get t p)
-
-seen_none : (o : Option Node) → sees_nothing (seen_as o) ≡ true → o ≡ None
-seen_none None is = refl
-seen_none (Some (Dir mode)) is = absurd (cc is)
-seen_none (Some (File mode bytes)) is = absurd (cc is)
-seen_none (Some (Link target)) is = absurd (cc is)
-
-pub nothing_seen : (t : Tree) (p : Name) → sees_nothing (look_of t p) ≡ true → get t p ≡ None
-nothing_seen t p is = seen_none (get t p) is
 
 -- ---- where no directory stands, nothing stands below
 

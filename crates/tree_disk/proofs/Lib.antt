@@ -1,3 +1,4 @@
 pub mod ReadAll
 pub mod NewFile
 pub mod Clearing
+pub mod Calls

@@ -1,11 +1,11 @@
 -- What stands below a directory, by its children.
-use Rattle.std.proofs.Common.{◌≡◌, ◌≢◌, ◌⊎◌, inl, inr, ⊎_elim, ℕ, zero, suc, ◌+◌, ◌<◌, ◌≤◌, Bool, true, false, cond, not, ◌||◌, ◌&&◌, List, [], ◌∷◌, ◌++◌, map, length, Option, Some, None, is_some, ◌==◌, nat_le, refl, sym, ◌∙◌, ap, subst, arith, length-append}
+use Rattle.std.proofs.Common.{◌≡◌, ◌≢◌, ◌⊎◌, inl, inr, ⊎_elim, ℕ, zero, suc, ◌<◌, ◌≤◌, Bool, true, false, cond, not, ◌||◌, ◌&&◌, List, [], ◌∷◌, ◌++◌, map, length, Option, Some, None, is_some, ◌==◌, nat_le, refl, sym, ◌∙◌, ap, subst, arith, length-append}
 use Rattle.std.proofs.lemmas.Bool.{cases_Bool}
 use Rattle.std.proofs.lemmas.Bool.Decides.{nat_tests}
 use Rattle.std.proofs.lemmas.List.Elements.{All-from_recursion}
 use Rattle.std.specs.List.{list_any, filter, All, AllByRecursion}
 use Rattle.std.specs.FinMap.{get, keys, contains_key-keys}
-use Rattle.cny_base.specs.Path.{is_path, are_parts, root, parent, last_name, join}
+use Rattle.cny_base.specs.Path.{is_path, root, parent, last_name, join}
 use Rattle.cny_base.specs.Joins.{join_parent}
 use Rattle.cny_base.specs.Below.{is_below, below_rest, below_parent, child_below, none_below_root, parent_shorter}
 use Rattle.cny_base.specs.declared.node.Node.{Node}

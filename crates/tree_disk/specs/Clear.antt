@@ -1,11 +1,9 @@
 -- A name and all names below it.
-use Rattle.std.specs.Prelude.{◌≡◌, ℕ, Bool, true, false, ◌||◌, IsTrue, List, [], ◌∷◌, None}
+use Rattle.std.specs.Prelude.{◌≡◌, ℕ, Bool, ◌||◌, IsTrue, List, [], ◌∷◌, None}
 use Rattle.std.specs.List.{filter}
 use Rattle.std.specs.FinMap.{get, keys}
 use Rattle.cny_base.specs.Path.{join}
 use Rattle.cny_base.specs.Below.{is_below}
-use Rattle.tree_disk.specs.declared.disk.Look.{Look}
-use Rattle.tree_disk.specs.declared.disk.Look.TheVariants as look
 use Rattle.tree_disk.specs.Tree.{Name, Tree, same_name}
 use Rattle.tree_disk.specs.Rows.{without}
 
@@ -29,11 +27,3 @@ without_tree t p = without_names t (filter (is_within p) (keys t))
 abbrev pub without_each : Tree → Name → List (List ℕ) → Tree
 without_each t p [] = t
 without_each t p (last ∷ names) = without_each (without_tree t (join p last)) p names
-
-abbrev pub sees_nothing : Look → Bool
-sees_nothing look.Nothing = true
-sees_nothing _ = false
-
-abbrev pub sees_dir : Look → Bool
-sees_dir (look.Dir mode) = true
-sees_dir _ = false

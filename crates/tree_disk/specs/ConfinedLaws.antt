@@ -5,10 +5,12 @@ use Rattle.std.specs.FinMap.{get}
 use Rattle.tree_disk.specs.declared.disk.DiskStop.{DiskStop}
 use Rattle.tree_disk.specs.declared.disk.DiskStop.TheVariants.{Failed, Refused, Memory}
 use Rattle.tree_disk.specs.Tree.{Name, Tree, AgreesOutside}
-use Rattle.tree_disk.specs.Disk.{DiskModel, IsDisk, IsCrashImage, IsImageOf, Elapses, HasRead, HasChanged, HasSynced}
+use Rattle.tree_disk.specs.Disk.{DiskModel, IsDisk, IsCrashImage, IsImageOf, Elapses, HasRead, HasChanged, HasSynced, Shows}
+use Rattle.tree_disk.specs.Moments.{shows_start, shows_weaker, shows_then}
 use Rattle.tree_disk.specs.Confined.{AgreesExcept, Among, DiffersOnlyAt, IsUnsynced, IsUnsyncedOr, LeavesOnly, Confined}
 
-false_from_not : (b : Bool) → (IsTrue b → ⊥) → b ≡ false
+-- what doesn't hold, as a test
+pub false_from_not : (b : Bool) → (IsTrue b → ⊥) → b ≡ false
 false_from_not true no' = absurd (no' refl)
 false_from_not false no' = refl
 
@@ -42,6 +44,7 @@ module _ {D : Type 0} {disk : DiskModel D} where
     later = run.later;
     each = λ image since. weaker image (run.each image since);
     before = λ k image le since. ⊎_elim (λ was. inl was) (λ p. inr (weaker image p)) (run.before k image le since);
+    kept = run.kept;
   }
 
   -- one run after another
@@ -51,6 +54,7 @@ module _ {D : Type 0} {disk : DiskModel D} where
     later = omega (arith, first.later, then.later);
     each = λ image since. ⊎_elim (first.each image) (λ p. p) (then.before (disk.now old) image first.later since);
     before = λ k image le since. ⊎_elim (first.before k image le) (λ p. inr p) (then.before k image (omega (arith, first.later, le)) since);
+    kept = λ k image le since. then.kept k image (omega (arith, first.later, le)) (first.kept k image le since);
   }
 
   -- more names
@@ -58,6 +62,7 @@ module _ {D : Type 0} {disk : DiskModel D} where
       → Confined disk many old new
   confined_wider {few = few} {many = many} {old = old} within run = record {
     reads = λ p out. run.reads p (λ h. out (within p h));
+    visible = shows_weaker (λ t agrees p out. agrees p (λ h. out (within p h))) run.visible;
     unsynced = λ p h. wider p (run.unsynced p h);
     images = leaves_weaker (λ image. differs_wider wider) run.images;
   }
@@ -70,6 +75,7 @@ module _ {D : Type 0} {disk : DiskModel D} where
       → Confined disk names old new
   confined_then {names = names} {old = old} {mid = mid} first then = record {
     reads = λ p out. then.reads p out ∙ first.reads p out;
+    visible = shows_then first.visible (shows_weaker (λ t agrees p out. agrees p out ∙ first.reads p out) then.visible);
     unsynced = λ p h. earlier p (then.unsynced p h);
     images = leaves_then first.images (leaves_weaker before_both then.images);
   }
@@ -98,6 +104,7 @@ module _ {D : Type 0} {disk : DiskModel D} where
       later = time.later;
       each = λ image since. ⊎_elim (λ before. was image (laws.only_now old image before)) (is image) (time.nothing_else (disk.now old) image (omega arith) since);
       before = λ k image le since. ⊎_elim (λ before. inl before) (λ now. inr (is image now)) (time.nothing_else k image le since);
+      kept = time.kept;
     }
 
     at_old : (names : Name → Type 0) (old : D) (image : Tree) → IsImageOf disk old image
@@ -108,19 +115,23 @@ module _ {D : Type 0} {disk : DiskModel D} where
     pub confined_start : (names : Name → Type 0) (d : D) → Confined disk names d d
     confined_start names d = record {
       reads = λ p out. refl;
+      visible = shows_start d _;
       unsynced = λ p h. inl h;
       images = record {
         later = omega arith;
         each = λ image since. at_old names d image (laws.only_now d image since);
         before = λ k image le since. inl since;
+        kept = λ k image le since. since;
       };
     }
 
     -- the names of a run, by what it read, what became unsynced and how its time went on
     from_step : (names : Name → Type 0) (old new : D) → AgreesExcept names (disk.reads new) (disk.reads old)
+        → Shows disk old new (λ t. AgreesExcept names t (disk.reads old))
         → ((p : Name) → IsUnsynced disk new p → IsUnsyncedOr disk old names p) → Elapses disk old new → Confined disk names old new
-    from_step names old new reads unsynced time = record {
+    from_step names old new reads visible unsynced time = record {
       reads = reads;
+      visible = visible;
       unsynced = unsynced;
       images = leaves_step time (at_old names old) here;
     }
@@ -133,11 +144,14 @@ module _ {D : Type 0} {disk : DiskModel D} where
               agrees = λ p out. now.agrees p (λ h. out (unsynced p h)) ∙ reads p (λ h. out (inr h));
             }
 
+    shows_same : (names : Name → Type 0) (old new : D) → Shows disk old new (λ t. t ≡ disk.reads old) → Shows disk old new (λ t. AgreesExcept names t (disk.reads old))
+    shows_same names old new same = shows_weaker (λ t is p out. ap (λ (u : Tree). get u p) is) same
+
     -- a call that only reads
     pub confined_read : (names : Name → Type 0) {old new : D} {Answer : Type 0} → HasRead disk old new Answer
         → Confined disk names old new
     confined_read names {old = old} {new = new} call =
-        from_step names old new (λ p out. ap (λ (t : Tree). get t p) call.same.reads) (λ p h. inl (sym (call.same.unsynced p) ∙ h)) call.time
+        from_step names old new (λ p out. ap (λ (t : Tree). get t p) call.same.reads) (shows_same names old new call.same.visible) (λ p h. inl (sym (call.same.unsynced p) ∙ h)) call.time
 
     synced_names : (old new : D) (result : Result Unit DiskStop) → HasSynced disk old new result → (p : Name)
         → IsUnsynced disk new p → IsUnsynced disk old p
@@ -148,7 +162,7 @@ module _ {D : Type 0} {disk : DiskModel D} where
     pub confined_synced : (names : Name → Type 0) {old new : D} {result : Result Unit DiskStop} → HasSynced disk old new result
         → Confined disk names old new
     confined_synced names {old = old} {new = new} {result = result} call =
-        from_step names old new (λ p out. ap (λ (t : Tree). get t p) call.reads) (λ p h. inl (synced_names old new result call p h)) call.time
+        from_step names old new (λ p out. ap (λ (t : Tree). get t p) call.reads) (shows_same names old new call.visible) (λ p h. inl (synced_names old new result call p h)) call.time
 
     either : (was own : Bool) (names : Type 0) → IsTrue (was || own) → (IsTrue own → names) → IsTrue was ⊎ names
     either true own names h so = inl refl
@@ -165,4 +179,5 @@ module _ {D : Type 0} {disk : DiskModel D} where
     pub confined_changed : {own : Name → Bool} {can : Bool} {after : Tree} {old new : D} {result : Result Unit DiskStop}
         → HasChanged disk own can after old new result → Confined disk (Among own) old new
     confined_changed {own = own} {can = can} {after = after} {old = old} {new = new} {result = result} call =
-        from_step (Among own) old new (except_among own (disk.reads new) (disk.reads old) call.outside) (changed_names own can after old new result call) call.time
+        from_step (Among own) old new (except_among own (disk.reads new) (disk.reads old) call.outside)
+        (shows_weaker (λ t agrees. except_among own t (disk.reads old) agrees) call.visible) (changed_names own can after old new result call) call.time

@@ -1,5 +1,5 @@
 -- What a disk means, and what its calls may do to it.
-use Rattle.std.specs.Prelude.{◌≡◌, ◌⊎◌, ℕ, ◌≤◌, Bool, false, ◌||◌, IsTrue, List, Result, OnOk, OnErr, IsErrOf}
+use Rattle.std.specs.Prelude.{◌≡◌, ◌⊎◌, ℕ, ◌<◌, ◌≤◌, Bool, false, ◌||◌, IsTrue, List, Result, OnOk, OnErr, IsErrOf}
 use Rattle.std.specs.List.{All}
 use Rattle.tree_disk.specs.declared.disk.DiskStop.{DiskStop}
 use Rattle.tree_disk.specs.declared.disk.DiskStop.TheVariants.{Failed, Refused, Memory}
@@ -17,6 +17,8 @@ pub record DiskModel (D : Type 0) : Type 1 where
   pub unsynced : D → Name → Bool
   -- the clock: a moment that only rises
   pub now : D → ℕ
+  -- the tree that was read at a moment that has passed
+  pub reads_at : D → ℕ → Tree
   -- whether a crash at some moment since that one may have left this tree
   pub images_since : D → ℕ → Tree → Type 0
   -- how often the disk has failed; a count that stays at its greatest value
@@ -37,6 +39,8 @@ pub record IsDisk {D : Type 0} (disk : DiskModel D) : Type 0 where
   pub reads_well_formed : (d : D) → WellFormed (disk.reads d)
   -- a crash image of now is one since any earlier moment
   pub counts_now : (d : D) (k : ℕ) (t : Tree) → k ≤ disk.now d → IsImageOf disk d t → disk.images_since d k t
+  -- at this moment it reads what it reads
+  pub reads_now : (d : D) → disk.reads_at d (disk.now d) ≡ disk.reads d
   -- since this moment there are only those of now
   pub only_now : (d : D) (t : Tree) → disk.images_since d (disk.now d) t → IsImageOf disk d t
 
@@ -48,10 +52,21 @@ pub record HasCause {D T : Type 0} (disk : DiskModel D) (can : Bool) (old new : 
   pub refused : IsErrOf result Refused → IsTrue disk.tells × (can ≡ false)
   pub no_fault : IsErrOf result Refused ⊎ IsErrOf result Memory → disk.faults new ≡ disk.faults old
 
+-- At each moment after `old` up to `new` a tree was read that has P, and what was read before is kept.
+pub record Shows {D : Type 0} (disk : DiskModel D) (old new : D) (P : Tree → Type 0) : Type 0 where
+  pub later : disk.now old ≤ disk.now new
+  pub each : (k : ℕ) → disk.now old < k → k ≤ disk.now new → P (disk.reads_at new k)
+  pub kept : (k : ℕ) → k ≤ disk.now old → disk.reads_at new k ≡ disk.reads_at old k
+
+-- meanwhile the tree before was read, or the tree after, and no other
+abbrev pub InOneStep : {D : Type 0} → DiskModel D → D → D → Type 0
+InOneStep disk old new = Shows disk old new (λ t. (t ≡ disk.reads old) ⊎ (t ≡ disk.reads new))
+
 -- nothing that the disk tells of its tree is changed
 pub record Unchanged {D : Type 0} (disk : DiskModel D) (old new : D) : Type 0 where
   pub reads : disk.reads new ≡ disk.reads old
   pub unsynced : (p : Name) → disk.unsynced new p ≡ disk.unsynced old p
+  pub visible : Shows disk old new (λ t. t ≡ disk.reads old)
 
 -- Time goes on: what a crash since k might have left it still might, and else only what a crash may leave now.
 pub record Elapses {D : Type 0} (disk : DiskModel D) (old new : D) : Type 0 where
@@ -76,6 +91,9 @@ pub record HasChanged {D : Type 0} (disk : DiskModel D) (names : Name → Bool) 
   pub touches : OnOk result ((p : Name) → disk.unsynced new p ≡ (disk.unsynced old p || names p))
   pub touches_failed : IsErrOf result Failed → (p : Name) → disk.unsynced new p ≡ (disk.unsynced old p || names p)
   pub unchanged : IsErrOf result Refused ⊎ IsErrOf result Memory → Unchanged disk old new
+  -- done in one step; where it failed, other names still show what they did
+  pub one_step : OnOk result (InOneStep disk old new)
+  pub visible : Shows disk old new (λ t. AgreesOutside names t (disk.reads old))
   pub time : Elapses disk old new
 
 abbrev pub Changes : {D : Type 0} → DiskModel D → (Name → Bool) → Bool → Tree → D → D → Result Unit DiskStop → Type 0
@@ -86,6 +104,7 @@ pub record HasSynced {D : Type 0} (disk : DiskModel D) (old new : D) (result : R
   pub reads : disk.reads new ≡ disk.reads old
   pub done : OnOk result ((p : Name) → disk.unsynced new p ≡ false)
   pub unchanged : OnErr result (Unchanged disk old new)
+  pub visible : Shows disk old new (λ t. t ≡ disk.reads old)
   pub time : Elapses disk old new
 
 abbrev pub Syncs : {D : Type 0} → DiskModel D → D → D → Result Unit DiskStop → Type 0

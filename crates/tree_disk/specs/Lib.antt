@@ -1,7 +1,9 @@
 pub mod Tree
 pub mod Rows
+pub mod Looks
 pub mod Disk
 pub mod Laws
+pub mod Nodes
 pub mod Allowed
 pub mod Moments
 pub mod Confined

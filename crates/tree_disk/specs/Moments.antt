@@ -1,10 +1,11 @@
 -- How calls follow one another.
-use Rattle.std.specs.Prelude.{ℕ, ◌≤◌, refl}
-use Rattle.std.proofs.Common.{◌∙◌, ap, inl, inr, ⊎_elim, arith}
+use Rattle.std.specs.Prelude.{◌≡◌, ℕ, ◌≤◌, refl}
+use Rattle.std.proofs.Common.{◌∙◌, sym, subst, ap, inl, inr, ⊎_elim, arith}
 use Rattle.cny_base.specs.Count.{Rose}
 use Rattle.std.specs.FinMap.{get}
 use Rattle.tree_disk.specs.Tree.{Tree}
-use Rattle.tree_disk.specs.Disk.{DiskModel, IsDisk, IsImageOf, Unchanged, Elapses}
+use Rattle.std.proofs.lemmas.Bool.{cases_lt}
+use Rattle.tree_disk.specs.Disk.{DiskModel, IsDisk, IsImageOf, Shows, InOneStep, Unchanged, Elapses}
 
 -- ---- the count of faults
 
@@ -14,15 +15,52 @@ rose_later a b c h le = omega (arith, h, le)
 pub rose_before : (a b c : ℕ) → a ≤ b → Rose b c → Rose a c
 rose_before a b c le h = omega (arith, h, le)
 
+-- ---- what is read at each moment
+
+module _ {D : Type 0} {disk : DiskModel D} where
+  -- nothing has happened yet
+  pub shows_start : (d : D) (P : Tree → Type 0) → Shows disk d d P
+  shows_start d P = record { later = omega arith; each = λ k lt le. absurd (omega (arith, lt, le)); kept = λ k le. refl }
+
+  -- it may say less
+  pub shows_weaker : {old new : D} {P Q : Tree → Type 0} → ((t : Tree) → P t → Q t) → Shows disk old new P → Shows disk old new Q
+  shows_weaker weaker run = record { later = run.later; each = λ k lt le. weaker _ (run.each k lt le); kept = run.kept }
+
+  -- one run after another
+  pub shows_then : {old mid new : D} {P : Tree → Type 0} → Shows disk old mid P → Shows disk mid new P → Shows disk old new P
+  shows_then {mid = mid} {P = P} first then = record {
+    later = omega (arith, first.later, then.later);
+    each = λ k lt le. ⊎_elim
+        (λ after. then.each k after le)
+        (λ before. subst P (sym (then.kept k before)) (first.each k lt before))
+        (cases_lt (disk.now mid) k);
+    kept = λ k le. then.kept k (omega (arith, le, first.later)) ∙ first.kept k le;
+  }
+
+  -- what the trees before and after a single step have, each tree has meanwhile
+  pub shows_step : {old new : D} {P : Tree → Type 0} → InOneStep disk old new → P (disk.reads old) → P (disk.reads new) → Shows disk old new P
+  shows_step {P = P} step before after = shows_weaker (λ t is. ⊎_elim (λ was. subst P (sym was) before) (λ now. subst P (sym now) after) is) step
+
+  -- also at the moment at which the run began
+  pub shows_since : {old new : D} {P : Tree → Type 0} → IsDisk disk → Shows disk old new P → P (disk.reads old)
+      → (k : ℕ) → disk.now old ≤ k → k ≤ disk.now new → P (disk.reads_at new k)
+  shows_since {old = old} {new = new} {P = P} laws run at_old k since le = ⊎_elim
+      (λ after. run.each k after le)
+      (λ before.
+      let is : k ≡ disk.now old = omega (arith, since, before) in
+      subst P (sym (run.kept k before ∙ ap (disk.reads_at old) is ∙ laws.reads_now old)) at_old)
+      (cases_lt (disk.now old) k)
+
 -- ---- reads, one after another
 
 pub same_start : {D : Type 0} (disk : DiskModel D) (d : D) → Unchanged disk d d
-same_start disk d = record { reads = refl; unsynced = λ p. refl }
+same_start disk d = record { reads = refl; unsynced = λ p. refl; visible = shows_start d _ }
 
 pub same_on : {D : Type 0} {disk : DiskModel D} {old mid new : D} → Unchanged disk old mid → Unchanged disk mid new → Unchanged disk old new
 same_on first then = record {
   reads = then.reads ∙ first.reads;
   unsynced = λ p. then.unsynced p ∙ first.unsynced p;
+  visible = shows_then first.visible (shows_weaker (λ t is. is ∙ first.reads) then.visible);
 }
 
 -- an unchanged disk has the same crash images

@@ -1,5 +1,5 @@
 -- How steps follow one another: what callers cite, one line at each exit.
-use Rattle.std.specs.Prelude.{◌≡◌, ℕ, ◌≤◌, Bool, true, IsTrue, Result, Ok, Err, IsErrAnd, refl}
+use Rattle.std.specs.Prelude.{◌≡◌, ℕ, ◌≤◌, Bool, true, IsTrue, Result, Ok, Err, OnOk, IsErrAnd, refl}
 use Rattle.std.proofs.Common.{◌∙◌, sym, ap, subst, arith}
 use Rattle.std.specs.FinMap.{get}
 use Rattle.cny_base.specs.declared.refusal.Refusal.{Refusal}
@@ -8,7 +8,7 @@ use Rattle.cny_base.specs.declared.stop.Stop.TheVariants.{Refused, Memory, Faile
 use Rattle.tree_disk.specs.declared.disk.DiskStop.{DiskStop}
 use Rattle.tree_disk.specs.declared.disk.DiskStop.TheVariants as disk_stop
 use Rattle.tree_disk.specs.Tree.{Name, Tree}
-use Rattle.tree_disk.specs.Disk.{DiskModel, IsDisk, HasCause, HasChanged, HasSynced, Changes, Syncs}
+use Rattle.tree_disk.specs.Disk.{DiskModel, IsDisk, HasCause, HasChanged, HasSynced, Changes, Syncs, InOneStep}
 use Rattle.tree_disk.specs.Moments.{same_on, time_on, rose_before, same_start, time_start}
 use Rattle.tree_disk.specs.Confined.{Among, Confined}
 use Rattle.tree_disk.specs.ConfinedLaws.{confined_start, confined_read, confined_synced, confined_changed, confined_then, confined_wider, outside_among}
@@ -88,44 +88,6 @@ memory_ended : {Z : Type 0} (told : Bool) (goal new : Tree) (r : Result Z Stop) 
     → Ended told goal new r before now
 memory_ended told goal new (Ok z) before now is = absurd is
 memory_ended {Z = Z} told goal new (Err s) before now is = subst (λ x. Ended {X = Z} told goal new (Err x) before now) (sym is) tt
-
--- ---- a call of the disk, as a step
-
-module _ {D : Type 0} {disk : DiskModel D} (laws : IsDisk disk) where
-  call_ended : (can : Bool) (names : Name → Bool) (after : Tree) (old new : D) (r : Result Unit DiskStop)
-      → HasCause disk can old new r → (IsTrue disk.tells → can ≡ true) → Changes disk names can after old new r
-      → Ended disk.tells after (disk.reads new) (step_of r) (disk.faults old) (disk.faults new)
-  call_ended can names after old new (Ok u) cause allowed told = λ tells. (told tells).done.1
-  call_ended can names after old new (Err disk_stop.Failed) cause allowed told = cause.failed refl
-  call_ended can names after old new (Err disk_stop.Memory) cause allowed told = tt
-  call_ended can names after old new (Err disk_stop.Refused) cause allowed told = tt
-
-  pub makes_call : {can : Bool} {names : Name → Bool} {change : Tree → Tree} {old new : D} {r : Result Unit DiskStop} {s : Result Unit Stop}
-      → HasCause disk can old new r → (IsTrue disk.tells → can ≡ true)
-      → (IsTrue disk.tells → HasChanged disk names can (change (disk.reads old)) old new r) → s ≡ step_of r
-      → Makes disk names change old new s
-  makes_call {can = can} {names = names} {change = change} {old = old} {new = new} {r = r} cause allowed told is = subst (Makes disk names change old new) (sym is) (record {
-    later = cause.later;
-    ended = call_ended can names (change (disk.reads old)) old new r cause allowed told;
-    outside = λ tells. (told tells).outside;
-    confined = λ tells. confined_changed laws (told tells);
-  })
-
-  sync_ended : (old new : D) (r : Result Unit DiskStop) → HasCause disk true old new r → Syncs disk old new r
-      → Ended disk.tells (disk.reads old) (disk.reads new) (step_of r) (disk.faults old) (disk.faults new)
-  sync_ended old new (Ok u) cause told = λ tells. (told tells).reads
-  sync_ended old new (Err disk_stop.Failed) cause told = cause.failed refl
-  sync_ended old new (Err disk_stop.Memory) cause told = tt
-  sync_ended old new (Err disk_stop.Refused) cause told = tt
-
-  pub makes_sync : {old new : D} {r : Result Unit DiskStop} {s : Result Unit Stop} → HasCause disk true old new r
-      → (IsTrue disk.tells → HasSynced disk old new r) → s ≡ step_of r → Makes disk no_name (λ tree. tree) old new s
-  makes_sync {old = old} {new = new} {r = r} cause told is = subst (Makes disk no_name (λ tree. tree) old new) (sym is) (record {
-    later = cause.later;
-    ended = sync_ended old new r cause told;
-    outside = λ tells p other. ap (λ (t : Tree). get t p) (told tells).reads;
-    confined = λ tells. confined_synced laws (Among no_name) (told tells);
-  })
 
 -- ---- one step after another: what callers cite, one line at each exit
 

@@ -1,10 +1,11 @@
 -- A tree: a map from paths to nodes. A path is the list of its bytes.
-use Rattle.std.specs.Prelude.{◌≡◌, ℕ, Bool, true, false, ◌&&◌, not, IsTrue, List, map, Option, Some, None, is_some}
+use Rattle.std.specs.Prelude.{◌≡◌, ℕ, Bool, true, false, ◌&&◌, not, IsTrue, List, map, Option, Some, None, is_some, nat_le, nat_lt}
 use Rattle.std.specs.Ordering.{nat_cmp, eq_by_cmp}
 use Rattle.std.specs.Cmp.Lexicographic.{slice_cmp}
-use Rattle.std.specs.List.{filter}
+use Rattle.std.specs.List.{filter, list_all}
 use Rattle.std.specs.FinMap.{FinMap, get, insert, remove, keys}
 use Rattle.cny_base.specs.Path.{is_path, root, parent, last_name}
+use Rattle.cny_base.specs.Target.{is_target}
 use Rattle.cny_base.specs.declared.node.Node.{Node}
 use Rattle.cny_base.specs.declared.node.Node.TheVariants.{Dir, File, Link}
 
@@ -43,11 +44,29 @@ is_child p q = not (same_name q root) && same_name (parent q) p
 abbrev pub children : Tree → Name → List (List ℕ)
 children t p = map last_name (filter (is_child p) (keys t))
 
--- every name is a path, `/` is a directory, and so is the parent of every other path (that of `/` is `/` itself)
+-- whether a number is a byte
+abbrev pub is_byte : ℕ → Bool
+is_byte b = nat_lt b 256
+
+-- The nodes that a disk can hold: a mode is at most 4095, a file's contents are bytes, and a link's target is one by its
+-- grammar.
+unfoldable pub is_node : Node → Bool
+is_node (Dir mode) = nat_le mode 4095
+is_node (File mode bytes) = nat_le mode 4095 && list_all is_byte bytes
+is_node (Link target) = is_target target
+
+-- nothing, or such a node
+abbrev pub may_stand : Option Node → Bool
+may_stand None = true
+may_stand (Some node) = is_node node
+
+-- Every name is a path, `/` is a directory, and so is the parent of every other path (that of `/` is `/` itself); each
+-- node is one that a disk can hold.
 pub record WellFormed (t : Tree) : Type 0 where
   pub paths : (p : Name) → IsTrue (is_some (get t p)) → IsTrue (is_path p)
   pub root_stands : IsTrue (is_dir (get t root))
   pub parents : (p : Name) → IsTrue (is_some (get t p)) → IsTrue (is_dir (get t (parent p)))
+  pub nodes : (p : Name) → IsTrue (may_stand (get t p))
 
 -- two trees are equal at every name that isn't one of these
 abbrev pub AgreesOutside : (Name → Bool) → Tree → Tree → Type 0

@@ -1,7 +1,5 @@
 -- What `read_whole` answers.
 use Rattle.std.specs.Prelude.{◌≡◌, ℕ, ◌<◌, ◌≤◌, ◌-◌, min, List, ◌++◌, Option, Some, None, length, take, drop, nat_le, if◌then◌else◌}
-use Rattle.tree_disk.specs.declared.disk.Look.{Look}
-use Rattle.tree_disk.specs.declared.disk.Look.TheVariants.{File}
 
 -- the bytes, where there are no more than `most`, and else none
 abbrev pub IsWhole : List ℕ → ℕ → Option (List ℕ) → Type 0
@@ -11,10 +9,6 @@ IsWhole file most None = most < length file
 -- the same, as the answer
 abbrev pub whole_within : ℕ → List ℕ → Option (List ℕ)
 whole_within most file = if nat_le (length file) most then Some file else None
-
-abbrev pub look_size : Look → ℕ
-look_size (File mode size) = size
-look_size _ = 0
 
 -- the next piece of a file, where there is room for so many bytes
 pub record IsPiece (file : List ℕ) (room : ℕ) (old new : List ℕ) (count : ℕ) : Type 0 where

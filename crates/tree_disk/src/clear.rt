@@ -6,14 +6,13 @@ ghost use Rattle.cny_base.specs.Path.{is_path, join, root};
 ghost use Rattle.cny_base.specs.declared.stop.Stop.TheVariants as stop;
 ghost use Rattle.cny_base.specs.Below.{is_below};
 ghost use Rattle.tree_disk.specs.declared.disk.DiskStop.TheVariants.{Failed, Refused};
-ghost use Rattle.tree_disk.specs.Clear as spec;
 ghost use Rattle.tree_disk.specs.Clear.{is_within, without_each, without_tree, IsBare};
 ghost use Rattle.tree_disk.specs.Confined.{Among, Confined};
 ghost use Rattle.tree_disk.specs.Disk.{NamesOf};
 ghost use Rattle.tree_disk.specs.Rows.{is_dir_at};
 ghost use Rattle.tree_disk.specs.Steps.{Makes};
 
-use crate::{DiskStop, Look, TreeDisk, steps};
+use crate::{DiskStop, TreeDisk, steps};
 use cny_base::{Path, Stop, Text, TextFault};
 use std::alloc::{AllocError, Global};
 
@@ -37,18 +36,6 @@ pub fn clear_tree<D: TreeDisk>(alloc: Global, disk: &mut D, path: &Path) -> Resu
     }
 }
 
-fn is_nothing(look: &Look) -> bool
-    ensures { result ≡ spec.sees_nothing look.now }
-{
-    matches!(look, Look::Nothing)
-}
-
-fn is_dir(look: &Look) -> bool
-    ensures { result ≡ spec.sees_dir look.now }
-{
-    matches!(look, Look::Dir { .. })
-}
-
 #[cycle(clear)]
 pub(crate) fn clear_at<D: TreeDisk>(alloc: Global, disk: &mut D, path: &Path) -> Result<(), Stop>
     requires path { IsTrue (is_path path.now) }
@@ -58,10 +45,10 @@ pub(crate) fn clear_at<D: TreeDisk>(alloc: Global, disk: &mut D, path: &Path) ->
         disk.old disk.new result }
 {
     let look = steps::look(alloc, disk, path)?;
-    if is_nothing(&look) {
+    if look.is_nothing() {
         return Ok(());
     }
-    if is_dir(&look) {
+    if look.is_dir() {
         return clear_dir(alloc, disk, path);
     }
     steps::remove(alloc, disk, path)

@@ -6,7 +6,7 @@ ghost use Rattle.tree_disk.specs.Rows.{is_file_at, is_dir_at, can_append, can_ma
 ghost use Rattle.cny_base.specs.declared.node.Node.TheVariants.{Dir, Link};
 ghost use Rattle.tree_disk.specs.Disk.{DiskModel, IsDisk, HasCause, Reads, Changes, Syncs, one_name, two_names, NamesOf};
 
-use cny_base::{Mode, Names, OutOfMemory, Path, Target};
+use cny_base::{Copies, Mode, Names, OutOfMemory, Path, Target};
 use std::alloc::{AllocError, AllocFailed, Global};
 
 /// Why a call of a disk didn't do its work.
@@ -56,6 +56,65 @@ pub enum Look {
     Link { target: Target },
 }
 
+impl Look {
+    ghost use Rattle.std.specs.Prelude.{◌≡◌};
+    ghost use Rattle.tree_disk.specs.Looks.{sees_nothing, sees_dir, sees_file, sees_link, size_seen};
+
+    /// Whether nothing stands there.
+    pub fn is_nothing(&self) -> bool
+        ensures { result ≡ sees_nothing self.now }
+    {
+        matches!(self, Look::Nothing)
+    }
+
+    /// Whether a directory stands there.
+    pub fn is_dir(&self) -> bool
+        ensures { result ≡ sees_dir self.now }
+    {
+        matches!(self, Look::Dir { .. })
+    }
+
+    /// Whether a file stands there.
+    pub fn is_file(&self) -> bool
+        ensures { result ≡ sees_file self.now }
+    {
+        matches!(self, Look::File { .. })
+    }
+
+    /// Whether a link stands there.
+    pub fn is_link(&self) -> bool
+        ensures { result ≡ sees_link self.now }
+    {
+        matches!(self, Look::Link { .. })
+    }
+
+    /// How many bytes the file has that stands there; none where no file stands.
+    pub fn size(&self) -> Option<u64>
+        ensures { result ≡ size_seen self.now }
+    {
+        match self {
+            Look::File { size, .. } => Some(*size),
+            _ => None,
+        }
+    }
+}
+
+impl Copies for Look {
+    fn copy(&self) -> Result<Self, OutOfMemory> {
+        Ok(match self {
+            Look::Nothing => Look::Nothing,
+            Look::Dir { mode } => Look::Dir { mode: *mode },
+            Look::File { mode, size } => Look::File {
+                mode: *mode,
+                size: *size,
+            },
+            Look::Link { target } => Look::Link {
+                target: target.copy()?,
+            },
+        })
+    }
+}
+
 /// A disk that holds one tree of directories, files and links.
 ///
 /// What a disk holds can be known of some disks alone, as one in memory; of a host's disk nothing is known
@@ -72,9 +131,13 @@ pub enum Look {
 /// name what it held at the last successful `sync`. Nothing else is promised: no order of the calls, no
 /// atomic write and no atomic rename. What the disk reads is one of these trees. Each tree that a crash
 /// may have left at some moment is kept for good, so that a clause can speak of all moments of a run.
+///
+/// What others on the machine read meanwhile is told too: the tree that the disk read at each moment that
+/// has passed. A call that ends well goes from the tree before it to the tree after it in one step. Where a
+/// call failed, nothing is promised of its own names meanwhile; other names show what they did.
 pub trait TreeDisk {
     /// What the disk means: whether it tells its tree, what it reads, which names are unsynced, its clock,
-    /// what a crash since a moment may have left, and its count of faults.
+    /// what it read at each moment, what a crash since a moment may have left, and its count of faults.
     ghost disk: { DiskModel Self };
 
     /// What stands at the path. It is always allowed.
@@ -84,7 +147,7 @@ pub trait TreeDisk {
             (IfOk result (λ look. look ≡ look_of (disk.reads self.old) path.now)) };
 
     /// Fills `buf` from a place in a file up to the file's end, and answers how many bytes that gave. What
-    /// `buf` holds behind them stays. Allowed where a file stands.
+    /// `buf` holds behind them stays. After an error `buf` holds anything. Allowed where a file stands.
     fn read_at(
         &mut self,
         alloc: Global,
@@ -154,7 +217,8 @@ pub trait TreeDisk {
         ensures cause { HasCause disk Bool.true self.old self.new result }
         ensures told { Syncs disk self.old self.new result };
 
-    /// The tree that the disk reads is well formed, the clock counts the present moment among those that
-    /// have passed, and since the present moment a crash may leave only what it may leave now.
+    /// The tree that the disk reads is well formed and is the one that it reads at the present moment, the
+    /// clock counts the present moment among those that have passed, and since the present moment a crash
+    /// may leave only what it may leave now.
     ghost laws: { IsDisk disk };
 }

@@ -3,14 +3,13 @@
 
 mod clear;
 mod disk;
+mod ranges;
 pub mod steps;
 mod whole;
 mod write;
 
 pub use clear::clear_tree;
 pub use disk::{DiskStop, Look, TreeDisk};
+pub use ranges::{byte_ranges, node_ranges};
 pub use whole::read_whole;
 pub use write::{make_file, write_file};
-
-#[cfg(test)]
-mod tests;

@@ -7,7 +7,7 @@ ghost use Rattle.cny_base.specs.Path.{root};
 ghost use Rattle.tree_disk.specs.Clear.{is_within, without_tree};
 ghost use Rattle.tree_disk.specs.Tree.{children};
 ghost use Rattle.tree_disk.specs.Rows.{bytes_at, is_file_at, is_dir_at, can_append, can_make, can_set_mode, can_remove, can_rename, with_append, with_node, with_mode, without, with_rename, ReadsFrom, look_of};
-ghost use Rattle.tree_disk.specs.Disk.{one_name, two_names, NamesOf};
+ghost use Rattle.tree_disk.specs.Disk.{one_name, two_names, InOneStep, NamesOf};
 ghost use Rattle.tree_disk.specs.Confined.{IsSynced};
 ghost use Rattle.tree_disk.specs.Whole.{whole_within};
 ghost use Rattle.tree_disk.specs.Steps.{Tests, Makes, IsDiskStop, no_name, step_of};
@@ -40,7 +40,8 @@ pub fn look<D: TreeDisk>(alloc: Global, disk: &mut D, path: &Path) -> Result<Loo
     allowed(disk.look(alloc, path))
 }
 
-/// Fills `buf` from a place in a file up to the file's end, and answers how many bytes that gave.
+/// Fills `buf` from a place in a file up to the file's end, and answers how many bytes that gave. After an
+/// error `buf` holds anything.
 pub fn read_at<D: TreeDisk>(
     alloc: Global,
     disk: &mut D,
@@ -81,9 +82,10 @@ pub fn append<D: TreeDisk>(
     bytes: &[u8],
 ) -> Result<(), Stop>
     requires { IsTrue D.disk.tells → IsTrue (can_append (D.disk.reads disk.old) path.now) }
-    ensures { Makes D.disk (one_name path.now)
+    ensures makes { Makes D.disk (one_name path.now)
         (λ tree. with_append tree path.now bytes.now)
         disk.old disk.new result }
+    ensures one_step { IsTrue D.disk.tells → OnOk result (InOneStep D.disk disk.old disk.new) }
 {
     allowed(disk.append(alloc, path, bytes))
 }
@@ -96,9 +98,10 @@ pub fn make_dir<D: TreeDisk>(
     mode: Mode,
 ) -> Result<(), Stop>
     requires { IsTrue D.disk.tells → IsTrue (can_make (D.disk.reads disk.old) path.now) }
-    ensures { Makes D.disk (one_name path.now)
+    ensures makes { Makes D.disk (one_name path.now)
         (λ tree. with_node tree path.now (node.Dir mode))
         disk.old disk.new result }
+    ensures one_step { IsTrue D.disk.tells → OnOk result (InOneStep D.disk disk.old disk.new) }
 {
     allowed(disk.make_dir(alloc, path, mode))
 }
@@ -111,9 +114,10 @@ pub fn make_link<D: TreeDisk>(
     target: &Target,
 ) -> Result<(), Stop>
     requires { IsTrue D.disk.tells → IsTrue (can_make (D.disk.reads disk.old) path.now) }
-    ensures { Makes D.disk (one_name path.now)
+    ensures makes { Makes D.disk (one_name path.now)
         (λ tree. with_node tree path.now (node.Link target.now))
         disk.old disk.new result }
+    ensures one_step { IsTrue D.disk.tells → OnOk result (InOneStep D.disk disk.old disk.new) }
 {
     allowed(disk.make_link(alloc, path, target))
 }
@@ -126,9 +130,10 @@ pub fn set_mode<D: TreeDisk>(
     mode: Mode,
 ) -> Result<(), Stop>
     requires { IsTrue D.disk.tells → IsTrue (can_set_mode (D.disk.reads disk.old) path.now) }
-    ensures { Makes D.disk (one_name path.now)
+    ensures makes { Makes D.disk (one_name path.now)
         (λ tree. with_mode tree path.now mode)
         disk.old disk.new result }
+    ensures one_step { IsTrue D.disk.tells → OnOk result (InOneStep D.disk disk.old disk.new) }
 {
     allowed(disk.set_mode(alloc, path, mode))
 }
@@ -136,9 +141,10 @@ pub fn set_mode<D: TreeDisk>(
 /// Takes away a file, a link or a directory without children.
 pub fn remove<D: TreeDisk>(alloc: Global, disk: &mut D, path: &Path) -> Result<(), Stop>
     requires { IsTrue D.disk.tells → IsTrue (can_remove (D.disk.reads disk.old) path.now) }
-    ensures { Makes D.disk (one_name path.now)
+    ensures makes { Makes D.disk (one_name path.now)
         (λ tree. without tree path.now)
         disk.old disk.new result }
+    ensures one_step { IsTrue D.disk.tells → OnOk result (InOneStep D.disk disk.old disk.new) }
 {
     allowed(disk.remove(alloc, path))
 }
@@ -146,9 +152,10 @@ pub fn remove<D: TreeDisk>(alloc: Global, disk: &mut D, path: &Path) -> Result<(
 /// Moves a file or link, over a file or link that stands there.
 pub fn rename<D: TreeDisk>(alloc: Global, disk: &mut D, from: &Path, to: &Path) -> Result<(), Stop>
     requires { IsTrue D.disk.tells → IsTrue (can_rename (D.disk.reads disk.old) from.now to.now) }
-    ensures { Makes D.disk (two_names from.now to.now)
+    ensures makes { Makes D.disk (two_names from.now to.now)
         (λ tree. with_rename tree from.now to.now)
         disk.old disk.new result }
+    ensures one_step { IsTrue D.disk.tells → OnOk result (InOneStep D.disk disk.old disk.new) }
 {
     allowed(disk.rename(alloc, from, to))
 }

@@ -7,7 +7,7 @@ ghost use Rattle.cny_base.specs.Count.{Rose};
 ghost use Rattle.tree_disk.specs.Whole.{IsWhole};
 ghost use Rattle.tree_disk.specs.Whole as whole;
 
-use crate::{DiskStop, Look, TreeDisk};
+use crate::{DiskStop, TreeDisk};
 use cny_base::{Bytes, Path};
 use std::alloc::Global;
 
@@ -46,16 +46,7 @@ fn size_at<D: TreeDisk>(alloc: Global, disk: &mut D, path: &Path) -> Result<u64,
     ensures cause { HasCause D.disk true disk.old disk.new result }
 {
     let look = disk.look(alloc, path)?;
-    Ok(size_of(&look))
-}
-
-fn size_of(look: &Look) -> u64
-    ensures { result ≡ whole.look_size look.now }
-{
-    match look {
-        Look::File { size, .. } => *size,
-        _ => 0,
-    }
+    Ok(look.size().unwrap_or(0))
 }
 
 // The bytes of a file of this size.

@@ -1,9 +1,10 @@
 -- What a changing call does, where it is done and where it fails.
-use Rattle.std.proofs.Common.{◌≡◌, inl, ⊎_elim, ℕ, ◌≤◌, Bool, true, false, cond, ◌||◌, ◌&&◌, not, List, refl, sym, ◌∙◌, ap, subst, arith, Result, Ok, Err, IfOk}
+use Rattle.std.proofs.Common.{◌≡◌, inl, ⊎_elim, ℕ, zero, suc, ◌≤◌, ◌/◌, Bool, true, false, cond, ◌||◌, ◌&&◌, not, List, [], ◌∷◌, length, take, refl, sym, ◌∙◌, ap, subst, arith, Result, Ok, Err, IfOk}
 use Rattle.std.specs.FinMap.{get}
+use Rattle.std.specs.List.{list_all}
 use Rattle.cny_base.specs.Count.{next}
 use Rattle.cny_base.specs.declared.text.OutOfMemory.{OutOfMemory}
-use Rattle.tree_disk.specs.Tree.{Name, Tree, WellFormed}
+use Rattle.tree_disk.specs.Tree.{Name, Tree, is_byte, WellFormed}
 use Rattle.tree_disk.specs.Disk.{HasSynced}
 use Rattle.tree_disk.specs.Rows.{with_append}
 use Rattle.tree_disk.specs.Allowed.{part_well_formed}
@@ -16,7 +17,8 @@ use Rattle.tree_memory.specs.State.{State, tree_after, names_of, settles, failed
 use Rattle.tree_memory.specs.Replay.{outside}
 use Rattle.tree_memory.specs.Memory.{memory_disk, state, faults_of, fails_next, does_part}
 use Rattle.tree_memory.specs.Calls.{IsAttempt, IsDone, CountsCall}
-use Rattle.tree_memory.proofs.Moves.{OneMore, reads_pushed, unsynced_pushed, state_pushed, elapsed}
+use Rattle.tree_disk.specs.Moments.{shows_step}
+use Rattle.tree_memory.proofs.Moves.{OneMore, in_one_step, reads_pushed, unsynced_pushed, state_pushed, elapsed}
 
 -- ---- the change of a failed call
 
@@ -48,9 +50,18 @@ failed_settles (TouchBoth from to) part h = refl
 failed_settles Sync part h = h
 failed_settles (Edit p o) part h = h
 
+half_bytes : (n : ℕ) (bytes : List ℕ) → list_all is_byte bytes ≡ true → list_all is_byte (take n bytes) ≡ true
+half_bytes zero bytes all = refl
+half_bytes (suc n) [] all = refl
+half_bytes (suc n) (b ∷ bytes) all = both (is_byte b) (list_all is_byte bytes) (list_all is_byte (take n bytes)) (half_bytes n bytes) all
+  where
+    both : (x y z : Bool) → (y ≡ true → z ≡ true) → (x && y) ≡ true → (x && z) ≡ true
+    both true y z next h = next h
+    both false y z next h = h
+
 append_keeps : (p : Name) (bytes : List ℕ) (part : Bool) (t : Tree) → WellFormed t → (part ≡ true → WellFormed (tree_after (Append p bytes) t))
     → WellFormed (tree_after (cond part (Append p (first_half bytes)) (Touch p)) t)
-append_keeps p bytes true t well after = part_well_formed t p bytes (first_half bytes) (after refl)
+append_keeps p bytes true t well after = part_well_formed t p bytes (first_half bytes) well (half_bytes (length bytes / 2) bytes) (after refl)
 append_keeps p bytes false t well after = well
 
 pub failed_keeps : (change : Change) (part : Bool) (t : Tree) → settles change ≡ false → WellFormed t → (part ≡ true → WellFormed (tree_after change t)) → WellFormed (tree_after (failed_change change part) t)
@@ -94,6 +105,8 @@ module _ {old new : MemoryTree} (counts : CountsCall old new) where
           touches = unsynced_pushed one attempt.settles_not;
           touches_failed = λ e. absurd (cc e);
           unchanged = ⊎_elim (λ e. absurd (cc e)) (λ e. absurd (cc e));
+          one_step = in_one_step one;
+          visible = shows_step (in_one_step one) (λ p other. refl) (λ p other. ap (λ t. get t p) (reads_pushed one) ∙ outside change (state old).reads p other);
           time = elapsed one;
         };
         counted = record {
@@ -126,6 +139,9 @@ module _ {old new : MemoryTree} (counts : CountsCall old new) where
           touches = tt;
           touches_failed = λ e p. unsynced_pushed one (failed_settles change (does_part old can) attempt.settles_not) p ∙ ap (λ f. (state old).unsynced p || f p) names;
           unchanged = ⊎_elim (λ e. absurd (cc e)) (λ e. absurd (cc e));
+          one_step = tt;
+          visible = shows_step (in_one_step one) (λ p other. refl)
+              (λ p other. ap (λ t. get t p) (reads_pushed one) ∙ outside (failed_change change (does_part old can)) (state old).reads p (ap (λ f. f p) names ∙ other));
           time = elapsed one;
         };
         counted = record {
@@ -144,6 +160,7 @@ synced more = record {
   reads = reads_pushed more;
   done = λ p. ap (λ (s : State). s.unsynced p) (state_pushed more);
   unchanged = tt;
+  visible = shows_step (in_one_step more) refl (reads_pushed more);
   time = elapsed more;
 }
 

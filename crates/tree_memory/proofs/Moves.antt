@@ -4,7 +4,7 @@ use Rattle.std.proofs.lemmas.Bool.{cases_lt}
 use Rattle.std.specs.FinMap.{from_entries}
 use Rattle.cny_base.specs.declared.node.Node.{Node}
 use Rattle.tree_disk.specs.Tree.{Name, put}
-use Rattle.tree_disk.specs.Disk.{Unchanged, Elapses, IsCrashImage}
+use Rattle.tree_disk.specs.Disk.{Unchanged, Elapses, InOneStep, IsCrashImage}
 use Rattle.tree_memory.specs.declared.change.Change.{Change}
 use Rattle.tree_memory.specs.declared.change.Change.TheVariants.{Edit}
 use Rattle.tree_memory.specs.declared.memory.MemoryTree.{MemoryTree}
@@ -55,6 +55,16 @@ module _ {old new : MemoryTree} {change : Change} (more : OneMore old new change
         (cases_lt (length old.changes.items) was.moment);
   }
 
+  -- it reads the tree before, and then the tree after
+  pub in_one_step : InOneStep memory_disk old new
+  in_one_step = record {
+    later = omega (arith, longer);
+    kept = λ k le. ap (λ (s : State). s.reads) (earlier k le);
+    each = λ k lt le.
+        let last : k ≡ length new.changes.items = omega (arith, longer, lt, le) in
+        inr (ap (λ (s : State). s.reads) (ap (state_then new) last ∙ ap (λ l. replay l (settled (from_entries new.first))) (take_whole new.changes.items)));
+  }
+
   pub reads_pushed : (state new).reads ≡ tree_after change (state old).reads
   reads_pushed = ap (λ (s : State). s.reads) state_pushed ∙ reads_step change (state old)
 
@@ -77,6 +87,11 @@ module _ {old new : MemoryTree} (same : NoMore old new) where
   unchanged = record {
     reads = ap (λ (s : State). s.reads) state_same;
     unsynced = λ p. ap (λ (s : State). s.unsynced p) state_same;
+    visible = record {
+      later = omega (arith, ap length same.changes);
+      kept = λ k le. ap (λ (s : State). s.reads) (then_same k);
+      each = λ k lt le. absurd (omega (arith, ap length same.changes, lt, le));
+    };
   }
 
   pub still : Elapses memory_disk old new
@@ -86,14 +101,15 @@ module _ {old new : MemoryTree} (same : NoMore old new) where
     nothing_else = λ k t h was. inl (record { moment = was.moment; since = was.since; passed = omega (arith, ap length same.changes, was.passed); image = subst (λ (s : State). IsCrashImage s.reads s.unsynced t) (then_same was.moment) was.image });
   }
 
-pub edited : {old new : MemoryTree} (p q : Name) (o : Option Node) → OneMore old new (Edit p o) → new.schedule ≡ old.schedule → p ≡ q → IsEdited (put (state old).reads q o) old new
+pub edited : {old new : MemoryTree} (p q : Name) (o : Option Node) → OneMore old new (Edit p o) → new.turns ≡ old.turns → p ≡ q → IsEdited (put (state old).reads q o) old new
 edited {old} {new} p q o more counts same = record {
   state = state_pushed more ∙ ap (λ (n : Name). settled (put (state old).reads n o)) same;
+  one_step = in_one_step more;
   time = elapsed more;
   counts = record {
-    calls = ap (λ s. s.calls) counts;
+    calls = ap (λ s. s.schedule.calls) counts;
     stop = ap (λ s. s.left) counts;
-    fails = ap (λ s. s.fails) counts;
-    faults = ap (λ s. s.faults) counts;
+    fails = ap (λ s. s.schedule.fails) counts;
+    faults = ap (λ s. s.schedule.faults) counts;
   };
 }

@@ -1,12 +1,7 @@
 -- Numbers of calls, and which of them fail.
-use Rattle.std.specs.Prelude.{ℕ, Bool, true, false, List, Option, Some, None, Result, Ok, Err, ◌==◌, ◌-◌}
-use Rattle.std.specs.List.{list_any}
+use Rattle.std.specs.Prelude.{ℕ, Bool, true, false, Option, Some, None, Result, Ok, Err, ◌==◌, ◌-◌}
 use Rattle.tree_disk.specs.declared.disk.DiskStop.{DiskStop}
 use Rattle.tree_disk.specs.declared.disk.DiskStop.TheVariants.{Failed}
-
--- whether a number is on the list
-abbrev pub is_listed : List ℕ → ℕ → Bool
-is_listed fails number = list_any (λ n. n == number) fails
 
 -- whether the stop has come: no call is left before it
 abbrev pub is_stopped : Option ℕ → Bool

@@ -6,10 +6,11 @@ use Rattle.cny_base.specs.Count.{next}
 use Rattle.tree_disk.specs.declared.disk.DiskStop.{DiskStop}
 use Rattle.tree_disk.specs.declared.disk.DiskStop.TheVariants.{Failed, Memory}
 use Rattle.tree_disk.specs.Tree.{Tree, WellFormed}
-use Rattle.tree_disk.specs.Disk.{DiskModel, IsDisk, IsCrashImage, Elapses}
+use Rattle.tree_disk.specs.Disk.{DiskModel, IsDisk, IsCrashImage, Elapses, InOneStep}
 use Rattle.tree_memory.specs.declared.memory.MemoryTree.{MemoryTree}
 use Rattle.tree_memory.specs.State.{State, settled, state_of, replay}
-use Rattle.tree_memory.specs.Counts.{is_listed, is_stopped, one_less, is_failed}
+use Rattle.cny_base.specs.Schedule.{is_listed}
+use Rattle.tree_memory.specs.Counts.{is_stopped, one_less, is_failed}
 use Rattle.tree_memory.specs.Replay.{take_whole}
 
 -- the state at this moment
@@ -22,19 +23,19 @@ state_then d k = state_of d.first (take k d.changes.items)
 
 -- how many calls were made, whatever they answered
 abbrev pub calls_of : MemoryTree → ℕ
-calls_of d = d.schedule.calls
+calls_of d = d.turns.schedule.calls
 
 -- the numbers of the calls that are to fail
 abbrev pub fails_of : MemoryTree → List ℕ
-fails_of d = d.schedule.fails
+fails_of d = d.turns.schedule.fails
 
 -- how many calls are left before the stop, where one is set
 abbrev pub stop_of : MemoryTree → Option ℕ
-stop_of d = d.schedule.left
+stop_of d = d.turns.left
 
 -- how many calls failed
 abbrev pub faults_of : MemoryTree → ℕ
-faults_of d = d.schedule.faults
+faults_of d = d.turns.schedule.faults
 
 -- a moment since k at which a crash may have left this tree
 pub record WasImage (d : MemoryTree) (k : ℕ) (t : Tree) : Type 0 where
@@ -49,6 +50,7 @@ memory_disk = record {
   reads = λ d. (state d).reads;
   unsynced = λ d. (state d).unsynced;
   now = λ d. length d.changes.items;
+  reads_at = λ d k. (state_then d k).reads;
   images_since = WasImage;
   faults = faults_of;
 }
@@ -66,6 +68,7 @@ memory_laws = record {
     passed = omega arith;
     image = subst (λ (s : State). IsCrashImage s.reads s.unsynced t) (sym (state_now d)) image;
   };
+  reads_now = λ d. ap (λ (s : State). s.reads) (state_now d);
   only_now = λ d t was.
       let here : was.moment ≡ length d.changes.items = omega (arith, was.since, was.passed) in
       subst (λ (s : State). IsCrashImage s.reads s.unsynced t) (ap (state_then d) here ∙ state_now d) was.image;
@@ -108,6 +111,7 @@ pub record Begins (t : Tree) (numbers : List ℕ) (d : MemoryTree) : Type 0 wher
 -- an edit: the tree that is read counts as synced
 pub record IsEdited (t : Tree) (old new : MemoryTree) : Type 0 where
   pub state : state new ≡ settled t
+  pub one_step : InOneStep memory_disk old new
   pub time : Elapses memory_disk old new
   pub counts : SameCounts old new
 

@@ -6,8 +6,9 @@ ghost use Rattle.tree_memory.specs.declared.change.Change.TheVariants.{Append, P
 
 use crate::change::Change;
 use crate::memory::MemoryTree;
-use cny_base::{Bytes, Mode, Node, OutOfMemory, Path, Target};
+use cny_base::{Bytes, Copies, Mode, Node, OutOfMemory, Path, Target};
 use std::alloc::Global;
+use tree_disk::{byte_ranges, node_ranges};
 
 /// A change, and whether the tree as it is allows it.
 #[derive(Drop)]
@@ -28,6 +29,7 @@ impl MemoryTree {
     ) -> Result<Attempt, OutOfMemory>
         ensures { IfOk result (IsAttempt self.now (Append path.now bytes.now) (can_append (state self.now).reads path.now)) }
     {
+        byte_ranges(bytes);
         let allowed = self.nodes.can_append(path);
         let path = path.copy()?;
         let bytes = Bytes::new(alloc, bytes)?;
@@ -40,7 +42,9 @@ impl MemoryTree {
     {
         let allowed = self.nodes.can_make(path);
         let path = path.copy()?;
-        let node = Some(Node::Dir { mode });
+        let node = Node::Dir { mode };
+        node_ranges(&node);
+        let node = Some(node);
         let change = Change::Put { path, node };
         Ok(Attempt { change, allowed })
     }
@@ -55,7 +59,9 @@ impl MemoryTree {
         let allowed = self.nodes.can_make(path);
         let path = path.copy()?;
         let target = target.copy()?;
-        let node = Some(Node::Link { target });
+        let node = Node::Link { target };
+        node_ranges(&node);
+        let node = Some(node);
         let change = Change::Put { path, node };
         Ok(Attempt { change, allowed })
     }
@@ -64,6 +70,8 @@ impl MemoryTree {
         ensures { IfOk result (IsAttempt self.now (SetMode path.now mode) (can_set_mode (state self.now).reads path.now)) }
     {
         let allowed = self.nodes.can_set_mode(path);
+        // Its clause says that it is at most 0o7777.
+        let _bits = mode.bits();
         let path = path.copy()?;
         let change = Change::SetMode { path, mode };
         Ok(Attempt { change, allowed })

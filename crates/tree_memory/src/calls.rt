@@ -1,5 +1,5 @@
 // The calls of a disk, on a tree in memory.
-ghost use Rattle.std.specs.Prelude.{◌≡◌, ◌≤◌, Bool, true, false, List, [], length, IfOk, OnOk, OnErr, IsErrOf, IsTrue, if◌then◌else◌};
+ghost use Rattle.std.specs.Prelude.{◌≡◌, ◌↔◌, ◌≤◌, Bool, true, false, List, [], length, IfOk, OnOk, OnErr, IsErrOf, IsTrue, if◌then◌else◌};
 ghost use Rattle.cny_base.specs.Count.{next};
 ghost use Rattle.cny_base.specs.declared.node.Node.TheVariants.{Dir, Link};
 ghost use Rattle.tree_disk.specs.declared.disk.DiskStop.TheVariants.{Failed};
@@ -27,12 +27,12 @@ fn perform(
     requires { IfOk attempt (λ a. IsAttempt tree.old a.change a.allowed a) }
     ensures { (change : Change) (can : Bool) → IfOk attempt (IsAttempt tree.old change can) → IsDone change can tree.old tree.new result }
 {
-    let turn = tree.schedule.turn();
+    let turn = tree.turns.turn();
     let Attempt { change, allowed } = attempt?;
     if turn.fails {
         let change = change.failed(alloc, turn.does_part(allowed))?;
         tree.record(alloc, change)?;
-        tree.schedule.fault();
+        tree.turns.schedule.count_fault();
         return Err(DiskStop::Failed);
     }
     if !allowed {
@@ -47,10 +47,11 @@ fn perform_sync(tree: &mut MemoryTree) -> Result<(), DiskStop>
     ensures cause { HasCause memory_disk true tree.old tree.new result }
     ensures told { Syncs memory_disk tree.old tree.new result }
     ensures counted { IsCounted tree.old tree.new result }
+    ensures fails { IsErrOf result Failed ↔ IsTrue (fails_next tree.old) }
 {
-    let turn = tree.schedule.turn();
+    let turn = tree.turns.turn();
     if turn.fails {
-        tree.schedule.fault();
+        tree.turns.schedule.count_fault();
         return Err(DiskStop::Failed);
     }
     tree.settle()?;
@@ -62,9 +63,9 @@ fn read_fails(tree: &mut MemoryTree) -> bool
     ensures goes_on { result ≡ false → GoesOn tree.old tree.new }
     ensures fails { result ≡ true → IsFailure tree.old tree.new }
 {
-    let turn = tree.schedule.turn();
+    let turn = tree.turns.turn();
     if turn.fails {
-        tree.schedule.fault();
+        tree.turns.schedule.count_fault();
     }
     turn.fails
 }
@@ -78,6 +79,7 @@ impl TreeDisk for MemoryTree {
         ensures cause { HasCause memory_disk Bool.true self.old self.new result }
         ensures told { Reads memory_disk self.old self.new (IfOk result (λ look. look ≡ look_of (state self.old).reads path.now)) }
         ensures counted { IsCounted self.old self.new result }
+        ensures fails { IsErrOf result Failed ↔ IsTrue (fails_next self.old) }
     {
         if read_fails(self) {
             return Err(DiskStop::Failed);
@@ -96,6 +98,7 @@ impl TreeDisk for MemoryTree {
         ensures most { IfOk result (λ count. count ≤ length buf.old) }
         ensures told { Reads memory_disk self.old self.new (IfOk result (λ count. ReadsFrom (state self.old).reads path.now at buf.old buf.new count)) }
         ensures counted { IsCounted self.old self.new result }
+        ensures fails { IsErrOf result Failed ↔ IsTrue (fails_next self.old) }
     {
         if read_fails(self) {
             return Err(DiskStop::Failed);
@@ -111,6 +114,7 @@ impl TreeDisk for MemoryTree {
         ensures names { IfOk result (NamesOf path.now) }
         ensures told { Reads memory_disk self.old self.new (IfOk result (λ names. IsTrue (is_dir_at (state self.old).reads path.now) × (names ≡ children (state self.old).reads path.now))) }
         ensures counted { IsCounted self.old self.new result }
+        ensures fails { IsErrOf result Failed ↔ IsTrue (fails_next self.old) }
     {
         if read_fails(self) {
             return Err(DiskStop::Failed);
@@ -193,6 +197,7 @@ impl TreeDisk for MemoryTree {
         ensures cause { HasCause memory_disk Bool.true self.old self.new result }
         ensures told { Syncs memory_disk self.old self.new result }
         ensures counted { IsCounted self.old self.new result }
+        ensures fails { IsErrOf result Failed ↔ IsTrue (fails_next self.old) }
     {
         perform_sync(self)
     }

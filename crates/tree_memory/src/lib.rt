@@ -6,10 +6,7 @@ mod calls;
 mod change;
 mod crash;
 mod memory;
-mod schedule;
+mod turns;
 
 pub use memory::{MemoryTree, TreeFault};
 pub use tree_nodes::Nodes;
-
-#[cfg(test)]
-mod tests;

@@ -7,8 +7,8 @@ ghost use Rattle.tree_memory.specs.State.{state_of, tree_after};
 
 use crate::change::Change;
 use crate::crash;
-use crate::schedule::Schedule;
-use cny_base::{Fails, Node, OutOfMemory, Path};
+use crate::turns::Turns;
+use cny_base::{Copies, Fails, Node, OutOfMemory, Path};
 use std::alloc::Global;
 use tree_nodes::{NodeMap, Nodes};
 
@@ -18,7 +18,7 @@ pub struct MemoryTree {
     pub(crate) first: Nodes,
     pub(crate) changes: Vec<Change>,
     pub(crate) nodes: NodeMap,
-    pub(crate) schedule: Schedule,
+    pub(crate) turns: Turns,
     ghost told: { nodes ≡ (state_of first changes.items).reads } by { tree_set _ _ },
     ghost well_formed: { WellFormed nodes } by { WellFormed-prop nodes },
 }
@@ -57,7 +57,7 @@ impl MemoryTree {
         ensures ok { OnOk result (self.new.changes.items ≡ self.old.changes.items ++ change ∷ []) }
         ensures err { OnErr result (self.new.changes.items ≡ self.old.changes.items) }
         ensures first { self.new.first ≡ self.old.first }
-        ensures schedule { self.new.schedule ≡ self.old.schedule }
+        ensures turns { self.new.turns ≡ self.old.turns }
     {
         self.changes.reserve(1)?;
         apply(alloc, &mut self.nodes, &change)?;
@@ -70,7 +70,7 @@ impl MemoryTree {
         ensures ok { OnOk result (self.new.changes.items ≡ self.old.changes.items ++ Sync ∷ []) }
         ensures err { OnErr result (self.new.changes.items ≡ self.old.changes.items) }
         ensures first { self.new.first ≡ self.old.first }
-        ensures schedule { self.new.schedule ≡ self.old.schedule }
+        ensures turns { self.new.turns ≡ self.old.turns }
     {
         self.changes.push(Change::Sync)?;
         Ok(())
@@ -97,7 +97,7 @@ impl From<OutOfMemory> for TreeFault {
 }
 
 impl MemoryTree {
-    ghost use Rattle.std.specs.Prelude.{IsErrOf, Some};
+    ghost use Rattle.std.specs.Prelude.{◌≤◌, IsErrOf, Some};
     ghost use Rattle.std.specs.FinMap.{get, from_entries};
     ghost use Rattle.std.specs.Option.{option_copied};
     ghost use Rattle.tree_nodes.specs.Start.{IsTree};
@@ -119,7 +119,7 @@ impl MemoryTree {
             first: nodes,
             changes: Vec::new(alloc),
             nodes: map,
-            schedule: Schedule::new(fails),
+            turns: Turns::new(fails),
         })
     }
 
@@ -128,6 +128,21 @@ impl MemoryTree {
         ensures { option_copied result ≡ get (state self.now).reads path.now }
     {
         self.nodes.node(path.text())
+    }
+
+    /// The present moment: how many changing calls, syncs and edits have been made.
+    pub fn moment(&self) -> usize
+        ensures { result ≡ memory_disk.now self.now }
+    {
+        self.changes.len()
+    }
+
+    /// The tree that others on the machine read at a moment that has passed, the first being 0.
+    pub fn seen(&self, alloc: Global, moment: usize) -> Result<NodeMap, OutOfMemory>
+        requires passed { moment ≤ memory_disk.now self.now }
+        ensures { IfOk result (λ tree. tree ≡ memory_disk.reads_at self.now moment) }
+    {
+        crash::replayed(alloc, &self.first, &self.changes[..moment])
     }
 
     /// Puts a node, or takes away what stands, and lets all that the disk then reads count as synced.
@@ -155,7 +170,7 @@ impl MemoryTree {
         ensures fails { fails_of self.new ≡ fails_of self.old }
         ensures faults { faults_of self.new ≡ faults_of self.old }
     {
-        self.schedule.left = Some(calls);
+        self.turns.left = Some(calls);
     }
 }
 
@@ -186,7 +201,7 @@ impl MemoryTree {
             first,
             changes: Vec::new(alloc),
             nodes,
-            schedule: Schedule::new(fails),
+            turns: Turns::new(fails),
         })
     }
 }

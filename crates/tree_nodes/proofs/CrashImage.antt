@@ -15,7 +15,7 @@ use Rattle.cny_base.specs.declared.node.Node.{Node}
 use Rattle.tree_disk.specs.Tree.{Name, Tree, same_name, put, is_dir, WellFormed}
 use Rattle.tree_disk.specs.Laws.{same_means, same_itself, get_put_here, get_put_other}
 use Rattle.tree_disk.specs.Disk.{IsCrashImage}
-use Rattle.tree_nodes.specs.Crash.{digit, meant, is_held, picked, left_by, AreInOrder}
+use Rattle.tree_nodes.specs.Crash.{digit, meant, is_held, picked, left_by, AreInOrder, HoldsNodes}
 
 abbrev R : Name → Name → Ordering
 R = slice_cmp nat_cmp
@@ -247,14 +247,15 @@ module _ (reads synced : Tree) (unsynced : Name → Bool) (well : WellFormed rea
       (cases_Bool (unsynced p))
 
   -- the tree that is left is a crash image
-  pub left_image : (pick : ℕ) (names : List Name) → AreInOrder unsynced names → ((p : Name) → unsynced p ≡ true → is_path p ≡ true) → IsCrashImage reads unsynced (left_by reads synced unsynced pick 0 names reads)
-  left_image pick names all paths =
+  pub left_image : (pick : ℕ) (names : List Name) → AreInOrder unsynced names → ((p : Name) → unsynced p ≡ true → is_path p ≡ true) → HoldsNodes (left_by reads synced unsynced pick 0 names reads) → IsCrashImage reads unsynced (left_by reads synced unsynced pick 0 names reads)
+  left_image pick names all paths nodes =
       let going = goes pick 0 names reads (begin names (λ p h. all.all p ∙ h)) all.sorted (λ p h. sym (all.all p) ∙ h) paths in
       record {
         well_formed = record {
           paths = going.paths;
           root_stands = going.held root refl refl;
           parents = left (left_by reads synced unsynced pick 0 names reads) going;
+          nodes = nodes;
         };
         synced = going.others;
       }

@@ -10,7 +10,7 @@ use Rattle.cny_base.specs.Path.{is_path, root, parent, last_name}
 use Rattle.cny_base.specs.Below.{parent_first}
 use Rattle.cny_base.specs.declared.node.Node.{Node}
 use Rattle.cny_base.specs.declared.node.Node.TheVariants.{Dir, File, Link}
-use Rattle.tree_disk.specs.Tree.{Name, Tree, same_name, put, is_dir, is_child, WellFormed}
+use Rattle.tree_disk.specs.Tree.{Name, Tree, same_name, put, is_dir, is_child, is_node, may_stand, WellFormed}
 use Rattle.tree_disk.specs.Rows.{is_dir_at, is_childless}
 use Rattle.tree_disk.specs.Laws.{same_means, same_itself, same_tree, get_put, get_put_here, get_put_other}
 use Rattle.tree_disk.specs.Allowed.{put_well_formed, take_well_formed, no_children}
@@ -59,21 +59,21 @@ put_over t p node = same_tree _ _ (λ q.
     over true o x y e = refl
     over false o x y e = e refl
 
-plain_well : (t : Tree) (p : Name) (node : Node) → WellFormed t → is_path p ≡ true → (not (same_name p root) && (is_dir_at t (parent p) && is_childless t p)) ≡ true → WellFormed (put t p (Some node))
-plain_well t p node well path can =
+plain_well : (t : Tree) (p : Name) (node : Node) → WellFormed t → is_path p ≡ true → is_node node ≡ true → (not (same_name p root) && (is_dir_at t (parent p) && is_childless t p)) ≡ true → WellFormed (put t p (Some node))
+plain_well t p node well path is can =
     let other = not_true (same_name p root) (and_left _ _ can) in
     let dir = and_left (is_dir_at t (parent p)) _ (and_right _ _ can) in
     let none = and_right (is_dir_at t (parent p)) _ (and_right _ _ can) in
     let apart : same_name (parent p) p ≡ false = ⊎_elim (λ h. clash (same_name p root) (ap (λ (n : Name). same_name n root) (own_parent p path h)) other) (λ h. h) (cases_Bool (same_name (parent p) p)) in
     let bare = take_well_formed t p well other (child_gone t p none) in
     subst WellFormed (put_over t p node)
-    (put_well_formed (put t p None) p node bare path (ap is_dir (get_put_other t p None (parent p) apart) ∙ dir) (inr (ap is_dir (get_put_here t p None))))
+    (put_well_formed (put t p None) p node bare path is (ap is_dir (get_put_other t p None (parent p) apart) ∙ dir) (inr (ap is_dir (get_put_here t p None))))
 
-pub edit_well : (t : Tree) (p : Name) (o : Option Node) → WellFormed t → is_path p ≡ true → can_edit t p o ≡ true → WellFormed (put t p o)
-edit_well t p None well path can = take_well_formed t p well (not_true _ (and_left _ _ can)) (child_gone t p (and_right _ _ can))
-edit_well t p (Some (Dir mode)) well path can = put_well_formed t p (Dir mode) well path can (inl refl)
-edit_well t p (Some (File mode bytes)) well path can = plain_well t p (File mode bytes) well path can
-edit_well t p (Some (Link target)) well path can = plain_well t p (Link target) well path can
+pub edit_well : (t : Tree) (p : Name) (o : Option Node) → WellFormed t → is_path p ≡ true → may_stand o ≡ true → can_edit t p o ≡ true → WellFormed (put t p o)
+edit_well t p None well path is can = take_well_formed t p well (not_true _ (and_left _ _ can)) (child_gone t p (and_right _ _ can))
+edit_well t p (Some (Dir mode)) well path is can = put_well_formed t p (Dir mode) well path is can (inl refl)
+edit_well t p (Some (File mode bytes)) well path is can = plain_well t p (File mode bytes) well path is can
+edit_well t p (Some (Link target)) well path is can = plain_well t p (Link target) well path is can
 
 -- ---- and it doesn't
 

@@ -1,5 +1,5 @@
 -- The unsynced names, one after another, as the code goes over them.
-use Rattle.std.proofs.Common.{◌≡◌, ℕ, ◌+◌, ◌/◌, ◌%◌, suc, zero, List, [], ◌∷◌, map, cond, Bool, true, false, ◌||◌, Option, None, Some, is_some, refl, sym, ◌∙◌, ap, string_bytes, String}
+use Rattle.std.proofs.Common.{◌≡◌, ℕ, ◌+◌, ◌/◌, ◌%◌, suc, zero, List, [], ◌∷◌, map, cond, Bool, true, false, ◌||◌, Option, None, Some, is_some, refl, sym, ◌∙◌, ap, string_bytes, String, Result, Ok, Err, OnOk}
 use Rattle.std.specs.declared.alloc.Global.{Global}
 use Rattle.std.specs.List.{list_any, AllByRecursion}
 use Rattle.std.specs.List.Sorted.{IsStrictlySortedBy}
@@ -12,9 +12,10 @@ use Rattle.std.specs.declared.cmp.Ordering.TheVariants.{Less}
 use Rattle.std.specs.FinMap.{get}
 use Rattle.cny_base.specs.Path.{parent}
 use Rattle.cny_base.specs.declared.node.Node.{Node}
-use Rattle.tree_disk.specs.Tree.{Name, Tree, put, is_dir, WellFormed}
+use Rattle.tree_disk.specs.Tree.{Name, Tree, same_name, put, is_dir, may_stand, WellFormed}
+use Rattle.tree_disk.specs.Laws.{get_put}
 use Rattle.tree_nodes.proofs.StoredTree.{put_same}
-use Rattle.tree_nodes.specs.Crash.{left_by, picked, digit, without_digits, AreInOrder}
+use Rattle.tree_nodes.specs.Crash.{left_by, picked, digit, without_digits, AreInOrder, HoldsNodes}
 
 abbrev pub bytes_of : List (String Global) → List Name
 bytes_of ks = map (λ k. string_bytes k) ks
@@ -22,6 +23,16 @@ bytes_of ks = map (λ k. string_bytes k) ks
 pub record LeftSoFar (reads synced : Tree) (unsynced : Name → Bool) (pick place done : ℕ) (rest all : List (String Global)) (t first : Tree) : Type 0 where
   pub places : place ≡ done
   pub same : left_by reads synced unsynced pick place (bytes_of rest) t ≡ left_by reads synced unsynced pick 0 (bytes_of all) first
+  pub nodes : HoldsNodes first → HoldsNodes t
+
+-- one node more that a disk can hold
+pub put_nodes : {E : Type 0} (t u : Tree) (p : Name) (o : Option Node) (r : Result (Unit {0}) E) → OnOk r (u ≡ put t p o) → may_stand o ≡ true → HoldsNodes t → OnOk r (HoldsNodes u)
+put_nodes t u p o (Ok x) is stands hold = λ q. ap (λ (v : Tree). may_stand (get v q)) is ∙ ap may_stand (get_put t p o q) ∙ by q (same_name q p)
+  where
+    by : (q : Name) (b : Bool) → may_stand (cond b o (get t q)) ≡ true
+    by q true = stands
+    by q false = hold q
+put_nodes t u p o (Err e) is stands hold = tt
 
 -- ---- the names of the set, in order
 

@@ -1,5 +1,5 @@
 -- When a list of nodes is a tree.
-use Rattle.std.proofs.Common.{◌≡◌, Bool, true, false, ◌&&◌, ◌||◌, List, [], ◌∷◌, map, refl, sym, ◌∙◌, ap, subst, ⊎_elim}
+use Rattle.std.proofs.Common.{◌≡◌, Bool, true, false, cond, ◌&&◌, ◌||◌, List, [], ◌∷◌, map, Some, refl, sym, ◌∙◌, ap, subst, ⊎_elim}
 use Rattle.std.proofs.lemmas.Bool.{cases_Bool}
 use Rattle.std.specs.Option.{is_some}
 use Rattle.std.specs.List.{list_all, list_any}
@@ -9,9 +9,9 @@ use Rattle.std.specs.FinMap.{get, from_entries, get-from_entries}
 use Rattle.std.specs.FinMap.Entries as Entries
 use Rattle.cny_base.specs.Path.{is_path, root, parent}
 use Rattle.cny_base.specs.declared.node.Node.{Node}
-use Rattle.tree_disk.specs.Tree.{Name, Tree, same_name, is_dir, WellFormed}
+use Rattle.tree_disk.specs.Tree.{Name, Tree, same_name, is_dir, is_node, may_stand, WellFormed}
 use Rattle.tree_disk.specs.Laws.{same_means, same_itself}
-use Rattle.tree_nodes.specs.Start.{stands_right}
+use Rattle.tree_nodes.specs.Start.{stands_right, holds}
 
 abbrev listed : Name → List (Name × Node) → Bool
 listed q es = list_any (eq_by_cmp (slice_cmp nat_cmp) q) (map (λ e. e.0) es)
@@ -48,16 +48,26 @@ all_listed Q (e ∷ es) each =
     or_right true y h = refl
     or_right false y h = h
 
+-- what is found among nodes that a disk can hold is one
+found_node : (es : List (Name × Node)) (q : Name) → list_all holds es ≡ true → may_stand (Entries.find (slice_cmp nat_cmp) q es) ≡ true
+found_node [] q all = refl
+found_node (e ∷ es) q all = by (same_name q e.0) (found_node es q (right_true (is_node e.1) _ all))
+  where
+    by : (b : Bool) → may_stand (Entries.find (slice_cmp nat_cmp) q es) ≡ true → may_stand (cond b (Some e.1) (Entries.find (slice_cmp nat_cmp) q es)) ≡ true
+    by true rest = left_true (is_node e.1) _ all
+    by false rest = rest
+
 module _ (es : List (Name × Node)) (t : Tree) (same : t ≡ from_entries es) where
   abbrev Q : Name → Bool
   Q q = is_path q && is_dir (get t (parent q))
 
-  pub tree_from : (top parents : Bool) → top ≡ is_dir (get t root) → top ≡ true → parents ≡ list_all (stands_right t) es → parents ≡ true → WellFormed (from_entries es)
-  tree_from top parents is there all good =
+  pub tree_from : (top parents : Bool) → list_all holds es ≡ true → top ≡ is_dir (get t root) → top ≡ true → parents ≡ list_all (stands_right t) es → parents ≡ true → WellFormed (from_entries es)
+  tree_from top parents hold is there all good =
       subst WellFormed same (record {
         paths = λ q h. left_true (is_path q) _ (at q h);
         root_stands = sym is ∙ there;
         parents = λ q h. right_true (is_path q) _ (at q h);
+        nodes = λ q. ap (λ (u : Tree). may_stand (get u q)) same ∙ ap may_stand (get-from_entries nat_list_cmp_total es q) ∙ found_node es q hold;
       })
     where
       at : (q : Name) → is_some (get t q) ≡ true → Q q ≡ true

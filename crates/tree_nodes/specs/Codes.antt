@@ -39,4 +39,5 @@ WellFormed-prop t = λ a b i. record {
   paths = λ p h. bool_set _ _ (a.paths p h) (b.paths p h) i;
   root_stands = bool_set _ _ a.root_stands b.root_stands i;
   parents = λ p h. bool_set _ _ (a.parents p h) (b.parents p h) i;
+  nodes = λ p. bool_set _ _ (a.nodes p) (b.nodes p) i;
 }

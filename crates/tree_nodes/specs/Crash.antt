@@ -1,5 +1,5 @@
 -- Which crash image a number picks.
-use Rattle.std.specs.Prelude.{◌≡◌, ℕ, zero, suc, ◌+◌, ◌/◌, ◌%◌, Bool, ◌&&◌, ◌||◌, not, List, [], ◌∷◌, Option, Some, None, cond, ◌==◌}
+use Rattle.std.specs.Prelude.{◌≡◌, ℕ, zero, suc, ◌+◌, ◌/◌, ◌%◌, Bool, ◌&&◌, ◌||◌, not, IsTrue, List, [], ◌∷◌, Option, Some, None, cond, ◌==◌}
 use Rattle.std.specs.Ordering.{nat_cmp, eq_by_cmp}
 use Rattle.std.specs.Cmp.Lexicographic.{slice_cmp}
 use Rattle.std.specs.List.{list_any}
@@ -9,7 +9,11 @@ use Rattle.cny_base.specs.Path.{root, parent}
 use Rattle.cny_base.specs.Below.{is_below}
 use Rattle.cny_base.specs.declared.node.Node.{Node}
 use Rattle.cny_base.specs.declared.node.Node.TheVariants.{File}
-use Rattle.tree_disk.specs.Tree.{Name, Tree, same_name, put, is_dir}
+use Rattle.tree_disk.specs.Tree.{Name, Tree, same_name, put, is_dir, may_stand}
+
+-- each node is one that a disk can hold
+abbrev pub HoldsNodes : Tree → Type 0
+HoldsNodes t = (p : Name) → IsTrue (may_stand (get t p))
 
 -- a number without its last j digits in base 4
 abbrev pub without_digits : ℕ → ℕ → ℕ

@@ -5,7 +5,7 @@ use Rattle.std.specs.Cmp.Lexicographic.{slice_cmp}
 use Rattle.std.specs.FinMap.{get, from_entries}
 use Rattle.cny_base.specs.declared.node.Node.{Node}
 use Rattle.cny_base.specs.Path.{is_path, parent}
-use Rattle.tree_disk.specs.Tree.{Name, Tree, is_dir, WellFormed}
+use Rattle.tree_disk.specs.Tree.{Name, Tree, is_dir, is_node, WellFormed}
 
 abbrev pub rise_after : Name → List (Name × Node) → Bool
 rise_after p [] = true
@@ -24,3 +24,7 @@ pub record IsTree (nodes : List (Name × Node)) : Type 0 where
 -- a node's name is a path, and its parent is a directory
 abbrev pub stands_right : Tree → Name × Node → Bool
 stands_right t e = is_path e.0 && is_dir (get t (parent e.0))
+
+-- a node that a disk can hold
+abbrev pub holds : Name × Node → Bool
+holds e = is_node e.1

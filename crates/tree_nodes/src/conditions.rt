@@ -1,10 +1,11 @@
 // In which trees each changing call is allowed.
-ghost use Rattle.std.specs.Prelude.{◌≡◌, ℕ, List, IsTrue, IfOk, Some, true, false};
+ghost use Rattle.std.specs.Prelude.{◌≡◌, ◌≤◌, ℕ, List, IsTrue, IfOk, Some, true, false};
 ghost use Rattle.std.specs.FinMap.{get};
+ghost use Rattle.std.specs.List.{list_all};
 ghost use Rattle.cny_base.specs.declared.node.Node.{Node};
 ghost use Rattle.cny_base.specs.Path.{is_path, root};
 ghost use Rattle.tree_disk.specs.Tree as names;
-ghost use Rattle.tree_disk.specs.Tree.{WellFormed, put, is_link};
+ghost use Rattle.tree_disk.specs.Tree.{WellFormed, put, is_byte, is_link, is_node, may_stand};
 ghost use Rattle.tree_disk.specs.Rows as rows;
 ghost use Rattle.tree_disk.specs.Rows.{with_append, with_node, with_mode, with_rename, without};
 ghost use Rattle.tree_nodes.specs.Edit.{can_edit};
@@ -18,6 +19,15 @@ pub(crate) fn same_name(a: &str, b: &str) -> bool
     ensures { result ≡ names.same_name a.now b.now }
 {
     a.cmp(b).is_eq()
+}
+
+// What stands, or nothing, is what a disk can hold. It does nothing: its clause is for the proofs of its callers.
+pub(crate) fn node_ranges(node: &Option<Node>)
+    ensures { IsTrue (may_stand node.now) }
+{
+    if let Some(node) = node {
+        tree_disk::node_ranges(node);
+    }
 }
 
 impl NodeMap {
@@ -88,7 +98,7 @@ impl NodeMap {
     pub fn can_append(&self, path: &Path) -> bool
         requires { WellFormed self.now }
         ensures value { result ≡ rows.can_append self.now path.now }
-        ensures keeps { IsTrue result → (bytes : List ℕ) → WellFormed (with_append self.now path.now bytes) }
+        ensures keeps { IsTrue result → (bytes : List ℕ) → IsTrue (list_all is_byte bytes) → WellFormed (with_append self.now path.now bytes) }
     {
         self.allows_append(path.text())
     }
@@ -97,7 +107,7 @@ impl NodeMap {
     pub fn can_make(&self, path: &Path) -> bool
         requires { WellFormed self.now }
         ensures value { result ≡ rows.can_make self.now path.now }
-        ensures keeps { IsTrue result → (node : Node) → WellFormed (with_node self.now path.now node) }
+        ensures keeps { IsTrue result → (node : Node) → IsTrue (is_node node) → WellFormed (with_node self.now path.now node) }
     {
         self.allows_make(path.text())
     }
@@ -106,7 +116,7 @@ impl NodeMap {
     pub fn can_set_mode(&self, path: &Path) -> bool
         requires { WellFormed self.now }
         ensures value { result ≡ rows.can_set_mode self.now path.now }
-        ensures keeps { IsTrue result → (mode : ℕ) → WellFormed (with_mode self.now path.now mode) }
+        ensures keeps { IsTrue result → (mode : ℕ) → mode ≤ 4095 → WellFormed (with_mode self.now path.now mode) }
     {
         self.allows_set_mode(path.text())
     }
@@ -179,6 +189,7 @@ impl NodeMap {
         ensures tree { IfOk result (λ can. IsTrue can → WellFormed (put self.now path.now node.now)) }
         ensures no_tree { IfOk result (λ can. can ≡ false → ¬ (WellFormed (put self.now path.now node.now))) }
     {
+        node_ranges(node);
         let can = self.allows_edit(alloc, path, node)?;
         Ok(can)
     }

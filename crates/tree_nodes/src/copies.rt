@@ -6,9 +6,9 @@ ghost use Rattle.std.specs.String.{string_cmp};
 ghost use Rattle.tree_disk.specs.Tree.{WellFormed};
 ghost use Rattle.tree_nodes.specs.Stored.{by_bytes, tree_of};
 
-use crate::list::Nodes;
+use crate::Nodes;
 use crate::map::NodeMap;
-use cny_base::{Node, OutOfMemory, Path, TextFault};
+use cny_base::{Copies, Node, OutOfMemory, Path, TextFault};
 use std::alloc::Global;
 use std::collections::BTreeMap;
 

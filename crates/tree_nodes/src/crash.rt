@@ -5,11 +5,12 @@ ghost use Rattle.std.specs.String.{string_cmp};
 ghost use Rattle.std.specs.FinMap.{get};
 ghost use Rattle.cny_base.specs.Path.{is_path, parent};
 ghost use Rattle.tree_disk.specs.Tree as names;
-ghost use Rattle.tree_disk.specs.Tree.{Name, WellFormed, put};
+ghost use Rattle.tree_disk.specs.Tree.{Name, WellFormed, may_stand, put};
 ghost use Rattle.tree_disk.specs.Disk.{IsCrashImage};
 ghost use Rattle.tree_nodes.specs.Crash as spec;
+ghost use Rattle.tree_nodes.specs.Crash.{HoldsNodes};
 
-use crate::conditions::same_name;
+use crate::conditions::{node_ranges, same_name};
 use crate::map::NodeMap;
 use cny_base::{Bytes, Mode, Node, OutOfMemory, parent_of};
 use std::alloc::Global;
@@ -81,13 +82,16 @@ impl Crash<'_> {
 
     // What stands at an unsynced name by a digit.
     fn picked(&self, alloc: Global, digit: u64, name: &str) -> Result<Option<Node>, OutOfMemory>
-        ensures { IfOk result (λ node. node ≡ spec.picked self.now.reads.now self.now.synced.now (contains_text self.now.unsynced.now) digit name.now) }
+        ensures value { IfOk result (λ node. node ≡ spec.picked self.now.reads.now self.now.synced.now (contains_text self.now.unsynced.now) digit name.now) }
+        ensures node { IfOk result (λ node. IsTrue (may_stand node)) }
     {
         let want = self.meant(alloc, digit, name)?;
         let held = self.is_held(alloc, name)?;
         let dir = is_dir(&want);
         let back = self.reads.copy_at(name)?;
-        Ok(choose(held, dir, back, want))
+        let node = choose(held, dir, back, want);
+        node_ranges(&node);
+        Ok(node)
     }
 
     // One unsynced name. Where its parent isn't a directory, nothing is left.
@@ -98,7 +102,8 @@ impl Crash<'_> {
         digit: u64,
         name: &str,
     ) -> Result<(), OutOfMemory>
-        ensures { OnOk result (image.new ≡ put image.old name.now
+        ensures nodes { HoldsNodes image.old → OnOk result (HoldsNodes image.new) }
+        ensures image { OnOk result (image.new ≡ put image.old name.now
             (cond (names.is_dir (get image.old (parent name.now))) (spec.picked self.now.reads.now self.now.synced.now (contains_text self.now.unsynced.now) digit name.now) None)) }
     {
         if !image.is_dir_at(parent_of(name)) {
@@ -111,6 +116,7 @@ impl Crash<'_> {
     // All unsynced names in order.
     fn leave_all(&self, alloc: Global, image: &mut NodeMap, pick: u64) -> Result<(), OutOfMemory>
         ensures image { OnOk result (image.new ≡ spec.left_by self.now.reads.now self.now.synced.now (contains_text self.now.unsynced.now) pick 0 (map (λ k. string_bytes k) self.now.unsynced.now.keys) image.old) }
+        ensures nodes { HoldsNodes image.old → OnOk result (HoldsNodes image.new) }
         ensures sorted { IsOrdered string_cmp self.now.unsynced.now }
     {
         let mut place = 0;

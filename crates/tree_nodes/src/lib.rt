@@ -6,11 +6,13 @@ mod conditions;
 mod copies;
 mod crash;
 mod effects;
-mod list;
 mod map;
 mod reads;
 mod start;
 
+use cny_base::{ListOf, Node, Path};
 pub use crash::Crash;
-pub use list::Nodes;
 pub use map::NodeMap;
+
+/// Nodes with their paths.
+pub type Nodes = ListOf<(Path, Node)>;

@@ -5,7 +5,7 @@ ghost use Rattle.std.specs.FinMap.{get, empty};
 ghost use Rattle.tree_disk.specs.Tree.{put};
 ghost use Rattle.tree_nodes.specs.Stored.{tree_of};
 
-use cny_base::{Node, OutOfMemory};
+use cny_base::{Copies, Node, OutOfMemory};
 use std::alloc::Global;
 use std::collections::BTreeMap;
 use std::marker::Model;

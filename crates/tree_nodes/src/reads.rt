@@ -3,7 +3,7 @@ ghost use Rattle.std.specs.Prelude.{◌≡◌, ◌-◌, ◌++◌, min, length, t
 ghost use Rattle.tree_disk.specs.Rows as rows;
 
 use crate::map::NodeMap;
-use cny_base::{Bytes, Node, OutOfMemory, Path};
+use cny_base::{Bytes, Copies, Node, OutOfMemory, Path};
 use tree_disk::Look;
 
 fn size_of(bytes: &Bytes) -> u64

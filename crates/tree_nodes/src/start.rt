@@ -6,9 +6,9 @@ ghost use Rattle.tree_disk.specs.Tree.{WellFormed};
 ghost use Rattle.tree_nodes.specs.Start as start;
 ghost use Rattle.tree_nodes.specs.Start.{IsTree};
 
-use crate::list::Nodes;
+use crate::Nodes;
 use crate::map::NodeMap;
-use cny_base::{Node, OutOfMemory, Path, parent_of};
+use cny_base::{Copies, Node, OutOfMemory, Path, parent_of};
 use std::alloc::Global;
 
 // Whether the paths strictly rise.
@@ -41,12 +41,24 @@ fn parents_stand(nodes: &[(Path, Node)], map: &NodeMap) -> bool
     true
 }
 
+// Each node of a list is one that a disk can hold.
+fn hold_nodes(nodes: &[(Path, Node)])
+    ensures { list_all start.holds nodes.now ≡ true }
+{
+    let mut rest = nodes;
+    while let [first, after @ ..] = rest {
+        tree_disk::node_ranges(&first.1);
+        rest = after;
+    }
+}
+
 // Whether the nodes of a list are a tree: `/` is a directory, and so is each parent.
 fn is_tree(nodes: &[(Path, Node)], map: &NodeMap) -> bool
     requires { map.now ≡ from_entries nodes.now }
     ensures tree { result ≡ true → WellFormed (from_entries nodes.now) }
     ensures no_tree { result ≡ false → ¬ (WellFormed (from_entries nodes.now)) }
 {
+    hold_nodes(nodes);
     let top = map.is_dir_at("/");
     let parents = parents_stand(nodes, map);
     top && parents

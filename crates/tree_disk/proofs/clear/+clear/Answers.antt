@@ -3,10 +3,11 @@ use Rattle.std.proofs.lemmas.List.{get_or_default}
 use Rattle.cny_base.specs.Path.{join}
 use Rattle.tree_disk.specs.Tree.{Name}
 use Rattle.tree_disk.specs.Rows.{without}
-use Rattle.tree_disk.specs.Clear.{is_within, sees_nothing, sees_dir, without_each, without_tree}
+use Rattle.tree_disk.specs.Clear.{is_within, without_each, without_tree}
+use Rattle.tree_disk.specs.Looks.{sees_nothing, sees_dir, dir_seen, nothing_seen}
 use Rattle.tree_disk.specs.StepLaws.{tests_value, makes_from_test, makes_after_test, makes_then, makes_then_stop, makes_test_stop, makes_test_then_stop, makes_wider}
 use Rattle.tree_disk.specs.ClearLaws.{below_within, itself_within, within_join_below}
-use Rattle.tree_disk.proofs.Clearing.{without_after, without-leaf, without-nothing, may_remove_after, dir_seen, nothing_seen, one_more_cleared}
+use Rattle.tree_disk.proofs.Clearing.{without_after, without-leaf, without-nothing, may_remove_after, one_more_cleared}
 use Rattle.tree_disk.proofs.clear.+clear.Goals as goal
 
 pub clear_at-returns-in_err-look : goal.clear_at-returns-in_err-look
@@ -30,7 +31,7 @@ clear_at-returns g t c =
     let tree = g.D.TreeDisk.disk.reads c.args.disk.now in
     let path = c.args.path.now in
     let seen = c.in_ok-look.ensures.tests in
-    makes_after_test laws seen (makes_wider (itself_within path) c.remove.ensures) (λ tells.
+    makes_after_test laws seen (makes_wider (itself_within path) c.remove.ensures.makes) (λ tells.
     without-leaf tree path (laws.reads_well_formed c.args.disk.now) c.requires.path
     (sym (dir_seen tree path) ∙ ap sees_dir (sym (tests_value seen tells)) ∙ sym c.is_dir.ensures ∙ c.if-is_dir.false))
 
@@ -51,7 +52,7 @@ pub clear_dir-returns : goal.clear_dir-returns
 clear_dir-returns g t c =
     let laws = g.met.D.TreeDisk.laws in
     let path = c.args.path.now in
-    makes_after_test laws {change = λ u. without (without_each u path c.get.result.now) path} c.in_ok-names.ensures.tests (makes_then (makes_wider (below_within path) c.in_ok-clear_each.ensures) (itself_within path) c.remove.ensures (λ tells. refl)) (λ tells.
+    makes_after_test laws {change = λ u. without (without_each u path c.get.result.now) path} c.in_ok-names.ensures.tests (makes_then (makes_wider (below_within path) c.in_ok-clear_each.ensures) (itself_within path) c.remove.ensures.makes (λ tells. refl)) (λ tells.
     without_after _ path c.get.result.now (laws.reads_well_formed c.args.disk.now) c.requires.path c.requires.not_root (c.get.ensures ∙ tests_value c.in_ok-names.ensures.tests tells))
 
 pub clear_each-returns-in_err-clear_at : goal.clear_each-returns-in_err-clear_at

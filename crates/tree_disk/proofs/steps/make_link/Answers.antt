@@ -1,5 +1,8 @@
-use Rattle.tree_disk.specs.StepLaws.{makes_call}
+use Rattle.tree_disk.proofs.Calls.{makes_call, one_step_call}
 use Rattle.tree_disk.proofs.steps.make_link.Goals as goal
 
-pub returns : goal.returns
-returns g c = makes_call g.met.D.TreeDisk.laws c.make_link.ensures.cause c.requires c.make_link.ensures.told c.allowed.ensures
+pub returns-clause-makes : goal.returns-clause-makes
+returns-clause-makes g c = makes_call g.met.D.TreeDisk.laws c.make_link.ensures.cause c.requires c.make_link.ensures.told c.allowed.ensures
+
+pub returns-clause-one_step : goal.returns-clause-one_step
+returns-clause-one_step g c = one_step_call g.met.D.TreeDisk.laws c.make_link.ensures.told c.allowed.ensures

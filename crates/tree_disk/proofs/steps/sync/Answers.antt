@@ -1,4 +1,4 @@
-use Rattle.tree_disk.specs.StepLaws.{makes_sync}
+use Rattle.tree_disk.proofs.Calls.{makes_sync}
 use Rattle.tree_disk.proofs.steps.sync.Goals as goal
 
 pub returns-clause-makes : goal.returns-clause-makes

@@ -23,19 +23,19 @@ returns-then-turn c change can given =
     let attempt = attempted c.args.attempt a (IsAttempt c.args.tree.now change can) c.in_ok-change.was given in
     let recorded = c.in_ok-record.ensures in
     let turn = c.turn-turn.ensures in
-    let faults = ap (λ s. s.faults) recorded.schedule ∙ ap (λ s. s.faults) turn.counts in
+    let faults = ap (λ s. s.schedule.faults) recorded.turns ∙ ap (λ s. s.schedule.faults) turn.counts in
     failed
     (record {
-      calls = ap (λ s. s.calls) c.fault.ensures.counts ∙ ap (λ s. s.calls) recorded.schedule ∙ ap (λ s. s.calls) turn.counts;
-      stop = ap (λ s. s.left) c.fault.ensures.counts ∙ ap (λ s. s.left) recorded.schedule ∙ ap (λ s. s.left) turn.counts;
-      fails = ap (λ s. s.fails) c.fault.ensures.counts ∙ ap (λ s. s.fails) recorded.schedule ∙ ap (λ s. s.fails) turn.counts;
+      calls = ap (λ s. s.calls) c.count_fault.ensures.counted ∙ ap (λ s. s.schedule.calls) recorded.turns ∙ ap (λ s. s.schedule.calls) turn.counts;
+      stop = ap (λ s. s.left) recorded.turns ∙ ap (λ s. s.left) turn.counts;
+      fails = ap (λ s. s.fails) c.count_fault.ensures.counted ∙ ap (λ s. s.schedule.fails) recorded.turns ∙ ap (λ s. s.schedule.fails) turn.counts;
     })
     c.in_ok-change-2.change change can a attempt
     (c.in_ok-change-2.ensures ∙ ap (failed_change a.change) (c.does_part.ensures ∙ ap (λ stopped. a.allowed && not stopped) turn.stopped))
     (record { first = recorded.first; changes = recorded.ok })
     (sym turn.fails ∙ c.if-turn.true)
-    (ap (λ s. s.faults) c.fault.ensures.counts ∙ ap next faults)
-    (subst (λ (n : ℕ). n ≤ next n) faults c.fault.ensures.later)
+    (ap (λ s. s.faults) c.count_fault.ensures.counted ∙ ap next faults)
+    (subst (λ (n : ℕ). n ≤ next n) faults c.count_fault.ensures.later)
 
 pub returns : goal.returns
 returns c change can given =
@@ -45,11 +45,11 @@ returns c change can given =
     let turn = c.turn-turn.ensures in
     done
     (record {
-      calls = ap (λ s. s.calls) recorded.schedule ∙ ap (λ s. s.calls) turn.counts;
-      stop = ap (λ s. s.left) recorded.schedule ∙ ap (λ s. s.left) turn.counts;
-      fails = ap (λ s. s.fails) recorded.schedule ∙ ap (λ s. s.fails) turn.counts;
+      calls = ap (λ s. s.schedule.calls) recorded.turns ∙ ap (λ s. s.schedule.calls) turn.counts;
+      stop = ap (λ s. s.left) recorded.turns ∙ ap (λ s. s.left) turn.counts;
+      fails = ap (λ s. s.schedule.fails) recorded.turns ∙ ap (λ s. s.schedule.fails) turn.counts;
     })
     a.change change a.allowed can a refl refl attempt
     (record { first = recorded.first; changes = recorded.ok })
     c.if-not-allowed.false (sym turn.fails ∙ c.if-turn.false)
-    (ap (λ s. s.faults) recorded.schedule ∙ ap (λ s. s.faults) turn.counts)
+    (ap (λ s. s.schedule.faults) recorded.turns ∙ ap (λ s. s.schedule.faults) turn.counts)

@@ -4,7 +4,7 @@ use Rattle.tree_nodes.proofs.map.NodeMap.can_edit.Goals as goal
 
 pub returns-clause-tree : goal.returns-clause-tree
 returns-clause-tree c can =
-    edit_well c.args.self.now c.args.path.now c.args.node.now c.requires c.in_ok-can.ensures.path (sym c.in_ok-can.ensures.value ∙ can)
+    edit_well c.args.self.now c.args.path.now c.args.node.now c.requires c.in_ok-can.ensures.path c.node_ranges.ensures (sym c.in_ok-can.ensures.value ∙ can)
 
 pub returns-clause-no_tree : goal.returns-clause-no_tree
 returns-clause-no_tree c can =

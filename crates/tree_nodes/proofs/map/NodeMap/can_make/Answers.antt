@@ -5,7 +5,7 @@ use Rattle.tree_disk.specs.Allowed.{make_well_formed}
 use Rattle.tree_nodes.proofs.map.NodeMap.can_make.Goals as goal
 
 pub returns-clause-keeps : goal.returns-clause-keeps
-returns-clause-keeps c can node =
+returns-clause-keeps c can node is =
     make_well_formed c.args.self.now c.args.path.now node c.requires
-    (ap is_path (sym c.text.ensures.value) ∙ c.text.ensures.path)
+    (ap is_path (sym c.text.ensures.value) ∙ c.text.ensures.path) is
     (ap (can_make c.args.self.now) (sym c.text.ensures.value) ∙ sym c.allows_make.ensures ∙ can)
