@@ -41,7 +41,7 @@ pub fn encode_log(alloc: Global, puts: &Puts) -> Result<Bytes, OutOfMemory>
     for put in items {
         push_put(alloc, &mut out, put)?;
     }
-    put_item(alloc, &mut out, END, &number.to_be_bytes())?;
+    put_item(&mut out, END, &number.to_be_bytes())?;
     Ok(out)
 }
 
@@ -56,7 +56,7 @@ fn push_put(alloc: Global, out: &mut Bytes, put: &Put) -> Result<(), OutOfMemory
     if u32::try_from(value.get().len()).is_err() {
         return Err(OutOfMemory);
     }
-    put_item(alloc, out, tag_of(&put.want), value.get())
+    put_item(out, tag_of(&put.want), value.get())
 }
 
 fn tag_of(want: &Want) -> u8

@@ -4,7 +4,7 @@ ghost use Rattle.journal_log.specs.Targets.{is_dir_want, is_target};
 ghost use Rattle.journal_log.specs.WriteSet.{Rises};
 
 use crate::search::place_of;
-use cny_base::{Bytes, Mode, OutOfMemory, Path, Target};
+use cny_base::{Bytes, Copies, Mode, OutOfMemory, Path, Target};
 use std::marker::Model;
 
 /// What is to stand at a path.

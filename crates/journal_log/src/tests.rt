@@ -1,6 +1,6 @@
 //! Worked cases, with the bytes made by hand.
 use crate::{Put, Puts, Want, can_be_named, decode_log, encode_log, keeps_rules};
-use cny_base::{Bytes, Mode, Path, Target, TextFault};
+use cny_base::{Bytes, Copies, Mode, Path, Target, TextFault};
 use std::alloc::Global;
 use std::test::Fail;
 

@@ -241,6 +241,7 @@ nothing_yet disk laws base puts old can = record {
   later = omega arith;
   each = λ image since. inl (image_before disk base old can.flag_clear can.flag_synced image (laws.only_now old image since));
   before = λ k image le since. inl since;
+  kept = λ k image le since. since;
 }
 
 pub stopped_at_once : {D : Type 0} (disk : DiskModel D) (base : Name) (puts : List Put) (old : D) → CanApply disk base puts old → IsOneOf base puts (disk.reads old) (disk.reads old)

@@ -19,7 +19,7 @@ use Rattle.journal_log.specs.WriteSet.{Rises}
 use Rattle.journal_log.specs.Targets.{is_dir_want, node_of, is_target, with_targets}
 use Rattle.tree_journal.specs.CanBePut.{CanBePut}
 use Rattle.tree_journal.specs.Passes.{obstructs, all_cleared, CanMake, CanMakeAll, CanMakeDir, CanReplay}
-use Rattle.tree_disk.specs.Clear.{sees_dir}
+use Rattle.tree_disk.specs.Looks.{sees_dir}
 use Rattle.tree_journal.proofs.WriteSets.{name_cmp, not_itself, not_back, or_none, contains_first, contains_rest, first_before, later_differs, with_targets_agree, with_targets_more, rest_at, front_at}
 use Rattle.tree_journal.proofs.ClearPass.{CanClearPart, part_whole, all_cleared_outside, not_obstructed}
 

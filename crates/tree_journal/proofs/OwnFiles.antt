@@ -9,7 +9,8 @@ use Rattle.cny_base.specs.declared.node.Node.TheVariants as node
 use Rattle.tree_disk.specs.Tree.{Name, Tree, same_name, put, is_dir, is_file, is_link}
 use Rattle.tree_disk.specs.Rows.{can_append, can_make, can_remove, is_childless, with_append, with_node, without, grown, look_of, seen_as}
 use Rattle.tree_disk.specs.Laws.{same_means, same_itself, get_put_here, get_put_other, put_put}
-use Rattle.tree_disk.specs.Clear.{is_within, without_tree, sees_nothing}
+use Rattle.tree_disk.specs.Clear.{is_within, without_tree}
+use Rattle.tree_disk.specs.Looks.{sees_nothing}
 use Rattle.tree_disk.specs.ClearLaws.{get-without_tree, bare_without, within_itself, or_left, or_right}
 use Rattle.tree_journal.specs.Apply.{with_base}
 use Rattle.tree_journal.specs.Steps.{with_own_file, IsOther}

@@ -21,7 +21,7 @@ use Rattle.journal_log.specs.WriteSet.{Rises}
 use Rattle.journal_log.specs.Targets.{is_target}
 use Rattle.tree_journal.specs.CanBePut.{CanBePut, AllCanBePut, HasWay, IsClearBelow}
 use Rattle.tree_journal.specs.Recovery.{IsFirstBlocked}
-use Rattle.tree_disk.specs.Clear.{sees_dir}
+use Rattle.tree_disk.specs.Looks.{sees_dir}
 use Rattle.tree_journal.specs.Found.{IsAbove, IsChild, IsAnswer, AreClear}
 use Rattle.tree_journal.proofs.WriteSets.{name_cmp, not_itself, not_back, contains_cases, contains_first, contains_rest, is_target-from, first_before}
 use Rattle.tree_journal.proofs.MakePass.{dir_seen}

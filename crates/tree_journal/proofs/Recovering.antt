@@ -40,6 +40,7 @@ module _ {D : Type 0} (disk : DiskModel D) (laws : IsDisk disk) (base : Name) wh
     later = omega arith;
     each = λ image since. (image, laws.only_now d image since, λ tree h. h);
     before = λ k image le since. inl since;
+    kept = λ k image le since. since;
   }
 
   pub read_leaves : (old new : D) {Answer : Type 0} → HasRead disk old new Answer → LeavesOnly disk old new (RecoversAsAt disk base old)
@@ -178,25 +179,4 @@ stops_on disk base old mid new Failed le is so = rose_before (disk.faults old) (
 stops_on disk base old mid new Memory le is so = tt
 stops_on disk base old mid new (Refused (refusal.Parent path)) le is so = λ tells. (subst (λ (t : Tree). HasBlockedLog base t path) (is tells) (so tells).0, (so tells).1 ∙ is tells)
 stops_on disk base old mid new (Damaged path) le is so = λ tells. ((so tells).0, subst (HasDamagedLog base) (is tells) (so tells).1, (so tells).2 ∙ is tells)
-stops_on disk base old mid new FarFailed le is so = so
-stops_on disk base old mid new (FarDamaged path) le is so = so
-stops_on disk base old mid new (Refused (refusal.Malformed at)) le is so = so
-stops_on disk base old mid new (Refused (refusal.TooLarge what size)) le is so = so
-stops_on disk base old mid new (Refused (refusal.Exists trove)) le is so = so
-stops_on disk base old mid new (Refused (refusal.MissingTrove spec)) le is so = so
-stops_on disk base old mid new (Refused (refusal.MissingBase trove)) le is so = so
-stops_on disk base old mid new (Refused (refusal.MissingContent name)) le is so = so
-stops_on disk base old mid new (Refused (refusal.Collision name at)) le is so = so
-stops_on disk base old mid new (Refused (refusal.MissingRef name)) le is so = so
-stops_on disk base old mid new (Refused (refusal.NotInstalled name)) le is so = so
-stops_on disk base old mid new (Refused (refusal.Unmet name dep)) le is so = so
-stops_on disk base old mid new (Refused (refusal.Owned path first second)) le is so = so
-stops_on disk base old mid new (Refused (refusal.Unowned path)) le is so = so
-stops_on disk base old mid new (Refused (refusal.Edited path)) le is so = so
-stops_on disk base old mid new (Refused refusal.StackEmpty) le is so = so
-stops_on disk base old mid new (Refused refusal.StackFull) le is so = so
-stops_on disk base old mid new (Refused (refusal.Reserved path)) le is so = so
-stops_on disk base old mid new (Refused refusal.NoLabel) le is so = so
-stops_on disk base old mid new (Refused (refusal.SameLabel label)) le is so = so
-stops_on disk base old mid new (Refused (refusal.BadConfig line)) le is so = so
-stops_on disk base old mid new (Refused (refusal.NotBuilt word)) le is so = so
+stops_on disk base old mid new _ le is so = so

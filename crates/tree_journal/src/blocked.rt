@@ -9,7 +9,7 @@ ghost use Rattle.tree_journal.specs.CanBePut.{CanBePut, HasWay, IsClearBelow};
 ghost use Rattle.tree_journal.specs.Found.{AreClear, Finds, FindsBlocked, IsAbove, IsAnswer, IsChild};
 
 use crate::passes::is_dir;
-use cny_base::{Path, Stop, Text, TextFault};
+use cny_base::{Copies, Path, Stop, Text, TextFault};
 use journal_log::{Put, Puts};
 use std::alloc::Global;
 use tree_disk::{TreeDisk, steps};

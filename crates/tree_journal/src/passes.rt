@@ -4,7 +4,7 @@ ghost use Rattle.std.specs.Prelude.{◌≡◌, ◌≢◌, IsTrue, OnOk, Some};
 ghost use Rattle.std.specs.FinMap.{get};
 ghost use Rattle.cny_base.specs.Path.{parent};
 ghost use Rattle.cny_base.specs.declared.node.Node.TheVariants as node;
-ghost use Rattle.tree_disk.specs.Clear.{sees_dir};
+ghost use Rattle.tree_disk.specs.Looks.{sees_dir};
 ghost use Rattle.tree_disk.specs.Confined.{IsSynced};
 ghost use Rattle.tree_disk.specs.Disk.{one_name};
 ghost use Rattle.tree_disk.specs.Rows.{is_dir_at};

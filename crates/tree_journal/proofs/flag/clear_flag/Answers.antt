@@ -3,4 +3,4 @@ use Rattle.tree_disk.specs.StepLaws.{makes_then}
 use Rattle.tree_journal.proofs.flag.clear_flag.Goals as goal
 
 pub returns-clause-makes : goal.returns-clause-makes
-returns-clause-makes g c = makes_then c.in_ok-remove.ensures (λ p none. absurd (cc none)) c.sync.ensures.makes (λ tells. refl)
+returns-clause-makes g c = makes_then c.in_ok-remove.ensures.makes (λ p none. absurd (cc none)) c.sync.ensures.makes (λ tells. refl)

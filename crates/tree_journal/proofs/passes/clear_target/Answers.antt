@@ -19,5 +19,5 @@ remove-requires g c tells =
 pub returns : goal.returns
 returns g c =
     let seen = c.in_ok-look.ensures.tests in
-    makes_after_test g.met.D.TreeDisk.laws seen c.remove.ensures (λ tells.
+    makes_after_test g.met.D.TreeDisk.laws seen c.remove.ensures.makes (λ tells.
     sym (cleared_away _ c.args.put.now (sym (obstructed_at _ c.args.put.now) ∙ ap (is_obstructed c.args.put.now.want) (sym (tests_value seen tells)) ∙ sym c.obstructs.ensures ∙ c.if-not-obstructs.false)))

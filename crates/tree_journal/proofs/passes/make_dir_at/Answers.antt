@@ -1,6 +1,6 @@
 use Rattle.std.proofs.Common.{ap, refl, sym, ◌∙◌}
 use Rattle.tree_disk.specs.StepLaws.{tests_value, makes_after_test}
-use Rattle.tree_disk.specs.Clear.{sees_dir}
+use Rattle.tree_disk.specs.Looks.{sees_dir}
 use Rattle.tree_journal.proofs.MakePass.{dir_seen, may_set_dir_mode, with_dir_mode, may_make_missing_dir}
 use Rattle.tree_journal.proofs.passes.make_dir_at.Goals as goal
 
@@ -12,7 +12,7 @@ set_mode-requires g c = λ tells.
 pub returns-then-is_dir : goal.returns-then-is_dir
 returns-then-is_dir g c =
     let seen = c.in_ok-look.ensures.tests in
-    makes_after_test g.met.D.TreeDisk.laws seen c.set_mode.ensures (λ tells.
+    makes_after_test g.met.D.TreeDisk.laws seen c.set_mode.ensures.makes (λ tells.
     with_dir_mode _ c.args.path.now c.args.mode (sym (dir_seen _ c.args.path.now) ∙ ap sees_dir (sym (tests_value seen tells)) ∙ sym c.is_dir.ensures ∙ c.if-is_dir.true))
 
 pub make_dir-requires : goal.make_dir-requires
@@ -21,4 +21,4 @@ make_dir-requires g c = λ tells.
     rw (seen.same tells).same.reads (may_make_missing_dir _ c.args.path.now (c.requires tells) (sym (dir_seen _ c.args.path.now) ∙ ap sees_dir (sym (tests_value seen tells)) ∙ sym c.is_dir.ensures ∙ c.if-is_dir.false))
 
 pub returns : goal.returns
-returns g c = makes_after_test g.met.D.TreeDisk.laws c.in_ok-look.ensures.tests c.make_dir.ensures (λ tells. refl)
+returns g c = makes_after_test g.met.D.TreeDisk.laws c.in_ok-look.ensures.tests c.make_dir.ensures.makes (λ tells. refl)
