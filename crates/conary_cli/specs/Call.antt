@@ -126,9 +126,7 @@ Stands m before after (Err failure.InputFault) = Rose before.input.faults after.
 Stands m before after (Err failure.RootFault) = Rose before.root.faults after.root.faults × WhereTold before (λ input. IsCutShort m input before.root.tree after.root.tree)
 Stands m before after (Err failure.Memory) = WhereTold before (λ input. IsCutShort m input before.root.tree after.root.tree)
 Stands m before after (Err (failure.Damaged path)) = (after.input ≡ before.input) × (IsTrue before.root.told → (path ≡ log base) × HasDamagedLog base before.root.tree × (after.root.tree ≡ before.root.tree))
-Stands m before after (Err failure.Usage) = ⊥
-Stands m before after (Err failure.OutputFault) = ⊥
-Stands m before after (Err failure.RepositoryFault) = ⊥
+Stands m before after (Err _) = ⊥
 
 -- a command of this meaning was performed, and ended so
 pub record Performs (m : Meaning) (before after : Objects) (result : Result (List ℕ) Failure) : Type 0 where
@@ -142,9 +140,4 @@ Writes (Err e) before after end = (end ≡ Err e) × Keeps before.written after.
 Writes (Ok out) before after (Ok _) = Appends before.written after.written out
 Writes (Ok out) before after (Err failure.OutputFault) = Rose before.faults after.faults × AppendsPart before.written after.written out
 Writes (Ok out) before after (Err failure.Memory) = Keeps before.written after.written
-Writes (Ok out) before after (Err failure.Usage) = ⊥
-Writes (Ok out) before after (Err (failure.Refused r)) = ⊥
-Writes (Ok out) before after (Err failure.InputFault) = ⊥
-Writes (Ok out) before after (Err failure.RootFault) = ⊥
-Writes (Ok out) before after (Err failure.RepositoryFault) = ⊥
-Writes (Ok out) before after (Err (failure.Damaged path)) = ⊥
+Writes (Ok out) before after (Err _) = ⊥

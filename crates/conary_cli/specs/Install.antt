@@ -44,12 +44,7 @@ abbrev pub matches : Node → Node → Bool
 matches (node.Dir a) (node.Dir b) = true
 matches (node.File a xs) (node.File b ys) = a == b && bytes_eq xs ys
 matches (node.Link xs) (node.Link ys) = bytes_eq xs ys
-matches (node.Dir a) (node.File b ys) = false
-matches (node.Dir a) (node.Link ys) = false
-matches (node.File a xs) (node.Dir b) = false
-matches (node.File a xs) (node.Link ys) = false
-matches (node.Link xs) (node.Dir b) = false
-matches (node.Link xs) (node.File b ys) = false
+matches _ _ = false
 
 abbrev pub clashes_with : Option Node → Node → Bool
 clashes_with None wanted = false

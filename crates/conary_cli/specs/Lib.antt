@@ -17,3 +17,4 @@ pub mod Ready
 pub mod ShowChangeSet
 pub mod Run
 pub mod FormDecides
+pub mod WholeCall

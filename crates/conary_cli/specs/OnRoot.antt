@@ -37,11 +37,7 @@ Checked told expected (Ok x) before now = IsTrue told → expected ≡ Ok tt
 Checked told expected (Err (failure.Refused r)) before now = IsTrue told → expected ≡ Err r
 Checked told expected (Err failure.RootFault) before now = Rose before now
 Checked told expected (Err failure.Memory) before now = Unit
-Checked told expected (Err failure.Usage) before now = ⊥
-Checked told expected (Err failure.InputFault) before now = ⊥
-Checked told expected (Err failure.OutputFault) before now = ⊥
-Checked told expected (Err failure.RepositoryFault) before now = ⊥
-Checked told expected (Err (failure.Damaged path)) before now = ⊥
+Checked told expected (Err _) before now = ⊥
 
 -- A test of the root changes nothing, and passes or refuses as the tree says.
 pub record ChecksRoot {D : Type 0} (disk : DiskModel D) (test : Tree → Result (Unit {0}) Refusal) (old new : D) (result : Result (Unit {0}) Failure) : Type 0 where
@@ -54,12 +50,7 @@ abbrev pub Found : {X : Type 0} → Bool → X → Result X Failure → ℕ → 
 Found told expected (Ok x) before now = IsTrue told → expected ≡ x
 Found told expected (Err failure.RootFault) before now = Rose before now
 Found told expected (Err failure.Memory) before now = Unit
-Found told expected (Err (failure.Refused r)) before now = ⊥
-Found told expected (Err failure.Usage) before now = ⊥
-Found told expected (Err failure.InputFault) before now = ⊥
-Found told expected (Err failure.OutputFault) before now = ⊥
-Found told expected (Err failure.RepositoryFault) before now = ⊥
-Found told expected (Err (failure.Damaged path)) before now = ⊥
+Found told expected (Err _) before now = ⊥
 
 -- A search of the root changes nothing, and finds what the tree gives.
 pub record SearchesRoot {D X : Type 0} (disk : DiskModel D) (search : Tree → X) (old new : D) (result : Result X Failure) : Type 0 where
@@ -78,12 +69,7 @@ abbrev pub Applied : {D : Type 0} → DiskModel D → List Put → D → D → R
 Applied disk puts old new (Ok x) = IsTrue disk.tells → IsAtRest disk base (with_targets puts (disk.reads old)) new
 Applied disk puts old new (Err failure.RootFault) = Rose (disk.faults old) (disk.faults new) × (IsTrue disk.tells → IsOneOf base puts (disk.reads old) (disk.reads new))
 Applied disk puts old new (Err failure.Memory) = IsTrue disk.tells → IsOneOf base puts (disk.reads old) (disk.reads new)
-Applied disk puts old new (Err failure.Usage) = ⊥
-Applied disk puts old new (Err (failure.Refused r)) = ⊥
-Applied disk puts old new (Err failure.InputFault) = ⊥
-Applied disk puts old new (Err failure.OutputFault) = ⊥
-Applied disk puts old new (Err failure.RepositoryFault) = ⊥
-Applied disk puts old new (Err (failure.Damaged path)) = ⊥
+Applied disk puts old new (Err _) = ⊥
 
 -- A write set is put into the root as a whole, or not at all.
 pub record AppliesRoot {D : Type 0} (disk : DiskModel D) (puts : List Put) (old new : D) (result : Result (Unit {0}) Failure) : Type 0 where
@@ -102,11 +88,7 @@ Acted told outcome old new (Ok out) before now = IsTrue told → HasEffect (Equa
 Acted told outcome old new (Err (failure.Refused r)) before now = IsTrue told → (outcome ≡ Err r) × (new ≡ old)
 Acted told outcome old new (Err failure.RootFault) before now = Rose before now × (IsTrue told → IsBeforeOrEffect (Equals outcome) old new)
 Acted told outcome old new (Err failure.Memory) before now = IsTrue told → IsBeforeOrEffect (Equals outcome) old new
-Acted told outcome old new (Err failure.Usage) before now = ⊥
-Acted told outcome old new (Err failure.InputFault) before now = ⊥
-Acted told outcome old new (Err failure.OutputFault) before now = ⊥
-Acted told outcome old new (Err failure.RepositoryFault) before now = ⊥
-Acted told outcome old new (Err (failure.Damaged path)) before now = ⊥
+Acted told outcome old new (Err _) before now = ⊥
 
 abbrev pub IsRootAtRest : {D : Type 0} → DiskModel D → D → Type 0
 IsRootAtRest disk d = IsSettled (disk_state disk d)
@@ -116,12 +98,7 @@ abbrev pub Rests : {D : Type 0} → DiskModel D → D → Result (List ℕ) Fail
 Rests disk new (Ok out) = IsRootAtRest disk new
 Rests disk new (Err (failure.Refused r)) = IsRootAtRest disk new
 Rests disk new (Err failure.InputFault) = IsRootAtRest disk new
-Rests disk new (Err failure.RootFault) = Unit
-Rests disk new (Err failure.Memory) = Unit
-Rests disk new (Err failure.Usage) = Unit
-Rests disk new (Err failure.OutputFault) = Unit
-Rests disk new (Err failure.RepositoryFault) = Unit
-Rests disk new (Err (failure.Damaged path)) = Unit
+Rests disk new (Err _) = Unit
 
 -- What a ready root becomes: it stores the effect's tree and the bytes of the outcome are answered, or it is refused and all is as
 -- it was. At every moment a crash leaves a tree that recovers to what the root read, or to the effect's.

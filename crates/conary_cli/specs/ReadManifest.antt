@@ -30,21 +30,10 @@ abbrev pub ReadsManifest : List ℕ → Result Manifest Failure → Type 0
 ReadsManifest bytes (Ok m) = manifest_in bytes ≡ Ok m
 ReadsManifest bytes (Err (failure.Refused r)) = manifest_in bytes ≡ Err r
 ReadsManifest bytes (Err failure.Memory) = Unit
-ReadsManifest bytes (Err failure.Usage) = ⊥
-ReadsManifest bytes (Err failure.InputFault) = ⊥
-ReadsManifest bytes (Err failure.OutputFault) = ⊥
-ReadsManifest bytes (Err failure.RootFault) = ⊥
-ReadsManifest bytes (Err failure.RepositoryFault) = ⊥
-ReadsManifest bytes (Err (failure.Damaged path)) = ⊥
+ReadsManifest bytes (Err _) = ⊥
 
 -- this manifest is read, and no other, unless memory ran out
 abbrev pub ReadsOnly : Manifest → Result Manifest Failure → Type 0
 ReadsOnly m (Ok read) = read ≡ m
 ReadsOnly m (Err failure.Memory) = Unit
-ReadsOnly m (Err failure.Usage) = ⊥
-ReadsOnly m (Err (failure.Refused r)) = ⊥
-ReadsOnly m (Err failure.InputFault) = ⊥
-ReadsOnly m (Err failure.OutputFault) = ⊥
-ReadsOnly m (Err failure.RootFault) = ⊥
-ReadsOnly m (Err failure.RepositoryFault) = ⊥
-ReadsOnly m (Err (failure.Damaged path)) = ⊥
+ReadsOnly m (Err _) = ⊥

@@ -24,10 +24,7 @@ ReadyStops disk old new (Err (failure.Refused r)) = IsTrue disk.tells → Refuse
 ReadyStops disk old new (Err failure.RootFault) = Rose (disk.faults old) (disk.faults new)
 ReadyStops disk old new (Err failure.Memory) = Unit
 ReadyStops disk old new (Err (failure.Damaged path)) = IsTrue disk.tells → (path ≡ log base) × HasDamagedLog base (disk.reads old) × (disk.reads new ≡ disk.reads old)
-ReadyStops disk old new (Err failure.Usage) = ⊥
-ReadyStops disk old new (Err failure.InputFault) = ⊥
-ReadyStops disk old new (Err failure.OutputFault) = ⊥
-ReadyStops disk old new (Err failure.RepositoryFault) = ⊥
+ReadyStops disk old new (Err _) = ⊥
 
 -- What a crash left of the root is recovered.
 pub record RecoversRoot {D : Type 0} (disk : DiskModel D) (old new : D) (result : Result (Unit {0}) Failure) : Type 0 where
@@ -65,10 +62,7 @@ StandsReady m before after (Err (failure.Refused r)) = (IsTrue before.root.told 
 StandsReady m before after (Err failure.InputFault) = Rose before.input.faults after.input.faults × (IsTrue before.root.told → after.root.tree ≡ before.root.tree)
 StandsReady m before after (Err failure.RootFault) = Rose before.root.faults after.root.faults × WhereTold before (λ input. IsBeforeOrEffect (m.IsOutcome before.root.tree input) before.root.tree after.root.tree)
 StandsReady m before after (Err failure.Memory) = WhereTold before (λ input. IsBeforeOrEffect (m.IsOutcome before.root.tree input) before.root.tree after.root.tree)
-StandsReady m before after (Err failure.Usage) = ⊥
-StandsReady m before after (Err failure.OutputFault) = ⊥
-StandsReady m before after (Err failure.RepositoryFault) = ⊥
-StandsReady m before after (Err (failure.Damaged path)) = ⊥
+StandsReady m before after (Err _) = ⊥
 
 -- A command of this meaning was performed over a ready root, and ended so. At every moment a crash leaves a tree that
 -- recovers to what the root read, or to the effect's.

@@ -40,12 +40,7 @@ error_line (Err e) = failure_text e ++ 10 ∷ []
 abbrev pub IsAnswer : Failure → Type 0
 IsAnswer failure.Usage = Unit
 IsAnswer (failure.Refused r) = Unit
-IsAnswer failure.InputFault = ⊥
-IsAnswer failure.OutputFault = ⊥
-IsAnswer failure.RootFault = ⊥
-IsAnswer failure.RepositoryFault = ⊥
-IsAnswer failure.Memory = ⊥
-IsAnswer (failure.Damaged path) = ⊥
+IsAnswer _ = ⊥
 
 -- The failure's status is answered and, unless the standard error failed, its line was written. Where the line may be missing,
 -- none may have been written, for want of memory.

@@ -84,12 +84,7 @@ abbrev pub IsAnswered : Result Effect Failure → CallState → CallState → �
 IsAnswered (Ok e) before after status = IsDone e before after status
 IsAnswered (Err failure.Usage) before after status = IsRefused failure.Usage before after status
 IsAnswered (Err (failure.Refused r)) before after status = IsRefused (failure.Refused r) before after status
-IsAnswered (Err failure.InputFault) before after status = ⊥
-IsAnswered (Err failure.OutputFault) before after status = ⊥
-IsAnswered (Err failure.RootFault) before after status = ⊥
-IsAnswered (Err failure.RepositoryFault) before after status = ⊥
-IsAnswered (Err failure.Memory) before after status = ⊥
-IsAnswered (Err (failure.Damaged path)) before after status = ⊥
+IsAnswered (Err _) before after status = ⊥
 
 -- the call ended as an outcome of the command says
 abbrev pub HasOutcome : (Result Effect Refusal → Type 0) → CallState → CallState → ℕ → Type 0

@@ -2,14 +2,12 @@
 #![tactic(auto)]
 
 mod failure;
-mod fixed_dirs;
 mod input;
 mod install;
 mod manifest;
-mod on_root;
 mod program;
-mod ready;
 mod report;
+mod root;
 mod show;
 mod texts;
 mod words;

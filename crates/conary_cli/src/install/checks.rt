@@ -17,7 +17,7 @@ ghost use Rattle.conary_cli.specs.Seen.{other_than_dir, other_than_link, no_dir_
 
 use crate::manifest::Item;
 use crate::texts::text_of_path;
-use cny_base::{Mode, Node, OutOfMemory, Path, Refusal, Stop, Target};
+use cny_base::{Copies, Mode, Node, OutOfMemory, Path, Refusal, Stop, Target};
 use std::alloc::Global;
 use std::collections::BTreeSet;
 use tree_disk::{Look, TreeDisk, steps};

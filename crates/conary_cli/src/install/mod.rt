@@ -1,5 +1,7 @@
 //! The command that puts the files of one component into the root.
-ghost use Rattle.std.specs.Prelude.{◌≡◌, [], IfOk, IsTrue};
+ghost use Rattle.std.specs.Prelude.{◌≡◌, [], IfOk, IsTrue, true};
+ghost use Rattle.std.specs.List.{list_all};
+ghost use Rattle.tree_disk.specs.Tree.{is_node};
 ghost use Rattle.tree_journal.specs.Apply.{CanApply};
 ghost use Rattle.conary_cli.specs.Install as spec;
 ghost use Rattle.conary_cli.specs.Install.{checks, installed_line, is_named, installs};
@@ -15,12 +17,11 @@ mod puts;
 use crate::failure::Failure;
 use crate::input::read_input;
 use crate::manifest::{Item, Manifest, read_manifest};
-use crate::on_root::on_root;
-use crate::ready::private_directory;
+use crate::root::{on_root, private_directory};
 use cny_base::{OutOfMemory, Text};
 use cny_flow::Source;
 use std::alloc::Global;
-use tree_disk::TreeDisk;
+use tree_disk::{TreeDisk, node_ranges};
 use tree_journal::{Puts, apply};
 
 fn line_of_manifest(alloc: Global, manifest: &Manifest) -> Result<Text, OutOfMemory>
@@ -61,6 +62,17 @@ fn put_items<T: TreeDisk>(alloc: Global, root: &mut T, puts: &Puts) -> Result<()
     on_root(apply(alloc, root, &directory, puts))
 }
 
+// The items' nodes are ones that a disk can hold. It does nothing: its clause is for the proofs of its callers.
+fn hold_nodes(manifest: &Manifest)
+    ensures { list_all (λ item. is_node item.node) manifest.now.items ≡ true }
+{
+    let mut rest = manifest.items.get();
+    while let [first, after @ ..] = rest {
+        node_ranges(&first.node);
+        rest = after;
+    }
+}
+
 // Puts the items of a manifest into the root, and answers the line that says so.
 fn install_manifest<T: TreeDisk>(
     alloc: Global,
@@ -71,6 +83,7 @@ fn install_manifest<T: TreeDisk>(
     requires ready { IsTrue T.disk.tells → IsReady T.disk root.old }
     ensures { ActsOnRoot T.disk (is_named manifest.items) (installs manifest) root.old root.new result }
 {
+    hold_nodes(&manifest);
     let line = line_of_manifest(alloc, &manifest)?;
     check_items(alloc, root, manifest.items.get())?;
     let puts = new_items(alloc, root, manifest.items.into_vec())?;

@@ -1,9 +1,9 @@
 use Rattle.std.proofs.Common.{Err, ap}
 use Rattle.conary_cli.specs.Install as spec
 use Rattle.conary_cli.specs.Ready.{PerformsReady}
-use Rattle.conary_cli.proofs.InputEnds.{input_stopped}
-use Rattle.conary_cli.proofs.InstallEnds.{install_reads_first, manifest_stopped, installed}
-use Rattle.conary_cli.proofs.Recovering.{err_is}
+use Rattle.conary_cli.proofs.WholeCall.InputEnds.{input_stopped}
+use Rattle.conary_cli.proofs.Installation.InstallEnds.{install_reads_first, manifest_stopped, installed}
+use Rattle.conary_cli.proofs.ReadyRoot.Recovering.{err_is}
 use Rattle.conary_cli.proofs.install.install.Goals as goal
 
 pub returns-in_err-bytes : goal.returns-in_err-bytes

@@ -1,8 +1,8 @@
 use Rattle.std.proofs.Common.{Ok, Err, arith}
 use Rattle.conary_cli.specs.Install.{is_named, installs}
 use Rattle.conary_cli.specs.OnRoot.{ActsOnRoot}
-use Rattle.conary_cli.proofs.Installing.{check_stopped, search_stopped, begun, can_put, acts_applied}
-use Rattle.conary_cli.proofs.Recovering.{err_is}
+use Rattle.conary_cli.proofs.Installation.Installing.{check_stopped, search_stopped, begun, can_put, acts_applied}
+use Rattle.conary_cli.proofs.ReadyRoot.Recovering.{err_is}
 use Rattle.conary_cli.proofs.install.install_manifest.Goals as goal
 
 pub returns-in_err-check_items : goal.returns-in_err-check_items
@@ -20,7 +20,7 @@ returns-in_err-puts g c =
 pub put_items-requires : goal.put_items-requires
 put_items-requires g c = λ told.
     let m = c.args.manifest in
-    can_put g.met.T.TreeDisk.laws m c.requires.valid (c.requires.ready told)
+    can_put g.met.T.TreeDisk.laws m c.requires.valid c.hold_nodes.ensures (c.requires.ready told)
     (begun g.met.T.TreeDisk.laws m.items c.get.result.now c.into_vec.result.items c.get.ensures c.into_vec.ensures c.in_ok-check_items.ensures c.in_ok-puts.ensures told)
 
 pub returns-in_err-put_items : goal.returns-in_err-put_items

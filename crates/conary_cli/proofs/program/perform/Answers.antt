@@ -1,5 +1,5 @@
-use Rattle.conary_cli.proofs.Performing.{stopped, stopped_images, performed, images_then, never_none, never_missing}
-use Rattle.conary_cli.proofs.Recovering.{err_is}
+use Rattle.conary_cli.proofs.WholeCall.Performing.{stopped, stopped_images, performed, images_then, never_none, never_missing}
+use Rattle.conary_cli.proofs.ReadyRoot.Recovering.{err_is}
 use Rattle.conary_cli.specs.Call.{objects, Performs}
 use Rattle.conary_cli.specs.Run.{meaning}
 use Rattle.conary_cli.proofs.program.perform.Goals as goal

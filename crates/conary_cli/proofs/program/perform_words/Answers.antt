@@ -1,5 +1,5 @@
 use Rattle.std.specs.Prelude.{string_bytes, map}
-use Rattle.conary_cli.proofs.Performing.{nothing_done, nothing_read, of_command}
+use Rattle.conary_cli.proofs.WholeCall.Performing.{nothing_done, nothing_read, of_command}
 use Rattle.conary_cli.specs.Words.{command_of}
 use Rattle.conary_cli.proofs.program.perform_words.Goals as goal
 

@@ -3,9 +3,9 @@ use Rattle.conary_cli.specs.declared.failure.Failure.TheVariants as failure
 use Rattle.conary_cli.specs.Failures.{failure_of_fault}
 use Rattle.conary_cli.specs.Ready.{PerformsReady}
 use Rattle.conary_cli.specs.ShowChangeSet as spec
-use Rattle.conary_cli.proofs.InputEnds.{input_stopped, read_stopped, read_answered}
-use Rattle.conary_cli.proofs.Recovering.{err_is}
-use Rattle.conary_cli.proofs.ShowEnds.{show_reads_first, set_shown, fault_shown}
+use Rattle.conary_cli.proofs.WholeCall.InputEnds.{input_stopped, read_stopped, read_answered}
+use Rattle.conary_cli.proofs.ReadyRoot.Recovering.{err_is}
+use Rattle.conary_cli.proofs.WholeCall.ShowEnds.{show_reads_first, set_shown, fault_shown}
 use Rattle.conary_cli.proofs.show.show_change_set.Goals as goal
 
 pub returns-in_err-bytes : goal.returns-in_err-bytes

@@ -1,7 +1,7 @@
 use Rattle.std.proofs.Common.{sym}
 use Rattle.tree_disk.specs.StepLaws.{tests_then}
 use Rattle.conary_cli.specs.Install.{checks}
-use Rattle.conary_cli.proofs.ItemParents.{parents_of_items}
+use Rattle.conary_cli.proofs.Installation.ItemParents.{parents_of_items}
 use Rattle.conary_cli.proofs.install.checks.check_items.Goals as goal
 
 pub returns : goal.returns

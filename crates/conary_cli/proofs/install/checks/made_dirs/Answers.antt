@@ -5,7 +5,7 @@ use Rattle.std.proofs.lemmas.List.{take_all}
 use Rattle.std.proofs.lemmas.Map.Text.{btree_set_updates_text}
 use Rattle.std.specs.BTreeSet.{contains_text}
 use Rattle.conary_cli.specs.Parents.{is_made_dir}
-use Rattle.conary_cli.proofs.MadeDirs.{made_dir, no_dir}
+use Rattle.conary_cli.proofs.Installation.MadeDirs.{made_dir, no_dir}
 use Rattle.conary_cli.proofs.install.checks.made_dirs.Goals.{then-is_dir_node+in_ok-from_str+in_ok-insert, else-is_dir_node}
 use Rattle.conary_cli.proofs.install.checks.made_dirs.Goals as goal
 

@@ -3,8 +3,8 @@ use Rattle.std.proofs.lemmas.Iterator.Adapters.{YieldsList-from_vec}
 use Rattle.std.proofs.lemmas.Iterator.Consumers.{YieldsList-turn}
 use Rattle.tree_disk.specs.StepLaws.{tests_then, tests_answer, tests_value}
 use Rattle.conary_cli.specs.NewPuts.{new_put}
-use Rattle.conary_cli.proofs.NewItems.{more_some, more_none}
-use Rattle.conary_cli.proofs.PutsRise.{ordered_some, ordered_none, path_of}
+use Rattle.conary_cli.proofs.Installation.NewItems.{more_some, more_none}
+use Rattle.conary_cli.proofs.Installation.PutsRise.{ordered_some, ordered_none, path_of}
 use Rattle.conary_cli.proofs.install.puts.puts_of_new.Goals as goal
 
 pub loop-item-preserved-in-Continue-branch-3 : goal.loop-item-preserved-in-Continue-branch-3

@@ -2,7 +2,7 @@ use Rattle.std.proofs.Common.{◌≡◌, Ok, length, take}
 use Rattle.std.specs.Prelude.{IsTrue}
 use Rattle.tree_disk.specs.Steps.{Tests}
 use Rattle.conary_cli.specs.NewPuts.{new_puts}
-use Rattle.conary_cli.proofs.PutsRise.{AreOrdered}
+use Rattle.conary_cli.proofs.Installation.PutsRise.{AreOrdered}
 use Rattle.conary_cli.proofs.install.puts.puts_of_new.Given as goal
 
 abbrev pub invariant-loop-item : goal.invariant-loop-item

@@ -1,4 +1,4 @@
-use Rattle.conary_cli.proofs.ValueTexts.{no_path}
+use Rattle.conary_cli.proofs.ManifestText.ValueTexts.{no_path}
 use Rattle.conary_cli.proofs.manifest.fields.path_of.Goals as goal
 
 pub returns-in_default-clause-found : goal.returns-in_default-clause-found

@@ -1,6 +1,6 @@
 use Rattle.std.proofs.Common.{refl}
 use Rattle.std.proofs.lemmas.Str.{is_utf8-from_IsUtf8}
-use Rattle.conary_cli.proofs.TextBytes.{not_utf8}
+use Rattle.conary_cli.proofs.ManifestText.TextBytes.{not_utf8}
 use Rattle.conary_cli.proofs.manifest.fields.text_of.Goals as goal
 
 pub returns-in-Ok : goal.returns-in-Ok

@@ -1,4 +1,4 @@
-use Rattle.conary_cli.proofs.TextBytes.{line_is_long}
+use Rattle.conary_cli.proofs.ManifestText.TextBytes.{line_is_long}
 use Rattle.conary_cli.proofs.manifest.lines.line_of.Goals as goal
 
 pub returns-else-bytes-lt-LINE_ROOM : goal.returns-else-bytes-lt-LINE_ROOM

@@ -1,5 +1,5 @@
 use Rattle.std.proofs.Common.{true, false}
-use Rattle.conary_cli.proofs.ValueTexts.{no_component, component_found}
+use Rattle.conary_cli.proofs.ManifestText.ValueTexts.{no_component, component_found}
 use Rattle.conary_cli.proofs.manifest.reader.component_name.Goals as goal
 
 pub returns-in_default : goal.returns-in_default

@@ -1,7 +1,7 @@
 use Rattle.std.proofs.Common.{◌-◌, [], sym, ◌∙◌}
 use Rattle.std.proofs.lemmas.Result.{err_from_is_err_and}
 use Rattle.conary_cli.specs.ManifestReading.{items_at}
-use Rattle.conary_cli.proofs.ItemList.{ends, line_stops, item_stops, goes_on, too_many}
+use Rattle.conary_cli.proofs.ManifestText.ItemList.{ends, line_stops, item_stops, goes_on, too_many}
 use Rattle.conary_cli.proofs.manifest.reader.items_of.Goals as goal
 
 pub returns-in_err-line : goal.returns-in_err-line

@@ -1,5 +1,5 @@
-use Rattle.conary_cli.proofs.Takes.{read_is_spelled}
-use Rattle.conary_cli.proofs.Again.{spelled_is_read}
+use Rattle.conary_cli.proofs.ManifestText.Takes.{read_is_spelled}
+use Rattle.conary_cli.proofs.ManifestText.Again.{spelled_is_read}
 use Rattle.conary_cli.proofs.manifest.reader.read_manifest.Goals as goal
 
 pub returns-clause-found : goal.returns-clause-found

@@ -1,4 +1,4 @@
-use Rattle.conary_cli.proofs.ValueTexts.{no_version}
+use Rattle.conary_cli.proofs.ManifestText.ValueTexts.{no_version}
 use Rattle.conary_cli.proofs.manifest.reader.version_text.Goals as goal
 
 pub returns-in_default : goal.returns-in_default
