@@ -1,0 +1,209 @@
+"""What the gate costs in processor seconds, from nothing, for one crate or for all (see gate_cost.sh).
+
+It runs the gate in a copy of the repository and samples the prover's processes; then it checks each crate once more by a
+single process, whose lines tell when each function is done. What an earlier run of the gate kept isn't used for what is measured:
+with a name the crate gets one more comment line in the copy, without a name the gate proves all anew.
+"""
+import os
+import re
+import shutil
+import subprocess
+import sys
+import tempfile
+import threading
+import time
+
+TICK = os.sysconf("SC_CLK_TCK")
+# Above these a function, a test or an edit is named; seconds.
+FUNCTION, TEST, EDIT = 10, 5, 25
+
+
+def crates():
+    """The crates' names, lowest first."""
+    with open("crates.txt", encoding="utf-8") as lines:
+        return [line.split(":")[0].split()[0] for line in lines if line.strip() and not line.startswith("#")]
+
+
+def copy_to(room):
+    """Copies what git tracks, as it stands in the work tree."""
+    names = subprocess.run(["git", "ls-files"], stdout=subprocess.PIPE, text=True, check=True).stdout.split("\n")
+    for name in filter(os.path.isfile, names):
+        os.makedirs(os.path.dirname(f"{room}/{name}") or room, exist_ok=True)
+        shutil.copy2(name, f"{room}/{name}")
+    return room
+
+
+def root_file(room, crate):
+    source = f"{room}/crates/{crate}/src"
+    return f"{source}/main.rt" if os.path.exists(f"{source}/main.rt") else f"{source}/lib.rt"
+
+
+def touch(room, crate):
+    """Gives the crate one more comment line, so that nothing that was kept of it fits."""
+    with open(root_file(room, crate), "a", encoding="utf-8") as file:
+        file.write(f"// {time.time()}\n")
+
+
+def processes(session):
+    """The prover's processes of a session: number, words, folder, processor seconds, peak memory in MB."""
+    for number in filter(str.isdigit, os.listdir("/proc")):
+        try:
+            with open(f"/proc/{number}/stat", encoding="utf-8") as file:
+                fields = file.read().rpartition(")")[2].split()
+            if int(fields[3]) != session:
+                continue
+            with open(f"/proc/{number}/cmdline", encoding="utf-8") as file:
+                words = file.read().split("\0")
+            if os.path.basename(words[0]) != "rattle" or "--crate-name" not in words:
+                continue
+            with open(f"/proc/{number}/status", encoding="utf-8") as file:
+                peak = re.search(r"VmHWM:\s+(\d+)", file.read())
+            seconds = (int(fields[11]) + int(fields[12])) / TICK
+            yield number, words, os.readlink(f"/proc/{number}/cwd"), seconds, int(peak[1]) // 1024 if peak else 0
+        except (OSError, ValueError, IndexError):
+            continue
+
+
+def kind_of(words, folder):
+    """What a process of the gate is there for."""
+    if "rt-edit-" in folder:
+        at = words[words.index("--incremental") + 1] if "--incremental" in words else ""
+        return "seed" if at.endswith("/seed") else "edit"
+    return "tests" if "--test" in words else "proof"
+
+
+def run_gate(room, words):
+    """Runs the gate and returns its last lines and, by process, what it was for."""
+    found = {}
+    with open(f"{room}/gate.log", "w+", encoding="utf-8") as log:
+        gate = subprocess.Popen(["rt", "ci", *words], cwd=room, stdout=log, stderr=log, start_new_session=True)
+        while gate.poll() is None:
+            for number, argv, folder, seconds, peak in processes(gate.pid):
+                name = argv[argv.index("--crate-name") + 1]
+                key = (number, name, kind_of(argv, folder))
+                before = found.get(key, (0, 0))
+                found[key] = (max(seconds, before[0]), max(peak, before[1]))
+            time.sleep(0.2)
+        log.seek(0)
+        return log.read().rstrip("\n").split("\n")[-3:], found
+
+
+def clock_of(process):
+    try:
+        with open(f"/proc/{process}/stat", encoding="utf-8") as file:
+            fields = file.read().rpartition(")")[2].split()
+        return (int(fields[11]) + int(fields[12])) / TICK
+    except (OSError, ValueError):
+        return None
+
+
+def prover_below(session):
+    return next((int(number) for number, *_ in processes(session)), None)
+
+
+def timed_check(room, crate, flags):
+    """Processor seconds of each function of one check, by the lines that it prints."""
+    taken, last = {}, 0.0
+    check = subprocess.Popen(
+        ["rt", "check", "--jobs", "1", *flags],
+        cwd=f"{room}/crates/{crate}", stdout=subprocess.PIPE, stderr=subprocess.STDOUT, text=True, start_new_session=True,
+    )
+    prover = None
+    for line in check.stdout:
+        done = re.match(r"checked (\S+), \d+ of \d+", line)
+        if not done:
+            continue
+        prover = prover or prover_below(check.pid)
+        now = clock_of(prover) if prover else None
+        if now is not None:
+            taken[done[1]] = max(now - last, 0.0) if last else 0.0
+            last = now
+    check.wait()
+    return taken
+
+
+def slow_functions(room, crate, kept_in):
+    """The crate's functions and tests over the limits; room is a copy of the repository for this alone."""
+    source = root_file(room, crate)
+    with open(source, encoding="utf-8") as file:
+        as_it_was = file.read()
+    touch(room, crate)
+    shutil.rmtree(f"{room}/crates/{crate}/out/incremental", ignore_errors=True)
+    os.makedirs(f"{room}/crates/{crate}/out/incremental")
+    code = timed_check(room, crate, [])
+    has_tests = "#[test]" in "".join(
+        open(f"{at}/{name}", encoding="utf-8").read()
+        for at, _, names in os.walk(f"{room}/crates/{crate}/src") for name in names if name.endswith(".rt")
+    )
+    tests = timed_check(room, crate, ["--test"]) if has_tests else {}
+    with open(source, "w", encoding="utf-8") as file:
+        file.write(as_it_was)
+    slow = [(seconds, name) for name, seconds in code.items() if seconds > FUNCTION]
+    slow += [(seconds, name) for name, seconds in tests.items() if name not in code and seconds > TEST]
+    kept_in[crate] = sorted(slow, reverse=True)
+
+
+def all_slow_functions(rooms, names):
+    """Checks the crates in turn, one in each copy at a time."""
+    found, left, turn = {}, list(names), threading.Lock()
+
+    def lane(room):
+        while True:
+            with turn:
+                if not left:
+                    return
+                crate = left.pop(0)
+            slow_functions(room, crate, found)
+
+    lanes = [threading.Thread(target=lane, args=(room,)) for room in rooms]
+    for it in lanes:
+        it.start()
+    for it in lanes:
+        it.join()
+    return found
+
+
+def lines_of(crate):
+    files = [f"{at}/{name}" for at, _, names in os.walk(f"crates/{crate}/src") for name in names if name.endswith(".rt")]
+    return sum(open(file, encoding="utf-8").read().count("\n") for file in files)
+
+
+def report(names, found, slow):
+    print("| crate | lines of `src/` | edits | proof | tests | edits, s | all, min | min for 1,000 lines | peak MB |")
+    print("|---|---|---|---|---|---|---|---|---|")
+    whole = 0.0
+    for crate in names:
+        mine = {kind: sum(s for (_, name, it), (s, _) in found.items() if name == crate and it == kind) for kind in ("proof", "tests", "seed", "edit")}
+        peak = max([p for (_, name, _), (_, p) in found.items() if name == crate] or [0])
+        edits = len([it for it in os.listdir(f"crates/{crate}/must-fail") if it.endswith(".edit")]) if os.path.isdir(f"crates/{crate}/must-fail") else 0
+        minutes, lines = sum(mine.values()) / 60, lines_of(crate)
+        whole += minutes
+        print(f"| `{crate}` | {lines:,} | {edits} | {mine['proof']:.0f} | {mine['tests']:.0f} | {mine['seed'] + mine['edit']:.0f} | {minutes:.1f} | {1000 * minutes / lines:.1f} | {peak:,} |")
+    print(f"\nall: {whole:.1f} processor minutes")
+    for crate in names:
+        for seconds, name in slow.get(crate, []):
+            print(f"slow: {name}: {seconds:.0f} s")
+    for (_, crate, kind), (seconds, _) in sorted(found.items(), key=lambda it: -it[1][0]):
+        if kind == "edit" and seconds > EDIT and crate in names:
+            print(f"slow: an edit of {crate}: {seconds:.0f} s")
+
+
+def main():
+    wanted = sys.argv[1:]
+    known = crates()
+    if len(wanted) > 1 or any(it not in known for it in wanted):
+        sys.exit("usage: tools/gate_cost.sh [CRATE]")
+    with tempfile.TemporaryDirectory(prefix="gate-cost-") as at:
+        room = copy_to(f"{at}/gate")
+        subprocess.run(["git", "init", "-q"], cwd=room, check=True)
+        for crate in wanted:
+            touch(room, crate)
+        said, found = run_gate(room, wanted or ["--anew"])
+        lanes = len(os.sched_getaffinity(0)) if not wanted else 1
+        rooms = [copy_to(f"{at}/{number}") for number in range(lanes)]
+        slow = all_slow_functions(rooms, wanted or known)
+        report(wanted or known, found, slow)
+        print("\n".join(said))
+
+
+main()
