@@ -15,10 +15,16 @@ pub const CONTENT_LIMIT: u32 = 16_777_216;
 pub const CONTENT_ITEM_LIMIT: u32 = CONTENT_LIMIT + 20;
 
 /// The most bytes of the database file.
-pub const DATABASE_LIMIT: usize = 268_435_456;
+pub const DATABASE_LIMIT: usize = 536_870_912;
+
+/// The most bytes of a database file of format 1, and in that format of a database whose list a record of format 1 gives back.
+pub const FORMAT_1_DATABASE_LIMIT: usize = 268_435_456;
 
 /// The most bytes of a change set that is written.
 pub const CHANGE_SET_LIMIT: usize = 268_435_456;
+
+/// The most bytes of a stream of requests, and of one of replies.
+pub const MESSAGE_LIMIT: usize = 268_435_456;
 
 /// The most parts of a change set.
 pub const PARTS_LIMIT: usize = 4_096;
