@@ -1,7 +1,7 @@
 """What the gate costs in processor seconds, from nothing, for one crate or for all (see gate_cost.sh).
 
-It runs the gate in a copy of the repository and samples the prover's processes; then it checks each crate once more by a
-single process, whose lines tell when each function is done. What an earlier run of the gate kept isn't used for what is measured:
+It runs the gate in a copy of the repository, samples the prover's processes and prints the table; then it checks each crate once
+more by a single process, whose lines tell when each function is done, and prints the slow ones. What an earlier run of the gate kept isn't used for what is measured:
 with a name the crate gets one more comment line in the copy, without a name the gate proves all anew.
 """
 import os
@@ -168,7 +168,7 @@ def lines_of(crate):
     return sum(open(file, encoding="utf-8").read().count("\n") for file in files)
 
 
-def report(names, found, slow):
+def report(names, found):
     print("| crate | lines of `src/` | edits | proof | tests | edits, s | all, min | min for 1,000 lines | peak MB |")
     print("|---|---|---|---|---|---|---|---|---|")
     whole = 0.0
@@ -180,9 +180,6 @@ def report(names, found, slow):
         whole += minutes
         print(f"| `{crate}` | {lines:,} | {edits} | {mine['proof']:.0f} | {mine['tests']:.0f} | {mine['seed'] + mine['edit']:.0f} | {minutes:.1f} | {1000 * minutes / lines:.1f} | {peak:,} |")
     print(f"\nall: {whole:.1f} processor minutes")
-    for crate in names:
-        for seconds, name in slow.get(crate, []):
-            print(f"slow: {name}: {seconds:.0f} s")
     for (_, crate, kind), (seconds, _) in sorted(found.items(), key=lambda it: -it[1][0]):
         if kind == "edit" and seconds > EDIT and crate in names:
             print(f"slow: an edit of {crate}: {seconds:.0f} s")
@@ -199,11 +196,14 @@ def main():
         for crate in wanted:
             touch(room, crate)
         said, found = run_gate(room, wanted or ["--anew"])
+        report(wanted or known, found)
+        print("\n".join(said), flush=True)
         lanes = len(os.sched_getaffinity(0)) if not wanted else 1
         rooms = [copy_to(f"{at}/{number}") for number in range(lanes)]
         slow = all_slow_functions(rooms, wanted or known)
-        report(wanted or known, found, slow)
-        print("\n".join(said))
+        for crate in wanted or known:
+            for seconds, name in slow[crate]:
+                print(f"slow: {name}: {seconds:.0f} s")
 
 
 main()
