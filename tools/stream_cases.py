@@ -169,6 +169,8 @@ def owned_records():
     for first, second in ((OWNED_DIR, OWNED_DIR), (OWNED_DIR, full_root), (OWNED_DIR, b"\x02d\x00\x01\xed\x00\x06daemon\x00\x04root")):
         yield "same_record", first, second
     yield "same_record", OWNED_DIR, b"\x02d\x00\x01\xee" + DAEMON
+    for other in (DAEMON, ROOT, b"\x00\x06daemon\x00\x04root", b"\x00\x04root\x00\x03adm"):
+        yield "same_record", OWNED_FILE, b"\x02f\x05\x01\xa4" + other + b"\x00\x00\x00\x03" + ABC
     for text in (DIR, FILE, LINK, OWNED_DIR, OWNED_FILE):
         yield from damaged("record", text)
         yield from damaged("record_full", text)
@@ -249,6 +251,12 @@ def lists():
     for text in (owned, full, FILES):
         yield "files", text, "0", b"\x04"
         yield "files_full", text, "0", b"\x04"
+    # As many elements as a limit, one fewer, and one more.
+    for call, text, tag in (("files", FILES, b"\x04"), ("files_full", full, b"\x04"), ("refs", REFS, b"\x05"), ("deps", DEPS, b"\x06")):
+        for limit in range(5):
+            yield call, text, "0", tag, str(limit)
+        yield call, b"", "0", tag, "0"
+        yield call, tag, "0", tag, "0"
 
 
 # ---- troves
@@ -348,7 +356,7 @@ BROKEN_TROVES = [
     (b"a", V, b"", ref(b"a:c") + ref(b"a:b")),
 ]
 
-BARRED = [
+FORBIDDEN = [
     (b"/var/lib/conarydb", DIR),
     (b"/var/lib/conarydb/a", b"\x01f\x00\x01\xa4\x00\x00\x00\x03" + ABC),
     (b"/var", b"\x01f\x00\x01\xa4\x00\x00\x00\x03" + ABC),
@@ -379,7 +387,11 @@ def troves():
         yield "trove", Terms(whole, (b"\x04\x00\x00\x00\x0d\x00\x06/", count, DIR))
         refs = (b"\x05\x00\x00\x00\x1a\x00\x08a:b", count, field(V) + b"\x00\x00")
         yield "trove", Terms(stream(b"a", V, b"", b""), refs)
-    for path, rec in BARRED:
+    many = (b"\x04\x00\x00\x00\x0d\x00\x06/", 65_536, DIR)
+    yield "make_trove", "a:b=/a@b:c/1-1-1", Terms(many), b"", b"", b""
+    many = (b"\x05\x00\x00\x00\x1a\x00\x08a:b", 65_536, field(V) + b"\x00\x00")
+    yield "make_trove", "group-a=/a@b:c/1-1-1", b"", Terms(many), b"", b""
+    for path, rec in FORBIDDEN:
         for front in (b"", ROOT_DIR):
             yield "check", stream(b"foo:runtime", VERSION, b"", front + item(4, field(path) + rec))
     yield "check", stream(b"a:b", V, b"", ROOT_DIR + item(4, field(b"/a") + DIR) + item(4, field(b"/var") + LINK))
@@ -555,10 +567,16 @@ def owned_relatives():
         yield "relative_full", OLD + NEW + b"".join(changes)
     # No limits of number.
     for count in (4_097, 65_536):
-        for tag in (0x28, 0x2A):
+        for tag in (0x27, 0x28, 0x29, 0x2A):
             yield "relative", Terms(OLD + NEW, (bytes([tag]) + b"\x00\x00\x00\x0dtrove: a", count, b""))
         yield "relative", Terms(OLD + NEW, (b"\x24\x00\x00\x00\x0d\x00\x06/", count, DIR))
         yield "relative", Terms(OLD + NEW, (b"\x23\x00\x00\x00\x06/", count, b""))
+
+    # A directory that root owns names its owner in the explicit encoding alone.
+    by_root = OLD + NEW + item(0x24, field(b"/a") + b"\x02d\x00\x01\xed" + ROOT)
+    for text in (by_root, by_root + item(0x24, field(b"/b") + OWNED_FILE), OLD + NEW + SET_A):
+        yield "relative", text
+        yield "relative_full", text
 
 
 def damaged_relatives():
@@ -667,6 +685,10 @@ def owned_sets():
     yield "set", OWNED_SET
     yield "set", MAGIC + item(0x10, FULL_COMPONENT) + content(b"abc") + END
     yield "set", MAGIC + item(0x11, OWNED_UPDATE) + END
+    # A relative trove with 4,097 changes of one kind.
+    many = (b"\x29\x00\x00\x00\x0dtrove: a", 4_097, b"")
+    length = len(Terms(OLD + NEW, many).bytes())
+    yield "set", Terms(MAGIC + b"\x11" + length.to_bytes(4, "big") + OLD + NEW, many, END)
 
 
 def damaged_sets():

@@ -262,7 +262,7 @@ def is_owner(owner):
 
 
 def names_owner(record, full):
-    """Whether the owner stands in the record: never for a link, in the short encoding where it isn't root."""
+    """Whether the owner stands in the record: never for a link, in the compact encoding where it isn't root."""
     return record.kind != "l" and (full or record.owner != ROOT)
 
 
@@ -378,7 +378,7 @@ def read_trove(text, full=False):
     return check_trove(Trove(Id(name, version, flavor), *[lists[tag] for tag in (4, 5, 6, 7)]))
 
 
-def barred_path(trove):
+def forbidden_path(trove):
     """The first path that no trove may record: in the private directory, or a fixed one that isn't a directory."""
     private, fixed = b"/var/lib/conarydb", (b"/", b"/var", b"/var/lib")
     for path, record in trove.files:

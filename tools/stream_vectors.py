@@ -106,8 +106,8 @@ def owner(user, group):
 # ---- calls on lists
 
 
-def take(text, at, tag, read, key, show, spell):
-    """The elements of all items of a tag from a place on."""
+def take(text, at, tag, limit, read, key, show, spell):
+    """The elements of all items of a tag from a place on, as many as the limit at most, if there is one."""
     at, end, found = int(at), int(at), []
     while end < len(text) and text[end] == tag[0]:
         need(len(text) >= end + 5)
@@ -116,6 +116,7 @@ def take(text, at, tag, read, key, show, spell):
         found.append(read(text[end + 5 : end + 5 + length]))
         need(model.rises([key(one) for one in found[-2:]]))
         end += 5 + length
+    need(limit is None or len(found) <= int(limit))
     return fields(str(end), show(found), written(items(tag[0], map(spell, found)), text[at:end]))
 
 
@@ -127,23 +128,23 @@ def itself(one):
     return one
 
 
-def files(text, at, tag, full=False):
+def files(text, at, tag, limit=None, full=False):
     def read(value):
         return model.read_file(value, full)
 
-    return take(text, at, tag, read, first, files_text, lambda file: model.file_value(file, full))
+    return take(text, at, tag, limit, read, first, files_text, lambda file: model.file_value(file, full))
 
 
-def refs(text, at, tag):
-    return take(text, at, tag, model.read_id, itself, refs_text, id_bytes)
+def refs(text, at, tag, limit=None):
+    return take(text, at, tag, limit, model.read_id, itself, refs_text, id_bytes)
 
 
-def deps(text, at, tag):
-    return take(text, at, tag, model.read_dependency, itself, shown, itself)
+def deps(text, at, tag, limit=None):
+    return take(text, at, tag, limit, model.read_dependency, itself, shown, itself)
 
 
 def paths(text, at, tag):
-    return take(text, at, tag, model.read_path, itself, shown, itself)
+    return take(text, at, tag, None, model.read_path, itself, shown, itself)
 
 
 def id_item(text, at, tag):
@@ -209,7 +210,7 @@ def make_trove(*arguments):
 
 
 def check(text):
-    path = model.barred_path(model.read_trove(text))
+    path = model.forbidden_path(model.read_trove(text))
     return "ok" if path is None else f"reserved {path.decode()}"
 
 

@@ -9,6 +9,7 @@ use Rattle.std.proofs.Math.Seq.{drop-length}
 use Rattle.std.proofs.lemmas.Bool.{false≢true}
 use Rattle.std.proofs.lemmas.Grind.{flat_map-append}
 use Rattle.std.proofs.lemmas.List.Elements.{All-push}
+use Rattle.cny_base.specs.declared.limits.TheConstants.{CONTENT_ITEM_LIMIT, PARTS_LIMIT}
 use Rattle.cny_base.specs.declared.refusal.Fault.{Fault}
 use Rattle.cny_base.specs.declared.refusal.Fault.TheVariants as fault
 use Rattle.cny_base.specs.declared.refusal.Refusal.{Refusal}
@@ -20,14 +21,15 @@ use Rattle.change_set.specs.declared.change.Part.{Part}
 use Rattle.change_set.specs.declared.change.Part.TheVariants.{Whole, Relative}
 use Rattle.change_set.specs.declared.change.Carried.{Carried}
 use Rattle.change_set.specs.declared.recorded.Index.{Index}
-use Rattle.change_set.specs.ChangeSet.{parts_limit, part_tag, part_bytes, has_record, content_bytes, content_cmp, IsContentOf, magic, IsSetStream}
+use Rattle.change_set.specs.ChangeSet.{part_tag, part_bytes, has_record, content_bytes, content_cmp, IsContentOf, magic, IsSetStream}
 use Rattle.change_set.specs.Contents.{content_tags, IfRefused, IsNoContent, IsNoNext, IsEndAt, IsNoEnd}
 use Rattle.change_set.specs.Index.{IsIndexOf}
-use Rattle.change_set.specs.FirstFault.{StreamItem, Progress, item_text, start, IsItemOf, ComesAfter, IsNextContent, IsEndItem, AreGood, progress_to, expected_tags, tags_after, NoneNext, StopsBehind, IsFirstFault, IsFaultOf, fault_of, content_limit}
-use Rattle.change_set.specs.Reading.{item_of, IsOnlyPart, ArePartsTo, IsNextAt, last_name, IsNextOf, AreContentsTo}
+use Rattle.change_set.specs.FirstFault.{StreamItem, Progress, item_text, start, IsItemOf, ComesAfter, IsNextContent, IsEndItem, AreGood, progress_to, expected_tags, tags_after, NoneNext, StopsBehind, IsFirstFault, IsFaultOf, fault_of}
+use Rattle.change_set.specs.Reading.{item_of, ArePartsTo, IsNextAt, last_name, IsNextOf, AreContentsTo}
 use Rattle.change_set.proofs.Faults.{fault_of_whole}
 use Rattle.change_set.proofs.GoodItems.{none_behind_end, end_item, end_expected, end_next}
 use Rattle.change_set.proofs.Progress.{progress_then, good_then, part_texts, parts_read, parts_good, content_item, with_contents, content_texts, contents_read, contents_good}
+use Rattle.change_set.proofs.SameSet.{IsOnlyPart, TrovesDiffer, RelsDiffer, only_parts}
 use Rattle.change_set.proofs.Small.{next_small}
 
 -- ---- one more content
@@ -185,24 +187,24 @@ range_length bytes from to order within = omega (arith, length-take (to - from) 
 -- ---- the four ways to stop
 
 -- the item of a content that is no next one
-pub stops_at_content : (bytes : List ℕ) (parts : List Part) (contents : List Carried) (first at from to : ℕ) → ArePartsTo bytes parts first → HasRead bytes parts contents at
-    → IsItemAt bytes at 0x12 from to → to ≤ from + content_limit → ((content : Carried) → IsNextOf parts (last_name contents) (slice_range bytes from to) content → ⊥) → StopsBehind bytes (Malformed at)
-stops_at_content bytes parts contents first at from to behind so_far is small none =
+pub stops_at_content : TrovesDiffer → RelsDiffer → (bytes : List ℕ) (parts : List Part) (contents : List Carried) (first at from to : ℕ) → ArePartsTo bytes parts first → HasRead bytes parts contents at
+    → IsItemAt bytes at 0x12 from to → to ≤ from + CONTENT_ITEM_LIMIT → ((content : Carried) → IsNextOf parts (last_name contents) (slice_range bytes from to) content → ⊥) → StopsBehind bytes (Malformed at)
+stops_at_content troves rels bytes parts contents first at from to behind so_far is small none =
     let long = range_length bytes from to is.order is.within in
     stops_here bytes parts contents first at (Malformed at) behind so_far
     (λ item rest e next.
     let same = same_item 0x12 item.tag (slice_range bytes from to) item.value (drop to bytes) rest is.fits next.fits (sym is.spelled ∙ e) in
-    let good = good_content parts contents item behind.only (sym same.tags) next.good in
+    let good = good_content parts contents item (only_parts troves rels parts behind.valid) (sym same.tags) next.good in
     none good.0 (subst (λ (v : List ℕ). IsNextOf parts (last_name contents) v good.0) (sym same.values) good.1))
     (sym (fault_of_whole bytes (expected_tags (with_contents parts contents)) at 0x12 from to so_far.read.within is
-    (expected_content (nat_lt (length (map item_of parts)) parts_limit) (last_name contents)) (λ _. omega arith)))
+    (expected_content (nat_lt (length (map item_of parts)) PARTS_LIMIT) (last_name contents)) (λ _. omega arith)))
 
 -- no whole item of a content or the end, behind a content
 pub stops_at_none : (bytes : List ℕ) (parts : List Part) (contents : List Carried) (content : Carried) (first at : ℕ) (refusal : Refusal) → ArePartsTo bytes parts first → HasRead bytes parts (contents ++ content ∷ []) at
     → IsNoNext bytes at refusal → StopsBehind bytes refusal
 stops_at_none bytes parts contents content first at refusal behind so_far stop =
     let all : List Carried = contents ++ content ∷ [] in
-    let tags : expected_tags (with_contents parts all) ≡ content_tags = tags_last (nat_lt (length (map item_of parts)) parts_limit) (last_name all) content.name (last_pushed contents content) in
+    let tags : expected_tags (with_contents parts all) ≡ content_tags = tags_last (nat_lt (length (map item_of parts)) PARTS_LIMIT) (last_name all) content.name (last_pushed contents content) in
     stops_here bytes parts all first at refusal behind so_far
     (λ item rest e next.
     stop.none item.tag item.value rest (subst (λ (t : List ℕ). IsTrue (is_expected t item.tag)) tags next.expected) next.fits
@@ -221,7 +223,7 @@ stops_at_end bytes parts contents first at from to behind so_far is some =
     let empty = good_end parts contents item (sym same.tags) next.good in
     some (omega (arith, ap length (same.values ∙ empty))))
     (sym (fault_of_whole bytes (expected_tags (with_contents parts contents)) at 0x1F from to so_far.read.within is
-    (end_expected false (nat_lt (length (map item_of parts)) parts_limit) (last_name contents) refl) (λ t. absurd (omega arith))))
+    (end_expected false (nat_lt (length (map item_of parts)) PARTS_LIMIT) (last_name contents) refl) (λ t. absurd (omega arith))))
 
 -- ---- behind the end
 
@@ -295,12 +297,12 @@ read_more bytes parts given contents at item content same reading tagged next =
     read_push bytes parts contents content at item.from item.to reading.so_far (item_under bytes at 0x12 item tagged reading.next.is)
     (subst (λ (l : List Carried). IsNextOf parts (last_name l) (slice_range bytes item.from item.to) content) same next)
 
-pub content_stops : (bytes : List ℕ) (parts : List Part) (index : Index) (given contents : List Carried) (first at : ℕ) (item : Item) (refusal : Refusal) → given ≡ contents
+pub content_stops : TrovesDiffer → RelsDiffer → (bytes : List ℕ) (parts : List Part) (index : Index) (given contents : List Carried) (first at : ℕ) (item : Item) (refusal : Refusal) → given ≡ contents
     → ArePartsTo bytes parts first → IsReading bytes parts contents at item → item.tag ≡ 0x12 → IsIndexOf parts index
     → IsNoContent index (last_name given) (slice_range bytes item.from item.to) at refusal → IsFirstFault bytes refusal
-content_stops bytes parts index given contents first at item refusal same behind reading tagged indexed stop =
+content_stops troves rels bytes parts index given contents first at item refusal same behind reading tagged indexed stop =
     inr (subst (StopsBehind bytes) (sym stop.refused)
-    (stops_at_content bytes parts contents first at item.from item.to behind reading.so_far (item_under bytes at 0x12 item tagged reading.next.is) (reading.next.small tagged)
+    (stops_at_content troves rels bytes parts contents first at item.from item.to behind reading.so_far (item_under bytes at 0x12 item tagged reading.next.is) (reading.next.small tagged)
     (λ content next. stop.none parts indexed content (subst (λ (l : List Carried). IsNextOf parts (last_name l) (slice_range bytes item.from item.to) content) (sym same) next))))
 
 pub none_stops : (bytes : List ℕ) (parts : List Part) (contents : List Carried) (content : Carried) (first at : ℕ) (refusal : Refusal) → ArePartsTo bytes parts first

@@ -5,11 +5,12 @@ use Rattle.std.specs.Int.{w32, from_be_bytes, to_be_bytes}
 use Rattle.std.proofs.lemmas.Bool.{and_parts, not-false, not_from_true, cond-true, cond-false, cases_Bool, cases_lt, ltb-true, ltb-false, le-ltb, eqb-true}
 use Rattle.std.proofs.lemmas.List.{length-take, length-drop, take-append-drop, get_or-drop, get_or-take, get_or_past}
 use Rattle.std.proofs.lemmas.Nat.{be_bytes_4, from_be_bytes-to_be_bytes_4}
+use Rattle.cny_base.specs.declared.limits.TheConstants.{CONTENT_ITEM_LIMIT}
 use Rattle.cny_base.specs.declared.refusal.Refusal.{Refusal}
 use Rattle.cny_base.specs.declared.refusal.Refusal.TheVariants.{Malformed, TooLarge}
 use Rattle.cny_base.specs.declared.refusal.What.TheVariants.{Content}
 use Rattle.cny_stream.specs.Item.{FitsItem, IsItemAt, item_bytes, is_expected, begins_unexpected, fault_place, value_len}
-use Rattle.change_set.specs.FirstFault.{content_limit, stated_length, begins_content, is_oversized, place_of, fault_of}
+use Rattle.change_set.specs.FirstFault.{stated_length, begins_content, is_oversized, place_of, fault_of}
 use Rattle.change_set.specs.Reading.{IsSmall}
 
 -- ---- a whole item
@@ -21,12 +22,12 @@ long_item : (tag : ℕ) (value more : List ℕ) → 5 + length value ≤ length 
 long_item tag value more = omega (arith, length-append (item_bytes tag value) more, length-append (tag ∷ to_be_bytes w32 (length value)) value)
 
 -- a whole item that is oversized is a content, longer than its limit
-oversized_item : (tag : ℕ) (value more : List ℕ) → FitsItem value → is_oversized (item_bytes tag value ++ more) ≡ true → (tag ≡ 0x12) × (content_limit < length value)
+oversized_item : (tag : ℕ) (value more : List ℕ) → FitsItem value → is_oversized (item_bytes tag value ++ more) ≡ true → (tag ≡ 0x12) × (CONTENT_ITEM_LIMIT < length value)
 oversized_item tag value more fits h =
     let rest : List ℕ = item_bytes tag value ++ more in
-    let parts = and_parts (nat_le 5 (length rest)) (begins_content rest && nat_lt content_limit (stated_length rest)) h in
-    let both = and_parts (tag == 0x12) (nat_lt content_limit (stated_length rest)) parts.1 in
-    let over : content_limit < stated_length rest = ltb-true content_limit (stated_length rest) both.1 in
+    let parts = and_parts (nat_le 5 (length rest)) (begins_content rest && nat_lt CONTENT_ITEM_LIMIT (stated_length rest)) h in
+    let both = and_parts (tag == 0x12) (nat_lt CONTENT_ITEM_LIMIT (stated_length rest)) parts.1 in
+    let over : CONTENT_ITEM_LIMIT < stated_length rest = ltb-true CONTENT_ITEM_LIMIT (stated_length rest) both.1 in
     let told = told_item tag value more fits in
     (eqb-true tag 0x12 both.0, omega (arith, told, over))
 

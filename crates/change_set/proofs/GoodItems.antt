@@ -4,12 +4,13 @@ use Rattle.std.specs.Prelude.{flat_map, IsTrue}
 use Rattle.std.proofs.lemmas.Bool.{false≢true}
 use Rattle.std.proofs.lemmas.Grind.{flat_map-append}
 use Rattle.std.proofs.lemmas.List.{append_cancel_left}
+use Rattle.cny_base.specs.declared.limits.TheConstants.{PARTS_LIMIT}
 use Rattle.cny_base.specs.Below.{begins_with, begins}
 use Rattle.cny_base.specs.declared.refusal.Refusal.{Refusal}
 use Rattle.cny_stream.specs.Item.{is_expected}
 use Rattle.cny_stream.specs.ItemLaws.{same_item}
 use Rattle.change_set.specs.declared.change.ChangeSet.{ChangeSet}
-use Rattle.change_set.specs.ChangeSet.{parts_limit, magic, end_bytes, part_bytes, content_bytes, change_bytes, IsChangeSet, IsSetStream}
+use Rattle.change_set.specs.ChangeSet.{magic, end_bytes, part_bytes, content_bytes, change_bytes, IsChangeSet, IsSetStream}
 use Rattle.change_set.specs.FirstFault.{StreamItem, Progress, item_text, start, tags_after, expected_tags, IsNext, progress_after, AreGood, progress_to, NoneNext, fault_of, StopsBehind, IsFirstFault}
 use Rattle.change_set.specs.Reading.{item_of}
 use Rattle.change_set.proofs.Progress.{progress_then, good_then, with_parts, part_texts, parts_read, parts_good, content_item, with_contents, content_texts, contents_read, contents_good}
@@ -37,7 +38,7 @@ same_items p (x ∷ xs) (y ∷ ys) r q xs_good ys_good r_none q_none e =
 -- behind the end no item is a good next one
 pub none_behind_end : (p : Progress) (bytes : List ℕ) → p.ended ≡ true → NoneNext p bytes
 none_behind_end p bytes ended item rest spelled next =
-    false≢true (subst (λ (b : Bool). IsTrue (is_expected (tags_after b (nat_lt (length p.parts) parts_limit) p.last) item.tag)) ended next.expected)
+    false≢true (subst (λ (b : Bool). IsTrue (is_expected (tags_after b (nat_lt (length p.parts) PARTS_LIMIT) p.last) item.tag)) ended next.expected)
 
 -- ---- the items of a change set
 
@@ -70,7 +71,7 @@ end_expected false false None open_ = refl
 -- the end may follow, until it is there
 pub end_next : (p : Progress) → p.ended ≡ false → IsNext p end_item
 end_next p open_ = record {
-  expected = end_expected p.ended (nat_lt (length p.parts) parts_limit) p.last open_;
+  expected = end_expected p.ended (nat_lt (length p.parts) PARTS_LIMIT) p.last open_;
   fits = omega arith;
   good = inr (inr (refl, refl));
 }

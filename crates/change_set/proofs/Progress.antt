@@ -7,11 +7,12 @@ use Rattle.std.proofs.lemmas.Bool.{lt-ltb}
 use Rattle.std.proofs.lemmas.List.{length-map, get_or-map}
 use Rattle.std.proofs.lemmas.List.Elements.{All-head, All-tail, All-contains}
 use Rattle.std.proofs.lemmas.List.Folds.{Any-from_list_any}
+use Rattle.cny_base.specs.declared.limits.TheConstants.{CONTENT_LIMIT, PARTS_LIMIT}
 use Rattle.cny_stream.specs.Item.{is_expected}
 use Rattle.change_set.specs.declared.change.Part.{Part}
 use Rattle.change_set.specs.declared.change.Part.TheVariants.{Whole, Relative}
 use Rattle.change_set.specs.declared.change.Carried.{Carried}
-use Rattle.change_set.specs.ChangeSet.{parts_limit, IsPart, FitsPart, part_tag, part_bytes, content_value, content_bytes, content_cmp, has_record, IsContentOf}
+use Rattle.change_set.specs.ChangeSet.{IsPart, FitsPart, part_tag, part_bytes, content_value, content_bytes, content_cmp, has_record, IsContentOf}
 use Rattle.change_set.specs.FirstFault.{StreamItem, Progress, item_text, start, tags_after, IsRecorded, ComesAfter, IsNext, progress_after, AreGood, progress_to}
 use Rattle.change_set.specs.Reading.{item_of, last_name}
 use Rattle.change_set.proofs.Small.{size_in_part}
@@ -60,14 +61,14 @@ part_expected true (Whole trove) is = refl
 part_expected true (Relative rel) is = refl
 part_expected false part is = absurd (cc is)
 
-part_next : (items : List StreamItem) (part : Part) → IsPart part → FitsPart part → length items < parts_limit → IsNext (with_items items None) (item_of part)
+part_next : (items : List StreamItem) (part : Part) → IsPart part → FitsPart part → length items < PARTS_LIMIT → IsNext (with_items items None) (item_of part)
 part_next items part valid fits few = record {
-  expected = part_expected (nat_lt (length items) parts_limit) part (lt-ltb (length items) parts_limit few);
+  expected = part_expected (nat_lt (length items) PARTS_LIMIT) part (lt-ltb (length items) PARTS_LIMIT few);
   fits = fits;
   good = inl (part, record { valid = valid; tagged = refl; spelled = refl });
 }
 
-good_behind : (items : List StreamItem) (parts : List Part) → All IsPart parts → All FitsPart parts → length items + length parts ≤ parts_limit → AreGood (with_items items None) (map item_of parts)
+good_behind : (items : List StreamItem) (parts : List Part) → All IsPart parts → All FitsPart parts → length items + length parts ≤ PARTS_LIMIT → AreGood (with_items items None) (map item_of parts)
 good_behind items [] valid fits few = tt
 good_behind items (part ∷ parts) valid fits few =
     let more = good_behind (items ++ item_of part ∷ []) parts (All-tail IsPart part parts valid) (All-tail FitsPart part parts fits) (omega (arith, length-append items (item_of part ∷ []))) in (
@@ -75,7 +76,7 @@ good_behind items (part ∷ parts) valid fits few =
       subst (λ (p : Progress). AreGood p (map item_of parts)) (sym (part_after items part)) more,
     )
 
-pub parts_good : (parts : List Part) → All IsPart parts → All FitsPart parts → length parts ≤ parts_limit → AreGood start (map item_of parts)
+pub parts_good : (parts : List Part) → All IsPart parts → All FitsPart parts → length parts ≤ PARTS_LIMIT → AreGood start (map item_of parts)
 parts_good parts valid fits few = good_behind [] parts valid fits (omega arith)
 
 -- ---- contents
@@ -88,7 +89,7 @@ abbrev pub with_contents : List Part → List Carried → Progress
 with_contents parts contents = record { parts = map item_of parts; last = last_name contents; ended = false }
 
 -- a content is at most 16,777,216 bytes, since a file record has its size
-pub content_small : (parts : List Part) (content : Carried) → All IsPart parts → IsContentOf parts content → length content.bytes ≤ 16777216
+pub content_small : (parts : List Part) (content : Carried) → All IsPart parts → IsContentOf parts content → length content.bytes ≤ CONTENT_LIMIT
 content_small parts content valid is =
     let found = Any-from_list_any (has_record content.name (length content.bytes)) parts is.recorded in
     size_in_part content.name (length content.bytes) found.1 (All-contains IsPart parts found.1 valid (found.0, found.2, found.3)) found.4
@@ -142,7 +143,7 @@ content_recorded parts content valid is =
 
 content_next : (parts : List Part) (last : Option (List ℕ)) (content : Carried) → All IsPart parts → IsContentOf parts content → ComesAfter last content.name → IsNext (with_items (map item_of parts) last) (content_item content)
 content_next parts last content valid is rises = record {
-  expected = content_expected (nat_lt (length (map item_of parts)) parts_limit) last;
+  expected = content_expected (nat_lt (length (map item_of parts)) PARTS_LIMIT) last;
   fits = omega (arith, length-append content.name content.bytes, is.twenty, content_small parts content valid is);
   good = inr (inl (record {
     content = content;

@@ -16,8 +16,32 @@ use Rattle.change_set.specs.declared.change.Part.TheVariants.{Whole, Relative}
 use Rattle.change_set.specs.declared.change.Carried.{Carried}
 use Rattle.change_set.specs.declared.change.ChangeSet.{ChangeSet}
 use Rattle.change_set.specs.ChangeSet.{IsPart, part_tag, part_value, part_bytes, FitsPart, content_value, content_bytes, IsContentOf, end_bytes, magic, IsSetStream}
-use Rattle.change_set.specs.Reading.{IsOnlyPart}
+use Rattle.change_set.specs.FirstFault.{IsItemOf}
+use Rattle.change_set.specs.Reading.{item_of}
 use Rattle.change_set.proofs.Progress.{content_small}
+
+-- ---- parts
+
+-- no other part has the item of this one
+abbrev pub IsOnlyPart : Part → Type 0
+IsOnlyPart part = (other : Part) → IsItemOf other (item_of part) → other ≡ part
+
+-- no bytes are the streams of two troves, nor of two relative troves
+abbrev pub TrovesDiffer : Type 0
+TrovesDiffer = (one other : Encoding) (a b : TroveParts) → IsTrove a → IsTrove b → stream_bytes one a ≡ stream_bytes other b → a ≡ b
+
+abbrev pub RelsDiffer : Type 0
+RelsDiffer = (one other : Encoding) (a b : RelParts) (bytes : List ℕ) → IsStreamOf one a bytes → IsStreamOf other b bytes → a ≡ b
+
+only_part : TrovesDiffer → RelsDiffer → (part : Part) → IsPart part → IsOnlyPart part
+only_part troves rels (Whole a) valid (Whole b) is = ap Whole (troves Compact Compact b a is.valid valid (sym is.spelled))
+only_part troves rels (Whole a) valid (Relative b) is = let tagged = is.tagged in absurd (omega arith)
+only_part troves rels (Relative a) valid (Whole b) is = let tagged = is.tagged in absurd (omega arith)
+only_part troves rels (Relative a) valid (Relative b) is =
+    ap Relative (rels Compact Compact b a (rel_bytes b) (record { rel_is = is.valid; text = refl }) (record { rel_is = valid; text = sym is.spelled }))
+
+pub only_parts : TrovesDiffer → RelsDiffer → (parts : List Part) → All IsPart parts → All IsOnlyPart parts
+only_parts troves rels parts valid = All-weaker IsPart IsOnlyPart (only_part troves rels) parts valid
 
 -- ---- contents
 
@@ -108,20 +132,6 @@ same_set set other bytes is only too =
     (All-weaker (IsContentOf other.parts) IsHeld (held other.parts too.set_is.parts) other.contents too.set_is.has_contents.contents) e in
     λ i. record { parts = sym one.0 i; contents = sym one.1 i }
 
--- no bytes are the streams of two troves, nor of two relative troves
-abbrev TrovesDiffer : Type 0
-TrovesDiffer = (one other : Encoding) (a b : TroveParts) → IsTrove a → IsTrove b → stream_bytes one a ≡ stream_bytes other b → a ≡ b
-
-abbrev RelsDiffer : Type 0
-RelsDiffer = (one other : Encoding) (a b : RelParts) (bytes : List ℕ) → IsStreamOf one a bytes → IsStreamOf other b bytes → a ≡ b
-
-only_part : TrovesDiffer → RelsDiffer → (part : Part) → IsPart part → IsOnlyPart part
-only_part troves rels (Whole a) valid (Whole b) is = ap Whole (troves Compact Compact b a is.valid valid (sym is.spelled))
-only_part troves rels (Whole a) valid (Relative b) is = let tagged = is.tagged in absurd (omega arith)
-only_part troves rels (Relative a) valid (Whole b) is = let tagged = is.tagged in absurd (omega arith)
-only_part troves rels (Relative a) valid (Relative b) is =
-    ap Relative (rels Compact Compact b a (rel_bytes b) (record { rel_is = is.valid; text = refl }) (record { rel_is = valid; text = sym is.spelled }))
-
 pub one_set : TrovesDiffer → RelsDiffer → (set other : ChangeSet) (bytes : List ℕ) → IsSetStream set bytes → IsSetStream other bytes → set ≡ other
 one_set troves rels set other bytes is too =
-    same_set set other bytes is (All-weaker IsPart IsOnlyPart (only_part troves rels) set.parts is.set_is.parts) too
+    same_set set other bytes is (only_parts troves rels set.parts is.set_is.parts) too

@@ -1,45 +1,35 @@
 -- What is recorded of the contents' sizes.
-use Rattle.std.proofs.Common.{◌≡◌, ℕ, ◌+◌, ◌≤◌, ◌==◌, true, IsTrue, List, length, All, ap, ◌∙◌, arith, ⊎_elim, length-append}
+use Rattle.std.proofs.Common.{◌≡◌, ℕ, ◌+◌, ◌≤◌, true, IsTrue, List, length, All, ap, ◌∙◌, arith, ⊎_elim, length-append}
 use Rattle.std.specs.List.{list_any}
-use Rattle.std.specs.Str.{bytes_eq}
-use Rattle.std.proofs.lemmas.Bool.{eqb-true, and_parts}
 use Rattle.std.proofs.lemmas.List.Elements.{All-contains}
 use Rattle.std.proofs.lemmas.List.Folds.{Any-from_list_any}
-use Rattle.file_stream.specs.declared.record.FileRec.{FileRec}
-use Rattle.file_stream.specs.declared.record.FileRec.TheVariants.{Dir, File, Link}
-use Rattle.file_stream.specs.Record.{IsFileRecord, has_name_and_size}
+use Rattle.cny_base.specs.declared.limits.TheConstants.{CONTENT_LIMIT, CONTENT_ITEM_LIMIT}
+use Rattle.file_stream.specs.Record.{has_name_and_size}
+use Rattle.file_stream.specs.RecordLaws.{size_fits}
 use Rattle.trove_items.specs.declared.files.FileAt.{FileAt}
 use Rattle.trove_items.specs.Files.{IsFileAt}
 use Rattle.change_set.specs.declared.change.Part.{Part}
 use Rattle.change_set.specs.declared.change.Part.TheVariants.{Whole, Relative}
 use Rattle.change_set.specs.ChangeSet.{IsPart, has_record}
-use Rattle.change_set.specs.FirstFault.{StreamItem, Progress, IsItemOf, IsRecorded, IsNextContent, IsNext, content_limit}
+use Rattle.change_set.specs.FirstFault.{StreamItem, Progress, IsItemOf, IsRecorded, IsNextContent, IsNext}
 use Rattle.change_set.specs.Reading.{IsSmall}
 
-size_of_record : (name : List ℕ) (size : ℕ) (rec : FileRec) → IsFileRecord rec → has_name_and_size name size rec ≡ true → size ≤ 16777216
-size_of_record name size (Dir mode owner) valid h = absurd (cc h)
-size_of_record name size (File mode owner flags of_size of_name) valid h =
-    let same : of_size ≡ size = eqb-true of_size size (and_parts (of_size == size) (bytes_eq of_name name) h).0 in
-    let small : of_size ≤ 16777216 = valid.1 in
-    omega arith
-size_of_record name size (Link target) valid h = absurd (cc h)
-
-size_in_files : (name : List ℕ) (size : ℕ) (files : List FileAt) → All IsFileAt files → list_any (λ (file : FileAt). has_name_and_size name size file.rec) files ≡ true → size ≤ 16777216
+size_in_files : (name : List ℕ) (size : ℕ) (files : List FileAt) → All IsFileAt files → list_any (λ (file : FileAt). has_name_and_size name size file.rec) files ≡ true → size ≤ CONTENT_LIMIT
 size_in_files name size files valid h =
     let some = Any-from_list_any (λ (file : FileAt). has_name_and_size name size file.rec) files h in
-    size_of_record name size some.1.rec (All-contains IsFileAt files some.1 valid (some.0, some.2, some.3)).rec some.4
+    size_fits name size some.1.rec (All-contains IsFileAt files some.1 valid (some.0, some.2, some.3)).rec some.4
 
 -- the size of a file that a part records
-pub size_in_part : (name : List ℕ) (size : ℕ) (part : Part) → IsPart part → IsTrue (has_record name size part) → size ≤ 16777216
+pub size_in_part : (name : List ℕ) (size : ℕ) (part : Part) → IsPart part → IsTrue (has_record name size part) → size ≤ CONTENT_LIMIT
 size_in_part name size (Whole trove) valid h = size_in_files name size trove.files valid.lists.files.valid h
 size_in_part name size (Relative rel) valid h = size_in_files name size rel.files_set valid.parts.files_set.valid h
 
-pub recorded_small : (items : List StreamItem) (name : List ℕ) (size : ℕ) → IsRecorded items name size → size ≤ 16777216
+pub recorded_small : (items : List StreamItem) (name : List ℕ) (size : ℕ) → IsRecorded items name size → size ≤ CONTENT_LIMIT
 recorded_small items name size is = size_in_part name size is.part is.is.valid is.has
 
 -- ---- good next items
 
-pub next_content_small : (progress : Progress) (item : StreamItem) → IsNextContent progress item → length item.value ≤ content_limit
+pub next_content_small : (progress : Progress) (item : StreamItem) → IsNextContent progress item → length item.value ≤ CONTENT_ITEM_LIMIT
 next_content_small progress item next =
     let long : length item.value ≡ length next.content.name + length next.content.bytes = ap length next.spelled ∙ length-append next.content.name next.content.bytes in
     let small = recorded_small progress.parts next.content.name (length next.content.bytes) next.recorded in

@@ -5,14 +5,15 @@ use Rattle.std.proofs.lemmas.Bool.{le-ltb, true≢false, cases_lt, eqb-true, or_
 use Rattle.std.proofs.lemmas.List.{length-map}
 use Rattle.std.proofs.lemmas.List.Concat.{flat_map-append}
 use Rattle.std.proofs.lemmas.List.Elements.{All-nil, All-push}
+use Rattle.cny_base.specs.declared.limits.TheConstants.{PARTS_LIMIT}
 use Rattle.cny_base.specs.Below.{begins_with, begun}
 use Rattle.cny_base.specs.declared.refusal.Refusal.{Refusal}
 use Rattle.cny_stream.specs.Item.{FitsItem, IsItemAt, item_bytes, is_expected}
 use Rattle.cny_stream.specs.ItemLaws.{same_item}
 use Rattle.change_set.specs.declared.change.Part.{Part}
-use Rattle.change_set.specs.ChangeSet.{parts_limit, IsPart, part_value, part_bytes, FitsPart, magic}
+use Rattle.change_set.specs.ChangeSet.{IsPart, part_value, part_bytes, FitsPart, magic}
 use Rattle.change_set.specs.FirstFault.{StreamItem, Progress, IsItemOf, NoneNext, fault_of, tags_after, expected_tags, progress_to, start, StopsBehind, IsFirstFault}
-use Rattle.change_set.specs.Reading.{ArePartsTo, IsOnlyPart, IsSmall, item_of, tags_behind}
+use Rattle.change_set.specs.Reading.{ArePartsTo, IsSmall, item_of, tags_behind}
 use Rattle.change_set.proofs.Progress.{with_parts, part_texts, parts_read, parts_good}
 use Rattle.change_set.proofs.Small.{next_small}
 
@@ -27,19 +28,17 @@ no_parts bytes h =
       few = omega arith;
       valid = All-nil IsPart;
       fits = All-nil FitsPart;
-      only = All-nil IsOnlyPart;
     }
 
 -- the item of a part and its tag
 abbrev pub read_item : ℕ → List ℕ → StreamItem
 read_item tag value = record { tag = tag; value = value }
 
-pub one_more : (bytes : List ℕ) (parts : List Part) (at tag from to : ℕ) (part : Part) → ArePartsTo bytes parts at → IsItemAt bytes at tag from to → length parts < parts_limit
-    → IsItemOf part (read_item tag (slice_range bytes from to)) → ((other : Part) → IsItemOf other (read_item tag (slice_range bytes from to)) → other ≡ part) → ArePartsTo bytes (parts ++ part ∷ []) to
-one_more bytes parts at tag from to part are item few is one =
+pub one_more : (bytes : List ℕ) (parts : List Part) (at tag from to : ℕ) (part : Part) → ArePartsTo bytes parts at → IsItemAt bytes at tag from to → length parts < PARTS_LIMIT
+    → IsItemOf part (read_item tag (slice_range bytes from to)) → ArePartsTo bytes (parts ++ part ∷ []) to
+one_more bytes parts at tag from to part are item few is =
     let value : List ℕ = slice_range bytes from to in
     let same : part_bytes part ≡ item_bytes tag value = ap (λ (t : ℕ). item_bytes t (part_value part)) (sym is.tagged) ∙ ap (item_bytes tag) (sym is.spelled) in
-    let only : IsOnlyPart part = λ other other_is. one other (record { valid = other_is.valid; tagged = is.tagged ∙ other_is.tagged; spelled = is.spelled ∙ other_is.spelled }) in
     record {
       within = item.within;
       spelled = are.spelled ∙ ap (λ (l : List ℕ). magic ++ l)
@@ -49,7 +48,6 @@ one_more bytes parts at tag from to part are item few is one =
       few = omega (arith, length-append parts (part ∷ []));
       valid = All-push IsPart parts part are.valid is.valid;
       fits = All-push FitsPart parts part are.fits (subst FitsItem is.spelled item.fits);
-      only = All-push IsOnlyPart parts part are.only only;
     }
 
 -- ---- where they stop
@@ -103,13 +101,13 @@ none_part bytes parts at tag from to is tagged none item more spelled next =
 -- ---- the tags
 
 -- a part may follow fewer parts than the limit alone
-pub few_before : (count tag : ℕ) → IsTrue (is_expected (tags_behind count) tag) → (tag ≡ 0x10) ⊎ (tag ≡ 0x11) → count < parts_limit
-few_before count tag expected tagged = at (cases_lt count parts_limit) (part_low tag tagged)
+pub few_before : (count tag : ℕ) → IsTrue (is_expected (tags_behind count) tag) → (tag ≡ 0x10) ⊎ (tag ≡ 0x11) → count < PARTS_LIMIT
+few_before count tag expected tagged = at (cases_lt count PARTS_LIMIT) (part_low tag tagged)
   where
-    at : (count < parts_limit) ⊎ (parts_limit ≤ count) → tag ≤ 0x11 → count < parts_limit
+    at : (count < PARTS_LIMIT) ⊎ (PARTS_LIMIT ≤ count) → tag ≤ 0x11 → count < PARTS_LIMIT
     at (inl lt) low = lt
     at (inr le) low =
-        let last : IsTrue (is_expected (0x12 ∷ 0x1F ∷ []) tag) = subst (λ (few : Bool). IsTrue (is_expected (tags_after false few None) tag)) (le-ltb count parts_limit le) expected in
+        let last : IsTrue (is_expected (0x12 ∷ 0x1F ∷ []) tag) = subst (λ (few : Bool). IsTrue (is_expected (tags_after false few None) tag)) (le-ltb count PARTS_LIMIT le) expected in
         ⊎_elim (λ e. let one = eqb-true 0x12 tag e in absurd (omega arith))
         (λ more. ⊎_elim (λ e. let one = eqb-true 0x1F tag e in absurd (omega arith)) (λ no. absurd (cc no)) (or_cases (0x1F == tag) false more))
         (or_cases (0x12 == tag) (0x1F == tag || false) last)

@@ -6,6 +6,7 @@ use Rattle.std.specs.List.Sorted.{IsStrictlySortedBy}
 use Rattle.std.specs.Ordering.{nat_cmp}
 use Rattle.std.specs.declared.cmp.Ordering.{Ordering}
 use Rattle.sha1.specs.Sha1.{sha1}
+use Rattle.cny_base.specs.declared.limits.TheConstants.{PARTS_LIMIT}
 use Rattle.cny_stream.specs.Item.{FitsItem, item_bytes}
 use Rattle.file_stream.specs.Record.{has_name_and_size}
 use Rattle.trove_items.specs.declared.files.FileAt.{FileAt}
@@ -17,10 +18,6 @@ use Rattle.change_set.specs.declared.change.Part.{Part}
 use Rattle.change_set.specs.declared.change.Part.TheVariants.{Whole, Relative}
 use Rattle.change_set.specs.declared.change.Carried.{Carried}
 use Rattle.change_set.specs.declared.change.ChangeSet.{ChangeSet}
-
--- at most so many parts
-abbrev pub parts_limit : ℕ
-parts_limit = 4096
 
 -- ---- parts
 
@@ -80,7 +77,7 @@ pub record HasContents (set : ChangeSet) : Type 0 where
   pub rising : IsStrictlySortedBy content_cmp set.contents
 
 pub record IsChangeSet (set : ChangeSet) : Type 0 where
-  pub few : length set.parts ≤ parts_limit
+  pub few : length set.parts ≤ PARTS_LIMIT
   pub parts : All IsPart set.parts
   pub fits : All FitsPart set.parts
   pub has_contents : HasContents set

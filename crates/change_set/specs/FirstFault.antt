@@ -13,6 +13,7 @@ use Rattle.std.specs.Cmp.Lexicographic.{slice_cmp}
 use Rattle.std.specs.Ordering.{nat_cmp}
 use Rattle.std.specs.declared.cmp.Ordering.TheVariants.{Less}
 use Rattle.sha1.specs.Sha1.{sha1}
+use Rattle.cny_base.specs.declared.limits.TheConstants.{CONTENT_ITEM_LIMIT, PARTS_LIMIT}
 use Rattle.cny_base.specs.Below.{begins_with}
 use Rattle.cny_base.specs.declared.refusal.Refusal.{Refusal}
 use Rattle.cny_base.specs.declared.refusal.Refusal.TheVariants.{Malformed, TooLarge}
@@ -22,7 +23,7 @@ use Rattle.cny_base.specs.declared.refusal.Fault.TheVariants as fault
 use Rattle.cny_stream.specs.Item.{FitsItem, item_bytes, is_expected, begins_unexpected, value_len}
 use Rattle.change_set.specs.declared.change.Part.{Part}
 use Rattle.change_set.specs.declared.change.Carried.{Carried}
-use Rattle.change_set.specs.ChangeSet.{parts_limit, IsPart, part_tag, part_value, has_record, content_value, magic}
+use Rattle.change_set.specs.ChangeSet.{IsPart, part_tag, part_value, has_record, content_value, magic}
 
 -- ---- good items
 
@@ -57,7 +58,7 @@ tags_after false true None = 0x10 ∷ 0x11 ∷ 0x12 ∷ 0x1F ∷ []
 tags_after false false None = 0x12 ∷ 0x1F ∷ []
 
 abbrev pub expected_tags : Progress → List ℕ
-expected_tags progress = tags_after progress.ended (nat_lt (length progress.parts) parts_limit) progress.last
+expected_tags progress = tags_after progress.ended (nat_lt (length progress.parts) PARTS_LIMIT) progress.last
 
 -- one of the items is that of a part, of which a file record has this name and this size
 pub record IsRecorded (items : List StreamItem) (name : List ℕ) (size : ℕ) : Type 0 where
@@ -113,10 +114,6 @@ NoneNext progress bytes = (item : StreamItem) (rest : List ℕ) → bytes ≡ it
 
 -- ---- the rules
 
--- the greatest length of a content's item: a name and 16,777,216 bytes
-abbrev pub content_limit : ℕ
-content_limit = 16777236
-
 -- the length of the item at the front, whose first five bytes are there
 abbrev pub stated_length : List ℕ → ℕ
 stated_length bytes = from_be_bytes w32 (take 4 (drop 1 bytes))
@@ -126,7 +123,7 @@ begins_content [] = false
 begins_content (tag ∷ bytes) = tag == 0x12
 
 abbrev pub is_oversized : List ℕ → Bool
-is_oversized bytes = nat_le 5 (length bytes) && (begins_content bytes && nat_lt content_limit (stated_length bytes))
+is_oversized bytes = nat_le 5 (length bytes) && (begins_content bytes && nat_lt CONTENT_ITEM_LIMIT (stated_length bytes))
 
 -- the place of an item: where the bytes end, or its first byte
 abbrev pub place_of : ℕ → List ℕ → Option ℕ → Refusal

@@ -1,22 +1,19 @@
 -- Change sets that are too large to be written.
-use Rattle.std.specs.Prelude.{◌≡◌, ℕ, nat_lt, if◌then◌else◌, length, Option, Some, None}
+use Rattle.std.specs.Prelude.{◌≡◌, nat_lt, if◌then◌else◌, length, Option, Some, None}
+use Rattle.cny_base.specs.declared.limits.TheConstants.{CHANGE_SET_LIMIT, PARTS_LIMIT}
 use Rattle.cny_base.specs.declared.refusal.Refusal.{Refusal}
 use Rattle.cny_base.specs.declared.refusal.Refusal.TheVariants.{TooLarge}
 use Rattle.cny_base.specs.declared.refusal.What.TheVariants as what
 use Rattle.cny_base.specs.declared.refusal.Fault.{Fault}
 use Rattle.cny_base.specs.declared.refusal.Fault.TheVariants as fault
 use Rattle.change_set.specs.declared.change.ChangeSet.{ChangeSet}
-use Rattle.change_set.specs.ChangeSet.{parts_limit, change_bytes}
-
--- the greatest length of a change set that is written
-abbrev pub size_limit : ℕ
-size_limit = 268435456
+use Rattle.change_set.specs.ChangeSet.{change_bytes}
 
 -- the refusal of more parts than the limit, with their number; and otherwise of more bytes, with theirs
 abbrev pub too_large : ChangeSet → Option Refusal
 too_large set =
-    if nat_lt parts_limit (length set.parts) then Some (TooLarge what.ChangeSet (length set.parts))
-    else if nat_lt size_limit (length (change_bytes set)) then Some (TooLarge what.ChangeSet (length (change_bytes set)))
+    if nat_lt PARTS_LIMIT (length set.parts) then Some (TooLarge what.ChangeSet (length set.parts))
+    else if nat_lt CHANGE_SET_LIMIT (length (change_bytes set)) then Some (TooLarge what.ChangeSet (length (change_bytes set)))
     else None
 
 -- the refusal of a set that is too large, or want of memory

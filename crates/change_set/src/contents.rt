@@ -15,6 +15,8 @@ use cny_base::{Bytes, Fault, Refusal, TextFault};
 use cny_stream::Item;
 use sha1::Sha1;
 use std::alloc::Global;
+use trove_rel::distinct_rels;
+use trove_stream::distinct_troves;
 
 // Whether the name comes after that of the last content.
 fn comes_after(contents: &[Carried], name: &[u8; 20]) -> bool
@@ -116,6 +118,9 @@ pub(crate) fn take_contents(
     ensures value { IfOk result (λ contents. IsSetStream (record { parts = parts.now; contents = contents.items }) bytes.now) }
     ensures refused { IfErr result (IsFaultOf bytes.now) }
 {
+    // A file record of an item with the stream of a part is one of that part.
+    distinct_troves();
+    distinct_rels();
     let index = Index::of(alloc, parts)?;
     let mut contents = Vec::new(alloc);
     let (mut at, mut item) = (at, first);

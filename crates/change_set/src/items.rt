@@ -1,10 +1,10 @@
 //! The items of a change set.
 ghost use Rattle.std.specs.Prelude.{◌≡◌, ◌≤◌, ◌+◌, ◌++◌, ℕ, List, IsTrue, true, false, length, drop, IfOk, IfErr, OnErr, MatchOption};
 ghost use Rattle.cny_stream.specs.Item.{FitsItem, IsItemAt, is_expected, item_bytes};
-ghost use Rattle.change_set.specs.FirstFault.{fault_of, is_oversized, stated_length, content_limit};
+ghost use Rattle.change_set.specs.FirstFault.{fault_of, is_oversized, stated_length};
 ghost use Rattle.change_set.specs.Reading.{IsSmall};
 
-use cny_base::{Refusal, What};
+use cny_base::{CONTENT_ITEM_LIMIT, Refusal, What};
 use cny_stream::{Item, next_item};
 
 /// The tags of the items.
@@ -22,9 +22,6 @@ pub(crate) const PART_TAGS: &[u8] = &[TROVE, RELATIVE, CONTENT, END];
 /// What may follow the last part or a content.
 pub(crate) const CONTENT_TAGS: &[u8] = &[CONTENT, END];
 
-// The greatest length of a content's item: a name and 16,777,216 bytes.
-const CONTENT_LIMIT: u32 = 16_777_236;
-
 // The length of the content item at the front, where its head tells one over the limit.
 fn oversized(bytes: &[u8]) -> Option<u32>
     ensures { MatchOption result (is_oversized bytes.now ≡ false) (λ len. (is_oversized bytes.now ≡ true) × (len ≡ stated_length bytes.now)) }
@@ -35,7 +32,7 @@ fn oversized(bytes: &[u8]) -> Option<u32>
     let (head, _) = bytes.split_at(5);
     let len = u32::from_be_bytes([head[1], head[2], head[3], head[4]]);
     let is_content = head[0] == CONTENT;
-    if is_content && len > CONTENT_LIMIT {
+    if is_content && len > CONTENT_ITEM_LIMIT {
         Some(len)
     } else {
         None
@@ -48,7 +45,7 @@ pub(crate) fn next_of(bytes: &[u8], at: usize, tags: &[u8]) -> Result<Item, Refu
     requires content { IsTrue (is_expected tags.now 0x12) }
     ensures found { IfOk result (λ item. IsItemAt bytes.now at item.tag item.from item.to) }
     ensures expected { IfOk result (λ item. IsTrue (is_expected tags.now item.tag)) }
-    ensures small { IfOk result (λ item. item.tag ≡ 0x12 → item.to ≤ item.from + content_limit) }
+    ensures small { IfOk result (λ item. item.tag ≡ 0x12 → item.to ≤ item.from + CONTENT_ITEM_LIMIT) }
     ensures refused { IfErr result (λ refusal. refusal ≡ fault_of tags.now (length bytes.now) (drop at bytes.now)) }
     // No item with one of these tags is there, but a content that is too large.
     ensures none { OnErr result ((tag : ℕ) (value rest : List ℕ) → IsTrue (is_expected tags.now tag) → FitsItem value → IsSmall tag value

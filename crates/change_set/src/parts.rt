@@ -1,24 +1,22 @@
 //! The parts of a change set, read from its stream.
 ghost use Rattle.std.specs.Prelude.{◌≡◌, ◌⊎◌, ◌≤◌, ◌+◌, true, length, IsTrue, IfOk, IfErr, OnOk, IsErrOf};
 ghost use Rattle.cny_base.specs.Below.{begins_with};
+ghost use Rattle.cny_base.specs.declared.limits.TheConstants.{CONTENT_ITEM_LIMIT};
 ghost use Rattle.cny_stream.specs.Item.{IsItemAt, is_expected};
 ghost use Rattle.change_set.specs.declared.change.Part.{Part};
 ghost use Rattle.change_set.specs.ChangeSet.{magic};
-ghost use Rattle.change_set.specs.FirstFault.{IsItemOf, IsFaultOf, LacksMagic, content_limit};
+ghost use Rattle.change_set.specs.FirstFault.{IsItemOf, IsFaultOf, LacksMagic};
 ghost use Rattle.change_set.specs.Reading.{ArePartsTo, IsNextAt, tags_behind};
 
 use crate::change::Part;
 use crate::items::{CONTENT_TAGS, PART_TAGS, RELATIVE, TROVE, next_of};
-use cny_base::{Fault, Refusal, TextFault};
+use cny_base::{Fault, PARTS_LIMIT, Refusal, TextFault};
 use cny_stream::Item;
 use std::alloc::Global;
 use trove_rel::decode_rel;
 
 /// `CNYCS01` and a line feed.
 pub(crate) const MAGIC: &[u8] = b"CNYCS01\n";
-
-// At most so many parts.
-pub(crate) const PARTS_LIMIT: usize = 4_096;
 
 /// The parts of a change set, and the first other item, which begins at `at`.
 #[derive(Drop)]
@@ -33,7 +31,6 @@ fn part_of(alloc: Global, tag: u8, value: &[u8]) -> Result<Part, TextFault>
     requires { (tag ≡ 0x10) ⊎ (tag ≡ 0x11) }
     ensures found { IfOk result (λ part. IsItemOf part (record { tag = tag; value = value.now })) }
     ensures bad { IsErrOf result TextFault.Bad → (part : Part) → IsItemOf part (record { tag = tag; value = value.now }) → ⊥ }
-    ensures only { IfOk result (λ read. (part : Part) → IsItemOf part (record { tag = tag; value = value.now }) → part ≡ read) }
 {
     if tag == TROVE {
         Ok(Part::Whole(trove_stream::decode(alloc, value)?))
@@ -60,7 +57,7 @@ fn next_behind(bytes: &[u8], at: usize, parts: &[Part]) -> Result<Item, Fault>
     requires { ArePartsTo bytes.now parts.now at }
     ensures found { IfOk result (λ item. IsItemAt bytes.now at item.tag item.from item.to) }
     ensures expected { IfOk result (λ item. IsTrue (is_expected (tags_behind (length parts.now)) item.tag)) }
-    ensures small { IfOk result (λ item. item.tag ≡ 0x12 → item.to ≤ item.from + content_limit) }
+    ensures small { IfOk result (λ item. item.tag ≡ 0x12 → item.to ≤ item.from + CONTENT_ITEM_LIMIT) }
     ensures refused { IfErr result (IsFaultOf bytes.now) }
 {
     match next_of(bytes, at, tags_behind(parts.len())) {

@@ -1,18 +1,16 @@
 //! The stream of a change set.
 ghost use Rattle.std.specs.Prelude.{◌≡◌, ◌+◌, ◌≤◌, ◌++◌, length, flat_map, All, IfOk, IfErr, OnOk, None};
-ghost use Rattle.change_set.specs.ChangeSet.{IsPart, FitsPart, part_tag, part_value, part_bytes, content_bytes, change_bytes, HasContents, IsSetStream};
-ghost use Rattle.change_set.specs.TooLarge.{size_limit, too_large, IsTooLargeOrMemory};
+ghost use Rattle.cny_stream.specs.Item.{FitsItem};
+ghost use Rattle.change_set.specs.ChangeSet.{IsPart, FitsPart, part_tag, part_value, part_bytes, content_value, content_bytes, change_bytes, HasContents, IsSetStream};
+ghost use Rattle.change_set.specs.TooLarge.{too_large, IsTooLargeOrMemory};
 
 use crate::change::{Carried, ChangeSet, Part};
 use crate::items::{CONTENT, END, RELATIVE, TROVE};
-use crate::parts::{MAGIC, PARTS_LIMIT};
-use cny_base::{Bytes, Fault, OutOfMemory, Refusal, What};
-use cny_stream::put_item;
+use crate::parts::MAGIC;
+use cny_base::{Bytes, CHANGE_SET_LIMIT, Fault, OutOfMemory, PARTS_LIMIT, Refusal, What};
+use cny_stream::{close_item, open_item, put_item};
 use std::alloc::Global;
 use trove_rel::encode_rel;
-
-// The greatest length of a change set that is written.
-const SIZE_LIMIT: u64 = 268_435_456;
 
 // What an item has before its value: its tag, and the value's length in four bytes.
 const HEAD_LEN: u64 = 5;
@@ -33,7 +31,7 @@ pub fn encode(alloc: Global, change: &ChangeSet) -> Result<Bytes, Fault>
         }));
     }
     let size = size_of(alloc, change)?;
-    if size > SIZE_LIMIT {
+    if size > CHANGE_SET_LIMIT as u64 {
         return Err(Fault::Refused(Refusal::TooLarge {
             what: What::ChangeSet,
             size,
@@ -44,42 +42,80 @@ pub fn encode(alloc: Global, change: &ChangeSet) -> Result<Bytes, Fault>
 
 // The bytes of a change set, each of whose items fits since all of them do.
 fn bytes_of(alloc: Global, change: &ChangeSet) -> Result<Bytes, OutOfMemory>
-    requires { length (change_bytes change.now) ≤ size_limit }
+    requires { length (change_bytes change.now) ≤ CHANGE_SET_LIMIT }
     ensures value { IfOk result (λ bytes. bytes ≡ change_bytes change.now) }
     ensures parts { OnOk result (All IsPart change.now.parts) }
     ensures fits { OnOk result (All FitsPart change.now.parts) }
 {
     let mut out = Bytes::new(alloc, MAGIC)?;
     put_parts(alloc, &mut out, change.parts.get())?;
-    put_contents(alloc, &mut out, change.contents.get())?;
+    put_contents(&mut out, change.contents.get())?;
     put_item(&mut out, END, &[])?;
     Ok(out)
 }
 
 // Appends the items of parts.
 fn put_parts(alloc: Global, out: &mut Bytes, parts: &[Part]) -> Result<(), OutOfMemory>
-    requires { length (flat_map part_bytes parts.now) ≤ size_limit }
+    requires { length (flat_map part_bytes parts.now) ≤ CHANGE_SET_LIMIT }
     ensures value { OnOk result (out.new ≡ out.old ++ flat_map part_bytes parts.now) }
     ensures parts { OnOk result (All IsPart parts.now) }
     ensures fits { OnOk result (All FitsPart parts.now) }
 {
     for part in parts {
-        let value = value_of(alloc, part)?;
-        put_item(out, tag_of(part), value.get())?;
+        put_part(alloc, out, part)?;
     }
     Ok(())
 }
 
+// Appends the item of a part, whose stream has room in one. The stream is written in place.
+fn put_part(alloc: Global, out: &mut Bytes, part: &Part) -> Result<(), OutOfMemory>
+    requires { FitsPart part.now }
+    ensures value { OnOk result (out.new ≡ out.old ++ part_bytes part.now) }
+    ensures part { OnOk result (IsPart part.now) }
+{
+    let begun = open_item(out, tag_of(part))?;
+    let put = put_stream(alloc, out, part);
+    close_item(out, begun, put)
+}
+
+// Appends the stream of a part.
+fn put_stream(alloc: Global, out: &mut Bytes, part: &Part) -> Result<(), OutOfMemory>
+    ensures value { OnOk result (out.new ≡ out.old ++ part_value part.now) }
+    ensures part { OnOk result (IsPart part.now) }
+{
+    match part {
+        Part::Whole(trove) => trove_stream::encode(alloc, trove, out),
+        Part::Relative(rel) => encode_rel(alloc, rel, out),
+    }
+}
+
 // Appends the items of contents.
-fn put_contents(alloc: Global, out: &mut Bytes, contents: &[Carried]) -> Result<(), OutOfMemory>
-    requires { length (flat_map content_bytes contents.now) ≤ size_limit }
+fn put_contents(out: &mut Bytes, contents: &[Carried]) -> Result<(), OutOfMemory>
+    requires { length (flat_map content_bytes contents.now) ≤ CHANGE_SET_LIMIT }
     ensures { OnOk result (out.new ≡ out.old ++ flat_map content_bytes contents.now) }
 {
     for content in contents {
-        let mut value = Bytes::new(alloc, &content.name)?;
-        value.push_slice(content.bytes.get())?;
-        put_item(out, CONTENT, value.get())?;
+        put_content(out, content)?;
     }
+    Ok(())
+}
+
+// Appends the item of a content, which has room in one.
+fn put_content(out: &mut Bytes, content: &Carried) -> Result<(), OutOfMemory>
+    requires { FitsItem (content_value content.now) }
+    ensures { OnOk result (out.new ≡ out.old ++ content_bytes content.now) }
+{
+    let begun = open_item(out, CONTENT)?;
+    let put = put_named(out, content);
+    close_item(out, begun, put)
+}
+
+// Appends the name of a content, and its bytes.
+fn put_named(out: &mut Bytes, content: &Carried) -> Result<(), OutOfMemory>
+    ensures { OnOk result (out.new ≡ out.old ++ content_value content.now) }
+{
+    out.push_slice(&content.name)?;
+    out.push_slice(content.bytes.get())?;
     Ok(())
 }
 
@@ -94,14 +130,10 @@ fn tag_of(part: &Part) -> u8
 
 // The stream of a part.
 fn value_of(alloc: Global, part: &Part) -> Result<Bytes, OutOfMemory>
-    ensures value { IfOk result (λ bytes. bytes ≡ part_value part.now) }
-    ensures part { OnOk result (IsPart part.now) }
+    ensures { IfOk result (λ bytes. bytes ≡ part_value part.now) }
 {
     let mut bytes = Bytes::new(alloc, b"")?;
-    match part {
-        Part::Whole(trove) => trove_stream::encode(alloc, trove, &mut bytes)?,
-        Part::Relative(rel) => encode_rel(alloc, rel, &mut bytes)?,
-    }
+    put_stream(alloc, &mut bytes, part)?;
     Ok(bytes)
 }
 

@@ -1,10 +1,10 @@
 -- What `install` means.
-use Rattle.std.specs.Prelude.{ℕ, Bool, true, false, ◌&&◌, ◌||◌, not, List, [], ◌∷◌, ◌++◌, Option, Some, None, Result, Ok, Err, ◌==◌, codes}
+use Rattle.std.specs.Prelude.{ℕ, Bool, true, false, ◌&&◌, not, List, [], ◌∷◌, ◌++◌, Option, Some, None, Result, Ok, Err, ◌==◌, codes}
 use Rattle.std.specs.List.{find, list_any}
 use Rattle.std.specs.Str.{bytes_eq}
 use Rattle.std.specs.FinMap.{get, keys}
 use Rattle.cny_base.specs.Path.{parent}
-use Rattle.cny_base.specs.Reserved.{is_reserved, is_pinned}
+use Rattle.cny_base.specs.Reserved.{is_forbidden}
 use Rattle.cny_base.specs.declared.node.Node.{Node}
 use Rattle.cny_base.specs.declared.node.Node.TheVariants as node
 use Rattle.cny_base.specs.declared.refusal.Refusal.{Refusal}
@@ -32,12 +32,12 @@ read_manifest input = do
 
 -- ---- the tests of a manifest's items, which are in path order
 
--- an item at a reserved path, or at the path of a fixed directory without being a directory
-abbrev pub is_forbidden : Item → Bool
-is_forbidden item = is_reserved item.path || (is_pinned item.path && not (is_dir (Some item.node)))
+-- an item at a path where it is forbidden: a reserved one, or that of a fixed directory, where the item is no directory
+abbrev pub is_forbidden_item : Item → Bool
+is_forbidden_item item = is_forbidden item.path (is_dir (Some item.node))
 
 abbrev pub reserved : List Item → Result (Unit {0}) Refusal
-reserved items = none_of (λ item. refusal.Reserved item.path) (find is_forbidden items)
+reserved items = none_of (λ item. refusal.Reserved item.path) (find is_forbidden_item items)
 
 -- A node is already what an item wants. Of a directory the mode doesn't count.
 abbrev pub matches : Node → Node → Bool

@@ -19,18 +19,14 @@ Then (Err r) IsOutcome = Equals (Err r)
 abbrev pub IsNoSetStream : List ℕ → Type 0
 IsNoSetStream bytes = (set : ChangeSet) → IsSetStream set bytes → ⊥
 
--- the bytes are this change set's, and no other's
-pub record IsStreamOfOne (set : ChangeSet) (bytes : List ℕ) : Type 0 where
-  pub spelled : IsSetStream set bytes
-  pub only : (other : ChangeSet) → IsSetStream other bytes → other ≡ set
-
 -- the text of the change set; the tree stays as it is
 abbrev pub described : Tree → ChangeSet → Effect
 described tree set = record { tree = tree; out = change_text set }
 
--- the description of the change set that the bytes are; or their first fault, where they are none
+-- the description of the change set whose stream the bytes are, which is one at most; or their first fault, where they are
+-- none's
 abbrev pub IsDescribed : Tree → List ℕ → Result Effect Refusal → Type 0
-IsDescribed tree bytes (Ok effect) = (set : ChangeSet) × IsStreamOfOne set bytes × (effect ≡ described tree set)
+IsDescribed tree bytes (Ok effect) = (set : ChangeSet) × IsSetStream set bytes × (effect ≡ described tree set)
 IsDescribed tree bytes (Err refusal) = IsFirstFault bytes refusal × IsNoSetStream bytes
 
 -- The fixed directories, the input within its limit, and then its description. No name changes.

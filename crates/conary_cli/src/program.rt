@@ -20,6 +20,7 @@ use crate::report::report;
 use crate::root::ready;
 use crate::show::show_change_set;
 use crate::words::{Command, read_words};
+use change_set::unique_set;
 use cny_base::Text;
 use cny_flow::{FlowFault, Sink, Source};
 use std::alloc::Global;
@@ -108,6 +109,8 @@ pub fn run<I: Source, O: Sink, E: Sink, P: TreeDisk, T: TreeDisk>(
         (call_state I.source O.sink E.sink T.disk input.new out.new err.new root.new) root.old root.new result }
     ensures repository { repo.new ≡ repo.old }
 {
+    // Of one input there is one description at most.
+    unique_set();
     let answered = perform_words(alloc, words, input, root);
     let end = write_answer(answered, out);
     report(alloc, &end, err)

@@ -5,7 +5,7 @@ use Rattle.std.specs.Cmp.Derive.{both_true}
 use Rattle.std.specs.Int.{w16, w32, to_be_bytes, from_be_bytes}
 use Rattle.std.specs.List.{list_all}
 use Rattle.std.specs.Prelude.{option_and_then}
-use Rattle.std.specs.Str.{bytes_eq, is_utf8}
+use Rattle.std.specs.Str.{is_utf8}
 use Rattle.std.proofs.lemmas.Bool.{false≢true}
 use Rattle.std.proofs.lemmas.List.{take-append-drop, length-take, length-drop, append_assoc, append-nil}
 use Rattle.std.proofs.lemmas.Nat.{be_bytes_2, be_bytes_4, from_be_bytes-to_be_bytes_2, from_be_bytes-to_be_bytes_4}
@@ -19,7 +19,7 @@ use Rattle.file_stream.specs.declared.record.Flags.{Flags}
 use Rattle.file_stream.specs.declared.record.FileRec.{FileRec}
 use Rattle.file_stream.specs.declared.record.FileRec.TheVariants.{Dir, File, Link}
 use Rattle.file_stream.specs.Owner.{OwnerNames, is_owner, is_root}
-use Rattle.file_stream.specs.Record.{IsFileRecord, is_owned_by_root, has_name_and_size, IsRecordBytes, flag_bits, form_of, head, owner_bytes, owned, names_owner, record_bytes}
+use Rattle.file_stream.specs.Record.{IsFileRecord, is_owned_by_root, IsRecordBytes, flag_bits, form_of, head, owner_bytes, owned, names_owner, record_bytes}
 use Rattle.file_stream.specs.Reading.{flags_of, str_front, owner_at, same, is_named_rightly, dir_at, file_at, target_at, link_at, kind_at, owned_at, form_at, record_of}
 use Rattle.file_stream.proofs.Fields.{IsBytes, IsFront, drop_bytes, take_bytes, guarded, chosen, same_number, number_same, at_most, most_at, no_bytes, bits_again, bits_taken, front_taken, front_again}
 use Rattle.file_stream.proofs.Owners.{same_itself, same_told, IsOwnerFront, owner_taken, owner_again, same_owner}
@@ -327,10 +327,3 @@ pub not_root : (rec : FileRec) → record_bytes Compact rec ≡ record_bytes Exp
 not_root (Dir mode owner) e = forms_differ owner (is_root owner) refl (ap (λ l. slice_index l 0) e)
 not_root (File mode owner flags size name) e = forms_differ owner (is_root owner) refl (ap (λ l. slice_index l 0) e)
 not_root (Link target) e = refl
-
--- ---- sizes
-
-pub size_fits : (name : List ℕ) (size : ℕ) (rec : FileRec) → IsFileRecord rec → has_name_and_size name size rec ≡ true → size ≤ CONTENT_LIMIT
-size_fits name size (Dir mode owner) valid h = absurd (false≢true h)
-size_fits name size (File mode owner flags of_size of_name) valid h = let same = same_number of_size size (first_so (of_size == size) (bytes_eq of_name name) h) in omega (arith, same, valid.1)
-size_fits name size (Link target) valid h = absurd (false≢true h)

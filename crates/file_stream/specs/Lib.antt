@@ -1,3 +1,4 @@
 pub mod Owner
 pub mod Record
 pub mod Reading
+pub mod RecordLaws

@@ -62,6 +62,12 @@ pub fn push_field(line: &mut String, field: &str) -> Result<(), OutOfMemory> {
     Ok(())
 }
 
+/// Appends a number as a field.
+pub fn push_number(alloc: Global, line: &mut String, number: usize) -> Result<(), OutOfMemory> {
+    let digits = format!(in alloc; "{number}")?;
+    push_field(line, digits.as_str())
+}
+
 /// The answer of a test.
 pub fn told(alloc: Global, holds: bool) -> Result<String, Stop> {
     Ok(String::from_str(alloc, if holds { "true" } else { "false" })?)
@@ -75,6 +81,25 @@ pub fn compared(alloc: Global, written: &[u8], wanted: &[u8]) -> Result<String, 
         }
     }
     Ok(hex::encode(alloc, written)?)
+}
+
+/// Appends `compared` as a field.
+pub fn push_compared(
+    alloc: Global,
+    line: &mut String,
+    written: &[u8],
+    wanted: &[u8],
+) -> Result<(), Stop> {
+    let again = compared(alloc, written, wanted)?;
+    push_field(line, again.as_str())?;
+    Ok(())
+}
+
+/// Appends `digest` as a field.
+pub fn push_digest(alloc: Global, line: &mut String, bytes: &[u8]) -> Result<(), Stop> {
+    let digest = digest(alloc, bytes)?;
+    push_field(line, digest.as_str())?;
+    Ok(())
 }
 
 /// The number of the bytes, and their SHA-1.

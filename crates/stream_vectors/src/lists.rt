@@ -1,10 +1,10 @@
 //! Calls on the lists of a trove.
 ghost use Rattle.std.specs.Prelude.{◌≤◌, length};
 
-use crate::answer::{Stop, compared, given, push_field, told};
+use crate::answer::{Stop, given, push_compared, push_field, push_number, told};
 use crate::arguments::{bytes_at, count_at, name_at, tag_at};
 use crate::records::{have_spellings, record_text};
-use cny_base::{Bytes, Copies, Mode, Path, next_str};
+use cny_base::{Bytes, Copies, Mode, OutOfMemory, Path, next_str};
 use cny_dep::Dep;
 use cny_stream::next_item;
 use file_stream::{Encoding, FileRec, Flags, Owner, decode};
@@ -18,60 +18,80 @@ use trove_items::{
 // So many elements of a list are shown.
 const SHOWN: usize = 8;
 
-// ---- lists as texts
+// ---- lists as fields
 
-/// Files: their number, and the path and the record of each.
-pub fn files_text(alloc: Global, files: &[FileAt]) -> Result<String, Stop> {
-    let mut text = format!(in alloc; "{}", files.len())?;
+fn push_file(alloc: Global, line: &mut String, file: &FileAt) -> Result<(), Stop> {
+    let rec = record_text(alloc, &file.rec)?;
+    line.push_str("; ")?;
+    line.push_str(file.path.text())?;
+    line.push_str(" ")?;
+    line.push_str(rec.as_str())?;
+    Ok(())
+}
+
+/// Appends a field of files: their number, and the path and the record of each.
+pub fn push_files(alloc: Global, line: &mut String, files: &[FileAt]) -> Result<(), Stop> {
+    push_number(alloc, line, files.len())?;
     for file in files.iter().take(SHOWN) {
-        let rec = record_text(alloc, &file.rec)?;
-        let (path, rec) = (file.path.text(), rec.as_str());
-        let one = format!(in alloc; "; {path} {rec}")?;
-        text.push_str(one.as_str())?;
+        push_file(alloc, line, file)?;
     }
-    Ok(text)
+    Ok(())
 }
 
-/// Ids: their number, and the text of each.
-pub fn refs_text(alloc: Global, refs: &[TroveId]) -> Result<String, Stop> {
-    let mut text = format!(in alloc; "{}", refs.len())?;
+fn push_ref(alloc: Global, line: &mut String, id: &TroveId) -> Result<(), Stop> {
+    let text = id_text(alloc, id)?;
+    line.push_str("; ")?;
+    line.push_str(text.get())?;
+    Ok(())
+}
+
+/// Appends a field of ids: their number, and the text of each.
+pub fn push_refs(alloc: Global, line: &mut String, refs: &[TroveId]) -> Result<(), Stop> {
+    push_number(alloc, line, refs.len())?;
     for id in refs.iter().take(SHOWN) {
-        let one = id_text(alloc, id)?;
-        text.push_str("; ")?;
-        text.push_str(one.get())?;
+        push_ref(alloc, line, id)?;
     }
-    Ok(text)
+    Ok(())
 }
 
-/// Dependencies: their number, and the text of each.
-pub fn deps_text(alloc: Global, deps: &[Dep]) -> Result<String, Stop> {
-    let mut text = format!(in alloc; "{}", deps.len())?;
+/// Appends a field of dependencies: their number, and the text of each.
+pub fn push_deps(alloc: Global, line: &mut String, deps: &[Dep]) -> Result<(), Stop> {
+    push_number(alloc, line, deps.len())?;
     for dep in deps.iter().take(SHOWN) {
-        text.push_str("; ")?;
-        text.push_str(dep.text())?;
+        line.push_str("; ")?;
+        line.push_str(dep.text())?;
     }
-    Ok(text)
+    Ok(())
 }
 
-/// Paths: their number, and each.
-pub fn paths_text(alloc: Global, paths: &[Path]) -> Result<String, Stop> {
-    let mut text = format!(in alloc; "{}", paths.len())?;
+/// Appends a field of paths: their number, and each.
+pub fn push_paths(alloc: Global, line: &mut String, paths: &[Path]) -> Result<(), Stop> {
+    push_number(alloc, line, paths.len())?;
     for path in paths.iter().take(SHOWN) {
-        text.push_str("; ")?;
-        text.push_str(path.text())?;
+        line.push_str("; ")?;
+        line.push_str(path.text())?;
     }
-    Ok(text)
+    Ok(())
 }
 
 // ---- lists in streams
 
-// Bytes, a place within them, and a tag.
+// Bytes, a place within them, a tag, and how many elements there may be, if that is limited.
 #[derive(Clone, Copy)]
 struct Asked<'a> {
     bytes: &'a [u8],
     at: usize,
     tag: u8,
+    limit: Option<usize>,
     ghost within: { at ≤ length bytes.now },
+}
+
+// The fourth argument, where there is one.
+fn limit_of(arguments: &[Vec<u8>]) -> Result<Option<usize>, Stop> {
+    if arguments.len() < 4 {
+        return Ok(None);
+    }
+    Ok(Some(count_at(arguments, 3)? as usize))
 }
 
 fn asked_of(arguments: &[Vec<u8>]) -> Result<Asked<'_>, Stop> {
@@ -81,41 +101,73 @@ fn asked_of(arguments: &[Vec<u8>]) -> Result<Asked<'_>, Stop> {
     if at > bytes.len() {
         return Err(Stop::Unreadable);
     }
-    Ok(Asked { bytes, at, tag })
+    let limit = limit_of(arguments)?;
+    Ok(Asked {
+        bytes,
+        at,
+        tag,
+        limit,
+    })
 }
 
-// The end of a list, its elements, and how it is written again.
-fn list_line(
-    alloc: Global,
-    asked: Asked<'_>,
-    to: usize,
-    text: &str,
-    written: &[u8],
-) -> Result<String, Stop> {
+// What stands from the place up to an end.
+fn bytes_to(asked: Asked<'_>, to: usize) -> Result<&[u8], Stop> {
     if to < asked.at || to > asked.bytes.len() {
         return Err(Stop::Unreadable);
     }
-    let again = compared(alloc, written, &asked.bytes[asked.at..to])?;
-    let mut line = format!(in alloc; "{to}")?;
-    push_field(&mut line, text)?;
-    push_field(&mut line, again.as_str())?;
+    Ok(&asked.bytes[asked.at..to])
+}
+
+// The line of a list that ends here.
+fn line_to(alloc: Global, to: usize) -> Result<String, OutOfMemory> {
+    Ok(format!(in alloc; "{to}")?)
+}
+
+fn files_written(
+    alloc: Global,
+    encoding: Encoding,
+    tag: u8,
+    files: &[FileAt],
+) -> Result<Bytes, Stop> {
+    if !have_spellings(files) {
+        return Err(Stop::Unreadable);
+    }
+    let mut out = Bytes::new(alloc, b"x")?;
+    put_files(alloc, encoding, &mut out, tag, files)?;
+    Ok(out)
+}
+
+// The end of the files, the files, and how they are written again.
+fn files_line(
+    alloc: Global,
+    encoding: Encoding,
+    asked: Asked<'_>,
+    to: usize,
+    files: &[FileAt],
+) -> Result<String, Stop> {
+    let wanted = bytes_to(asked, to)?;
+    let mut line = line_to(alloc, to)?;
+    push_files(alloc, &mut line, files)?;
+    let out = files_written(alloc, encoding, asked.tag, files)?;
+    push_compared(alloc, &mut line, out.get(), wanted)?;
     Ok(line)
 }
 
 fn files_in(alloc: Global, encoding: Encoding, arguments: &[Vec<u8>]) -> Result<String, Stop> {
     let asked = asked_of(arguments)?;
-    let found = take_files(alloc, encoding, asked.bytes, asked.at, asked.tag)?;
+    let found = take_files(
+        alloc,
+        encoding,
+        asked.bytes,
+        asked.at,
+        asked.tag,
+        asked.limit,
+    )?;
     let files = found.files.copy()?;
-    if !have_spellings(files.get()) {
-        return Err(Stop::Unreadable);
-    }
-    let mut out = Bytes::new(alloc, b"x")?;
-    put_files(alloc, encoding, &mut out, asked.tag, files.get())?;
-    let text = files_text(alloc, files.get())?;
-    list_line(alloc, asked, found.to, text.as_str(), out.get())
+    files_line(alloc, encoding, asked, found.to, files.get())
 }
 
-/// `take_files` of bytes at a place with a tag.
+/// `take_files` of bytes at a place with a tag and, if there is a fourth argument, a limit.
 pub fn files(alloc: Global, arguments: &[Vec<u8>]) -> Result<String, Stop> {
     files_in(alloc, Encoding::Compact, arguments)
 }
@@ -125,26 +177,68 @@ pub fn full_files(alloc: Global, arguments: &[Vec<u8>]) -> Result<String, Stop> 
     files_in(alloc, Encoding::Explicit, arguments)
 }
 
-/// `take_refs` of bytes at a place with a tag.
-pub fn refs(alloc: Global, arguments: &[Vec<u8>]) -> Result<String, Stop> {
-    let asked = asked_of(arguments)?;
-    let found = take_refs(alloc, asked.bytes, asked.at, asked.tag)?;
-    let refs = found.refs.copy()?;
+fn refs_written(alloc: Global, tag: u8, refs: &[TroveId]) -> Result<Bytes, OutOfMemory> {
     let mut out = Bytes::new(alloc, b"x")?;
-    put_refs(alloc, &mut out, asked.tag, refs.get())?;
-    let text = refs_text(alloc, refs.get())?;
-    list_line(alloc, asked, found.to, text.as_str(), out.get())
+    put_refs(alloc, &mut out, tag, refs)?;
+    Ok(out)
 }
 
-/// `take_deps` of bytes at a place with a tag.
+// The end of the ids, the ids, and how they are written again.
+fn refs_line(alloc: Global, asked: Asked<'_>, to: usize, refs: &[TroveId]) -> Result<String, Stop> {
+    let wanted = bytes_to(asked, to)?;
+    let mut line = line_to(alloc, to)?;
+    push_refs(alloc, &mut line, refs)?;
+    let out = refs_written(alloc, asked.tag, refs)?;
+    push_compared(alloc, &mut line, out.get(), wanted)?;
+    Ok(line)
+}
+
+/// `take_refs` of bytes at a place with a tag and, if there is a fourth argument, a limit.
+pub fn refs(alloc: Global, arguments: &[Vec<u8>]) -> Result<String, Stop> {
+    let asked = asked_of(arguments)?;
+    let found = take_refs(alloc, asked.bytes, asked.at, asked.tag, asked.limit)?;
+    let refs = found.refs.copy()?;
+    refs_line(alloc, asked, found.to, refs.get())
+}
+
+fn deps_written(alloc: Global, tag: u8, deps: &[Dep]) -> Result<Bytes, OutOfMemory> {
+    let mut out = Bytes::new(alloc, b"x")?;
+    put_deps(alloc, &mut out, tag, deps)?;
+    Ok(out)
+}
+
+// The end of the dependencies, the dependencies, and how they are written again.
+fn deps_line(alloc: Global, asked: Asked<'_>, to: usize, deps: &[Dep]) -> Result<String, Stop> {
+    let wanted = bytes_to(asked, to)?;
+    let mut line = line_to(alloc, to)?;
+    push_deps(alloc, &mut line, deps)?;
+    let out = deps_written(alloc, asked.tag, deps)?;
+    push_compared(alloc, &mut line, out.get(), wanted)?;
+    Ok(line)
+}
+
+/// `take_deps` of bytes at a place with a tag and, if there is a fourth argument, a limit.
 pub fn deps(alloc: Global, arguments: &[Vec<u8>]) -> Result<String, Stop> {
     let asked = asked_of(arguments)?;
-    let found = take_deps(alloc, asked.bytes, asked.at, asked.tag)?;
+    let found = take_deps(alloc, asked.bytes, asked.at, asked.tag, asked.limit)?;
     let deps = found.deps.copy()?;
+    deps_line(alloc, asked, found.to, deps.get())
+}
+
+fn paths_written(alloc: Global, tag: u8, paths: &[Path]) -> Result<Bytes, OutOfMemory> {
     let mut out = Bytes::new(alloc, b"x")?;
-    put_deps(alloc, &mut out, asked.tag, deps.get())?;
-    let text = deps_text(alloc, deps.get())?;
-    list_line(alloc, asked, found.to, text.as_str(), out.get())
+    put_paths(alloc, &mut out, tag, paths)?;
+    Ok(out)
+}
+
+// The end of the paths, the paths, and how they are written again.
+fn paths_line(alloc: Global, asked: Asked<'_>, to: usize, paths: &[Path]) -> Result<String, Stop> {
+    let wanted = bytes_to(asked, to)?;
+    let mut line = line_to(alloc, to)?;
+    push_paths(alloc, &mut line, paths)?;
+    let out = paths_written(alloc, asked.tag, paths)?;
+    push_compared(alloc, &mut line, out.get(), wanted)?;
+    Ok(line)
 }
 
 /// `take_paths` of bytes at a place with a tag.
@@ -152,20 +246,31 @@ pub fn paths(alloc: Global, arguments: &[Vec<u8>]) -> Result<String, Stop> {
     let asked = asked_of(arguments)?;
     let found = take_paths(alloc, asked.bytes, asked.at, asked.tag)?;
     let paths = found.paths.copy()?;
+    paths_line(alloc, asked, found.to, paths.get())
+}
+
+fn id_written(alloc: Global, tag: u8, id: &TroveId) -> Result<Bytes, OutOfMemory> {
     let mut out = Bytes::new(alloc, b"x")?;
-    put_paths(alloc, &mut out, asked.tag, paths.get())?;
-    let text = paths_text(alloc, paths.get())?;
-    list_line(alloc, asked, found.to, text.as_str(), out.get())
+    put_id_item(alloc, &mut out, tag, id)?;
+    Ok(out)
+}
+
+// The end of the id, the id, and how it is written again.
+fn id_line(alloc: Global, asked: Asked<'_>, to: usize, id: &TroveId) -> Result<String, Stop> {
+    let wanted = bytes_to(asked, to)?;
+    let mut line = line_to(alloc, to)?;
+    let text = id_text(alloc, id)?;
+    push_field(&mut line, text.get())?;
+    let out = id_written(alloc, asked.tag, id)?;
+    push_compared(alloc, &mut line, out.get(), wanted)?;
+    Ok(line)
 }
 
 /// `take_id_item` of bytes at a place with a tag.
 pub fn id_item(alloc: Global, arguments: &[Vec<u8>]) -> Result<String, Stop> {
     let asked = asked_of(arguments)?;
     let found = take_id_item(alloc, asked.bytes, asked.at, asked.tag)?;
-    let mut out = Bytes::new(alloc, b"x")?;
-    put_id_item(alloc, &mut out, asked.tag, &found.id)?;
-    let text = id_text(alloc, &found.id)?;
-    list_line(alloc, asked, found.to, text.get(), out.get())
+    id_line(alloc, asked, found.to, &found.id)
 }
 
 // ---- lists in any order

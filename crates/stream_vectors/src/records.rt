@@ -3,15 +3,12 @@ ghost use Rattle.std.specs.Prelude.{◌↔◌, ◌<◌, IsTrue, All, IfOk};
 ghost use Rattle.file_stream.specs.Record.{FitsSize};
 ghost use Rattle.trove_items.specs.Files.{FitsFile};
 
-use crate::answer::{Stop, begun, compared, given, push_field, told};
+use crate::answer::{Stop, begun, given, push_compared, push_field, told};
 use crate::arguments::{bytes_at, count_at, name_at, text_at};
-use cny_base::{Bytes, Copies, Mode, Target, octal, read_octal};
+use cny_base::{Bytes, CONTENT_LIMIT, Copies, Mode, OutOfMemory, Target, octal, read_octal};
 use file_stream::{FileRec, Flags, Owner, decode, decode_full, encode, encode_full, file_id};
 use std::alloc::Global;
 use trove_items::FileAt;
-
-// The greatest size of a file.
-const SIZE_LIMIT: u32 = 16_777_216;
 
 // Whether the size of a file's contents is within its limit, as `encode` asks for.
 fn has_spelling(rec: &FileRec) -> bool
@@ -19,7 +16,7 @@ fn has_spelling(rec: &FileRec) -> bool
 {
     match rec {
         FileRec::Dir { .. } => true,
-        FileRec::File { size, .. } => *size <= SIZE_LIMIT,
+        FileRec::File { size, .. } => *size <= CONTENT_LIMIT,
         FileRec::Link { .. } => true,
     }
 }
@@ -107,10 +104,32 @@ fn record_line(alloc: Global, rec: &FileRec) -> Result<String, Stop>
     requires { FitsSize rec.now }
 {
     let id = file_id(alloc, rec)?;
+    let mut line = record_text(alloc, rec)?;
     let digits = hex::encode(alloc, id.as_slice())?;
-    let text = record_text(alloc, rec)?;
-    let mut line = begun(alloc, text.as_str())?;
     push_field(&mut line, digits.as_str())?;
+    Ok(line)
+}
+
+// The bytes of a record in one of the two encodings, behind these.
+fn written(alloc: Global, full: bool, rec: &FileRec, front: &[u8]) -> Result<Bytes, OutOfMemory>
+    requires { FitsSize rec.now }
+{
+    let mut out = Bytes::new(alloc, front)?;
+    if full {
+        encode_full(alloc, rec, &mut out)?;
+    } else {
+        encode(alloc, rec, &mut out)?;
+    }
+    Ok(out)
+}
+
+// The fields of a record and its id, and whether it is written as these bytes.
+fn again_line(alloc: Global, full: bool, rec: &FileRec, bytes: &[u8]) -> Result<String, Stop>
+    requires { FitsSize rec.now }
+{
+    let mut line = record_line(alloc, rec)?;
+    let out = written(alloc, full, rec, b"x")?;
+    push_compared(alloc, &mut line, out.get(), bytes)?;
     Ok(line)
 }
 
@@ -118,24 +137,14 @@ fn record_line(alloc: Global, rec: &FileRec) -> Result<String, Stop>
 pub fn record(alloc: Global, arguments: &[Vec<u8>]) -> Result<String, Stop> {
     let bytes = bytes_at(arguments, 0)?;
     let rec = spelled(decode(alloc, bytes)?.copy()?)?;
-    let mut out = Bytes::new(alloc, b"x")?;
-    encode(alloc, &rec, &mut out)?;
-    let again = compared(alloc, out.get(), bytes)?;
-    let mut line = record_line(alloc, &rec)?;
-    push_field(&mut line, again.as_str())?;
-    Ok(line)
+    again_line(alloc, false, &rec, bytes)
 }
 
 /// The same of `decode_full`.
 pub fn full_record(alloc: Global, arguments: &[Vec<u8>]) -> Result<String, Stop> {
     let bytes = bytes_at(arguments, 0)?;
     let rec = spelled(decode_full(alloc, bytes)?.copy()?)?;
-    let mut out = Bytes::new(alloc, b"x")?;
-    encode_full(alloc, &rec, &mut out)?;
-    let again = compared(alloc, out.get(), bytes)?;
-    let mut line = record_line(alloc, &rec)?;
-    push_field(&mut line, again.as_str())?;
-    Ok(line)
+    again_line(alloc, true, &rec, bytes)
 }
 
 fn mode_at(arguments: &[Vec<u8>], place: usize) -> Result<Mode, Stop> {
@@ -196,18 +205,22 @@ fn fields_of(alloc: Global, arguments: &[Vec<u8>]) -> Result<FileRec, Stop> {
     }
 }
 
+// Appends the digits of a record's bytes in one of the two encodings.
+fn push_bytes(alloc: Global, line: &mut String, full: bool, rec: &FileRec) -> Result<(), Stop>
+    requires { FitsSize rec.now }
+{
+    let bytes = written(alloc, full, rec, b"")?;
+    let digits = hex::encode(alloc, bytes.get())?;
+    push_field(line, digits.as_str())?;
+    Ok(())
+}
+
 /// A record with these fields: the fields, its id, and its bytes in both encodings.
 pub fn make(alloc: Global, arguments: &[Vec<u8>]) -> Result<String, Stop> {
     let rec = spelled(fields_of(alloc, arguments)?)?;
-    let mut short = Bytes::new(alloc, b"")?;
-    encode(alloc, &rec, &mut short)?;
-    let mut full = Bytes::new(alloc, b"")?;
-    encode_full(alloc, &rec, &mut full)?;
-    let short = hex::encode(alloc, short.get())?;
-    let full = hex::encode(alloc, full.get())?;
     let mut line = record_line(alloc, &rec)?;
-    push_field(&mut line, short.as_str())?;
-    push_field(&mut line, full.as_str())?;
+    push_bytes(alloc, &mut line, false, &rec)?;
+    push_bytes(alloc, &mut line, true, &rec)?;
     Ok(line)
 }
 

@@ -94,11 +94,20 @@ fn of_texts(alloc: Global, arguments: &[Vec<u8>]) -> Result<Refusal, Stop> {
     }
 }
 
+fn refusal_of(alloc: Global, arguments: &[Vec<u8>]) -> Result<Refusal, Stop> {
+    match plain(arguments) {
+        Ok(refusal) => Ok(refusal),
+        Err(_) => of_texts(alloc, arguments),
+    }
+}
+
+fn text_of_copy(alloc: Global, refusal: &Refusal) -> Result<String, Stop> {
+    let copy = refusal.copy()?;
+    Ok(refusal_text(alloc, &copy)?.into_string())
+}
+
 /// `refusal_text` of a copy of a refusal.
 pub fn text(alloc: Global, arguments: &[Vec<u8>]) -> Result<String, Stop> {
-    let refusal = match plain(arguments) {
-        Ok(refusal) => refusal,
-        Err(_) => of_texts(alloc, arguments)?,
-    };
-    Ok(refusal_text(alloc, &refusal.copy()?)?.into_string())
+    let refusal = refusal_of(alloc, arguments)?;
+    text_of_copy(alloc, &refusal)
 }

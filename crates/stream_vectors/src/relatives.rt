@@ -1,88 +1,54 @@
 //! Calls on relative troves.
-use crate::answer::{Stop, begun, compared, digest, given, push_field};
+use crate::answer::{Stop, begun, given, push_compared, push_digest, push_field};
 use crate::arguments::{bytes_at, text_at};
 use crate::lists::{
-    deps_of, deps_text, files_of, files_text, paths_of, paths_text, refs_of, refs_text,
+    deps_of, files_of, paths_of, push_deps, push_files, push_paths, push_refs, refs_of,
 };
-use cny_base::{Bytes, Copies, Paths};
+use cny_base::{Bytes, Copies, OutOfMemory, Paths};
 use std::alloc::Global;
-use trove_id::{id_text, read_id};
+use trove_id::{TroveId, id_text, read_id};
 use trove_rel::{RelParts, RelTrove, decode_rel, decode_rel_full, encode_rel, encode_rel_full};
 use trove_stream::{Deps, Files, Refs};
 
-// The ids of a relative trove, and what it does to paths.
-fn paths_line(alloc: Global, parts: &RelParts) -> Result<String, Stop> {
+// The ids of a relative trove.
+fn ids_line(alloc: Global, parts: &RelParts) -> Result<String, Stop> {
     let old = id_text(alloc, &parts.old)?;
     let fresh = id_text(alloc, &parts.fresh)?;
-    let gone = paths_text(alloc, parts.paths_gone.get())?;
-    let set = files_text(alloc, parts.files_set.get())?;
     let mut line = begun(alloc, old.get())?;
     push_field(&mut line, fresh.get())?;
-    push_field(&mut line, gone.as_str())?;
-    push_field(&mut line, set.as_str())?;
     Ok(line)
 }
 
-// Appends what it does to references.
-fn push_refs(alloc: Global, line: &mut String, parts: &RelParts) -> Result<(), Stop> {
-    let gone = refs_text(alloc, parts.refs_gone.get())?;
-    let added = refs_text(alloc, parts.refs_added.get())?;
-    push_field(line, gone.as_str())?;
-    push_field(line, added.as_str())?;
-    Ok(())
-}
-
-// Appends what it does to dependencies.
-fn push_deps(alloc: Global, line: &mut String, gone: &Deps, added: &Deps) -> Result<(), Stop> {
-    let gone = deps_text(alloc, gone.get())?;
-    let added = deps_text(alloc, added.get())?;
-    push_field(line, gone.as_str())?;
-    push_field(line, added.as_str())?;
-    Ok(())
-}
-
+// The ids of a relative trove, and what it does.
 fn relative_text(alloc: Global, parts: &RelParts) -> Result<String, Stop> {
-    let mut line = paths_line(alloc, parts)?;
-    push_refs(alloc, &mut line, parts)?;
-    push_deps(
-        alloc,
-        &mut line,
-        &parts.requires_gone,
-        &parts.requires_added,
-    )?;
-    push_deps(
-        alloc,
-        &mut line,
-        &parts.provides_gone,
-        &parts.provides_added,
-    )?;
+    let mut line = ids_line(alloc, parts)?;
+    push_paths(alloc, &mut line, parts.paths_gone.get())?;
+    push_files(alloc, &mut line, parts.files_set.get())?;
+    push_refs(alloc, &mut line, parts.refs_gone.get())?;
+    push_refs(alloc, &mut line, parts.refs_added.get())?;
+    push_deps(alloc, &mut line, parts.requires_gone.get())?;
+    push_deps(alloc, &mut line, parts.requires_added.get())?;
+    push_deps(alloc, &mut line, parts.provides_gone.get())?;
+    push_deps(alloc, &mut line, parts.provides_added.get())?;
     Ok(line)
 }
 
-// The stream of a relative trove, behind an `x`.
-fn written(alloc: Global, rel: &RelTrove) -> Result<Bytes, Stop> {
+// The stream of a relative trove in one of the two encodings, behind an `x`.
+fn written(alloc: Global, full: bool, rel: &RelTrove) -> Result<Bytes, OutOfMemory> {
     let mut out = Bytes::new(alloc, b"x")?;
-    encode_rel(alloc, rel, &mut out)?;
+    if full {
+        encode_rel_full(alloc, rel, &mut out)?;
+    } else {
+        encode_rel(alloc, rel, &mut out)?;
+    }
     Ok(out)
 }
 
-// The stream of a relative trove in the explicit encoding, behind an `x`.
-fn full_written(alloc: Global, rel: &RelTrove) -> Result<Bytes, Stop> {
-    let mut out = Bytes::new(alloc, b"x")?;
-    encode_rel_full(alloc, rel, &mut out)?;
-    Ok(out)
-}
-
-// A relative trove, and whether these written bytes are the wanted ones.
-fn relative_line(
-    alloc: Global,
-    rel: &RelTrove,
-    written: &Bytes,
-    bytes: &[u8],
-) -> Result<String, Stop> {
-    let again = compared(alloc, written.get(), bytes)?;
+// A relative trove, and whether it is written as these bytes.
+fn relative_line(alloc: Global, full: bool, rel: &RelTrove, bytes: &[u8]) -> Result<String, Stop> {
     let mut line = relative_text(alloc, rel.parts())?;
-    push_field(&mut line, again.as_str())?;
+    let out = written(alloc, full, rel)?;
+    push_compared(alloc, &mut line, out.get(), bytes)?;
     Ok(line)
 }
 
@@ -96,44 +62,131 @@ fn made_again(rel: &RelTrove) -> Result<RelTrove, Stop> {
 pub fn relative(alloc: Global, arguments: &[Vec<u8>]) -> Result<String, Stop> {
     let bytes = bytes_at(arguments, 0)?;
     let rel = made_again(&decode_rel(alloc, bytes)?)?;
-    let out = written(alloc, &rel)?;
-    relative_line(alloc, &rel, &out, bytes)
+    relative_line(alloc, false, &rel, bytes)
 }
 
 /// The same of `decode_rel_full`.
 pub fn full_relative(alloc: Global, arguments: &[Vec<u8>]) -> Result<String, Stop> {
     let bytes = bytes_at(arguments, 0)?;
     let rel = made_again(&decode_rel_full(alloc, bytes)?)?;
-    let out = full_written(alloc, &rel)?;
-    relative_line(alloc, &rel, &out, bytes)
+    relative_line(alloc, true, &rel, bytes)
+}
+
+// What is gone or old, and what is set, added or new.
+struct Pair<A, B> {
+    old: A,
+    fresh: B,
+}
+
+// Written by hand, so that to let a value go is a single call.
+impl<A: Drop, B: Drop> Drop for Pair<A, B> {
+    fn drop(self) {
+        let Pair {
+            old: _old,
+            fresh: _fresh,
+        } = self;
+    }
+}
+
+impl<A: Drop, B: Drop> Pair<A, B> {
+    fn split(self) -> (A, B) {
+        let Pair { old, fresh } = self;
+        (old, fresh)
+    }
+}
+
+fn ids_at(alloc: Global, arguments: &[Vec<u8>]) -> Result<Pair<TroveId, TroveId>, Stop> {
+    let old = given(read_id(alloc, text_at(arguments, 0)?))?;
+    let fresh = given(read_id(alloc, text_at(arguments, 1)?))?;
+    Ok(Pair { old, fresh })
+}
+
+fn files_at(alloc: Global, arguments: &[Vec<u8>]) -> Result<Pair<Paths, Files>, Stop> {
+    let old = Paths::new(paths_of(alloc, bytes_at(arguments, 2)?, 0x23)?);
+    let fresh = Files::new(files_of(alloc, bytes_at(arguments, 3)?, 0x24)?);
+    Ok(Pair { old, fresh })
+}
+
+fn refs_at(alloc: Global, arguments: &[Vec<u8>]) -> Result<Pair<Refs, Refs>, Stop> {
+    let old = Refs::new(refs_of(alloc, bytes_at(arguments, 4)?, 0x25)?);
+    let fresh = Refs::new(refs_of(alloc, bytes_at(arguments, 5)?, 0x26)?);
+    Ok(Pair { old, fresh })
+}
+
+// The dependencies of two arguments, with these tags.
+fn deps_at(
+    alloc: Global,
+    gone: &[u8],
+    gone_tag: u8,
+    added: &[u8],
+    added_tag: u8,
+) -> Result<Pair<Deps, Deps>, Stop> {
+    let old = Deps::new(deps_of(alloc, gone, gone_tag)?);
+    let fresh = Deps::new(deps_of(alloc, added, added_tag)?);
+    Ok(Pair { old, fresh })
+}
+
+fn requires_at(alloc: Global, arguments: &[Vec<u8>]) -> Result<Pair<Deps, Deps>, Stop> {
+    let gone = bytes_at(arguments, 6)?;
+    let added = bytes_at(arguments, 7)?;
+    deps_at(alloc, gone, 0x27, added, 0x28)
+}
+
+fn provides_at(alloc: Global, arguments: &[Vec<u8>]) -> Result<Pair<Deps, Deps>, Stop> {
+    let gone = bytes_at(arguments, 8)?;
+    let added = bytes_at(arguments, 9)?;
+    deps_at(alloc, gone, 0x29, added, 0x2a)
+}
+
+// The parts of these pairs.
+fn of_pairs(
+    ids: Pair<TroveId, TroveId>,
+    files: Pair<Paths, Files>,
+    refs: Pair<Refs, Refs>,
+    required: Pair<Deps, Deps>,
+    provided: Pair<Deps, Deps>,
+) -> RelParts {
+    let (old, fresh) = ids.split();
+    let (paths_gone, files_set) = files.split();
+    let (refs_gone, refs_added) = refs.split();
+    let (requires_gone, requires_added) = required.split();
+    let (provides_gone, provides_added) = provided.split();
+    RelParts {
+        old,
+        fresh,
+        paths_gone,
+        files_set,
+        refs_gone,
+        refs_added,
+        requires_gone,
+        requires_added,
+        provides_gone,
+        provides_added,
+    }
 }
 
 // Items of paths gone, files set, references, requirements and provides, in any order.
 fn parts_of(alloc: Global, arguments: &[Vec<u8>]) -> Result<RelParts, Stop> {
-    Ok(RelParts {
-        old: given(read_id(alloc, text_at(arguments, 0)?))?,
-        fresh: given(read_id(alloc, text_at(arguments, 1)?))?,
-        paths_gone: Paths::new(paths_of(alloc, bytes_at(arguments, 2)?, 0x23)?),
-        files_set: Files::new(files_of(alloc, bytes_at(arguments, 3)?, 0x24)?),
-        refs_gone: Refs::new(refs_of(alloc, bytes_at(arguments, 4)?, 0x25)?),
-        refs_added: Refs::new(refs_of(alloc, bytes_at(arguments, 5)?, 0x26)?),
-        requires_gone: Deps::new(deps_of(alloc, bytes_at(arguments, 6)?, 0x27)?),
-        requires_added: Deps::new(deps_of(alloc, bytes_at(arguments, 7)?, 0x28)?),
-        provides_gone: Deps::new(deps_of(alloc, bytes_at(arguments, 8)?, 0x29)?),
-        provides_added: Deps::new(deps_of(alloc, bytes_at(arguments, 9)?, 0x2a)?),
-    })
+    let ids = ids_at(alloc, arguments)?;
+    let files = files_at(alloc, arguments)?;
+    let refs = refs_at(alloc, arguments)?;
+    let required = requires_at(alloc, arguments)?;
+    let provided = provides_at(alloc, arguments)?;
+    Ok(of_pairs(ids, files, refs, required, provided))
+}
+
+// Appends the digest of a stream in one of the two encodings.
+fn push_stream(alloc: Global, line: &mut String, full: bool, rel: &RelTrove) -> Result<(), Stop> {
+    let out = written(alloc, full, rel)?;
+    push_digest(alloc, line, out.get())
 }
 
 /// `RelTrove::make` of the texts of two ids and of items: the relative trove, and the digests of its two streams behind
 /// an `x`.
 pub fn make(alloc: Global, arguments: &[Vec<u8>]) -> Result<String, Stop> {
     let rel = RelTrove::make(parts_of(alloc, arguments)?)?;
-    let out = written(alloc, &rel)?;
-    let short = digest(alloc, out.get())?;
-    let out = full_written(alloc, &rel)?;
-    let full = digest(alloc, out.get())?;
     let mut line = relative_text(alloc, rel.parts())?;
-    push_field(&mut line, short.as_str())?;
-    push_field(&mut line, full.as_str())?;
+    push_stream(alloc, &mut line, false, &rel)?;
+    push_stream(alloc, &mut line, true, &rel)?;
     Ok(line)
 }

@@ -1,7 +1,7 @@
 //! Calls on change sets.
 ghost use Rattle.std.specs.Prelude.{◌≡◌, [], IfOk};
 
-use crate::answer::{Stop, begun, compared, digest, on_a_line, push_field};
+use crate::answer::{Stop, begun, digest, on_a_line, push_compared, push_field};
 use crate::arguments::bytes_at;
 use change_set::{CarriedList, ChangeSet, Parts, decode, encode};
 use cny_base::{Bytes, Copies, Fault};
@@ -16,22 +16,26 @@ fn refused(alloc: Global, fault: &Fault) -> Result<String, Stop> {
     }
 }
 
-// What is written behind an `x`.
-fn written(alloc: Global, bytes: &Bytes) -> Result<Bytes, Stop> {
+// The description of a change set.
+fn push_text(alloc: Global, line: &mut String, set: &ChangeSet) -> Result<(), Stop> {
+    let text = change_text(alloc, set)?;
+    let shown = on_a_line(alloc, text.get())?;
+    push_field(line, shown.as_str())?;
+    Ok(())
+}
+
+// How a change set is written again.
+fn push_again(alloc: Global, line: &mut String, again: &Bytes, wanted: &[u8]) -> Result<(), Stop> {
     let mut out = Bytes::new(alloc, b"x")?;
-    out.push_slice(bytes.get())?;
-    Ok(out)
+    out.push_slice(again.get())?;
+    push_compared(alloc, line, out.get(), wanted)
 }
 
 // The description of a change set, and how it is written again.
-fn set_line(alloc: Global, bytes: &[u8], set: &ChangeSet, again: Bytes) -> Result<String, Stop> {
-    let text = change_text(alloc, set)?;
-    let shown = on_a_line(alloc, text.get())?;
-    let again = written(alloc, &again)?;
-    let again = compared(alloc, again.get(), bytes)?;
+fn set_line(alloc: Global, bytes: &[u8], set: &ChangeSet, again: &Bytes) -> Result<String, Stop> {
     let mut line = begun(alloc, "ok")?;
-    push_field(&mut line, shown.as_str())?;
-    push_field(&mut line, again.as_str())?;
+    push_text(alloc, &mut line, set)?;
+    push_again(alloc, &mut line, again, bytes)?;
     Ok(line)
 }
 
@@ -45,7 +49,7 @@ fn copied(alloc: Global, bytes: &[u8]) -> Result<(ChangeSet, Bytes), Fault> {
 pub fn set(alloc: Global, arguments: &[Vec<u8>]) -> Result<String, Stop> {
     let bytes = bytes_at(arguments, 0)?;
     match copied(alloc, bytes) {
-        Ok((set, again)) => set_line(alloc, bytes, &set, again),
+        Ok((set, again)) => set_line(alloc, bytes, &set, &again),
         Err(fault) => refused(alloc, &fault),
     }
 }

@@ -1,8 +1,8 @@
 //! Calls on troves.
-use crate::answer::{Stop, begun, compared, digest, given, on_a_line, push_field};
+use crate::answer::{Stop, begun, given, on_a_line, push_compared, push_digest};
 use crate::arguments::{bytes_at, text_at};
-use crate::lists::{deps_of, deps_text, files_of, files_text, refs_of, refs_text};
-use cny_base::{Bytes, Copies, Fault};
+use crate::lists::{deps_of, files_of, push_deps, push_files, push_refs, refs_of};
+use cny_base::{Bytes, Copies, Fault, OutOfMemory, TextFault};
 use cny_report::{refusal_text, troves_text};
 use std::alloc::Global;
 use trove_id::{id_text, read_id};
@@ -11,89 +11,91 @@ use trove_stream::{Deps, Files, Refs, Trove, check, decode, decode_full, encode,
 // The id and the lists of a trove.
 fn trove_text(alloc: Global, trove: &Trove) -> Result<String, Stop> {
     let id = id_text(alloc, trove.id())?;
-    let files = files_text(alloc, trove.files())?;
-    let refs = refs_text(alloc, trove.refs())?;
-    let required = deps_text(alloc, trove.requires_())?;
-    let provided = deps_text(alloc, trove.provides())?;
     let mut line = begun(alloc, id.get())?;
-    push_field(&mut line, files.as_str())?;
-    push_field(&mut line, refs.as_str())?;
-    push_field(&mut line, required.as_str())?;
-    push_field(&mut line, provided.as_str())?;
+    push_files(alloc, &mut line, trove.files())?;
+    push_refs(alloc, &mut line, trove.refs())?;
+    push_deps(alloc, &mut line, trove.requires_())?;
+    push_deps(alloc, &mut line, trove.provides())?;
     Ok(line)
 }
 
-// A trove, and whether these written bytes are the wanted ones.
-fn trove_line(alloc: Global, trove: &Trove, written: &Bytes, bytes: &[u8]) -> Result<String, Stop> {
-    let again = compared(alloc, written.get(), bytes)?;
+// The stream of a trove in one of the two encodings, behind an `x`.
+fn written(alloc: Global, full: bool, trove: &Trove) -> Result<Bytes, OutOfMemory> {
+    let mut out = Bytes::new(alloc, b"x")?;
+    if full {
+        encode_full(alloc, trove, &mut out)?;
+    } else {
+        encode(alloc, trove, &mut out)?;
+    }
+    Ok(out)
+}
+
+// A trove, and whether it is written as these bytes.
+fn trove_line(alloc: Global, full: bool, trove: &Trove, bytes: &[u8]) -> Result<String, Stop> {
     let mut line = trove_text(alloc, trove)?;
-    push_field(&mut line, again.as_str())?;
+    let out = written(alloc, full, trove)?;
+    push_compared(alloc, &mut line, out.get(), bytes)?;
     Ok(line)
-}
-
-// The stream of a trove, behind an `x`.
-fn written(alloc: Global, trove: &Trove) -> Result<Bytes, Stop> {
-    let mut out = Bytes::new(alloc, b"x")?;
-    encode(alloc, trove, &mut out)?;
-    Ok(out)
-}
-
-// The stream of a trove in the explicit encoding, behind an `x`.
-fn full_written(alloc: Global, trove: &Trove) -> Result<Bytes, Stop> {
-    let mut out = Bytes::new(alloc, b"x")?;
-    encode_full(alloc, trove, &mut out)?;
-    Ok(out)
 }
 
 /// `decode` of bytes: the trove, and how a copy of it is written again.
 pub fn trove(alloc: Global, arguments: &[Vec<u8>]) -> Result<String, Stop> {
     let bytes = bytes_at(arguments, 0)?;
     let trove = decode(alloc, bytes)?.copy()?;
-    let out = written(alloc, &trove)?;
-    trove_line(alloc, &trove, &out, bytes)
+    trove_line(alloc, false, &trove, bytes)
 }
 
 /// The same of `decode_full`.
 pub fn full_trove(alloc: Global, arguments: &[Vec<u8>]) -> Result<String, Stop> {
     let bytes = bytes_at(arguments, 0)?;
     let trove = decode_full(alloc, bytes)?.copy()?;
-    let out = full_written(alloc, &trove)?;
-    trove_line(alloc, &trove, &out, bytes)
+    trove_line(alloc, true, &trove, bytes)
+}
+
+fn files_and_refs(alloc: Global, arguments: &[Vec<u8>]) -> Result<(Files, Refs), Stop> {
+    let files = Files::new(files_of(alloc, bytes_at(arguments, 1)?, 4)?);
+    let refs = Refs::new(refs_of(alloc, bytes_at(arguments, 2)?, 5)?);
+    Ok((files, refs))
+}
+
+fn required_and_provided(alloc: Global, arguments: &[Vec<u8>]) -> Result<(Deps, Deps), Stop> {
+    let required = Deps::new(deps_of(alloc, bytes_at(arguments, 3)?, 6)?);
+    let provided = Deps::new(deps_of(alloc, bytes_at(arguments, 4)?, 7)?);
+    Ok((required, provided))
 }
 
 // `Trove::make` of the text of an id, and of items of files, references, requirements and provides in any order.
 fn made(alloc: Global, arguments: &[Vec<u8>]) -> Result<Trove, Stop> {
     let id = given(read_id(alloc, text_at(arguments, 0)?))?;
-    let files = files_of(alloc, bytes_at(arguments, 1)?, 4)?;
-    let refs = refs_of(alloc, bytes_at(arguments, 2)?, 5)?;
-    let required = deps_of(alloc, bytes_at(arguments, 3)?, 6)?;
-    let provided = deps_of(alloc, bytes_at(arguments, 4)?, 7)?;
-    Ok(Trove::make(
-        id,
-        Files::new(files),
-        Refs::new(refs),
-        Deps::new(required),
-        Deps::new(provided),
-    )?)
+    let (files, refs) = files_and_refs(alloc, arguments)?;
+    let (required, provided) = required_and_provided(alloc, arguments)?;
+    Ok(Trove::make(id, files, refs, required, provided)?)
 }
 
-/// `Trove::make`: the trove, made again of its parts, and the digests of its two streams behind an `x`.
-pub fn make(alloc: Global, arguments: &[Vec<u8>]) -> Result<String, Stop> {
-    let parts = made(alloc, arguments)?.into_parts();
-    let trove = Trove::make(
+// The trove, made again of its parts.
+fn made_again(trove: Trove) -> Result<Trove, TextFault> {
+    let parts = trove.into_parts();
+    Trove::make(
         parts.id,
         parts.files,
         parts.refs,
         parts.requires_,
         parts.provides,
-    )?;
-    let out = written(alloc, &trove)?;
-    let short = digest(alloc, out.get())?;
-    let out = full_written(alloc, &trove)?;
-    let full = digest(alloc, out.get())?;
+    )
+}
+
+// Appends the digest of a trove's stream in one of the two encodings.
+fn push_stream(alloc: Global, line: &mut String, full: bool, trove: &Trove) -> Result<(), Stop> {
+    let out = written(alloc, full, trove)?;
+    push_digest(alloc, line, out.get())
+}
+
+/// `Trove::make`: the trove, made again of its parts, and the digests of its two streams behind an `x`.
+pub fn make(alloc: Global, arguments: &[Vec<u8>]) -> Result<String, Stop> {
+    let trove = made_again(made(alloc, arguments)?)?;
     let mut line = trove_text(alloc, &trove)?;
-    push_field(&mut line, short.as_str())?;
-    push_field(&mut line, full.as_str())?;
+    push_stream(alloc, &mut line, false, &trove)?;
+    push_stream(alloc, &mut line, true, &trove)?;
     Ok(line)
 }
 

@@ -1,5 +1,5 @@
 -- What the values of items are: their fields, and that they are UTF-8.
-use Rattle.std.proofs.Common.{◌≡◌, ℕ, ◌<◌, ◌^◌, true, List, [], ◌∷◌, ◌++◌, length, drop, lit<, IsTrue, nat_le, ◌&&◌, refl, sym, ◌∙◌, ap, arith, append_assoc}
+use Rattle.std.proofs.Common.{◌≡◌, ℕ, ◌<◌, true, List, [], ◌∷◌, ◌++◌, length, drop, lit<, IsTrue, nat_le, ◌&&◌, refl, sym, ◌∙◌, ap, arith, append_assoc}
 use Rattle.std.specs.Cmp.{first_so, second_so}
 use Rattle.std.specs.Int.{w16, to_be_bytes, from_be_bytes}
 use Rattle.std.specs.List.{list_all, join_with_byte}
@@ -7,7 +7,7 @@ use Rattle.std.specs.Prelude.{slice_range, codes}
 use Rattle.std.specs.Str.{IsUtf8, IsAscii}
 use Rattle.std.proofs.lemmas.Bool.Decides.{nat_tests}
 use Rattle.std.proofs.lemmas.Nat.{from_be_bytes-to_be_bytes_2}
-use Rattle.std.proofs.lemmas.Str.{IsAscii-append, IsUtf8-from_ascii, IsUtf8-from_is_utf8}
+use Rattle.std.proofs.lemmas.Str.{IsAscii-append, IsUtf8-from_ascii}
 use Rattle.std.proofs.lemmas.Str.Ascii.{IsAscii-nil, IsAscii-cons}
 use Rattle.cny_base.specs.Path.{is_path}
 use Rattle.cny_base.specs.StrField.{FitsStr, IsStrAt, str}

@@ -1,5 +1,5 @@
 -- How long the values of items may be.
-use Rattle.std.proofs.Common.{suc, Bool, ◌&&◌, ◌||◌, nat_le, ◌⊎◌, inl, inr, ⊎_elim, ◌≡◌, ℕ, ◌+◌, ◌*◌, ◌<◌, ◌≤◌, ◌^◌, false, true, IsTrue, List, [], ◌∷◌, ◌++◌, length, refl, sym, ◌∙◌, ap, arith, length-append}
+use Rattle.std.proofs.Common.{suc, Bool, ◌&&◌, ◌||◌, nat_le, ◌⊎◌, inl, inr, ⊎_elim, ◌≡◌, ℕ, ◌+◌, ◌*◌, ◌≤◌, false, true, IsTrue, List, [], ◌∷◌, ◌++◌, length, refl, arith, length-append}
 use Rattle.std.specs.Cmp.{first_so, second_so}
 use Rattle.std.specs.Prelude.{◌==◌, codes}
 use Rattle.std.specs.Int.{w16, w32, to_be_bytes}
@@ -7,7 +7,7 @@ use Rattle.std.specs.List.{list_all, join_with_byte}
 use Rattle.std.specs.Str.{is_utf8}
 use Rattle.std.proofs.lemmas.Bool.{leb-true}
 use Rattle.std.proofs.lemmas.Bool.Decides.{nat_tests}
-use Rattle.cny_base.specs.StrField.{FitsStr, str}
+use Rattle.cny_base.specs.StrField.{str}
 use Rattle.cny_base.specs.Name.{is_word}
 use Rattle.cny_base.specs.Path.{is_path, are_parts}
 use Rattle.cny_base.specs.Target.{is_target, is_shown, has_target_form}
@@ -46,7 +46,7 @@ target_short target is =
     let form = first_so (has_target_form target) (is_utf8 target) is in
     leb-true (length target) 1024 (first_so (nat_le (length target) 1024) (list_all is_shown target) (second_so (nat_le 1 (length target)) (nat_le (length target) 1024 && list_all is_shown target) form))
 
-str_length : (value : List ℕ) → length (str value) ≡ 2 + length value
+pub str_length : (value : List ℕ) → length (str value) ≡ 2 + length value
 str_length value = length-append (to_be_bytes w16 (length value)) value
 
 owner_word_short : (word : List ℕ) → is_owner_word word ≡ true → length word ≤ 32

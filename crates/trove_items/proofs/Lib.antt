@@ -4,3 +4,4 @@ mod Writing
 mod Lengths
 mod Fields
 mod OneList
+mod Encodings

@@ -5,7 +5,7 @@ use Rattle.std.proofs.lemmas.Bool.Decides.{nat_tests}
 use Rattle.std.proofs.lemmas.List.Elements.{All-head, All-tail}
 use Rattle.cny_stream.specs.Item.{FitsItem, item_bytes}
 use Rattle.cny_stream.specs.ItemLaws.{same_item}
-use Rattle.trove_items.specs.Items.{items_bytes, begins_with_tag, BeginsWithItems, AreOfOneList}
+use Rattle.trove_items.specs.Items.{items_bytes, begins_with_tag, AreOfOneList}
 
 itself : (n : ℕ) → (n == n) ≡ true
 itself n = grind (arith, nat_tests)

@@ -1,13 +1,12 @@
 -- The items read so far are a front of all items of the tag.
-use Rattle.std.proofs.Common.{◌≡◌, ℕ, ◌<◌, ◌≤◌, Bool, true, false, List, [], ◌∷◌, ◌++◌, length, drop, All, refl, sym, ap, ◌∙◌, subst, arith, append_assoc, append-nil, length-append, Ordering, ◌==◌, IsTrue}
-use Rattle.std.specs.List.{flat_map}
+use Rattle.std.proofs.Common.{◌≡◌, ℕ, ◌≤◌, Bool, true, false, List, [], ◌∷◌, ◌++◌, length, drop, All, Option, Some, None, refl, sym, ap, ◌∙◌, subst, arith, append_assoc, append-nil, Ordering, ◌==◌, IsTrue}
 use Rattle.std.specs.List.Sorted.{IsStrictlySortedBy}
 use Rattle.std.proofs.lemmas.Bool.{false≢true}
 use Rattle.std.proofs.lemmas.Bool.Decides.{nat_tests}
 use Rattle.std.proofs.lemmas.List.Concat.{flat_map-append}
 use Rattle.std.proofs.lemmas.List.Elements.{All-nil, All-head, All-tail, All-push}
 use Rattle.cny_stream.specs.Item.{item_bytes}
-use Rattle.trove_items.specs.Items.{items_bytes, begins_with_tag, IsRisingList, BeginsWithItems, AreItemsAt, IsValueAt}
+use Rattle.trove_items.specs.Items.{items_bytes, begins_with_tag, IsRisingList, IsWithin, BeginsWithItems, IsValueAt}
 use Rattle.trove_items.proofs.Rising.{rising_front}
 
 -- the elements are those of the items from `at` up to `end`
@@ -27,6 +26,19 @@ pub record IsTail {A : Type 0} (value : A → List ℕ) (IsValid : A → Type 0)
 abbrev pub IsFrontOfAll : {A : Type 0} (value : A → List ℕ) (IsValid : A → Type 0) (tag : ℕ) (from bytes : List ℕ) (front : List A) → Type 0
 IsFrontOfAll {A} value IsValid tag from bytes front =
     (all : List A) (rest : List ℕ) → All IsValid all → BeginsWithItems value tag from all rest → (tail : List A) × IsTail value IsValid tag all front tail bytes rest
+
+-- ---- limits
+
+pub within_none : (limit : Option ℕ) → IsWithin limit 0
+within_none None = tt
+within_none (Some most) = omega arith
+
+-- fewer are within the limit too
+pub within_fewer : (limit : Option ℕ) (few many : ℕ) → few ≤ many → IsWithin limit many → IsWithin limit few
+within_fewer None few many le within = tt
+within_fewer (Some most) few many le within = omega (arith, le, within)
+
+-- ---- fronts
 
 itself : (n : ℕ) → (n == n) ≡ true
 itself n = grind (arith, nat_tests)

@@ -1,12 +1,12 @@
 -- What a trove records of its paths.
-use Rattle.std.specs.Prelude.{ℕ, IsTrue, List, ◌++◌}
+use Rattle.std.specs.Prelude.{◌≡◌, ℕ, false, IsTrue, List, ◌++◌}
 use Rattle.std.specs.Cmp.Lexicographic.{slice_cmp}
 use Rattle.std.specs.Ordering.{nat_cmp}
 use Rattle.std.specs.declared.cmp.Ordering.{Ordering}
 use Rattle.cny_base.specs.Path.{is_path}
 use Rattle.cny_base.specs.StrField.{str}
 use Rattle.file_stream.specs.declared.encoding.Encoding.{Encoding}
-use Rattle.file_stream.specs.Record.{FitsSize, IsFileRecord, record_bytes}
+use Rattle.file_stream.specs.Record.{FitsSize, IsFileRecord, is_owned_by_root, record_bytes}
 use Rattle.trove_items.specs.declared.files.FileAt.{FileAt}
 use Rattle.trove_items.specs.Items.{items_bytes, IsRisingList}
 
@@ -36,3 +36,7 @@ AreFiles files = IsRisingList IsFileAt file_cmp files
 
 abbrev pub files_bytes : Encoding → ℕ → List FileAt → List ℕ
 files_bytes encoding tag files = items_bytes (file_value encoding) tag files
+
+-- no directory or file that root owns; a link has no owner
+abbrev pub HasOtherOwner : FileAt → Type 0
+HasOtherOwner file = is_owned_by_root file.rec ≡ false

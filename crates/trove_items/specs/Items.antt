@@ -1,5 +1,5 @@
 -- Lists of items of one tag in a stream, over the values of their elements.
-use Rattle.std.specs.Prelude.{◌≡◌, ℕ, ◌≤◌, Bool, false, ◌==◌, List, [], ◌∷◌, ◌++◌, length, drop, All}
+use Rattle.std.specs.Prelude.{◌≡◌, ℕ, ◌≤◌, Bool, false, ◌==◌, List, [], ◌∷◌, ◌++◌, length, drop, All, Option, Some, None}
 use Rattle.std.specs.List.{flat_map}
 use Rattle.std.specs.List.Sorted.{IsStrictlySortedBy}
 use Rattle.std.specs.declared.cmp.Ordering.{Ordering}
@@ -35,6 +35,11 @@ pub record AreItemsAt {A : Type 0} (value : A → List ℕ) (bytes : List ℕ) (
   pub order : at ≤ to
   pub within : to ≤ length bytes
   pub begins : BeginsWithItems value tag (drop at bytes) xs (drop to bytes)
+
+-- a list with so many elements is within a limit, where there is one
+abbrev pub IsWithin : Option ℕ → ℕ → Type 0
+IsWithin None count = Unit {0}
+IsWithin (Some limit) count = count ≤ limit
 
 -- One item of this tag, that of this element, begins at `at` and ends at `to`.
 pub record IsValueAt {A : Type 0} (value : A → List ℕ) (bytes : List ℕ) (at tag : ℕ) (x : A) (to : ℕ) : Type 0 where

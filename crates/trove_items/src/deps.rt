@@ -4,7 +4,7 @@ ghost use Rattle.std.specs.Cmp.Lexicographic.{nat_list_cmp_total};
 ghost use Rattle.std.proofs.lemmas.Cmp.{on_total};
 ghost use Rattle.cny_dep.specs.Dep.{Dependency, IsDependency, dep_text};
 ghost use Rattle.cny_dep.specs.Order.{dep_cmp};
-ghost use Rattle.trove_items.specs.Items.{BeginsWithItems, AreItemsAt};
+ghost use Rattle.trove_items.specs.Items.{BeginsWithItems, AreItemsAt, IsWithin};
 ghost use Rattle.trove_items.specs.Deps.{AreDeps, deps_bytes};
 
 use crate::items::{Element, are_listed, put_items, take_items};
@@ -84,19 +84,26 @@ pub struct DepsAt {
 }
 
 /// The dependencies of all items of this tag that begin at `at`, one behind the other, and their end. `Bad` only where
-/// an item of this tag there isn't the canonical text of one, or where the texts don't strictly rise; want of memory may
-/// be answered then instead.
-pub fn take_deps(alloc: Global, bytes: &[u8], at: usize, tag: u8) -> Result<DepsAt, TextFault>
+/// an item of this tag there isn't the canonical text of one, where the texts don't strictly rise, or where there are more
+/// than the limit; want of memory may be answered then instead. No dependency past the limit is read.
+pub fn take_deps(
+    alloc: Global,
+    bytes: &[u8],
+    at: usize,
+    tag: u8,
+    limit: Option<usize>,
+) -> Result<DepsAt, TextFault>
     requires { at ≤ length bytes.now }
     ensures found { IfOk result (λ found. AreItemsAt dep_text bytes.now at tag found.deps found.to) }
     ensures ok { IfOk result (λ found. AreDeps found.deps) }
-    ensures bad { IsErrOf result TextFault.Bad → (deps : List Dependency) (rest : List ℕ) → AreDeps deps
+    ensures few { IfOk result (λ found. IsWithin limit (length found.deps)) }
+    ensures bad { IsErrOf result TextFault.Bad → (deps : List Dependency) (rest : List ℕ) → AreDeps deps → IsWithin limit (length deps)
         → BeginsWithItems dep_text tag (drop at bytes.now) deps rest → ⊥ }
     // No other dependencies stand there, nor do their items end elsewhere.
     ensures only { IfOk result (λ found. (deps : List Dependency) (rest : List ℕ) → AreDeps deps
         → BeginsWithItems dep_text tag (drop at bytes.now) deps rest → (found.deps ≡ deps) × (drop found.to bytes.now ≡ rest)) }
 {
-    let (items, to) = take_items::<Dep>(alloc, Encoding::Compact, bytes, at, tag)?;
+    let (items, to) = take_items::<Dep>(alloc, Encoding::Compact, bytes, at, tag, limit)?;
     Ok(DepsAt {
         deps: Deps::new(items),
         to,

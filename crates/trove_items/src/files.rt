@@ -3,7 +3,7 @@ ghost use Rattle.std.specs.Prelude.{◌≡◌, ◌↔◌, ◌≤◌, ◌++◌, L
 ghost use Rattle.std.specs.Cmp.Lexicographic.{nat_list_cmp_total};
 ghost use Rattle.std.proofs.lemmas.Cmp.{on_total};
 ghost use Rattle.trove_items.specs.declared.files.FileAt.{FileAt};
-ghost use Rattle.trove_items.specs.Items.{BeginsWithItems, AreItemsAt};
+ghost use Rattle.trove_items.specs.Items.{BeginsWithItems, AreItemsAt, IsWithin};
 ghost use Rattle.trove_items.specs.Files.{IsFileAt, FitsFile, path_of, file_value, file_cmp, AreFiles, files_bytes};
 
 use crate::items::{Element, are_listed, put_items, take_items};
@@ -124,25 +124,27 @@ pub struct FilesAt {
 }
 
 /// The files of all items of this tag that begin at `at`, one behind the other, and their end. `Bad` only where an
-/// item of this tag there isn't that of a file in the encoding, or where the paths don't strictly rise; want of memory may
-/// be answered then instead.
+/// item of this tag there isn't that of a file in the encoding, where the paths don't strictly rise, or where there are more
+/// files than the limit; want of memory may be answered then instead. No file past the limit is read.
 pub fn take_files(
     alloc: Global,
     encoding: Encoding,
     bytes: &[u8],
     at: usize,
     tag: u8,
+    limit: Option<usize>,
 ) -> Result<FilesAt, TextFault>
     requires { at ≤ length bytes.now }
     ensures found { IfOk result (λ found. AreItemsAt (file_value encoding) bytes.now at tag found.files found.to) }
     ensures ok { IfOk result (λ found. AreFiles found.files) }
-    ensures bad { IsErrOf result TextFault.Bad → (files : List FileAt) (rest : List ℕ) → AreFiles files
+    ensures few { IfOk result (λ found. IsWithin limit (length found.files)) }
+    ensures bad { IsErrOf result TextFault.Bad → (files : List FileAt) (rest : List ℕ) → AreFiles files → IsWithin limit (length files)
         → BeginsWithItems (file_value encoding) tag (drop at bytes.now) files rest → ⊥ }
     // No other files stand there, nor do their items end elsewhere.
     ensures only { IfOk result (λ found. (files : List FileAt) (rest : List ℕ) → AreFiles files
         → BeginsWithItems (file_value encoding) tag (drop at bytes.now) files rest → (found.files ≡ files) × (drop found.to bytes.now ≡ rest)) }
 {
-    let (items, to) = take_items::<FileAt>(alloc, encoding, bytes, at, tag)?;
+    let (items, to) = take_items::<FileAt>(alloc, encoding, bytes, at, tag, limit)?;
     Ok(FilesAt {
         files: Files::new(items),
         to,

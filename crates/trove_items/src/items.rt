@@ -1,12 +1,12 @@
 //! Lists of items of one tag, whatever their elements are.
-ghost use Rattle.std.specs.Prelude.{◌≡◌, ◌↔◌, ◌≤◌, ◌<◌, ◌++◌, ◌∷◌, [], List, ℕ, IsTrue, All, length, take, drop, IfOk, OnOk, OnErr, IsErrOf};
+ghost use Rattle.std.specs.Prelude.{◌≡◌, ◌↔◌, ◌≤◌, ◌<◌, ◌+◌, ◌++◌, ◌∷◌, [], List, ℕ, IsTrue, All, length, take, drop, Option, IfOk, OnOk, OnErr, IsErrOf};
 ghost use Rattle.std.specs.Cmp.{IsTotalOrder};
 ghost use Rattle.std.specs.List.Sorted.{IsStrictlySortedBy};
 ghost use Rattle.std.specs.Ordering.{is_lt};
 ghost use Rattle.std.specs.declared.cmp.Ordering.{Ordering};
 ghost use Rattle.cny_stream.specs.Item.{FitsItem, item_bytes};
 ghost use Rattle.file_stream.specs.declared.encoding.Encoding.{Encoding};
-ghost use Rattle.trove_items.specs.Items.{items_bytes, begins_with_tag, IsRisingList, BeginsWithItems, AreItemsAt, IsValueAt, AreOfOneList};
+ghost use Rattle.trove_items.specs.Items.{items_bytes, begins_with_tag, IsRisingList, IsWithin, BeginsWithItems, AreItemsAt, IsValueAt, AreOfOneList};
 
 use cny_base::{Bytes, OutOfMemory, TextFault};
 use cny_stream::next_item;
@@ -191,19 +191,32 @@ fn is_next<T: Element>(items: &[T], element: &T) -> bool
     }
 }
 
+// Whether a list with so many elements may have one more.
+fn has_room(limit: Option<usize>, count: usize) -> bool
+    ensures { IsTrue result ↔ IsWithin limit (count + 1) }
+{
+    match limit {
+        None => true,
+        Some(most) => count < most,
+    }
+}
+
 /// The elements of all items of this tag that begin at `at`, one behind the other, and their end.
-/// `Bad` only where they aren't those of a rising list of valid elements.
+/// `Bad` only where they aren't those of a rising list of valid elements, or are more than the limit, where there is one:
+/// then no element past it is read.
 pub(crate) fn take_items<T: Element + Drop>(
     alloc: Global,
     encoding: Encoding,
     bytes: &[u8],
     at: usize,
     tag: u8,
+    limit: Option<usize>,
 ) -> Result<(Vec<T>, usize), TextFault>
     requires { at ≤ length bytes.now }
     ensures found { IfOk result (λ found. AreItemsAt (T.value encoding) bytes.now at tag found.0.items found.1) }
     ensures ok { IfOk result (λ found. IsRisingList T.is_valid T.compare found.0.items) }
-    ensures bad { IsErrOf result TextFault.Bad → (xs : List T) (rest : List ℕ) → IsRisingList T.is_valid T.compare xs
+    ensures few { IfOk result (λ found. IsWithin limit (length found.0.items)) }
+    ensures bad { IsErrOf result TextFault.Bad → (xs : List T) (rest : List ℕ) → IsRisingList T.is_valid T.compare xs → IsWithin limit (length xs)
         → BeginsWithItems (T.value encoding) tag (drop at bytes.now) xs rest → ⊥ }
     ensures only { IfOk result (λ found. (xs : List T) (rest : List ℕ) → IsRisingList T.is_valid T.compare xs
         → BeginsWithItems (T.value encoding) tag (drop at bytes.now) xs rest → (found.0.items ≡ xs) × (drop found.1 bytes.now ≡ rest)) }
@@ -213,6 +226,9 @@ pub(crate) fn take_items<T: Element + Drop>(
     'items: loop {
         if !begins_with(bytes, end, tag) {
             return Ok((items, end));
+        }
+        if !has_room(limit, items.len()) {
+            return Err(TextFault::Bad);
         }
         let (element, to) = take_item::<T>(alloc, encoding, bytes, end, tag)?;
         if !is_next(items.as_slice(), &element) {

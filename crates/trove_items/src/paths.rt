@@ -86,7 +86,7 @@ pub fn take_paths(alloc: Global, bytes: &[u8], at: usize, tag: u8) -> Result<Pat
     ensures only { IfOk result (λ found. (paths : List (List ℕ)) (rest : List ℕ) → ArePaths paths
         → BeginsWithItems path_value tag (drop at bytes.now) paths rest → (found.paths ≡ paths) × (drop found.to bytes.now ≡ rest)) }
 {
-    let (items, to) = take_items::<Path>(alloc, Encoding::Compact, bytes, at, tag)?;
+    let (items, to) = take_items::<Path>(alloc, Encoding::Compact, bytes, at, tag, None)?;
     Ok(PathsAt {
         paths: Paths::new(items),
         to,

@@ -4,7 +4,7 @@ ghost use Rattle.cny_stream.specs.Item.{item_bytes};
 ghost use Rattle.trove_id.specs.declared.id.TroveId.{TroveId};
 ghost use Rattle.trove_id.specs.Id.{IsTroveId, id_bytes};
 ghost use Rattle.trove_id.specs.Order.{id_cmp, id_total};
-ghost use Rattle.trove_items.specs.Items.{BeginsWithItems, AreItemsAt, IsValueAt};
+ghost use Rattle.trove_items.specs.Items.{BeginsWithItems, AreItemsAt, IsWithin, IsValueAt};
 ghost use Rattle.trove_items.specs.Refs.{AreRefs, refs_bytes};
 
 use crate::items::{Element, are_listed, put_items, take_item, take_items};
@@ -109,19 +109,26 @@ pub struct RefsAt {
 }
 
 /// The ids of all items of this tag that begin at `at`, one behind the other, and their end. `Bad` only where an item
-/// of this tag there isn't that of an id, or where the ids don't strictly rise; want of memory may be answered then
-/// instead.
-pub fn take_refs(alloc: Global, bytes: &[u8], at: usize, tag: u8) -> Result<RefsAt, TextFault>
+/// of this tag there isn't that of an id, where the ids don't strictly rise, or where there are more than the limit; want of
+/// memory may be answered then instead. No id past the limit is read.
+pub fn take_refs(
+    alloc: Global,
+    bytes: &[u8],
+    at: usize,
+    tag: u8,
+    limit: Option<usize>,
+) -> Result<RefsAt, TextFault>
     requires { at ≤ length bytes.now }
     ensures found { IfOk result (λ found. AreItemsAt id_bytes bytes.now at tag found.refs found.to) }
     ensures ok { IfOk result (λ found. AreRefs found.refs) }
-    ensures bad { IsErrOf result TextFault.Bad → (refs : List TroveId) (rest : List ℕ) → AreRefs refs
+    ensures few { IfOk result (λ found. IsWithin limit (length found.refs)) }
+    ensures bad { IsErrOf result TextFault.Bad → (refs : List TroveId) (rest : List ℕ) → AreRefs refs → IsWithin limit (length refs)
         → BeginsWithItems id_bytes tag (drop at bytes.now) refs rest → ⊥ }
     // No other ids stand there, nor do their items end elsewhere.
     ensures only { IfOk result (λ found. (refs : List TroveId) (rest : List ℕ) → AreRefs refs
         → BeginsWithItems id_bytes tag (drop at bytes.now) refs rest → (found.refs ≡ refs) × (drop found.to bytes.now ≡ rest)) }
 {
-    let (items, to) = take_items::<TroveId>(alloc, Encoding::Compact, bytes, at, tag)?;
+    let (items, to) = take_items::<TroveId>(alloc, Encoding::Compact, bytes, at, tag, limit)?;
     Ok(RefsAt {
         refs: Refs::new(items),
         to,

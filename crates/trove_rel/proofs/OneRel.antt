@@ -1,17 +1,21 @@
--- A stream is that of one relative trove.
-use Rattle.std.proofs.Common.{◌≡◌, ℕ, ◌+◌, ◌<◌, ◌≤◌, ◌^◌, List, [], ◌++◌, length, All, refl, sym, ap, ◌∙◌, arith, append-nil}
+-- A stream is that of one relative trove, and the streams in both encodings.
+use Rattle.std.proofs.Common.{◌≡◌, ◌↔◌, ℕ, ◌+◌, ◌<◌, ◌≤◌, ◌^◌, List, [], ◌++◌, length, All, refl, sym, ap, ◌∙◌, arith, append-nil}
+use Rattle.std.proofs.lemmas.List.{append_cancel_left}
 use Rattle.cny_dep.specs.Dep.{IsDependency, dep_text}
 use Rattle.cny_stream.specs.Item.{item_bytes}
 use Rattle.cny_stream.specs.ItemLaws.{same_item}
 use Rattle.file_stream.specs.declared.encoding.Encoding.{Encoding}
+use Rattle.file_stream.specs.declared.encoding.Encoding.TheVariants.{Compact, Explicit}
 use Rattle.trove_id.specs.declared.id.TroveId.{TroveId}
 use Rattle.trove_id.specs.Id.{IsTroveId, id_bytes}
-use Rattle.trove_items.specs.Files.{IsFileAt, file_value}
+use Rattle.trove_items.specs.declared.files.FileAt.{FileAt}
+use Rattle.trove_items.specs.Files.{IsFileAt, HasOtherOwner, file_value, files_bytes}
 use Rattle.trove_items.specs.Items.{items_bytes, AreOfOneList}
-use Rattle.trove_items.specs.Paths.{IsPath, path_value}
+use Rattle.trove_items.specs.ItemsLaws.{same_middle}
+use Rattle.trove_items.specs.Paths.{IsPath, path_value, paths_bytes}
 use Rattle.trove_rel.specs.declared.rel.RelParts.{RelParts}
-use Rattle.trove_rel.specs.Pairs.{BeginsWithPair}
-use Rattle.trove_rel.specs.RelBytes.{IsStreamOf}
+use Rattle.trove_rel.specs.Pairs.{BeginsWithPair, ids_bytes}
+use Rattle.trove_rel.specs.RelBytes.{IsStreamOf, rel_stream_bytes}
 use Rattle.trove_rel.proofs.Parts.{first_id, first_of_pair, second_of_pair, files_part, refs_part, requires_part, provides_part, begins_files, begins_refs, begins_requires, begins_provides}
 
 record SamePair {A B : Type 0} (xs xs' : List A) (ys ys' : List B) (rest rest' : List ℕ) : Type 0 where
@@ -72,3 +76,15 @@ one_rel one other a b bytes a_is b_is short one_id one_files one_refs one_deps o
       provides_gone = provides_gone i;
       provides_added = provides_added i;
     }
+
+-- the two streams differ in the items of the files alone
+pub encodings_equal : ((tag : ℕ) (files : List FileAt) → (files_bytes Compact tag files ≡ files_bytes Explicit tag files) ↔ All HasOtherOwner files) → (rel : RelParts)
+    → (rel_stream_bytes Compact rel ≡ rel_stream_bytes Explicit rel) ↔ All HasOtherOwner rel.files_set
+encodings_equal both rel =
+    let ids = ids_bytes rel.old rel.fresh in
+    let gone = paths_bytes 0x23 rel.paths_gone in
+    let compact = files_bytes Compact 0x24 rel.files_set in
+    let explicit = files_bytes Explicit 0x24 rel.files_set in (
+      λ e. (both 0x24 rel.files_set).0 (append_cancel_left gone compact explicit (same_middle ids (gone ++ compact) (gone ++ explicit) (refs_part rel) e)),
+      λ others. ap (λ l. ids ++ ((gone ++ l) ++ refs_part rel)) ((both 0x24 rel.files_set).1 others),
+    )

@@ -115,7 +115,7 @@ fn take_changed_files(
         → (found.0.old ≡ gone) × (found.0.fresh ≡ files) × (drop found.1 bytes.now ≡ rest)) }
 {
     let gone = take_paths(alloc, bytes, at, PATH_GONE)?;
-    let set = take_files(alloc, encoding, bytes, gone.to, FILE_SET)?;
+    let set = take_files(alloc, encoding, bytes, gone.to, FILE_SET, None)?;
     let to = set.to;
     Ok((
         Pair {
@@ -144,8 +144,8 @@ fn take_changed_refs(
         → BeginsWithPair id_bytes id_bytes 0x25 (drop at bytes.now) gone added rest
         → (found.0.old ≡ gone) × (found.0.fresh ≡ added) × (drop found.1 bytes.now ≡ rest)) }
 {
-    let gone = take_refs(alloc, bytes, at, REF_GONE)?;
-    let added = take_refs(alloc, bytes, gone.to, REF_ADDED)?;
+    let gone = take_refs(alloc, bytes, at, REF_GONE, None)?;
+    let added = take_refs(alloc, bytes, gone.to, REF_ADDED, None)?;
     let to = added.to;
     Ok((
         Pair {
@@ -176,8 +176,8 @@ fn take_changed_deps(
         → BeginsWithPair dep_text dep_text tag (drop at bytes.now) gone added rest
         → (found.0.old ≡ gone) × (found.0.fresh ≡ added) × (drop found.1 bytes.now ≡ rest)) }
 {
-    let gone = take_deps(alloc, bytes, at, tag)?;
-    let added = take_deps(alloc, bytes, gone.to, tag + 1)?;
+    let gone = take_deps(alloc, bytes, at, tag, None)?;
+    let added = take_deps(alloc, bytes, gone.to, tag + 1, None)?;
     let to = added.to;
     Ok((
         Pair {

@@ -1,17 +1,20 @@
--- A stream is that of one trove.
-use Rattle.std.proofs.Common.{◌≡◌, ℕ, ◌≤◌, List, [], ◌++◌, length, refl, sym, ap, ◌∙◌, append-nil}
+-- A stream is that of one trove, and the streams in both encodings.
+use Rattle.std.proofs.Common.{◌≡◌, ◌↔◌, ℕ, ◌≤◌, List, [], ◌++◌, length, All, refl, sym, ap, ◌∙◌, append-nil}
 use Rattle.cny_dep.specs.Dep.{IsDependency, dep_text}
 use Rattle.cny_flavor.specs.Canonical.{flavor_text}
 use Rattle.cny_stream.specs.Item.{item_bytes}
 use Rattle.cny_stream.specs.ItemLaws.{same_item}
 use Rattle.cny_version.specs.Version.{version_text}
 use Rattle.file_stream.specs.declared.encoding.Encoding.{Encoding}
+use Rattle.file_stream.specs.declared.encoding.Encoding.TheVariants.{Compact, Explicit}
 use Rattle.trove_id.specs.declared.id.TroveId.{TroveId}
 use Rattle.trove_id.specs.Id.{IsTroveId, id_bytes}
 use Rattle.trove_id.specs.Parts.{three_strs}
 use Rattle.trove_items.specs.Deps.{deps_bytes}
-use Rattle.trove_items.specs.Files.{IsFileAt, file_value}
+use Rattle.trove_items.specs.declared.files.FileAt.{FileAt}
+use Rattle.trove_items.specs.Files.{IsFileAt, HasOtherOwner, file_value, files_bytes}
 use Rattle.trove_items.specs.Items.{AreOfOneList}
+use Rattle.trove_items.specs.ItemsLaws.{same_middle}
 use Rattle.trove_stream.specs.declared.parts.TroveParts.{TroveParts}
 use Rattle.trove_stream.specs.Stream.{head_bytes, lists_bytes, stream_bytes}
 use Rattle.trove_stream.specs.Trove.{IsTrove}
@@ -51,3 +54,11 @@ one_trove one other a b a_is b_is short one_id one_files one_refs one_deps e =
     let required_are = required.0 in
     let provided_are = provided.0 in
     λ i. record { id = ids i; files = files_are i; refs = refs_are i; requires_ = required_are i; provides = provided_are i }
+
+-- the two streams differ in the items of the files alone
+pub encodings_equal : ((tag : ℕ) (files : List FileAt) → (files_bytes Compact tag files ≡ files_bytes Explicit tag files) ↔ All HasOtherOwner files) → (t : TroveParts)
+    → (stream_bytes Compact t ≡ stream_bytes Explicit t) ↔ All HasOtherOwner t.files
+encodings_equal both t = (
+  λ e. (both 4 t.files).0 (same_middle (head_bytes t.id) (files_bytes Compact 4 t.files) (files_bytes Explicit 4 t.files) (behind_files t) e),
+  λ others. ap (λ l. head_bytes t.id ++ (l ++ behind_files t)) ((both 4 t.files).1 others),
+)

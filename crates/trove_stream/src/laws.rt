@@ -1,6 +1,8 @@
-//! Bytes are the stream of one trove at most.
-ghost use Rattle.std.specs.Prelude.{◌≡◌};
+//! Bytes are the stream of one trove at most, and a trove has one stream in both encodings or two.
+ghost use Rattle.std.specs.Prelude.{◌≡◌, ◌↔◌, All};
 ghost use Rattle.file_stream.specs.declared.encoding.Encoding.{Encoding};
+ghost use Rattle.file_stream.specs.declared.encoding.Encoding.TheVariants.{Compact, Explicit};
+ghost use Rattle.trove_items.specs.Files.{HasOtherOwner};
 ghost use Rattle.trove_stream.specs.declared.parts.TroveParts.{TroveParts};
 ghost use Rattle.trove_stream.specs.Stream.{stream_bytes};
 ghost use Rattle.trove_stream.specs.Trove.{IsTrove};
@@ -8,9 +10,11 @@ ghost use Rattle.trove_stream.specs.Trove.{IsTrove};
 use trove_id::{distinct_ids, short_ids};
 use trove_items::distinct_lists;
 
-/// No bytes are the streams of two troves, whichever the encodings of both.
+/// No bytes are the streams of two troves, whichever the encodings of both. The two streams of a trove are equal exactly where
+/// root owns no directory and no file of it.
 pub fn distinct_troves()
-    ensures { (one other : Encoding) (a b : TroveParts) → IsTrove a → IsTrove b → stream_bytes one a ≡ stream_bytes other b → a ≡ b }
+    ensures unique { (one other : Encoding) (a b : TroveParts) → IsTrove a → IsTrove b → stream_bytes one a ≡ stream_bytes other b → a ≡ b }
+    ensures both { (t : TroveParts) → (stream_bytes Compact t ≡ stream_bytes Explicit t) ↔ All HasOtherOwner t.files }
 {
     short_ids();
     distinct_ids();

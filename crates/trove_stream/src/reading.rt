@@ -2,31 +2,32 @@
 ghost use Rattle.std.specs.Prelude.{◌≡◌, IfOk, IsErrOf};
 ghost use Rattle.trove_stream.specs.declared.parts.TroveParts.{TroveParts};
 ghost use Rattle.trove_stream.specs.Stream.{stream_bytes, trove_bytes, full_trove_bytes};
-ghost use Rattle.trove_stream.specs.Trove.{HasLists, IsTrove};
+ghost use Rattle.trove_stream.specs.Trove.{HasLists, IsWithinLimits, IsTrove};
 
 use crate::head::take_head;
 use crate::parts::TroveParts;
 use crate::trove::Trove;
 use crate::writing::{FILE, PROVIDE, REF, REQUIRE};
-use cny_base::TextFault;
+use cny_base::{DEPS_LIMIT, FILES_LIMIT, REFS_LIMIT, TextFault};
 use file_stream::Encoding;
 use std::alloc::Global;
 use trove_items::{take_deps, take_files, take_refs};
 
-// The parts that the bytes spell, all of them.
+// The parts that the bytes spell, all of them. Of no list more elements are read than a trove has at most, so that bytes that
+// are no trove's take no more memory than those of a trove.
 fn parts_of(alloc: Global, encoding: Encoding, bytes: &[u8]) -> Result<TroveParts, TextFault>
     ensures value { IfOk result (λ parts. bytes.now ≡ stream_bytes encoding parts) }
     ensures ok { IfOk result HasLists }
     ensures bad { IsErrOf result TextFault.Bad
-        → (parts : TroveParts) → HasLists parts → bytes.now ≡ stream_bytes encoding parts → ⊥ }
+        → (parts : TroveParts) → HasLists parts → IsWithinLimits parts → bytes.now ≡ stream_bytes encoding parts → ⊥ }
     ensures only { IfOk result (λ read.
         (parts : TroveParts) → HasLists parts → bytes.now ≡ stream_bytes encoding parts → read ≡ parts) }
 {
     let head = take_head(alloc, bytes)?;
-    let files = take_files(alloc, encoding, bytes, head.to, FILE)?;
-    let refs = take_refs(alloc, bytes, files.to, REF)?;
-    let required = take_deps(alloc, bytes, refs.to, REQUIRE)?;
-    let provided = take_deps(alloc, bytes, required.to, PROVIDE)?;
+    let files = take_files(alloc, encoding, bytes, head.to, FILE, Some(FILES_LIMIT))?;
+    let refs = take_refs(alloc, bytes, files.to, REF, Some(REFS_LIMIT))?;
+    let required = take_deps(alloc, bytes, refs.to, REQUIRE, Some(DEPS_LIMIT))?;
+    let provided = take_deps(alloc, bytes, required.to, PROVIDE, Some(DEPS_LIMIT))?;
     if provided.to != bytes.len() {
         return Err(TextFault::Bad);
     }

@@ -32,7 +32,7 @@ use Rattle.tree_journal.specs.Apply.{with_base, CanApply}
 use Rattle.conary_cli.specs.declared.manifest.types.Item.{Item}
 use Rattle.conary_cli.specs.FixedDirs.{◌>>=◌, dir_at, fixed_dirs}
 use Rattle.conary_cli.specs.ManifestForm.{Rise, IsItem}
-use Rattle.conary_cli.specs.Install.{with_items, lacks_parent, none_of, parents, is_forbidden, reserved, unowned, checks}
+use Rattle.conary_cli.specs.Install.{with_items, lacks_parent, none_of, parents, is_forbidden_item, reserved, unowned, checks}
 use Rattle.conary_cli.specs.NewPuts.{new_puts}
 use Rattle.conary_cli.specs.OnRoot.{IsReady}
 use Rattle.conary_cli.specs.Recovered.{base}
@@ -182,7 +182,7 @@ record IsTested (t : Tree) (items : List Item) (item : Item) : Type 0 where
   unreserved : is_reserved item.path ≡ false
   stands : is_some (get (with_items t items) item.path) ≡ true
 
-not_reserved : (item : Item) → is_forbidden item ≡ false → is_reserved item.path ≡ false
+not_reserved : (item : Item) → is_forbidden_item item ≡ false → is_reserved item.path ≡ false
 not_reserved item h = (neither (is_reserved item.path) _ h).0
 
 find_head : (test : Item → Bool) (item : Item) (items : List Item) → find test (item ∷ items) ≡ None → (test item ≡ false) × (find test items ≡ None)
@@ -192,11 +192,11 @@ find_head test item items h = by (test item) h
     by true h = absurd cc
     by false h = (refl, h)
 
-all_tested : (t : Tree) (whole items : List Item) → AllByRecursion IsItem items → find is_forbidden items ≡ None
+all_tested : (t : Tree) (whole items : List Item) → AllByRecursion IsItem items → find is_forbidden_item items ≡ None
     → ((q : Name) → is_listed q (paths_of items) ≡ true → is_some (get (with_items t whole) q) ≡ true) → AllByRecursion (IsTested t whole) items
 all_tested t whole [] all none stand = tt
 all_tested t whole (item ∷ items) all none stand =
-    let parts = find_head is_forbidden item items none in (
+    let parts = find_head is_forbidden_item item items none in (
       record {
         path = all.0.path;
         unreserved = not_reserved item parts.0;
@@ -286,7 +286,7 @@ pub can_install : {D : Type 0} (disk : DiskModel D) (d : D) (items : List Item) 
 can_install disk d items path ready well all nodes rise ok =
     let t = disk.reads d in
     let lib = lib_stands t ready.fixed in
-    let free = passed (λ (item : Item). refusal.Reserved item.path) (find is_forbidden items) (first_of (reserved items) (unowned t items >>= λ _. parents (with_items t items)) ok) in
+    let free = passed (λ (item : Item). refusal.Reserved item.path) (find is_forbidden_item items) (first_of (reserved items) (unowned t items >>= λ _. parents (with_items t items)) ok) in
     let stand = rest_of (unowned t items) (parents (with_items t items)) (rest_of (reserved items) (unowned t items >>= λ _. parents (with_items t items)) ok) in
     let formed = with_items_well_formed t items well all nodes stand in
     let tested = all_tested t items items all free (item_listed t items) in

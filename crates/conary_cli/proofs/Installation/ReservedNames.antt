@@ -13,7 +13,7 @@ use Rattle.tree_disk.specs.Laws.{same_means}
 use Rattle.tree_disk.specs.Tree.{Name, same_name}
 use Rattle.journal_log.specs.Own.{gate, log, work, staged, is_own, is_own_file}
 use Rattle.conary_cli.specs.declared.manifest.types.Item.{Item}
-use Rattle.conary_cli.specs.Install.{none_of, is_forbidden, reserved}
+use Rattle.conary_cli.specs.Install.{none_of, is_forbidden_item, reserved}
 use Rattle.conary_cli.specs.Recovered.{base}
 
 -- ---- names below the base
@@ -107,9 +107,9 @@ first_false : (a b : Bool) → (a || b) ≡ false → a ≡ false
 first_false true b h = absurd cc
 first_false false b h = refl
 
-all_free : (items : List Item) → AllByRecursion (λ item. is_forbidden item ≡ false) items → AllByRecursion (λ (item : Item). is_reserved item.path ≡ false) items
+all_free : (items : List Item) → AllByRecursion (λ item. is_forbidden_item item ≡ false) items → AllByRecursion (λ (item : Item). is_reserved item.path ≡ false) items
 all_free [] all = tt
 all_free (item ∷ items) all = (first_false (is_reserved item.path) _ all.0, all_free items all.1)
 
 pub not_reserved : (items : List Item) → reserved items ≡ Ok tt → AllByRecursion (λ (item : Item). is_reserved item.path ≡ false) items
-not_reserved items ok = all_free items (free_by is_forbidden items (none_found (find is_forbidden items) ok))
+not_reserved items ok = all_free items (free_by is_forbidden_item items (none_found (find is_forbidden_item items) ok))

@@ -5,6 +5,8 @@ use Rattle.std.proofs.lemmas.List.{drop_all}
 use Rattle.cny_base.specs.declared.refusal.Refusal.{Refusal}
 use Rattle.cny_base.specs.declared.refusal.Refusal.TheVariants as refusal
 use Rattle.tree_disk.specs.Tree.{Tree}
+use Rattle.change_set.specs.declared.change.ChangeSet.{ChangeSet}
+use Rattle.change_set.specs.ChangeSet.{IsSetStream}
 use Rattle.conary_cli.specs.declared.failure.Failure.{Failure}
 use Rattle.conary_cli.specs.declared.failure.Failure.TheVariants as failure
 use Rattle.conary_cli.specs.declared.words.Command.{Command}
@@ -67,38 +69,42 @@ decides before after status input recovered is dirs le = record {
 
 -- ---- change sets
 
+-- bytes are the stream of one change set at most
+abbrev OneSet : Type 0
+OneSet = (set other : ChangeSet) (bytes : List ℕ) → IsSetStream set bytes → IsSetStream other bytes → set ≡ other
+
 described_by : (tree : Tree) (input : List ℕ) (o : Result Effect Refusal) → fixed_dirs tree ≡ Ok tt → length input ≤ input_limit → show_change_set.IsOutcome tree input o → IsDescribed tree input o
 described_by tree input o dirs le is =
     subst (λ (w : Result (List ℕ) Refusal). Then w (IsDescribed tree) o) (within input le)
     (subst (λ (d : Result (Unit {0}) Refusal). Then d (λ _. Then (within_limit input) (IsDescribed tree)) o) dirs is)
 
-shown_as : (before after : CallState) (status : ℕ) (input : List ℕ) (recovered : Tree) (o : Result Effect Refusal) → IsDescribed recovered input o → IsAnswered (or_refused o) before after status → DecidesSet input recovered before after status
-shown_as before after status input recovered (Ok e) is answered = record {
-  shown = λ set spelled. subst (λ (x : Effect). IsAnswered (Ok x) before after status) (is.2 ∙ ap (described recovered) (sym (is.1.only set spelled))) answered;
-  refused = λ none. absurd (none is.0 is.1.spelled);
+shown_as : OneSet → (before after : CallState) (status : ℕ) (input : List ℕ) (recovered : Tree) (o : Result Effect Refusal) → IsDescribed recovered input o → IsAnswered (or_refused o) before after status → DecidesSet input recovered before after status
+shown_as one before after status input recovered (Ok e) is answered = record {
+  shown = λ set spelled. subst (λ (x : Effect). IsAnswered (Ok x) before after status) (is.2 ∙ ap (described recovered) (one is.0 set input is.1 spelled)) answered;
+  refused = λ none. absurd (none is.0 is.1);
 }
-shown_as before after status input recovered (Err r) is answered = record {
+shown_as one before after status input recovered (Err r) is answered = record {
   shown = λ set spelled. absurd (is.1 set spelled);
   refused = λ none. (r, is.0, answered);
 }
 
-decides_set : (before after : CallState) (status : ℕ) (input : List ℕ) (recovered : Tree) → HasOutcome (show_change_set.IsOutcome recovered input) before after status → fixed_dirs recovered ≡ Ok tt → length input ≤ input_limit → DecidesSet input recovered before after status
-decides_set before after status input recovered has dirs le = shown_as before after status input recovered has.0 (described_by recovered input has.0 dirs le has.1) has.2
+decides_set : OneSet → (before after : CallState) (status : ℕ) (input : List ℕ) (recovered : Tree) → HasOutcome (show_change_set.IsOutcome recovered input) before after status → fixed_dirs recovered ≡ Ok tt → length input ≤ input_limit → DecidesSet input recovered before after status
+decides_set one before after status input recovered has dirs le = shown_as one before after status input recovered has.0 (described_by recovered input has.0 dirs le has.1) has.2
 
-pub form_decides : (cmd : Result Command Failure) (before after : CallState) (status : ℕ) → CallEnd cmd before after status → FormDecides cmd before after status
-form_decides (Ok command.Install) before after status end = λ told. by before.objects.input.left (λ small. answers end small told)
+pub form_decides : OneSet → (cmd : Result Command Failure) (before after : CallState) (status : ℕ) → CallEnd cmd before after status → FormDecides cmd before after status
+form_decides one (Ok command.Install) before after status end = λ told. by before.objects.input.left (λ small. answers end small told)
   where
     by : (o : Option (List ℕ)) → (status ≤ 2 → IfSome o (λ input. EachRecovered before.objects.root.tree (λ recovered. HasOutcome (install.IsOutcome recovered input) before after status)))
         → IfSome o (λ input. EachRecovered before.objects.root.tree (λ recovered. fixed_dirs recovered ≡ Ok tt → length input ≤ input_limit → status ≤ 2 → DecidesForm input recovered before after status))
     by None is = tt
     by (Some input) is = λ recovered of dirs le small. decides before after status input recovered (is small recovered of) dirs le
-form_decides (Ok command.ShowChangeSet) before after status end = λ told. by before.objects.input.left (λ small. answers end small told)
+form_decides one (Ok command.ShowChangeSet) before after status end = λ told. by before.objects.input.left (λ small. answers end small told)
   where
     by : (o : Option (List ℕ)) → (status ≤ 2 → IfSome o (λ input. EachRecovered before.objects.root.tree (λ recovered. HasOutcome (show_change_set.IsOutcome recovered input) before after status)))
         → IfSome o (λ input. EachRecovered before.objects.root.tree (λ recovered. fixed_dirs recovered ≡ Ok tt → length input ≤ input_limit → status ≤ 2 → DecidesSet input recovered before after status))
     by None is = tt
-    by (Some input) is = λ recovered of dirs le small. decides_set before after status input recovered (is small recovered of) dirs le
-form_decides (Err e) before after status end = tt
+    by (Some input) is = λ recovered of dirs le small. decides_set one before after status input recovered (is small recovered of) dirs le
+form_decides one (Err e) before after status end = tt
 
 -- ---- reading to the end
 

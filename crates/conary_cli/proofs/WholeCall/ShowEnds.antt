@@ -12,7 +12,7 @@ use Rattle.conary_cli.specs.Call.{Effect}
 use Rattle.conary_cli.specs.FixedDirs.{fixed_dirs}
 use Rattle.conary_cli.specs.Failures.{failure_of_fault}
 use Rattle.conary_cli.specs.Input.{within_limit, left_by}
-use Rattle.conary_cli.specs.ShowChangeSet.{Then, IsStreamOfOne, IsDescribed, show_change_set}
+use Rattle.conary_cli.specs.ShowChangeSet.{Then, IsDescribed, show_change_set}
 use Rattle.conary_cli.proofs.WholeCall.InputEnds.{ReadsFirst, IsOutcomeOf, StopsAs}
 
 -- ---- the outcome by the tests
@@ -34,9 +34,9 @@ show_reads_first = record {
 -- ---- what was decoded
 
 -- the change set that was read, or a refusal
-pub set_shown : (bytes out : List ℕ) (set : ChangeSet) → IsStreamOfOne set bytes → out ≡ change_text set → IsOutcomeOf show_change_set bytes (λ tree. Ok (record { tree = tree; out = out }))
-set_shown bytes out set one text tree dirs input within =
-    past_limit tree input bytes (Ok (record { tree = tree; out = out })) dirs within (set, one, ap (λ (o : List ℕ). record { tree = tree; out = o }) text)
+pub set_shown : (bytes out : List ℕ) (set : ChangeSet) → IsSetStream set bytes → out ≡ change_text set → IsOutcomeOf show_change_set bytes (λ tree. Ok (record { tree = tree; out = out }))
+set_shown bytes out set spelled text tree dirs input within =
+    past_limit tree input bytes (Ok (record { tree = tree; out = out })) dirs within (set, spelled, ap (λ (o : List ℕ). record { tree = tree; out = o }) text)
 
 pub fault_shown : (bytes : List ℕ) (f : Fault) → IsFaultOf bytes f → ((set : ChangeSet) → IsSetStream set bytes → f ≡ fault.Memory) → StopsAs show_change_set bytes (failure_of_fault f)
 fault_shown bytes (fault.Refused r) is only = λ tree dirs input within. past_limit tree input bytes (Err r) dirs within (is, λ set spelled. let h = only set spelled in absurd cc)

@@ -10,7 +10,8 @@ ghost use Rattle.cny_base.specs.declared.node.Node.TheVariants as node;
 ghost use Rattle.tree_disk.specs.Rows.{is_file_at, bytes_of, look_of};
 ghost use Rattle.tree_disk.specs.Steps.{Tests};
 ghost use Rattle.tree_disk.specs.Tree.{Name, is_dir};
-ghost use Rattle.conary_cli.specs.Install.{is_forbidden, clashes, clashes_with, unowned, checks};
+ghost use Rattle.conary_cli.specs.Install as spec;
+ghost use Rattle.conary_cli.specs.Install.{clashes, clashes_with, unowned, checks};
 ghost use Rattle.conary_cli.specs.ManifestForm.{Rise};
 ghost use Rattle.conary_cli.specs.Parents.{is_made_dir, lacks_dir, parents_with};
 ghost use Rattle.conary_cli.specs.Seen.{other_than_dir, other_than_link, no_dir_seen};
@@ -29,17 +30,14 @@ fn is_dir_node(node: &Node) -> bool
 }
 
 fn is_forbidden_item(item: &Item) -> bool
-    ensures { result ≡ is_forbidden item.now }
+    ensures { result ≡ spec.is_forbidden_item item.now }
 {
-    let reserved = item.path.is_reserved();
-    let fixed = item.path.is_pinned();
-    let dir = is_dir_node(&item.node);
-    reserved || (fixed && !dir)
+    item.path.is_forbidden(is_dir_node(&item.node))
 }
 
 // The first item that may not stand at its path.
 fn first_forbidden(items: &[Item]) -> Option<&Item>
-    ensures { option_copied result ≡ find is_forbidden items.now }
+    ensures { option_copied result ≡ find spec.is_forbidden_item items.now }
 {
     items.iter().find(|item| is_forbidden_item(item))
 }

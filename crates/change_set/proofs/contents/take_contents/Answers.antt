@@ -20,7 +20,7 @@ returns-in_err-content-clause-refused c =
     handed_on bytes (IsNoContent c.in_ok-index.index (last_name given) (slice_range bytes item.from item.to) c.contents.at)
     c.from_residual-in_err-content.result c.in_err-content.field-0.0
     (err_from_is_err_and c.from_residual-in_err-content.result c.from_residual-in_err-content.ensures.1) c.in_err-content.ensures.refused
-    (λ refusal stop. content_stops bytes c.args.parts.now c.in_ok-index.index given c.contents.contents.items c.args.at c.contents.at item refusal c.as_slice.ensures.value
+    (λ refusal stop. content_stops c.distinct_troves.ensures.unique c.distinct_rels.ensures.unique bytes c.args.parts.now c.in_ok-index.index given c.contents.contents.items c.args.at c.contents.at item refusal c.as_slice.ensures.value
     c.requires.parts c.contents.invariant c.contents-test.true c.in_ok-index.ensures stop)
 
 pub returns-in_err-item-clause-refused : goal.returns-in_err-item-clause-refused

@@ -13,7 +13,7 @@ returns-in_ok-push-in-Ok-clause-more c =
     let parts = c.args.parts.now.items in
     let item = c.args.item in
     let few = few_before (length parts) item.tag c.requires.expected c.requires.tagged in
-    let more = one_more bytes parts c.args.at item.tag item.from item.to c.in-Ok.part c.requires.parts c.requires.item few c.in-Ok.ensures.found c.in-Ok.ensures.only in
+    let more = one_more bytes parts c.args.at item.tag item.from item.to c.in-Ok.part c.requires.parts c.requires.item few c.in-Ok.ensures.found in
     subst (λ (l : List Part). ArePartsTo bytes l item.to) (sym c.in_ok-push-in-Ok.ensures.items) more
 
 pub returns-in-Err-Bad-clause-refused : goal.returns-in-Err-Bad-clause-refused

@@ -29,4 +29,4 @@ pub returns : goal.returns
 returns g c =
     read_answered g.I.Source.source g.T.TreeDisk.disk g.met.T.TreeDisk.laws spec.show_change_set show_reads_first c.args.input.now c.read_input.new.input c.args.root.now c.get.result.now c.in_ok-change_text.field-0 c.read_input.ensures.later c.requires
     (rw c.get.ensures c.in_ok-bytes.ensures.read)
-    (set_shown c.get.result.now c.in_ok-change_text.field-0 c.in_ok-change.change (record { spelled = c.in_ok-change.ensures.value; only = λ other spelled. sym (c.in_ok-change.ensures.only other spelled) }) c.in_ok-change_text.ensures.value)
+    (set_shown c.get.result.now c.in_ok-change_text.field-0 c.in_ok-change.change c.in_ok-change.ensures.value c.in_ok-change_text.ensures.value)

@@ -1,4 +1,3 @@
-use Rattle.std.proofs.Common.{take}
 use Rattle.trove_items.proofs.Writing.{IsWritten}
 use Rattle.trove_items.proofs.items.push_items.Given as goal
 

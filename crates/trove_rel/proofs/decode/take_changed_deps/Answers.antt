@@ -12,7 +12,7 @@ returns-in_err-gone-clause-bad c h gone added rest gone_is added_is begins =
     let bytes = c.args.bytes.now in
     let from = drop c.args.at bytes in
     let met : c.in_err-gone.field-0.0 ≡ Bad = handed_on c.from_residual.result c.in_err-gone.field-0.0 Bad (err_from_is_err_and c.from_residual.result c.from_residual.ensures.1) h in
-    c.in_err-gone.ensures.bad (ap Err met) gone (items_bytes dep_text (c.args.tag + 1) added ++ rest) gone_is (first_of_pair dep_text dep_text c.args.tag from gone added rest begins)
+    c.in_err-gone.ensures.bad (ap Err met) gone (items_bytes dep_text (c.args.tag + 1) added ++ rest) gone_is tt (first_of_pair dep_text dep_text c.args.tag from gone added rest begins)
 
 pub returns-in_err-added-clause-bad : goal.returns-in_err-added-clause-bad
 returns-in_err-added-clause-bad c h gone added rest gone_is added_is begins =
@@ -20,7 +20,7 @@ returns-in_err-added-clause-bad c h gone added rest gone_is added_is begins =
     let from = drop c.args.at bytes in
     let met : c.in_err-added.field-0.0 ≡ Bad = handed_on c.from_residual-in_err-added.result c.in_err-added.field-0.0 Bad (err_from_is_err_and c.from_residual-in_err-added.result c.from_residual-in_err-added.ensures.1) h in
     let first = c.in_ok-gone.ensures.only gone (items_bytes dep_text (c.args.tag + 1) added ++ rest) gone_is (first_of_pair dep_text dep_text c.args.tag from gone added rest begins) in
-    c.in_err-added.ensures.bad (ap Err met) added rest added_is (second_of_pair dep_text dep_text c.args.tag from (drop c.in_ok-gone.gone.to bytes) gone added rest begins first.1)
+    c.in_err-added.ensures.bad (ap Err met) added rest added_is tt (second_of_pair dep_text dep_text c.args.tag from (drop c.in_ok-gone.gone.to bytes) gone added rest begins first.1)
 
 pub returns-clause-found : goal.returns-clause-found
 returns-clause-found c =

@@ -21,7 +21,7 @@ returns-in_err-set-clause-bad c h gone added rest gone_is added_is begins =
     let from = drop c.args.at bytes in
     let met : c.in_err-set.field-0.0 ≡ Bad = handed_on c.from_residual-in_err-set.result c.in_err-set.field-0.0 Bad (err_from_is_err_and c.from_residual-in_err-set.result c.from_residual-in_err-set.ensures.1) h in
     let first = c.in_ok-gone.ensures.only gone (items_bytes (file_value c.args.encoding) 0x24 added ++ rest) gone_is (first_of_pair path_value (file_value c.args.encoding) 0x23 from gone added rest begins) in
-    c.in_err-set.ensures.bad (ap Err met) added rest added_is (second_of_pair path_value (file_value c.args.encoding) 0x23 from (drop c.in_ok-gone.gone.to bytes) gone added rest begins first.1)
+    c.in_err-set.ensures.bad (ap Err met) added rest added_is tt (second_of_pair path_value (file_value c.args.encoding) 0x23 from (drop c.in_ok-gone.gone.to bytes) gone added rest begins first.1)
 
 pub returns-clause-found : goal.returns-clause-found
 returns-clause-found c =

@@ -1,6 +1,9 @@
-use Rattle.trove_stream.proofs.OneTrove.{one_trove}
+use Rattle.trove_stream.proofs.OneTrove.{one_trove, encodings_equal}
 use Rattle.trove_stream.proofs.laws.distinct_troves.Goals as goal
 
-pub returns : goal.returns
-returns c one other a b a_is b_is =
+pub returns-clause-unique : goal.returns-clause-unique
+returns-clause-unique c one other a b a_is b_is =
     one_trove one other a b a_is b_is c.short_ids.ensures c.distinct_ids.ensures.bytes (c.distinct_lists.ensures.files one other) c.distinct_lists.ensures.refs c.distinct_lists.ensures.deps
+
+pub returns-clause-both : goal.returns-clause-both
+returns-clause-both c = encodings_equal c.distinct_lists.ensures.both

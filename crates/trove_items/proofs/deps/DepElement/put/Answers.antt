@@ -1,4 +1,4 @@
-use Rattle.std.proofs.Common.{ℕ, ◌<◌, ◌≤◌, ◌^◌, List, length, subst, sym, ◌∙◌, arith}
+use Rattle.std.proofs.Common.{ℕ, ◌<◌, ◌≤◌, ◌^◌, subst, sym, ◌∙◌, arith}
 use Rattle.cny_stream.specs.Item.{FitsItem}
 use Rattle.trove_items.proofs.Lengths.{dep_short}
 use Rattle.trove_items.proofs.deps.DepElement.put.Goals as goal
