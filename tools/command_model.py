@@ -4,11 +4,14 @@ The words and the manifest, the tests, the write through the journal, faults by 
 made from the rules of docs/COMMANDS.md, docs/FORMATS.md and docs/CRASH_SAFETY.md alone. How many calls of its disk a command
 makes, and in which order, is told by `Call` and the functions under 'the journal' alone. What `showcs` has to write is given.
 """
+import hashlib
 import re
 
 BASE = b"/var/lib/conarydb"
 LOG = BASE + b"/log"
 GATE = BASE + b"/gate"
+WORK = BASE + b"/w"
+STAGE = BASE + b"/p"
 
 
 class Refused(Exception):
@@ -224,8 +227,9 @@ class Tree:
         raise Failed
 
     def append(self, path, data):
-        """Makes a file of mode 0600; nothing stands there before in any of these calls."""
-        self.change("append", path, ("file", 0o600, data), ("file", 0o600, data[: len(data) // 2]))
+        """Adds bytes to a file, which is made with mode 0600 where nothing stands."""
+        _, mode, bytes = self.nodes.get(path, ("file", 0o600, b""))
+        self.change("append", path, ("file", mode, bytes + data), ("file", mode, bytes + data[: len(data) // 2]))
 
     def make(self, path, node):
         self.change("make", path, node)
@@ -235,6 +239,15 @@ class Tree:
 
     def remove(self, path):
         self.change("remove", path, None)
+
+    def rename(self, path, to):
+        """Puts what stands at a path at another, in place of what stands there."""
+        fails, _ = self.turn("rename", to)
+        self.unsynced |= {path, to}
+        if fails:
+            raise Failed
+        self.put(to, self.nodes[path])
+        self.put(path, None)
 
     def sync(self):
         if self.turn("sync", None)[0]:
@@ -260,6 +273,15 @@ class Tree:
 # ---- the journal
 
 
+def staged_path(number):
+    return STAGE + b"/%d" % number
+
+
+def numbers_of(puts):
+    """The path of each file of a write set, and the number of its staged bytes: the least free ones, in path order."""
+    return {path: number for number, (path, node) in enumerate((path, node) for path, node in puts if node is not None and node[0] == "file")}
+
+
 def log_of(puts):
     def item(tag, value):
         return bytes([tag]) + len(value).to_bytes(4, "big") + value
@@ -267,14 +289,15 @@ def log_of(puts):
     def text(value):
         return len(value).to_bytes(2, "big") + value
 
-    out = b"CNYLG01\n"
+    out, numbers = b"CNYLG01\n", numbers_of(puts)
     for path, node in puts:
         if node is None:
             out += item(0x30, path)
         elif node[0] == "dir":
             out += item(0x31, node[1].to_bytes(2, "big") + path)
         else:
-            out += item(0x33, node[1].to_bytes(2, "big") + text(path) + node[2])
+            size = numbers[path].to_bytes(4, "big") + len(node[2]).to_bytes(4, "big")
+            out += item(0x34, node[1].to_bytes(2, "big") + text(path) + size + hashlib.sha1(node[2]).digest())
     return out + item(0x3F, len(puts).to_bytes(4, "big"))
 
 
@@ -292,24 +315,59 @@ def clear(tree, path):
 def write_own(tree, path, data):
     clear(tree, path)
     tree.append(path, data)
-    tree.sync()
+
+
+def make_dir(tree, path):
+    """Makes one of the journal's own directories where none stands; a file or a link in its place goes."""
+    stands = tree.look(path)
+    if stands is None or stands[0] != "dir":
+        if stands is not None:
+            tree.remove(path)
+        tree.make(path, ("dir", 0o755))
+
+
+def stage(tree, puts):
+    """Writes the bytes of each file of the write set to a staged file. None of its writes names one that stands."""
+    make_dir(tree, STAGE)
+    for child in tree.list(STAGE):
+        clear(tree, child)
+    numbers = numbers_of(puts)
+    for path, node in puts:
+        if path in numbers:
+            write_own(tree, staged_path(numbers[path]), node[2])
+
+
+def is_wanted(node, *kinds):
+    return node is not None and node[0] in kinds
+
+
+def put_target(tree, path, node, number):
+    """A file is made at the work name, as a copy of its staged bytes, in one piece in all these cases, and renamed."""
+    if not is_wanted(node, "dir", "file"):
+        return
+    if node[0] == "file":
+        tree.append(WORK, b"")
+        if node[2]:
+            tree.append(WORK, tree.read_at(staged_path(number)))
+        tree.set_mode(WORK, node[1])
+        tree.rename(WORK, path)
+    elif tree.look(path) is not None:
+        tree.set_mode(path, node[1])
+    else:
+        tree.make(path, node)
 
 
 def put_targets(tree, puts):
+    clear(tree, WORK)
     for path, node in reversed(puts):
         stands = tree.look(path)
-        if stands is not None and not (stands[0] == "dir" and node is not None and node[0] == "dir"):
+        if is_wanted(stands, "dir") and not is_wanted(node, "dir"):
             tree.remove(path)
+        elif is_wanted(stands, "file", "link") and not is_wanted(node, "file", "link"):
+            tree.remove(path)
+    numbers = numbers_of(puts)
     for path, node in puts:
-        if node is None:
-            continue
-        if node[0] == "file":
-            tree.append(path, node[2])
-            tree.set_mode(path, node[1])
-        elif tree.look(path) is not None:
-            tree.set_mode(path, node[1])
-        else:
-            tree.make(path, node)
+        put_target(tree, path, node, numbers.get(path))
     tree.sync()
     tree.remove(GATE)
     tree.sync()
@@ -317,13 +375,12 @@ def put_targets(tree, puts):
 
 def apply(tree, puts):
     tree.sync()
-    base = tree.look(BASE)
-    if base is None or base[0] != "dir":
-        if base is not None:
-            tree.remove(BASE)
-        tree.make(BASE, ("dir", 0o755))
+    make_dir(tree, BASE)
+    stage(tree, puts)
     write_own(tree, LOG, log_of(puts))
+    tree.sync()
     write_own(tree, GATE, b"O")
+    tree.sync()
     put_targets(tree, puts)
 
 
@@ -350,8 +407,18 @@ def is_clear_below(tree, targets, path):
     return all(child in targets and is_clear_below(tree, targets, child) for child in tree.list(path))
 
 
+def check_staged(tree, number, data):
+    """The staged file has the size and the digest that the log tells."""
+    path = staged_path(number)
+    stands = tree.look(path)
+    if not is_wanted(stands, "file") or len(stands[2]) != len(data) or (data and tree.read_at(path) != data):
+        raise Ended(8, b"damaged " + path)
+
+
 def recover(tree, logs):
     """Brings to its end what a crash left, and answers whether the commit flag was set."""
+    for path in (BASE, GATE, LOG, WORK):
+        tree.look(path)
     tree.sync()
     gate = tree.look(GATE)
     if gate is None or gate[0] != "file" or len(gate[2]) != 1 or tree.read_at(GATE) != b"O":
@@ -363,6 +430,8 @@ def recover(tree, logs):
         puts = puts_of(tree.read_at(LOG), logs)
     if puts is None:
         raise Ended(8, b"damaged " + LOG)
+    for path, number in numbers_of(puts).items():
+        check_staged(tree, number, dict(puts)[path][2])
     for path, node in puts:
         if is_blocked(tree, puts, path, node):
             raise Refused(b"parent " + path)

@@ -12,7 +12,7 @@ import sys
 
 sys.dont_write_bytecode = True
 
-from command_model import BASE, GATE, LOG, Call, Ended, Refused, Streams, Tree, is_within, log_of, manifest_of, octal, parent_of, recover
+from command_model import BASE, GATE, LOG, STAGE, WORK, Call, Ended, Refused, Streams, Tree, is_within, log_of, manifest_of, octal, parent_of, recover
 
 
 # ---- the script
@@ -167,8 +167,8 @@ ONE_FILE = [(b"/a/x", file(b"x", 0o644))]
 LOGS = [manifest_of(COMPONENT)[2], manifest_of(LEVELS)[2], [], REPLAYED, ONE_FILE]
 
 # A commit flag that is set, of which no target stands yet.
-COMMITTED = [(b"/z", file(b"old", 0o644)), (BASE, DIR), (GATE, file(b"O")), (LOG, file(log_of(REPLAYED)))]
-BLOCKED = [(BASE, DIR), (GATE, file(b"O")), (LOG, file(log_of(ONE_FILE)))]
+COMMITTED = [(b"/z", file(b"old", 0o644)), (BASE, DIR), (GATE, file(b"O")), (LOG, file(log_of(REPLAYED))), (STAGE, DIR), (STAGE + b"/0", file(b"new"))]
+BLOCKED = [(BASE, DIR), (GATE, file(b"O")), (LOG, file(log_of(ONE_FILE))), (STAGE, DIR), (STAGE + b"/0", file(b"x"))]
 NO_VAR = [(b"/var/lib", None), (b"/var", None)]
 
 
@@ -417,15 +417,20 @@ OVER_COMMITTED = [
 
 SET_FLAG = [(BASE, DIR), (GATE, file(b"O"))]
 
-# Roots with a commit flag that is set, whose log can't be replayed: it is missing, empty, cut off, a directory or a link; a
-# parent is missing, a file or a link; and something stands below a target.
+# Roots with a commit flag that is set, whose log can't be replayed: it is missing, empty, cut off, a directory or a link;
+# its staged file is missing, a directory, has other bytes or more; a parent is missing, a file or a link; and something
+# stands below a target.
 STUCK = [
     SET_FLAG,
     SET_FLAG + [(LOG, file(b""))],
     SET_FLAG + [(LOG, file(log_of(ONE_FILE)[:-1]))],
     SET_FLAG + [(LOG, DIR)],
     [(b"/f", file(log_of(ONE_FILE))), (b"/a", DIR)] + SET_FLAG + [(LOG, ("link", b"/f"))],
-    [(BASE, DIR), (GATE, file(b"O", 0o644)), (LOG, file(log_of(ONE_FILE)))],
+    [(b"/a", DIR)] + SET_FLAG + [(LOG, file(log_of(ONE_FILE)))],
+    SET_FLAG + [(LOG, file(log_of(ONE_FILE))), (STAGE, DIR), (STAGE + b"/0", DIR)],
+    [(b"/a", DIR)] + SET_FLAG + [(LOG, file(log_of(ONE_FILE))), (STAGE, DIR), (STAGE + b"/0", file(b"y"))],
+    SET_FLAG + [(LOG, file(log_of(ONE_FILE))), (STAGE, DIR), (STAGE + b"/0", file(b"xx"))],
+    [(BASE, DIR), (GATE, file(b"O", 0o644)), (LOG, file(log_of(ONE_FILE))), (STAGE, DIR), (STAGE + b"/0", file(b"x"))],
     [(b"/a", file(b"", 0o644))] + BLOCKED,
     [(b"/b", DIR), (b"/a", ("link", b"b"))] + BLOCKED,
     [(b"/a", DIR), (b"/a/x", DIR), (b"/a/x/y", file(b"", 0o644))] + BLOCKED,
@@ -434,13 +439,17 @@ STUCK = [
 WHOLE_LOG = [(LOG, file(log_of(REPLAYED)))]
 
 # Roots with a flag that isn't set, though the log is whole: two bytes, another one, none, a directory, and a link to the
-# byte `O`. Then a file in place of the base, and a link to a directory in which a flag is set.
+# byte `O`. Then files, links and directories at the names of staged bytes and of the work file; a file in place of the base,
+# and a link to a directory in which a flag is set.
 UNSET = [
     [(BASE, DIR), (GATE, file(b"OO", 0o640))] + WHOLE_LOG,
     [(BASE, DIR), (GATE, file(b"o", 0o640))] + WHOLE_LOG,
     [(BASE, DIR), (GATE, file(b"", 0o640))] + WHOLE_LOG,
     [(BASE, DIR), (GATE, ("dir", 0o750))] + WHOLE_LOG,
     [(b"/f", file(b"O")), (BASE, DIR), (GATE, ("link", b"/f"))] + WHOLE_LOG,
+    [(BASE, DIR), (STAGE, file(b"p", 0o644)), (WORK, DIR), (WORK + b"/x", file(b"x"))],
+    [(BASE, DIR), (STAGE, ("link", b"/")), (WORK, ("link", b"/"))],
+    [(BASE, DIR), (STAGE, ("dir", 0o700)), (STAGE + b"/0", DIR), (STAGE + b"/0/x", file(b"x")), (STAGE + b"/7", file(b"seven"))],
     [(BASE, file(b"base", 0o644))],
     [(b"/b", DIR), (b"/b/gate", file(b"O")), (BASE, ("link", b"/b"))],
 ]
@@ -554,7 +563,8 @@ SECONDS = [
     (COMPONENT, 0, "append", GATE, 0),
     (COMPONENT, 0, "remove", GATE, 1),
     (COMPONENT, 1, "remove", GATE, 0),
-    (COMPONENT, 2**32 - 1, "set mode", b"/etc/foo", 0),
+    (COMPONENT, 2**32 - 1, "set mode", WORK, 0),
+    (COMPONENT, 2**32 - 1, "rename", b"/etc/foo", 0),
     (COMPONENT, 2**32 - 1, "remove", GATE, 0),
     (LEVELS, 0, "remove", GATE, 1),
     (LEVELS, 1, "make", b"/a", 2),

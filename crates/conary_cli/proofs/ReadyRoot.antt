@@ -3,6 +3,7 @@ pub mod Applied
 pub mod Searching
 pub mod Steps
 pub mod Recovering
+pub mod Shown
 pub mod FixedPaths
 pub mod DirsRecovered
 pub mod Readying

@@ -7,8 +7,8 @@ use Rattle.cny_base.specs.declared.refusal.Refusal.TheVariants as refusal
 use Rattle.cny_flow.specs.Flow.{SourceModel, SourceState, SinkState, source_state, AppendsPart}
 use Rattle.tree_disk.specs.Tree.{Name, Tree, AgreesOutside}
 use Rattle.tree_disk.specs.Disk.{DiskModel}
-use Rattle.journal_log.specs.Own.{log, is_own, StoresSame}
-use Rattle.tree_journal.specs.Recovery.{is_committed, RecoversTo, HasDamagedLog, HasBlockedLog}
+use Rattle.journal_log.specs.Own.{is_own, StoresSame}
+use Rattle.tree_journal.specs.Recovery.{is_committed, RecoversTo, IsDamagedAt, HasBlockedLog}
 use Rattle.conary_cli.specs.declared.failure.Failure.{Failure}
 use Rattle.conary_cli.specs.declared.failure.Failure.TheVariants as failure
 use Rattle.conary_cli.specs.FixedDirs.{fixed_dirs}
@@ -125,7 +125,7 @@ Stands m before after (Err (failure.Refused r)) = IsTrue before.root.told → Re
 Stands m before after (Err failure.InputFault) = Rose before.input.faults after.input.faults × (IsTrue before.root.told → IsRecoveredRoot before.root after.root × IsKept before.root.tree after.root.tree)
 Stands m before after (Err failure.RootFault) = Rose before.root.faults after.root.faults × WhereTold before (λ input. IsCutShort m input before.root.tree after.root.tree)
 Stands m before after (Err failure.Memory) = WhereTold before (λ input. IsCutShort m input before.root.tree after.root.tree)
-Stands m before after (Err (failure.Damaged path)) = (after.input ≡ before.input) × (IsTrue before.root.told → (path ≡ log base) × HasDamagedLog base before.root.tree × (after.root.tree ≡ before.root.tree))
+Stands m before after (Err (failure.Damaged path)) = (after.input ≡ before.input) × (IsTrue before.root.told → IsDamagedAt base before.root.tree path × (after.root.tree ≡ before.root.tree))
 Stands m before after (Err _) = ⊥
 
 -- a command of this meaning was performed, and ended so

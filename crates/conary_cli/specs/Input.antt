@@ -1,5 +1,6 @@
 -- The input of a command, and its limit.
 use Rattle.std.specs.Prelude.{◌≡◌, ℕ, ◌+◌, List, length, drop, Option, Some, IfSome, Result, Ok, Err, nat_lt, if◌then◌else◌}
+use Rattle.cny_base.specs.declared.limits.TheConstants.{INPUT_LIMIT}
 use Rattle.cny_base.specs.declared.refusal.Refusal.{Refusal}
 use Rattle.cny_base.specs.declared.refusal.Refusal.TheVariants.{TooLarge}
 use Rattle.cny_base.specs.declared.refusal.What.TheVariants.{Input}
@@ -8,7 +9,7 @@ use Rattle.conary_cli.specs.declared.failure.Failure.TheVariants as failure
 
 -- the greatest number of bytes of an input
 abbrev pub input_limit : ℕ
-input_limit = 268435456
+input_limit = INPUT_LIMIT
 
 -- the input, where it is within its limit
 abbrev pub within_limit : List ℕ → Result (List ℕ) Refusal

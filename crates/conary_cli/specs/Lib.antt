@@ -15,6 +15,7 @@ pub mod NewPuts
 pub mod OnRoot
 pub mod Ready
 pub mod ShowChangeSet
+pub mod Readers
 pub mod Run
 pub mod FormDecides
 pub mod WholeCall

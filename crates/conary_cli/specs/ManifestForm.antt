@@ -7,6 +7,7 @@ use Rattle.std.specs.Cmp.Lexicographic.{slice_cmp}
 use Rattle.cny_base.specs.Path.{is_path}
 use Rattle.cny_base.specs.Name.{is_name, kind_of_name}
 use Rattle.cny_base.specs.Number.{octal_text}
+use Rattle.cny_base.specs.declared.limits.TheConstants.{CONTENT_LIMIT, FILES_LIMIT}
 use Rattle.cny_base.specs.declared.name.NameKind.{NameKind}
 use Rattle.cny_base.specs.declared.name.NameKind.TheVariants.{Component}
 use Rattle.cny_base.specs.declared.node.Node.{Node}
@@ -54,11 +55,11 @@ spelling m = line (codes "manifest 1") ++ line (codes "component " ++ m.name) ++
 
 -- the greatest number of bytes of one content
 abbrev pub content_limit : ℕ
-content_limit = 16777216
+content_limit = CONTENT_LIMIT
 
 -- the greatest number of items
 unfoldable pub max_items : ℕ
-max_items = 65535
+max_items = FILES_LIMIT
 
 -- a directory, or a file within the limit of a content; a link isn't of this form
 abbrev pub IsItemNode : Node → Type 0

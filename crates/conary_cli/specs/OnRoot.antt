@@ -9,13 +9,15 @@ use Rattle.tree_disk.specs.Disk.{DiskModel, HasRead}
 use Rattle.tree_disk.specs.Confined.{IsSynced, LeavesOnly}
 use Rattle.journal_log.specs.declared.put.Put.{Put}
 use Rattle.journal_log.specs.Own.{is_own}
-use Rattle.journal_log.specs.Targets.{with_targets}
-use Rattle.tree_journal.specs.Apply.{IsAtRest, IsBeforeOrAfter, IsOneOf, is_own_or_target}
+use Rattle.tree_journal.specs.Apply.{goal, IsAtRest, IsBeforeOrAfter, IsOneOf, is_own_or_target}
+use Rattle.tree_disk.specs.Unfailed.{UnlessFailed}
 use Rattle.tree_journal.specs.Recovery.{is_committed, RecoversTo}
+use Rattle.tree_journal.specs.Visible.{IsVisible}
 use Rattle.conary_cli.specs.declared.failure.Failure.{Failure}
 use Rattle.conary_cli.specs.declared.failure.Failure.TheVariants as failure
 use Rattle.conary_cli.specs.Call.{IsSettled, disk_state, Effect, Equals, HasEffect, RecoversToEffect}
 use Rattle.conary_cli.specs.FixedDirs.{fixed_dirs}
+use Rattle.conary_cli.specs.Readers.{IsShown}
 use Rattle.conary_cli.specs.Recovered.{base}
 
 -- a stop of the root's disk, as the failure of a call
@@ -66,15 +68,17 @@ pub record IsReady {D : Type 0} (disk : DiskModel D) (d : D) : Type 0 where
 
 -- how the writes of a command end
 abbrev pub Applied : {D : Type 0} → DiskModel D → List Put → D → D → Result (Unit {0}) Failure → Type 0
-Applied disk puts old new (Ok x) = IsTrue disk.tells → IsAtRest disk base (with_targets puts (disk.reads old)) new
+Applied disk puts old new (Ok x) = IsTrue disk.tells → IsAtRest disk base (goal base puts (disk.reads old)) new
 Applied disk puts old new (Err failure.RootFault) = Rose (disk.faults old) (disk.faults new) × (IsTrue disk.tells → IsOneOf base puts (disk.reads old) (disk.reads new))
 Applied disk puts old new (Err failure.Memory) = IsTrue disk.tells → IsOneOf base puts (disk.reads old) (disk.reads new)
 Applied disk puts old new (Err _) = ⊥
 
--- A write set is put into the root as a whole, or not at all.
+-- A write set is put into the root as a whole, or not at all, and readers see at each name the node before or the node after,
+-- or nothing where just one of the two is a directory.
 pub record AppliesRoot {D : Type 0} (disk : DiskModel D) (puts : List Put) (old new : D) (result : Result (Unit {0}) Failure) : Type 0 where
   pub later : disk.faults old ≤ disk.faults new
   pub any_moment : IsTrue disk.tells → LeavesOnly disk old new (IsBeforeOrAfter disk base puts old)
+  pub seen : IsTrue disk.tells → UnlessFailed disk old new (IsVisible base (disk.reads old) (goal base puts (disk.reads old)))
   pub outside : IsTrue disk.tells → AgreesOutside (is_own_or_target base puts) (disk.reads new) (disk.reads old)
   pub applied : Applied disk puts old new result
 
@@ -101,10 +105,12 @@ Rests disk new (Err failure.InputFault) = IsRootAtRest disk new
 Rests disk new (Err _) = Unit
 
 -- What a ready root becomes: it stores the effect's tree and the bytes of the outcome are answered, or it is refused and all is as
--- it was. At every moment a crash leaves a tree that recovers to what the root read, or to the effect's.
+-- it was. At every moment a crash leaves a tree that recovers to what the root read, or to the effect's, and readers see
+-- the same two.
 pub record ActsOnRoot {D : Type 0} (disk : DiskModel D) (names : Name → Bool) (outcome : Tree → Result Effect Refusal) (old new : D) (result : Result (List ℕ) Failure) : Type 0 where
   pub later : disk.faults old ≤ disk.faults new
   pub any_moment : IsTrue disk.tells → LeavesOnly disk old new (IsBeforeOrEffect (Equals (outcome (disk.reads old))) (disk.reads old))
+  pub seen : IsTrue disk.tells → UnlessFailed disk old new (IsShown (Equals (outcome (disk.reads old))) (disk.reads old))
   pub outside : IsTrue disk.tells → AgreesOutside (λ p. is_own base p || names p) (disk.reads new) (disk.reads old)
   pub rests : IsTrue disk.tells → Rests disk new result
   pub acted : Acted disk.tells (outcome (disk.reads old)) (disk.reads old) (disk.reads new) result (disk.faults old) (disk.faults new)

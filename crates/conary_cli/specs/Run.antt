@@ -6,8 +6,9 @@ use Rattle.cny_base.specs.declared.refusal.Refusal.{Refusal}
 use Rattle.cny_flow.specs.Flow.{SourceModel, SinkModel, SinkState, sink_state, AppendsPart}
 use Rattle.tree_disk.specs.Tree.{Tree}
 use Rattle.tree_disk.specs.Disk.{DiskModel, IsImageOf}
-use Rattle.journal_log.specs.Own.{log, StoresSame}
-use Rattle.tree_journal.specs.Recovery.{RecoversAsAt, HasDamagedLog}
+use Rattle.tree_disk.specs.Unfailed.{UnlessFailed}
+use Rattle.journal_log.specs.Own.{StoresSame}
+use Rattle.tree_journal.specs.Recovery.{RecoversAsThen, IsDamagedAt}
 use Rattle.conary_cli.specs.declared.failure.Failure.{Failure}
 use Rattle.conary_cli.specs.declared.failure.Failure.TheVariants as failure
 use Rattle.conary_cli.specs.declared.words.Command.{Command}
@@ -15,6 +16,7 @@ use Rattle.conary_cli.specs.declared.words.Command.TheVariants as command
 use Rattle.conary_cli.specs.Words.{command_of}
 use Rattle.conary_cli.specs.Call.{Objects, objects, IsSettled, Effect, Meaning, WhereTold, RecoversToEffect, IsCutShort, RefusesLog, IsRecoveredRoot, Performs, Writes}
 use Rattle.conary_cli.specs.FixedDirs.{fixed_dirs}
+use Rattle.conary_cli.specs.Readers.{ShowsCommand}
 use Rattle.conary_cli.specs.Recovered.{base, Recovers, EachRecovered, IsKept}
 use Rattle.conary_cli.specs.Install.{install}
 use Rattle.conary_cli.specs.ShowChangeSet.{show_change_set}
@@ -131,16 +133,24 @@ ReadsToEnd before after = WhereTold before.objects (λ input. after.objects.inpu
 
 -- ---- crashes
 
--- The tree that a crash left recovers to all that some crash image at entry recovers to; or the root recovers to some tree, and
--- from each of them the outcome is an effect, to whose tree the crash image recovers.
+-- The tree that a crash left is one that a crash at entry could leave, or recovers to all that the root, as it read then,
+-- recovers to; or the root recovers to some tree, and from each of them the outcome is an effect, to whose tree the crash
+-- image recovers.
 abbrev pub IsBeforeOrDone : {D : Type 0} → DiskModel D → Meaning → List ℕ → D → Tree → Type 0
-IsBeforeOrDone disk m input old image = RecoversAsAt disk base old image
+IsBeforeOrDone disk m input old image = RecoversAsThen disk base old image
     ⊎ (Recovers (disk.reads old) × EachRecovered (disk.reads old) (λ recovered. RecoversToEffect (m.IsOutcome recovered input) image))
 
 -- the same for words; where they are no command, the image is one at entry
 abbrev pub IsBeforeOrAfterCall : {D : Type 0} → DiskModel D → Result Command Failure → List ℕ → D → Tree → Type 0
 IsBeforeOrAfterCall disk (Ok c) input old image = IsBeforeOrDone disk (meaning c) input old image
 IsBeforeOrAfterCall disk (Err e) input old image = IsImageOf disk old image
+
+-- ---- readers
+
+-- what readers see while the words are performed; where they are no command, what stood before
+abbrev pub ShowsCall : {D : Type 0} → DiskModel D → Result Command Failure → List ℕ → D → D → Type 0
+ShowsCall disk (Ok c) input old new = ShowsCommand disk (meaning c) input old new
+ShowsCall disk (Err e) input old new = UnlessFailed disk old new (λ t. t ≡ disk.reads old)
 
 -- ---- faults, and what stands after them
 
@@ -173,13 +183,15 @@ pub record HasNoMemory (cut_short : List ℕ → Tree → Tree → Type 0) (befo
   pub tree : WhereTold before.objects (λ input. cut_short input before.objects.root.tree after.objects.root.tree)
   pub out : Keeps before.out.written after.out.written
 
--- The log behind a set commit flag isn't whole: the line names it, and the tree is as it was.
+-- The log behind a set commit flag isn't whole, or is whole and a staged file that it names doesn't stand with its size and
+-- digest: the line names the log or the first such file, and the tree is as it was.
 pub record HasDamagedRoot (before after : CallState) (status : ℕ) : Type 0 where
-  pub damaged : HasDamagedLog base before.objects.root.tree
+  pub path : List ℕ
+  pub damaged : IsDamagedAt base before.objects.root.tree path
   pub tree : after.objects.root.tree ≡ before.objects.root.tree
-  pub line : Tells (failure.Damaged (log base)) before.err after.err status
+  pub line : Tells (failure.Damaged path) before.err after.err status
 
--- status 8: nothing was written or read, and where the root is told, its log is damaged
+-- status 8: nothing was written or read, and where the root is told, its log or a staged file is damaged
 pub record HasDamage (before after : CallState) (status : ℕ) : Type 0 where
   pub ended : status ≡ 8
   pub unread : after.objects.input ≡ before.objects.input

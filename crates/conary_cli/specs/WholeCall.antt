@@ -8,7 +8,7 @@ use Rattle.conary_cli.specs.Call.{WhereTold}
 use Rattle.conary_cli.specs.FixedDirs.{fixed_dirs}
 use Rattle.conary_cli.specs.FormDecides.{FormDecides}
 use Rattle.conary_cli.specs.Recovered.{RecoversToNone}
-use Rattle.conary_cli.specs.Run.{CallState, Runs, Answers, Completes, LeavesInput, ReadsToEnd, IsEffectOf, IsBeforeOrAfterCall, Settles, CutShort, HasInputFault, HasOutputFault, HasRootFault, HasNoMemory, HasDamage, ErrorLine}
+use Rattle.conary_cli.specs.Run.{CallState, Runs, Answers, Completes, LeavesInput, ReadsToEnd, IsEffectOf, IsBeforeOrAfterCall, ShowsCall, Settles, CutShort, HasInputFault, HasOutputFault, HasRootFault, HasNoMemory, HasDamage, ErrorLine}
 use Rattle.conary_cli.specs.Words.{command_of}
 
 -- The words took the objects of the call from one state to the other, the root from old to new, and the call ended in this status.
@@ -26,9 +26,14 @@ pub record IsWholeCall {T : Type 0} (disk : DiskModel T) (words : List (List ℕ
   -- `install` refuses an input for its form exactly where it is no manifest's text, and `showcs` describes exactly the
   -- inputs that are change sets.
   pub form : FormDecides (command_of words) before after status
-  -- At every moment, also inside each call of the disk and where one fails, a crash leaves a tree of the root that
-  -- recovers to all that some crash image at entry recovers to, or to the tree of the command's effect.
+  -- At every moment, also inside each call of the disk and where one fails, a crash leaves a tree of the root that a crash
+  -- at entry could leave, or that recovers to all that the root, as it read then, recovers to, or to the tree of the
+  -- command's effect.
   pub images : WhereTold before.objects (λ bytes. LeavesOnly disk old new (IsBeforeOrAfterCall disk (command_of words) bytes old))
+  -- Where no call of the root's disk failed, readers see at each name but the journal's own, until the root is recovered,
+  -- what stood there, what it recovers to, or nothing where just one of the two is a directory; and from then on the same of
+  -- what was recovered and of the command's effect, or what was recovered alone.
+  pub seen : WhereTold before.objects (λ bytes. ShowsCall disk (command_of words) bytes old new)
   -- After a status up to 4 of a command whose recovery succeeded the root is at rest: its commit flag isn't set, and a crash
   -- leaves what it reads.
   pub settled : status ≤ 4 → Settles (command_of words) before after status

@@ -5,11 +5,9 @@ ghost use Rattle.cny_base.specs.Count.{Rose};
 ghost use Rattle.conary_cli.specs.Input.{input_limit, ReadsInput};
 
 use crate::failure::Failure;
-use cny_base::{Bytes, Refusal, What};
+use cny_base::{Bytes, INPUT_LIMIT, Refusal, What};
 use cny_flow::{FlowFault, Source};
 use std::alloc::Global;
-
-const INPUT_LIMIT: usize = 268_435_456;
 
 const PIECE: usize = 4096;
 

@@ -9,8 +9,9 @@ ghost use Rattle.conary_cli.specs.Call.{objects, WhereTold, Performs, Writes};
 ghost use Rattle.conary_cli.specs.FixedDirs.{fixed_dirs};
 ghost use Rattle.conary_cli.specs.OnRoot.{IsReady};
 ghost use Rattle.conary_cli.specs.Ready.{PerformsReady};
+ghost use Rattle.conary_cli.specs.Readers.{ShowsCommand};
 ghost use Rattle.conary_cli.specs.Recovered.{RecoversToNone};
-ghost use Rattle.conary_cli.specs.Run.{call_state, meaning, PerformsWords, IsBeforeOrDone, IsBeforeOrAfterCall};
+ghost use Rattle.conary_cli.specs.Run.{call_state, meaning, PerformsWords, IsBeforeOrDone, IsBeforeOrAfterCall, ShowsCall};
 ghost use Rattle.conary_cli.specs.WholeCall.{IsWholeCall};
 ghost use Rattle.conary_cli.specs.Words.{command_of};
 
@@ -52,6 +53,7 @@ fn perform<I: Source, T: TreeDisk>(
     ensures performs { Performs (meaning command) (objects I.source T.disk input.old root.old) (objects I.source T.disk input.new root.new) result }
     ensures images { WhereTold (objects I.source T.disk input.old root.old) (λ bytes.
         LeavesOnly T.disk root.old root.new (IsBeforeOrDone T.disk (meaning command) bytes root.old)) }
+    ensures seen { WhereTold (objects I.source T.disk input.old root.old) (λ bytes. ShowsCommand T.disk (meaning command) bytes root.old root.new) }
     ensures untouched { IsTrue T.disk.tells → RecoversToNone (T.disk.reads root.old) → Confined T.disk (Among no_name) root.old root.new }
     ensures missing { IsTrue T.disk.tells → (r : Refusal) → fixed_dirs (T.disk.reads root.old) ≡ Err r → HasRead T.disk root.old root.new Unit }
 {
@@ -69,6 +71,8 @@ fn perform_words<I: Source, T: TreeDisk>(
         (objects I.source T.disk input.new root.new) result }
     ensures images { WhereTold (objects I.source T.disk input.old root.old) (λ bytes.
         LeavesOnly T.disk root.old root.new (IsBeforeOrAfterCall T.disk (command_of (map string_bytes words.now)) bytes root.old)) }
+    ensures seen { WhereTold (objects I.source T.disk input.old root.old) (λ bytes.
+        ShowsCall T.disk (command_of (map string_bytes words.now)) bytes root.old root.new) }
     ensures untouched { IsTrue T.disk.tells → RecoversToNone (T.disk.reads root.old) → Confined T.disk (Among no_name) root.old root.new }
     ensures missing { IsTrue T.disk.tells → (r : Refusal) → fixed_dirs (T.disk.reads root.old) ≡ Err r → HasRead T.disk root.old root.new Unit }
 {

@@ -1,5 +1,5 @@
 -- The bytes of a log determine its puts, and how far they are read.
-use Rattle.std.proofs.Common.{◌≡◌, ℕ, ◌<◌, ◌≤◌, ◌^◌, true, List, [], ◌∷◌, ◌++◌, length, drop, flat_map, All, sym, ◌∙◌, ap, subst, refl, arith, append_assoc, append-nil, IsTrue}
+use Rattle.std.proofs.Common.{◌≡◌, ℕ, ◌<◌, ◌≤◌, ◌^◌, true, false, List, [], ◌∷◌, ◌++◌, length, get_or, drop, flat_map, All, sym, ◌∙◌, ap, subst, refl, arith, append_assoc, append-nil, IsTrue}
 use Rattle.std.specs.Prelude.{slice_range}
 use Rattle.std.specs.Int.{w32, to_be_bytes}
 use Rattle.std.proofs.lemmas.List.{append_cancel_left, length-drop}
@@ -11,54 +11,60 @@ use Rattle.cny_stream.specs.Item.{FitsItem, item_bytes, IsItemAt, is_expected}
 use Rattle.cny_stream.specs.ItemLaws.{same_item}
 use Rattle.tree_disk.specs.Tree.{Name}
 use Rattle.journal_log.specs.declared.put.Want.{Want}
-use Rattle.journal_log.specs.declared.put.Want.TheVariants.{Nothing, Dir, File, Link}
+use Rattle.journal_log.specs.declared.put.Want.TheVariants.{Nothing, Dir, File, Link, Staged}
 use Rattle.journal_log.specs.declared.put.Put.{Put}
-use Rattle.journal_log.specs.WriteSet.{Rises, IsFormed}
-use Rattle.journal_log.specs.Rules.{AreNamed, NothingBelow}
+use Rattle.journal_log.specs.Staged.{is_file_want}
+use Rattle.journal_log.specs.WriteSet.{Rises, IsFormed, CanBeLogged}
+use Rattle.journal_log.specs.Rules.{AreLogged, AreNamed, NothingBelow}
 use Rattle.journal_log.specs.LogBytes.{magic, put_tag, put_value, put_bytes, end_bytes, FitsPut, IsLogText}
 use Rattle.journal_log.specs.PutItem.{IsPutItem, IsTold, ArePutsOf, IsEnd}
-use Rattle.journal_log.proofs.Links.{same_two, same_str, fits_path, fits_target}
+use Rattle.journal_log.proofs.Links.{same_two, same_four, same_str, fits_path, fits_target}
 
 -- ---- one put for one item
 
-same_value : (p q : Name) (v w : Want) → IsTrue (is_path p) → IsTrue (is_path q) → IsFormed v → IsFormed w → put_tag v ≡ put_tag w → put_value p v ≡ put_value q w → (p ≡ q) × (v ≡ w)
-same_value p q Nothing Nothing p_is q_is f g tags e = (e, refl)
-same_value p q (Dir m) (Dir n) p_is q_is f g tags e =
+same_value : (p q : Name) (v w : Want) → IsTrue (is_path p) → IsTrue (is_path q) → IsFormed v → IsFormed w → is_file_want v ≡ false → is_file_want w ≡ false → put_tag v ≡ put_tag w → put_value p v ≡ put_value q w → (p ≡ q) × (v ≡ w)
+same_value p q (File m a) w p_is q_is f g v_none w_none tags e = absurd (cc v_none)
+same_value p q v (File m a) p_is q_is f g v_none w_none tags e = absurd (cc w_none)
+same_value p q Nothing Nothing p_is q_is f g v_none w_none tags e = (e, refl)
+same_value p q (Dir m) (Dir n) p_is q_is f g v_none w_none tags e =
     let both = same_two m n p q (omega arith) (omega arith) e in
     (both.1, ap Dir both.0)
-same_value p q (Link s) (Link t) p_is q_is f g tags e =
+same_value p q (Link s) (Link t) p_is q_is f g v_none w_none tags e =
     let one = same_str p q (str s) (str t) (fits_path p p_is) (fits_path q q_is) e in
     let two = same_str s t [] [] (fits_target s f) (fits_target t g) (append-nil (str s) ∙ one.1 ∙ sym (append-nil (str t))) in
     (one.0, ap Link two.0)
-same_value p q (File m a) (File n b) p_is q_is f g tags e =
-    let one = same_two m n (str p ++ a) (str q ++ b) (omega arith) (omega arith) e in
-    let two = same_str p q a b (fits_path p p_is) (fits_path q q_is) one.1 in
-    let modes = one.0 in
-    let bytes = two.1 in
-    (two.0, ap (λ (k : ℕ). File k a) modes ∙ ap (File n) bytes)
-same_value p q Nothing (Dir n) p_is q_is f g tags e = absurd (omega arith)
-same_value p q Nothing (Link t) p_is q_is f g tags e = absurd (omega arith)
-same_value p q Nothing (File n b) p_is q_is f g tags e = absurd (omega arith)
-same_value p q (Dir m) Nothing p_is q_is f g tags e = absurd (omega arith)
-same_value p q (Dir m) (Link t) p_is q_is f g tags e = absurd (omega arith)
-same_value p q (Dir m) (File n b) p_is q_is f g tags e = absurd (omega arith)
-same_value p q (Link s) Nothing p_is q_is f g tags e = absurd (omega arith)
-same_value p q (Link s) (Dir n) p_is q_is f g tags e = absurd (omega arith)
-same_value p q (Link s) (File n b) p_is q_is f g tags e = absurd (omega arith)
-same_value p q (File m a) Nothing p_is q_is f g tags e = absurd (omega arith)
-same_value p q (File m a) (Dir n) p_is q_is f g tags e = absurd (omega arith)
-same_value p q (File m a) (Link t) p_is q_is f g tags e = absurd (omega arith)
+same_value p q (Staged m i s a) (Staged n j t b) p_is q_is f g v_none w_none tags e =
+    let m_fits = f.mode_fits in
+    let n_fits = g.mode_fits in
+    let modes = same_two m n (str p ++ (to_be_bytes w32 i ++ (to_be_bytes w32 s ++ a))) (str q ++ (to_be_bytes w32 j ++ (to_be_bytes w32 t ++ b))) (omega (arith, m_fits)) (omega (arith, n_fits)) e in
+    let paths = same_str p q (to_be_bytes w32 i ++ (to_be_bytes w32 s ++ a)) (to_be_bytes w32 j ++ (to_be_bytes w32 t ++ b)) (fits_path p p_is) (fits_path q q_is) modes.1 in
+    let numbers = same_four i j (to_be_bytes w32 s ++ a) (to_be_bytes w32 t ++ b) f.number_fits g.number_fits paths.1 in
+    let sizes = same_four s t a b f.size_fits g.size_fits numbers.1 in
+    (paths.0, ap (λ (k : ℕ). Staged k i s a) modes.0 ∙ ap (λ (k : ℕ). Staged n k s a) numbers.0 ∙ ap (λ (k : ℕ). Staged n j k a) sizes.0 ∙ ap (Staged n j t) sizes.1)
+same_value p q Nothing (Dir n) p_is q_is f g v_none w_none tags e = absurd (omega arith)
+same_value p q Nothing (Link t) p_is q_is f g v_none w_none tags e = absurd (omega arith)
+same_value p q Nothing (Staged n j t b) p_is q_is f g v_none w_none tags e = absurd (omega arith)
+same_value p q (Dir m) Nothing p_is q_is f g v_none w_none tags e = absurd (omega arith)
+same_value p q (Dir m) (Link t) p_is q_is f g v_none w_none tags e = absurd (omega arith)
+same_value p q (Dir m) (Staged n j t b) p_is q_is f g v_none w_none tags e = absurd (omega arith)
+same_value p q (Link s) Nothing p_is q_is f g v_none w_none tags e = absurd (omega arith)
+same_value p q (Link s) (Dir n) p_is q_is f g v_none w_none tags e = absurd (omega arith)
+same_value p q (Link s) (Staged n j t b) p_is q_is f g v_none w_none tags e = absurd (omega arith)
+same_value p q (Staged m i s a) Nothing p_is q_is f g v_none w_none tags e = absurd (omega arith)
+same_value p q (Staged m i s a) (Dir n) p_is q_is f g v_none w_none tags e = absurd (omega arith)
+same_value p q (Staged m i s a) (Link t) p_is q_is f g v_none w_none tags e = absurd (omega arith)
 
 pub not_end : (w : Want) → put_tag w ≡ 0x3F → ⊥
 not_end Nothing e = omega arith
 not_end (Dir mode) e = omega arith
 not_end (Link target) e = omega arith
 not_end (File mode bytes) e = omega arith
+not_end (Staged mode number size name) e = omega arith
 
 same_put : (p q : Put) (r s : List ℕ) → IsTold p → IsTold q → put_bytes p ++ r ≡ put_bytes q ++ s → (p ≡ q) × (r ≡ s)
 same_put p q r s f g e =
     let items = same_item (put_tag p.want) (put_tag q.want) (put_value p.path p.want) (put_value q.path q.want) r s f.fits g.fits e in
-    let parts = same_value p.path q.path p.want q.want f.path g.path f.formed g.formed items.tags items.values in
+    let parts = same_value p.path q.path p.want q.want f.path g.path f.formed g.formed f.no_bytes g.no_bytes items.tags items.values in
     (λ i. record { path = parts.0 i; want = parts.1 i }, items.rests)
 
 -- ---- the puts read so far are a front of all puts
@@ -95,7 +101,7 @@ tail_of bytes puts all at so_far whole =
 pub one_more : (bytes : List ℕ) (puts : List Put) (at tag from to : ℕ) (p : Put) → IsReadTo bytes puts at → IsItemAt bytes at tag from to → IsPutItem p tag (slice_range bytes from to) → IsReadTo bytes (puts ++ p ∷ []) to
 one_more bytes puts at tag from to p so_far item put =
     let same : put_bytes p ≡ item_bytes tag (slice_range bytes from to) = ap (λ (t : ℕ). item_bytes t (put_value p.path p.want)) put.tagged ∙ ap (item_bytes tag) put.spelled in
-    let told : IsTold p = record { path = put.path; formed = put.formed; fits = subst FitsItem (sym put.spelled) item.fits } in
+    let told : IsTold p = record { path = put.path; formed = put.formed; no_bytes = put.no_bytes; fits = subst FitsItem (sym put.spelled) item.fits } in
     record {
       within = item.within;
       told = All-push IsTold puts p so_far.told told;
@@ -109,15 +115,16 @@ one_more bytes puts at tag from to p so_far item put =
 
 -- an item of a log
 pub record IsNext (rest : List ℕ) (tag : ℕ) (value more : List ℕ) : Type 0 where
-  pub expected : is_expected (0x30 ∷ 0x31 ∷ 0x32 ∷ 0x33 ∷ 0x3F ∷ []) tag ≡ true
+  pub expected : is_expected (0x30 ∷ 0x31 ∷ 0x32 ∷ 0x34 ∷ 0x3F ∷ []) tag ≡ true
   pub fits : FitsItem value
   pub spelled : rest ≡ item_bytes tag value ++ more
 
-tag_expected : (w : Want) → is_expected (0x30 ∷ 0x31 ∷ 0x32 ∷ 0x33 ∷ 0x3F ∷ []) (put_tag w) ≡ true
-tag_expected Nothing = refl
-tag_expected (Dir mode) = refl
-tag_expected (Link target) = refl
-tag_expected (File mode bytes) = refl
+tag_expected : (w : Want) → is_file_want w ≡ false → is_expected (0x30 ∷ 0x31 ∷ 0x32 ∷ 0x34 ∷ 0x3F ∷ []) (put_tag w) ≡ true
+tag_expected Nothing none = refl
+tag_expected (Dir mode) none = refl
+tag_expected (Link target) none = refl
+tag_expected (Staged mode number size name) none = refl
+tag_expected (File mode bytes) none = absurd (cc none)
 
 pub next_of : (tail : List Put) (all front : List Put) (rest : List ℕ) (number : ℕ) → IsTail all front tail rest number → (tag : ℕ) × (value more : List ℕ) × IsNext rest tag value more
 next_of [] all front rest n tail = (0x3F, to_be_bytes w32 n, [], record { expected = refl; fits = omega arith; spelled = tail.spelled ∙ sym (append-nil (end_bytes n)) })
@@ -125,7 +132,7 @@ next_of (p ∷ puts) all front rest n tail = (
   put_tag p.want,
   put_value p.path p.want,
   flat_map put_bytes puts ++ end_bytes n,
-  record { expected = tag_expected p.want; fits = (All-head IsTold p puts tail.told).fits; spelled = tail.spelled ∙ append_assoc (put_bytes p) (flat_map put_bytes puts) (end_bytes n) },
+  record { expected = tag_expected p.want (All-head IsTold p puts tail.told).no_bytes; fits = (All-head IsTold p puts tail.told).fits; spelled = tail.spelled ∙ append_assoc (put_bytes p) (flat_map put_bytes puts) (end_bytes n) },
 )
 
 -- an item that isn't the last is that of the next put
@@ -136,7 +143,7 @@ put_here bytes [] all front at tag from to n tail item other =
 put_here bytes (p ∷ puts) all front at tag from to n tail item other =
     let told = All-head IsTold p puts tail.told in
     let items = same_item tag (put_tag p.want) (slice_range bytes from to) (put_value p.path p.want) (drop to bytes) (flat_map put_bytes puts ++ end_bytes n) item.fits told.fits (sym item.spelled ∙ tail.spelled ∙ append_assoc (put_bytes p) (flat_map put_bytes puts) (end_bytes n)) in
-    (p, record { path = told.path; formed = told.formed; tagged = sym items.tags; spelled = sym items.values })
+    (p, record { path = told.path; formed = told.formed; no_bytes = told.no_bytes; tagged = sym items.tags; spelled = sym items.values })
 
 -- ---- the end
 
@@ -170,14 +177,22 @@ same_all a b bytes f g =
         let items = same_item 0x3F (put_tag p.want) (to_be_bytes w32 (length a)) (put_value p.path p.want) [] (flat_map put_bytes puts ++ end_bytes (length b)) (omega arith) told.fits (append-nil (end_bytes (length a)) ∙ t.spelled ∙ append_assoc (put_bytes p) (flat_map put_bytes puts) (end_bytes (length b))) in
         absurd (not_end p.want (sym items.tags))
 
+-- what a log tells holds no bytes of a file
+no_bytes_of : (base : Name) (w : Want) → CanBeLogged base w → is_file_want w ≡ false
+no_bytes_of base Nothing can = refl
+no_bytes_of base (Dir mode) can = refl
+no_bytes_of base (File mode bytes) can = absurd can
+no_bytes_of base (Link target) can = refl
+no_bytes_of base (Staged mode number size name) can = refl
+
 pub puts_of_log : (base : Name) (puts : List Put) (bytes : List ℕ) → IsLogText base puts bytes → ArePutsOf puts bytes
 puts_of_log base puts bytes l = record {
-  told = λ k d lt. record { path = l.loggable.write_set.paths k d lt; formed = l.loggable.write_set.formed k d lt; fits = l.spelled.lengths k d lt };
+  told = λ k d lt. record { path = l.loggable.write_set.paths k d lt; formed = l.loggable.write_set.formed k d lt; no_bytes = no_bytes_of base (get_or puts k d).want (l.loggable.logged k d lt); fits = l.spelled.lengths k d lt };
   number = l.spelled.number;
   text = l.spelled.text;
 }
 
-pub log_of_puts : (base : Name) (puts : List Put) (bytes : List ℕ) → ArePutsOf puts bytes → Rises puts → AreNamed base puts × NothingBelow puts → IsLogText base puts bytes
+pub log_of_puts : (base : Name) (puts : List Put) (bytes : List ℕ) → ArePutsOf puts bytes → Rises puts → AreNamed base puts × NothingBelow puts × AreLogged base puts → IsLogText base puts bytes
 log_of_puts base puts bytes whole rises rules = record {
   loggable = record {
     write_set = record {
@@ -187,6 +202,7 @@ log_of_puts base puts bytes whole rises rules = record {
       nothing_below = rules.1;
     };
     named = rules.0;
+    logged = rules.2;
   };
   spelled = record { number = whole.number; lengths = All-weaker IsTold FitsPut (λ p t. t.fits) puts whole.told; text = whole.text };
 }
@@ -195,9 +211,9 @@ log_of_puts base puts bytes whole rises rules = record {
 pub log_rises : (base : Name) (items puts : List Put) (bytes : List ℕ) → ArePutsOf items bytes → IsLogText base puts bytes → Rises items
 log_rises base items puts bytes read l = subst Rises (sym (same_all items puts bytes read (puts_of_log base puts bytes l))) l.loggable.write_set.rises
 
-pub log_rules : (base : Name) (items puts : List Put) (bytes : List ℕ) → ArePutsOf items bytes → IsLogText base puts bytes → AreNamed base items × NothingBelow items
+pub log_rules : (base : Name) (items puts : List Put) (bytes : List ℕ) → ArePutsOf items bytes → IsLogText base puts bytes → AreNamed base items × NothingBelow items × AreLogged base items
 log_rules base items puts bytes read l =
-    subst (λ (x : List Put). AreNamed base x × NothingBelow x) (sym (same_all items puts bytes read (puts_of_log base puts bytes l))) (l.loggable.named, l.loggable.write_set.nothing_below)
+    subst (λ (x : List Put). AreNamed base x × NothingBelow x × AreLogged base x) (sym (same_all items puts bytes read (puts_of_log base puts bytes l))) (l.loggable.named, l.loggable.write_set.nothing_below, l.loggable.logged)
 
 pub one_log : (base : Name) (a b : List Put) (bytes : List ℕ) → IsLogText base a bytes → IsLogText base b bytes → a ≡ b
 one_log base a b bytes l m = same_all a b bytes (puts_of_log base a bytes l) (puts_of_log base b bytes m)

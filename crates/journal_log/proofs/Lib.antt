@@ -2,8 +2,13 @@ pub mod Rising
 pub mod Encoding
 pub mod Texts
 pub mod Naming
+pub mod NumberSets
+pub mod FreeNumbers
 pub mod Searching
 pub mod Links
 pub mod Walking
 pub mod NamedPuts
 pub mod Decoding
+pub mod StagedTests
+pub mod Tails
+pub mod NumberTexts

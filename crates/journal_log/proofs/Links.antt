@@ -4,9 +4,9 @@ use Rattle.std.specs.Prelude.{slice_range, ◌==◌}
 use Rattle.std.specs.List.{list_all}
 use Rattle.std.specs.Str.{is_utf8}
 use Rattle.std.proofs.lemmas.Bool.Decides.{nat_tests}
-use Rattle.std.specs.Int.{w16, to_be_bytes, from_be_bytes}
+use Rattle.std.specs.Int.{w16, w32, to_be_bytes, from_be_bytes}
 use Rattle.std.proofs.Math.Seq.{drop-append_seam}
-use Rattle.std.proofs.lemmas.Nat.{from_be_bytes-to_be_bytes_2}
+use Rattle.std.proofs.lemmas.Nat.{from_be_bytes-to_be_bytes_2, from_be_bytes-to_be_bytes_4}
 use Rattle.cny_base.specs.StrField.{FitsStr, str}
 use Rattle.cny_base.specs.Path.{is_path, are_parts}
 use Rattle.cny_base.specs.Target.{is_target, is_shown}
@@ -14,7 +14,7 @@ use Rattle.cny_base.specs.declared.str_field.Span.{Span}
 use Rattle.cny_stream.specs.ItemLaws.{same_front}
 use Rattle.tree_disk.specs.Tree.{Name}
 use Rattle.journal_log.specs.declared.put.Want.{Want}
-use Rattle.journal_log.specs.declared.put.Want.TheVariants.{Nothing, Dir, File, Link}
+use Rattle.journal_log.specs.declared.put.Want.TheVariants.{Nothing, Dir, File, Link, Staged}
 use Rattle.journal_log.specs.declared.put.Put.{Put}
 use Rattle.journal_log.specs.WriteSet.{IsFormed}
 use Rattle.journal_log.specs.LogBytes.{put_tag, put_value}
@@ -25,6 +25,11 @@ pub same_two : (m n : ℕ) (r q : List ℕ) → m < 2 ^ 16 → n < 2 ^ 16 → to
 same_two m n r q m_fits n_fits e =
     let both = same_front (to_be_bytes w16 m) (to_be_bytes w16 n) r q refl e in
     (sym (from_be_bytes-to_be_bytes_2 m m_fits) ∙ ap (from_be_bytes w16) both.0 ∙ from_be_bytes-to_be_bytes_2 n n_fits, both.1)
+
+pub same_four : (m n : ℕ) (r q : List ℕ) → m < 2 ^ 32 → n < 2 ^ 32 → to_be_bytes w32 m ++ r ≡ to_be_bytes w32 n ++ q → (m ≡ n) × (r ≡ q)
+same_four m n r q m_fits n_fits e =
+    let both = same_front (to_be_bytes w32 m) (to_be_bytes w32 n) r q refl e in
+    (sym (from_be_bytes-to_be_bytes_4 m m_fits) ∙ ap (from_be_bytes w32) both.0 ∙ from_be_bytes-to_be_bytes_4 n n_fits, both.1)
 
 pub same_str : (a b r q : List ℕ) → FitsStr a → FitsStr b → str a ++ r ≡ str b ++ q → (a ≡ b) × (r ≡ q)
 same_str a b r q a_fits b_fits e =
@@ -86,6 +91,7 @@ link_of p value item = by p.want item.path item.formed item.tagged item.spelled
     by (Dir mode) path formed tag spelled = absurd (omega arith)
     by (Link target) path formed tag spelled = (target, record { path_is = path; target_is = formed; spelled = sym spelled })
     by (File mode bytes) path formed tag spelled = absurd (omega arith)
+    by (Staged mode number size name) path formed tag spelled = absurd (omega arith)
 
 -- the values of an item's two fields are the path and the target of each put that it is the item of
 pub link_parts : (p : Put) (value : List ℕ) (first second : Span) → AreTwoStrs value first second → IsPutItem p 0x32 value

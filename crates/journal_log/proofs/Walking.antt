@@ -15,7 +15,7 @@ use Rattle.journal_log.specs.declared.put.Want.TheVariants.{Nothing}
 use Rattle.journal_log.specs.declared.put.Put.{Put}
 use Rattle.journal_log.specs.WriteSet.{Rises}
 use Rattle.journal_log.specs.Targets.{is_dir_want, is_target}
-use Rattle.journal_log.specs.Rules.{AreNamed, NothingBelow, NoneBelow, DirsAbove, DirAt, AreInner}
+use Rattle.journal_log.specs.Rules.{AreLogged, AreNamed, NothingBelow, NoneBelow, DirsAbove, DirAt, AreInner}
 
 -- ---- one place for each path
 
@@ -128,10 +128,13 @@ each_below puts all p q p_in q_in below file =
 all_below : (puts : List Put) → NoneBelow puts → NothingBelow puts
 all_below puts each = λ k d lt file j e lj below. each (get_or puts k d) (get_or puts j e) (Contains-get_or puts k d lt) (Contains-get_or puts j e lj) below file
 
-pub not_kept : (base : Name) (a b : List Put) (P : Type 0) → a ≡ b → (AreNamed base a → P) → (AreNamed base b × NothingBelow b → P)
+pub not_kept : (base : Name) (a b : List Put) (P : Type 0) → a ≡ b → (AreNamed base a → P) → (AreNamed base b × NothingBelow b × AreLogged base b → P)
 not_kept base a b P same un both = un (subst (AreNamed base) (sym same) both.0)
 
-pub kept : (base : Name) (a b : List Put) (r : Bool) → a ≡ b → AreNamed base a → (IsTrue r → NoneBelow a) → (NoneBelow a → IsTrue r)
-    → (IsTrue r → AreNamed base b × NothingBelow b) × (AreNamed base b × NothingBelow b → IsTrue r)
-kept base a b r same named to from =
-    ((λ h. (subst (AreNamed base) same named, subst NothingBelow same (all_below a (to h)))), λ both. from (each_below a (subst NothingBelow (sym same) both.1)))
+pub not_logged : (base : Name) (a b : List Put) (P : Type 0) → a ≡ b → (AreLogged base a → P) → (AreNamed base b × NothingBelow b × AreLogged base b → P)
+not_logged base a b P same un both = un (subst (AreLogged base) (sym same) both.2)
+
+pub kept : (base : Name) (a b : List Put) (r : Bool) → a ≡ b → AreNamed base a → AreLogged base a → (IsTrue r → NoneBelow a) → (NoneBelow a → IsTrue r)
+    → (IsTrue r → AreNamed base b × NothingBelow b × AreLogged base b) × (AreNamed base b × NothingBelow b × AreLogged base b → IsTrue r)
+kept base a b r same named logged to from =
+    ((λ h. (subst (AreNamed base) same named, subst NothingBelow same (all_below a (to h)), subst (AreLogged base) same logged)), λ both. from (each_below a (subst NothingBelow (sym same) both.1)))

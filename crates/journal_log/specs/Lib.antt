@@ -1,4 +1,8 @@
 pub mod Own
+pub mod Staged
+pub mod Numbers
+pub mod StagedLaws
+pub mod NumberLaws
 pub mod WriteSet
 pub mod Targets
 pub mod LogBytes

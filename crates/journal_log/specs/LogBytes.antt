@@ -5,7 +5,7 @@ use Rattle.cny_base.specs.StrField.{str}
 use Rattle.cny_stream.specs.Item.{FitsItem, item_bytes}
 use Rattle.tree_disk.specs.Tree.{Name}
 use Rattle.journal_log.specs.declared.put.Want.{Want}
-use Rattle.journal_log.specs.declared.put.Want.TheVariants.{Nothing, Dir, File, Link}
+use Rattle.journal_log.specs.declared.put.Want.TheVariants.{Nothing, Dir, File, Link, Staged}
 use Rattle.journal_log.specs.declared.put.Put.{Put}
 use Rattle.journal_log.specs.WriteSet.{IsLoggable}
 
@@ -13,18 +13,21 @@ use Rattle.journal_log.specs.WriteSet.{IsLoggable}
 abbrev pub magic : List ℕ
 magic = 67 ∷ 78 ∷ 89 ∷ 76 ∷ 71 ∷ 48 ∷ 49 ∷ 10 ∷ []
 
+-- the tag of the item of a write; the bytes of a file have none
 abbrev pub put_tag : Want → ℕ
 put_tag Nothing = 0x30
 put_tag (Dir mode) = 0x31
 put_tag (Link target) = 0x32
-put_tag (File mode bytes) = 0x33
+put_tag (Staged mode number size name) = 0x34
+put_tag (File mode bytes) = 0
 
--- the path, behind the mode of a directory or a file; then a link's target or a file's bytes
+-- the path, behind the mode of a directory or a file; then a link's target, or a staged file's number, size and digest
 abbrev pub put_value : Name → Want → List ℕ
 put_value path Nothing = path
 put_value path (Dir mode) = to_be_bytes w16 mode ++ path
 put_value path (Link target) = str path ++ str target
-put_value path (File mode bytes) = to_be_bytes w16 mode ++ (str path ++ bytes)
+put_value path (Staged mode number size name) = to_be_bytes w16 mode ++ (str path ++ (to_be_bytes w32 number ++ (to_be_bytes w32 size ++ name)))
+put_value path (File mode bytes) = []
 
 abbrev pub put_bytes : Put → List ℕ
 put_bytes p = item_bytes (put_tag p.want) (put_value p.path p.want)

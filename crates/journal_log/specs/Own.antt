@@ -1,5 +1,6 @@
 -- The names that the journal keeps for itself, in its private directory, the base.
-use Rattle.std.specs.Prelude.{Bool, ◌||◌, codes}
+use Rattle.std.specs.Prelude.{ℕ, Bool, ◌||◌, codes}
+use Rattle.std.specs.Fmt.{decimal}
 use Rattle.cny_base.specs.Path.{join}
 use Rattle.tree_disk.specs.Tree.{Name, Tree, same_name, AgreesOutside}
 use Rattle.tree_disk.specs.Clear.{is_within}
@@ -19,6 +20,10 @@ work base = join base (codes "w")
 -- the directory of staged bytes
 abbrev pub staged : Name → Name
 staged base = join base (codes "p")
+
+-- the file of the staged bytes with this number
+abbrev pub staged_file : Name → ℕ → Name
+staged_file base number = join (staged base) (decimal number)
 
 -- these four, and what lies below them
 abbrev pub is_own_file : Name → Name → Bool

@@ -6,11 +6,15 @@ use Rattle.tree_disk.specs.Tree.{Name}
 use Rattle.journal_log.specs.declared.put.Want.TheVariants.{Nothing}
 use Rattle.journal_log.specs.declared.put.Put.{Put}
 use Rattle.journal_log.specs.Targets.{is_dir_want}
-use Rattle.journal_log.specs.WriteSet.{CanBeNamed}
+use Rattle.journal_log.specs.WriteSet.{CanBeNamed, CanBeLogged}
 
 -- a log in the private directory can name each path
 abbrev pub AreNamed : Name → List Put → Type 0
 AreNamed base puts = All (λ p. CanBeNamed base p.path) puts
+
+-- a log in the private directory can tell what is to stand at each
+abbrev pub AreLogged : Name → List Put → Type 0
+AreLogged base puts = All (λ p. CanBeLogged base p.want) puts
 
 -- below a target that isn't a directory nothing is to stand
 abbrev pub NothingBelow : List Put → Type 0

@@ -1,5 +1,5 @@
 -- Which lists of writes are write sets, and which of them a log can hold.
-use Rattle.std.specs.Prelude.{◌≡◌, ◌≢◌, ◌≤◌, false, IsTrue, List, [], ◌∷◌}
+use Rattle.std.specs.Prelude.{◌≡◌, ◌≢◌, ℕ, ◌≤◌, ◌<◌, ◌^◌, false, IsTrue, List, [], ◌∷◌, length}
 use Rattle.std.specs.List.{All}
 use Rattle.std.specs.Ordering.{nat_cmp}
 use Rattle.std.specs.declared.cmp.Ordering.TheVariants.{Less}
@@ -9,9 +9,9 @@ use Rattle.cny_base.specs.Below.{is_below}
 use Rattle.cny_base.specs.Target as base
 use Rattle.tree_disk.specs.Tree.{Name}
 use Rattle.journal_log.specs.declared.put.Want.{Want}
-use Rattle.journal_log.specs.declared.put.Want.TheVariants.{Nothing, Dir, File, Link}
+use Rattle.journal_log.specs.declared.put.Want.TheVariants.{Nothing, Dir, File, Link, Staged}
 use Rattle.journal_log.specs.declared.put.Put.{Put}
-use Rattle.journal_log.specs.Own.{is_own}
+use Rattle.journal_log.specs.Own.{is_own, staged_file}
 use Rattle.journal_log.specs.Targets.{is_dir_want}
 
 -- the path comes before that of the next write
@@ -24,12 +24,28 @@ abbrev pub Rises : List Put → Type 0
 Rises [] = Unit {0}
 Rises (p ∷ puts) = ComesBefore p puts × Rises puts
 
+-- what the fields of a staged file hold: a mode, two numbers of four bytes, and a digest
+pub record IsStagedForm (mode number size : ℕ) (name : List ℕ) : Type 0 where
+  pub mode_fits : mode ≤ 4095
+  pub number_fits : number < 2 ^ 32
+  pub size_fits : size < 2 ^ 32
+  pub name_long : length name ≡ 20
+
 -- what the types of a write hold
 abbrev pub IsFormed : Want → Type 0
 IsFormed Nothing = Unit {0}
 IsFormed (Dir mode) = mode ≤ 4095
 IsFormed (File mode bytes) = mode ≤ 4095
 IsFormed (Link target) = IsTrue (base.is_target target)
+IsFormed (Staged mode number size name) = IsStagedForm mode number size name
+
+-- A log holds no bytes of files, but names files that hold them: each has a path in the directory of staged bytes.
+abbrev pub CanBeLogged : Name → Want → Type 0
+CanBeLogged base Nothing = Unit {0}
+CanBeLogged base (Dir mode) = Unit {0}
+CanBeLogged base (File mode bytes) = ⊥
+CanBeLogged base (Link target) = Unit {0}
+CanBeLogged base (Staged mode number size name) = IsTrue (is_path (staged_file base number))
 
 -- A path that a log can name: neither `/` nor one of the journal's own.
 pub record CanBeNamed (base path : Name) : Type 0 where
@@ -47,3 +63,4 @@ pub record IsWriteSet (puts : List Put) : Type 0 where
 pub record IsLoggable (base : Name) (puts : List Put) : Type 0 where
   pub write_set : IsWriteSet puts
   pub named : All (λ p. CanBeNamed base p.path) puts
+  pub logged : All (λ p. CanBeLogged base p.want) puts

@@ -4,7 +4,7 @@ ghost use Rattle.journal_log.specs.declared.put.Put.{Put};
 ghost use Rattle.journal_log.specs.LogBytes.{IsLogText};
 ghost use Rattle.journal_log.specs.PutItem.{ArePutsOf, IsEnd};
 
-use crate::encode::{DIR, END, FILE, LINK, MAGIC, NOTHING};
+use crate::encode::{DIR, END, LINK, MAGIC, NOTHING, STAGED};
 use crate::put::{Put, Puts};
 use crate::read_put::read_put;
 use crate::rules::keeps_rules;
@@ -13,7 +13,7 @@ use cny_stream::{Item, next_item};
 use std::alloc::Global;
 
 // The tags of a log's items.
-const TAGS: &[u8] = &[NOTHING, DIR, LINK, FILE, END];
+const TAGS: &[u8] = &[NOTHING, DIR, LINK, STAGED, END];
 
 /// The write set whose log in the private directory `base` the bytes are. `Bad` exactly where they
 /// are the log of none.

@@ -1,10 +1,11 @@
 //! The bytes of the log of a write set.
-ghost use Rattle.std.specs.Prelude.{◌≡◌, ◌≤◌, ◌++◌, [], IfOk, OnOk, IsTrue, All};
-ghost use Rattle.std.specs.Int.{to_be_bytes, w16};
+ghost use Rattle.std.specs.Prelude.{◌≡◌, ◌≤◌, ◌++◌, [], false, length, IfOk, OnOk, IsTrue, All};
+ghost use Rattle.std.specs.Int.{to_be_bytes, w16, w32};
 ghost use Rattle.cny_base.specs.Path.{is_path};
 ghost use Rattle.cny_base.specs.Target.{is_target};
 ghost use Rattle.cny_base.specs.StrField.{str};
-ghost use Rattle.journal_log.specs.WriteSet.{IsFormed};
+ghost use Rattle.journal_log.specs.Staged.{is_file_want, HaveNoBytes};
+ghost use Rattle.journal_log.specs.WriteSet.{IsFormed, IsStagedForm};
 ghost use Rattle.journal_log.specs.LogBytes.{put_tag, put_value, put_bytes, FitsPut, IsSpelled};
 
 use crate::put::{Put, Puts, Want};
@@ -22,13 +23,15 @@ pub(crate) const DIR: u8 = 0x31;
 
 pub(crate) const LINK: u8 = 0x32;
 
-pub(crate) const FILE: u8 = 0x33;
+pub(crate) const STAGED: u8 = 0x34;
 
 pub(crate) const END: u8 = 0x3f;
 
-/// The log of a write set. Where the number of puts or the length of one has no room in four bytes,
-/// the answer is want of memory.
+/// The log of a write set, which names staged files and holds no bytes of files: `numbered` makes
+/// one. Where the number of puts or the length of one has no room in four bytes, the answer is want
+/// of memory.
 pub fn encode_log(alloc: Global, puts: &Puts) -> Result<Bytes, OutOfMemory>
+    requires no_bytes { HaveNoBytes puts.now }
     ensures spelled { IfOk result (IsSpelled puts.now) }
     // What the types of the puts hold.
     ensures formed { OnOk result (All (λ p. IsTrue (is_path p.path)) puts.now × All (λ p. IsFormed p.want) puts.now) }
@@ -47,6 +50,7 @@ pub fn encode_log(alloc: Global, puts: &Puts) -> Result<Bytes, OutOfMemory>
 
 // Appends the item of one put.
 fn push_put(alloc: Global, out: &mut Bytes, put: &Put) -> Result<(), OutOfMemory>
+    requires no_bytes { is_file_want put.now.want ≡ false }
     ensures ok { OnOk result (out.new ≡ out.old ++ put_bytes put.now) }
     ensures fits { OnOk result (FitsPut put.now) }
     ensures path { OnOk result (IsTrue (is_path put.now.path)) }
@@ -60,18 +64,21 @@ fn push_put(alloc: Global, out: &mut Bytes, put: &Put) -> Result<(), OutOfMemory
 }
 
 fn tag_of(want: &Want) -> u8
+    requires { is_file_want want.now ≡ false }
     ensures { result ≡ put_tag want.now }
 {
     match want {
         Want::Nothing => NOTHING,
         Want::Dir { .. } => DIR,
         Want::Link { .. } => LINK,
-        Want::File { .. } => FILE,
+        Want::Staged { .. } => STAGED,
+        Want::File { .. } => unreachable!(),
     }
 }
 
 // The value of the item of a put.
 fn value_of(alloc: Global, put: &Put) -> Result<Bytes, OutOfMemory>
+    requires no_bytes { is_file_want put.now.want ≡ false }
     ensures ok { IfOk result (λ value. value ≡ put_value put.now.path put.now.want) }
     ensures path { OnOk result (IsTrue (is_path put.now.path)) }
     ensures formed { OnOk result (IsFormed put.now.want) }
@@ -81,7 +88,13 @@ fn value_of(alloc: Global, put: &Put) -> Result<Bytes, OutOfMemory>
         Want::Nothing => Ok(Bytes::new(alloc, path.text().as_bytes())?),
         Want::Dir { mode } => dir_value(alloc, path, *mode),
         Want::Link { target } => link_value(alloc, path, target),
-        Want::File { mode, bytes } => file_value(alloc, path, *mode, bytes.get()),
+        Want::Staged {
+            mode,
+            number,
+            size,
+            name,
+        } => staged_value(alloc, path, *mode, *number, *size, name),
+        Want::File { .. } => unreachable!(),
     }
 }
 
@@ -106,13 +119,22 @@ fn link_value(alloc: Global, path: &Path, target: &Target) -> Result<Bytes, OutO
     Ok(value)
 }
 
-fn file_value(alloc: Global, path: &Path, mode: Mode, bytes: &[u8]) -> Result<Bytes, OutOfMemory>
-    ensures ok { IfOk result (λ value. value ≡ to_be_bytes w16 mode ++ (str path.now ++ bytes.now)) }
+fn staged_value(
+    alloc: Global,
+    path: &Path,
+    mode: Mode,
+    number: u32,
+    size: u32,
+    name: &[u8; 20],
+) -> Result<Bytes, OutOfMemory>
+    ensures ok { IfOk result (λ value. value ≡ to_be_bytes w16 mode ++ (str path.now ++ (to_be_bytes w32 number ++ (to_be_bytes w32 size ++ name.now)))) }
     ensures path { OnOk result (IsTrue (is_path path.now)) }
-    ensures mode { OnOk result (mode ≤ 4095) }
+    ensures form { OnOk result (IsStagedForm mode number size name.now) }
 {
     let mut value = Bytes::new(alloc, &mode.bits().to_be_bytes())?;
     put_str(&mut value, path.text().as_bytes())?;
-    value.push_slice(bytes)?;
+    value.push_slice(&number.to_be_bytes())?;
+    value.push_slice(&size.to_be_bytes())?;
+    value.push_slice(name)?;
     Ok(value)
 }

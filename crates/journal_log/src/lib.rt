@@ -4,15 +4,19 @@
 mod decode;
 mod encode;
 mod named;
+mod numbering;
 mod put;
 mod read_put;
 mod rules;
 mod search;
+mod staged;
 #[cfg(test)]
 mod tests;
 
 pub use decode::decode_log;
 pub use encode::encode_log;
 pub use named::can_be_named;
+pub use numbering::numbered;
 pub use put::{Put, Puts, Want};
 pub use rules::keeps_rules;
+pub use staged::{StagedNumbers, is_staged_path, staged_path};

@@ -1,5 +1,6 @@
 //! What is to be put into a tree.
 ghost use Rattle.std.specs.Prelude.{◌≡◌, ◌↔◌, IsTrue, IfOk, IfSome, OnSome, IfNone};
+ghost use Rattle.journal_log.specs.Staged.{is_file_want};
 ghost use Rattle.journal_log.specs.Targets.{is_dir_want, is_target};
 ghost use Rattle.journal_log.specs.WriteSet.{Rises};
 
@@ -13,11 +14,26 @@ pub enum Want {
     /// No node is to be there.
     Nothing,
     /// A directory.
-    Dir { mode: Mode },
+    Dir {
+        mode: Mode,
+    },
     /// A regular file with its contents.
-    File { mode: Mode, bytes: Bytes },
+    File {
+        mode: Mode,
+        bytes: Bytes,
+    },
     /// A symbolic link, which has no mode.
-    Link { target: Target },
+    Link {
+        target: Target,
+    },
+    /// A regular file whose contents stand in the staged file with this number: so many bytes, with
+    /// this SHA-1 digest.
+    Staged {
+        mode: Mode,
+        number: u32,
+        size: u32,
+        name: [u8; 20],
+    },
 }
 
 impl Want {
@@ -35,6 +51,13 @@ impl Want {
         matches!(self, Want::Nothing)
     }
 
+    /// Whether a file is to stand whose bytes are given.
+    pub fn is_file(&self) -> bool
+        ensures { result ≡ is_file_want self.now }
+    {
+        matches!(self, Want::File { .. })
+    }
+
     /// An equal value.
     pub fn copy(&self) -> Result<Self, OutOfMemory>
         ensures { IfOk result (λ made. made ≡ self.now) }
@@ -48,6 +71,17 @@ impl Want {
             },
             Want::Link { target } => Want::Link {
                 target: target.copy()?,
+            },
+            Want::Staged {
+                mode,
+                number,
+                size,
+                name,
+            } => Want::Staged {
+                mode: *mode,
+                number: *number,
+                size: *size,
+                name: *name,
             },
         })
     }

@@ -6,9 +6,9 @@ ghost use Rattle.cny_base.specs.Target.{is_target};
 ghost use Rattle.cny_base.specs.StrField.{FitsStr, str};
 ghost use Rattle.journal_log.specs.declared.put.Put.{Put};
 ghost use Rattle.journal_log.specs.PutItem.{IsPutItem};
-ghost use Rattle.journal_log.specs.TwoStrs.{AreTwoStrs};
+ghost use Rattle.journal_log.specs.TwoStrs.{AreTwoStrs, HasTail};
 
-use crate::encode::{DIR, FILE, LINK, NOTHING};
+use crate::encode::{DIR, LINK, NOTHING, STAGED};
 use crate::put::{Put, Want};
 use cny_base::{Bytes, Mode, Path, Span, Target, TextFault, next_str};
 use std::alloc::Global;
@@ -22,7 +22,7 @@ pub(crate) fn read_put(alloc: Global, tag: u8, value: &[u8]) -> Result<Put, Text
         NOTHING => read_nothing(alloc, value),
         DIR => read_dir(alloc, value),
         LINK => read_link(alloc, value),
-        FILE => read_file(alloc, value),
+        STAGED => read_staged(alloc, value),
         _ => Err(TextFault::Bad),
     }
 }
@@ -78,17 +78,50 @@ fn two_strs(value: &[u8]) -> Option<(Span, Span)>
     Some((first, second))
 }
 
-fn read_file(alloc: Global, value: &[u8]) -> Result<Put, TextFault>
-    ensures ok { IfOk result (λ put. IsPutItem put 0x33 value.now) }
-    ensures bad { IsErrOf result TextFault.Bad → (p : Put) → IsPutItem p 0x33 value.now → ⊥ }
+fn read_staged(alloc: Global, value: &[u8]) -> Result<Put, TextFault>
+    ensures ok { IfOk result (λ put. IsPutItem put 0x34 value.now) }
+    ensures bad { IsErrOf result TextFault.Bad → (p : Put) → IsPutItem p 0x34 value.now → ⊥ }
 {
     let mode = read_mode(value).ok_or(TextFault::Bad)?;
-    let name = next_str(value, 2).ok_or(TextFault::Bad)?;
-    let path = read_path(alloc, &value[name.from..name.to])?;
-    let bytes = Bytes::new(alloc, &value[name.to..])?;
+    let Some(text) = next_str(value, 2) else {
+        return Err(TextFault::Bad);
+    };
+    let Some(tail) = read_tail(&value[text.to..]) else {
+        return Err(TextFault::Bad);
+    };
+    let path = read_path(alloc, &value[text.from..text.to])?;
+    let name = tail.name;
     Ok(Put {
         path,
-        want: Want::File { mode, bytes },
+        want: Want::Staged {
+            mode,
+            number: tail.number,
+            size: tail.size,
+            name,
+        },
+    })
+}
+
+// What an item tells of a staged file behind the path.
+#[derive(Drop)]
+struct Tail {
+    number: u32,
+    size: u32,
+    name: [u8; 20],
+}
+
+// The number, the size and the digest that are all of the bytes.
+fn read_tail(value: &[u8]) -> Option<Tail>
+    ensures some { IfSome result (λ tail. HasTail value.now tail.number tail.size tail.name) }
+    ensures none { IfNone result ((number size : ℕ) (name : List ℕ) → HasTail value.now number size name → ⊥) }
+{
+    let (number, rest) = value.split_first_chunk::<4>()?;
+    let (size, rest) = rest.split_first_chunk::<4>()?;
+    let name = *rest.as_array::<20>()?;
+    Some(Tail {
+        number: u32::from_be_bytes(*number),
+        size: u32::from_be_bytes(*size),
+        name,
     })
 }
 

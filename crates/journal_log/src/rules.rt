@@ -2,23 +2,50 @@
 ghost use Rattle.std.specs.Prelude.{◌↔◌, IsTrue};
 ghost use Rattle.std.specs.Bool.{OnTrue};
 ghost use Rattle.journal_log.specs.WriteSet.{Rises};
-ghost use Rattle.journal_log.specs.Rules.{AreNamed, NothingBelow, NoneBelow, MayStand, DirsAbove, DirAt, AreInner};
+ghost use Rattle.journal_log.specs.WriteSet.{CanBeLogged};
+ghost use Rattle.journal_log.specs.Rules.{AreLogged, AreNamed, NothingBelow, NoneBelow, MayStand, DirsAbove, DirAt, AreInner};
 
 use crate::named::can_be_named;
-use crate::put::{Put, Puts};
+use crate::put::{Put, Puts, Want};
 use crate::search::place_of;
+use crate::staged::is_staged_path;
 use cny_base::{Path, parent_of};
 
-/// Whether a log in the private directory `base` can hold a write set: it can name each path, and
-/// below a target that isn't a directory nothing stands. Takes no memory.
+/// Whether a log in the private directory `base` can hold a write set: it can name each path, below
+/// a target that isn't a directory nothing stands, and for a file it names a staged file there, which
+/// has a path. Takes no memory.
 pub fn keeps_rules(base: &Path, puts: &Puts) -> bool
-    ensures { IsTrue result ↔ (AreNamed base.now puts.now × NothingBelow puts.now) }
+    ensures { IsTrue result ↔ (AreNamed base.now puts.now × NothingBelow puts.now × AreLogged base.now puts.now) }
 {
     let puts = puts.get();
     if !are_named(base, puts) {
         return false;
     }
+    if !are_logged(base, puts) {
+        return false;
+    }
     nothing_is_below(puts)
+}
+
+fn are_logged(base: &Path, puts: &[Put]) -> bool
+    ensures { IsTrue result ↔ AreLogged base.now puts.now }
+{
+    for put in puts {
+        if !can_be_logged(base, &put.want) {
+            return false;
+        }
+    }
+    true
+}
+
+fn can_be_logged(base: &Path, want: &Want) -> bool
+    ensures { IsTrue result ↔ CanBeLogged base.now want.now }
+{
+    match want {
+        Want::Nothing | Want::Dir { .. } | Want::Link { .. } => true,
+        Want::File { .. } => false,
+        Want::Staged { number, .. } => is_staged_path(base, *number),
+    }
 }
 
 fn are_named(base: &Path, puts: &[Put]) -> bool

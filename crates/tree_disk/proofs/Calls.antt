@@ -1,12 +1,14 @@
 -- A call of the disk, as a step.
-use Rattle.std.proofs.Common.{◌≡◌, Bool, true, IsTrue, Result, Ok, Err, refl, sym, ap, subst}
+use Rattle.std.proofs.Common.{◌≡◌, Bool, true, IsTrue, Result, Ok, Err, inl, inr, ⊎_elim, refl, sym, ◌∙◌, ap, subst}
 use Rattle.std.specs.Prelude.{OnOk}
 use Rattle.std.specs.FinMap.{get}
 use Rattle.cny_base.specs.declared.stop.Stop.{Stop}
 use Rattle.tree_disk.specs.declared.disk.DiskStop.{DiskStop}
 use Rattle.tree_disk.specs.declared.disk.DiskStop.TheVariants as disk_stop
 use Rattle.tree_disk.specs.Tree.{Name, Tree}
-use Rattle.tree_disk.specs.Disk.{DiskModel, IsDisk, HasCause, HasChanged, HasSynced, Changes, Syncs, InOneStep}
+use Rattle.tree_disk.specs.Disk.{DiskModel, IsDisk, HasCause, HasChanged, HasSynced, Changes, Syncs, InOneStep, Shows}
+use Rattle.tree_disk.specs.Moments.{shows_weaker}
+use Rattle.tree_disk.specs.Unfailed.{IsEither, UnlessFailed}
 use Rattle.tree_disk.specs.Confined.{Among}
 use Rattle.tree_disk.specs.ConfinedLaws.{confined_synced, confined_changed}
 use Rattle.tree_disk.specs.Steps.{step_of, Ended, Makes, no_name}
@@ -41,6 +43,18 @@ module _ {D : Type 0} {disk : DiskModel D} (laws : IsDisk disk) where
       by (Err disk_stop.Failed) step = tt
       by (Err disk_stop.Memory) step = tt
       by (Err disk_stop.Refused) step = tt
+
+  -- what readers see of a single call that didn't fail
+  pub seen_call : {can : Bool} {names : Name → Bool} {after : Tree} {old new : D} {r : Result Unit DiskStop}
+      → HasCause disk can old new r → (IsTrue disk.tells → HasChanged disk names can after old new r) → IsTrue disk.tells
+      → UnlessFailed disk old new (IsEither (disk.reads old) after)
+  seen_call {can = can} {names = names} {after = after} {old = old} {new = new} {r = r} cause told tells none = by r cause (told tells)
+    where
+      by : (r : Result Unit DiskStop) → HasCause disk can old new r → HasChanged disk names can after old new r → Shows disk old new (IsEither (disk.reads old) after)
+      by (Ok u) cause call = shows_weaker (λ t is. ⊎_elim (λ was. inl was) (λ now. inr (now ∙ call.done.1)) is) call.one_step
+      by (Err disk_stop.Failed) cause call = absurd (none (cause.failed refl))
+      by (Err disk_stop.Memory) cause call = shows_weaker (λ t is. inl is) (call.unchanged (inr refl)).visible
+      by (Err disk_stop.Refused) cause call = shows_weaker (λ t is. inl is) (call.unchanged (inl refl)).visible
 
   sync_ended : (old new : D) (r : Result Unit DiskStop) → HasCause disk true old new r → Syncs disk old new r
       → Ended disk.tells (disk.reads old) (disk.reads new) (step_of r) (disk.faults old) (disk.faults new)

@@ -16,7 +16,7 @@ use Rattle.tree_disk.specs.Looks.{sees_nothing, sees_dir}
 use Rattle.tree_disk.specs.ClearLaws.{or_right, by_name, within_join_below, get-without_tree}
 use Rattle.tree_disk.specs.Children.{none_any, not_below_itself, none_below, covered_up, filter_none}
 
-get-without_each : (t : Tree) (p : Name) (names : List (List ℕ)) (q : Name)
+pub get-without_each : (t : Tree) (p : Name) (names : List (List ℕ)) (q : Name)
     → get (without_each t p names) q ≡ cond (list_any (λ last. is_within (join p last) q) names) None (get t q)
 get-without_each t p [] q = refl
 get-without_each t p (last ∷ names) q =

@@ -10,6 +10,7 @@ pub mod Confined
 pub mod ConfinedLaws
 pub mod Steps
 pub mod StepLaws
+pub mod Unfailed
 pub mod Untold
 pub mod Whole
 pub mod Clear

@@ -11,6 +11,7 @@ ghost use Rattle.tree_disk.specs.Disk.{one_name, two_names, InOneStep, NamesOf};
 ghost use Rattle.tree_disk.specs.Confined.{IsSynced};
 ghost use Rattle.tree_disk.specs.Whole.{whole_within};
 ghost use Rattle.tree_disk.specs.Steps.{Tests, Makes, IsDiskStop, no_name, step_of};
+ghost use Rattle.tree_disk.specs.Unfailed.{IsEither, UnlessFailed};
 
 use crate::clear::clear_at;
 use crate::{DiskStop, Look, TreeDisk};
@@ -86,6 +87,8 @@ pub fn append<D: TreeDisk>(
         (λ tree. with_append tree path.now bytes.now)
         disk.old disk.new result }
     ensures one_step { IsTrue D.disk.tells → OnOk result (InOneStep D.disk disk.old disk.new) }
+    ensures seen { IsTrue D.disk.tells → UnlessFailed D.disk disk.old disk.new
+        (IsEither (D.disk.reads disk.old) (with_append (D.disk.reads disk.old) path.now bytes.now)) }
 {
     allowed(disk.append(alloc, path, bytes))
 }
@@ -102,6 +105,8 @@ pub fn make_dir<D: TreeDisk>(
         (λ tree. with_node tree path.now (node.Dir mode))
         disk.old disk.new result }
     ensures one_step { IsTrue D.disk.tells → OnOk result (InOneStep D.disk disk.old disk.new) }
+    ensures seen { IsTrue D.disk.tells → UnlessFailed D.disk disk.old disk.new
+        (IsEither (D.disk.reads disk.old) (with_node (D.disk.reads disk.old) path.now (node.Dir mode))) }
 {
     allowed(disk.make_dir(alloc, path, mode))
 }
@@ -118,6 +123,8 @@ pub fn make_link<D: TreeDisk>(
         (λ tree. with_node tree path.now (node.Link target.now))
         disk.old disk.new result }
     ensures one_step { IsTrue D.disk.tells → OnOk result (InOneStep D.disk disk.old disk.new) }
+    ensures seen { IsTrue D.disk.tells → UnlessFailed D.disk disk.old disk.new
+        (IsEither (D.disk.reads disk.old) (with_node (D.disk.reads disk.old) path.now (node.Link target.now))) }
 {
     allowed(disk.make_link(alloc, path, target))
 }
@@ -134,6 +141,8 @@ pub fn set_mode<D: TreeDisk>(
         (λ tree. with_mode tree path.now mode)
         disk.old disk.new result }
     ensures one_step { IsTrue D.disk.tells → OnOk result (InOneStep D.disk disk.old disk.new) }
+    ensures seen { IsTrue D.disk.tells → UnlessFailed D.disk disk.old disk.new
+        (IsEither (D.disk.reads disk.old) (with_mode (D.disk.reads disk.old) path.now mode)) }
 {
     allowed(disk.set_mode(alloc, path, mode))
 }
@@ -145,6 +154,8 @@ pub fn remove<D: TreeDisk>(alloc: Global, disk: &mut D, path: &Path) -> Result<(
         (λ tree. without tree path.now)
         disk.old disk.new result }
     ensures one_step { IsTrue D.disk.tells → OnOk result (InOneStep D.disk disk.old disk.new) }
+    ensures seen { IsTrue D.disk.tells → UnlessFailed D.disk disk.old disk.new
+        (IsEither (D.disk.reads disk.old) (without (D.disk.reads disk.old) path.now)) }
 {
     allowed(disk.remove(alloc, path))
 }
@@ -156,6 +167,8 @@ pub fn rename<D: TreeDisk>(alloc: Global, disk: &mut D, from: &Path, to: &Path) 
         (λ tree. with_rename tree from.now to.now)
         disk.old disk.new result }
     ensures one_step { IsTrue D.disk.tells → OnOk result (InOneStep D.disk disk.old disk.new) }
+    ensures seen { IsTrue D.disk.tells → UnlessFailed D.disk disk.old disk.new
+        (IsEither (D.disk.reads disk.old) (with_rename (D.disk.reads disk.old) from.now to.now)) }
 {
     allowed(disk.rename(alloc, from, to))
 }

@@ -17,10 +17,10 @@ use Rattle.tree_disk.specs.Children.{childless_from}
 use Rattle.journal_log.specs.declared.put.Want.{Want}
 use Rattle.journal_log.specs.declared.put.Want.TheVariants as want
 use Rattle.journal_log.specs.declared.put.Put.{Put}
-use Rattle.journal_log.specs.WriteSet.{Rises}
+use Rattle.journal_log.specs.WriteSet.{CanBeNamed, Rises}
 use Rattle.journal_log.specs.Targets.{is_dir_want, is_target}
 use Rattle.tree_journal.specs.CanBePut.{CanBePut}
-use Rattle.tree_journal.specs.Passes.{obstructs, is_obstructed, cleared, all_cleared, CanClear, CanClearAll, CanReplay}
+use Rattle.tree_journal.specs.Passes.{obstructs, is_obstructed, cleared, all_cleared, CanClear, CanClearAll, CanClearPass, CanReplay}
 use Rattle.tree_journal.proofs.WriteSets.{less_differs, below_later, neither, or_none, contains_first, contains_rest, contains_cases, target_at, is_target-from, first_before, later_differs, rest_at}
 
 -- ---- one write
@@ -40,7 +40,7 @@ cleared_away tree p is = ap (λ (b : Bool). cond b (without tree p.path) tree) i
 pub cleared_kept : (tree : Tree) (p : Put) → obstructs p.want (get tree p.path) ≡ false → cleared tree p ≡ tree
 cleared_kept tree p is = ap (λ (b : Bool). cond b (without tree p.path) tree) is
 
-get-cleared_other : (tree : Tree) (p : Put) (q : Name) → same_name q p.path ≡ false → get (cleared tree p) q ≡ get tree q
+pub get-cleared_other : (tree : Tree) (p : Put) (q : Name) → same_name q p.path ≡ false → get (cleared tree p) q ≡ get tree q
 get-cleared_other tree p q other = ⊎_elim
     (λ is. ap (λ (t : Tree). get t q) (cleared_away tree p is) ∙ get_put_other tree p.path None q other)
     (λ is. ap (λ (t : Tree). get t q) (cleared_kept tree p is))
@@ -86,16 +86,16 @@ part_rest p puts tree part = record {
     later : (r : Put) → Contains puts r → (q : Name) → is_below r.path q ≡ true → same_name q p.path ≡ false
     later r in' q low = less_differs p.path q (nat_list_cmp_total.trans p.path r.path q (first_before p puts part.rises r.path (is_target-from puts r in')) (below_later r.path q low))
 
-pub part_whole : (puts : List Put) (tree : Tree) → CanReplay puts tree → CanClearPart puts tree
-part_whole puts tree can = record {
-  rises = can.write_set.rises;
-  not_root = λ p in'. All-contains (λ (x : Put). x.path ≢ root) puts p can.not_root in';
+pub part_whole : (base : Name) (puts : List Put) (tree : Tree) → CanReplay base puts tree → CanClearPart puts tree
+part_whole base puts tree can = record {
+  rises = can.loggable.write_set.rises;
+  not_root = λ p in'. (All-contains (λ (x : Put). CanBeNamed base x.path) puts p can.loggable.named in').not_root;
   nothing_below = λ p q p_in q_in low want_is. All-contains (λ (y : Put). IsTrue (is_below p.path y.path) → y.want ≡ want.Nothing) puts q
-      (All-contains (λ (x : Put). is_dir_want x.want ≡ false → All (λ (y : Put). IsTrue (is_below x.path y.path) → y.want ≡ want.Nothing) puts) puts p can.write_set.nothing_below p_in want_is) q_in low;
+      (All-contains (λ (x : Put). is_dir_want x.want ≡ false → All (λ (y : Put). IsTrue (is_below x.path y.path) → y.want ≡ want.Nothing) puts) puts p can.loggable.write_set.nothing_below p_in want_is) q_in low;
   below = λ p in' want_is q low free. (All-contains (CanBePut puts tree) puts p can.can in').below want_is q low free;
 }
 
-nothing_obstructs : (w : Want) (o : Option Node) → w ≡ want.Nothing → obstructs w o ≡ false → o ≡ None
+pub nothing_obstructs : (w : Want) (o : Option Node) → w ≡ want.Nothing → obstructs w o ≡ false → o ≡ None
 nothing_obstructs w o is clear = at o (ap (λ (x : Want). obstructs x o) (sym is) ∙ clear)
   where
     at : (o : Option Node) → obstructs want.Nothing o ≡ false → o ≡ None
@@ -173,8 +173,11 @@ can_clear_part (p ∷ puts) tree part well = with_rest (can_clear_part puts tree
               (cases_Bool (obstructs p.want (get (all_cleared puts tree) p.path))),
         )
 
-pub can_clear_all : (puts : List Put) (tree : Tree) → CanReplay puts tree → WellFormed tree → CanClearAll puts tree
-can_clear_all puts tree can well = (can_clear_part puts tree (part_whole puts tree can) well).0
+pub can_clear_all : (base : Name) (puts : List Put) (tree : Tree) → CanReplay base puts tree → WellFormed tree → CanClearPass puts tree
+can_clear_all base puts tree can well = record {
+  rises = can.loggable.write_set.rises;
+  can = (can_clear_part puts tree (part_whole base puts tree can) well).0;
+}
 
 -- ---- one step of the pass
 

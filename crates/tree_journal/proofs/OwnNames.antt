@@ -1,5 +1,5 @@
 -- The journal's own names, and which of them lie in which.
-use Rattle.std.proofs.Common.{◌≡◌, ◌≢◌, ⊎_elim, ℕ, ◌+◌, ◌<◌, ◌≤◌, Bool, true, false, cond, ◌&&◌, [], ◌∷◌, ◌++◌, length, codes, refl, sym, ◌∙◌, ap, subst, arith, length-append}
+use Rattle.std.proofs.Common.{◌≡◌, ◌≢◌, ⊎_elim, ℕ, ◌+◌, ◌<◌, ◌≤◌, Bool, true, false, cond, ◌&&◌, ◌||◌, [], ◌∷◌, ◌++◌, length, codes, refl, sym, ◌∙◌, ap, subst, arith, length-append}
 use Rattle.std.proofs.lemmas.Bool.{cases_Bool}
 use Rattle.std.proofs.lemmas.Bool.Decides.{nat_tests}
 use Rattle.std.specs.Prelude.{nat_le, ◌==◌}
@@ -13,9 +13,10 @@ use Rattle.cny_base.specs.Parent.{join_is_path}
 use Rattle.tree_disk.specs.Tree.{Name, same_name}
 use Rattle.tree_disk.specs.Laws.{same_means}
 use Rattle.tree_disk.specs.Clear.{is_within}
-use Rattle.tree_disk.specs.ClearLaws.{below_trans, below_within, or_left, or_right, or_cases}
+use Rattle.tree_disk.specs.Children.{path_short}
+use Rattle.tree_disk.specs.ClearLaws.{below_trans, below_within, within_itself, or_left, or_right, or_cases}
 use Rattle.journal_log.specs.Own.{gate, log, work, staged, is_own_file, is_own}
-use Rattle.tree_journal.specs.Steps.{is_base_or_log}
+use Rattle.tree_journal.specs.Steps.{is_log_or_staged}
 use Rattle.tree_journal.proofs.WriteSets.{or_none}
 
 -- ---- joined names
@@ -103,6 +104,55 @@ in_line a b q high low =
     let s = below_rest b q low in
     in_front a b r.0 s.0 (sym r.1 ∙ s.1)
 
+-- ---- two names directly below one path
+
+abbrev head_of : Name → ℕ
+head_of [] = 0
+head_of (b ∷ p) = b
+
+cancel : (p a b : Name) → p ++ a ≡ p ++ b → a ≡ b
+cancel [] a b is = is
+cancel (x ∷ p) a b is = cancel p a b (let rest : p ++ a ≡ p ++ b = cc is in rest)
+
+pub join_same : (p a b : Name) → join p a ≡ join p b → a ≡ b
+join_same [] a b is = let rest : a ≡ b = cc is in rest
+join_same (x ∷ []) a b is = let rest : a ≡ b = cc is in rest
+join_same (x ∷ y ∷ p) a b is = let rest : 47 ∷ a ≡ 47 ∷ b = cancel (x ∷ y ∷ p) (47 ∷ a) (47 ∷ b) is in let tail : a ≡ b = cc rest in tail
+
+no_empty : (p : Name) → 0 < length p → p ≡ [] → ⊥
+no_empty p some is = absurd (omega (arith, some, ap length is))
+
+module _ (p : Name) (path : is_path p ≡ true) where
+  pub not_above : (a b : Name) → length p < length (join p a) → has_slash b ≡ false → is_below (join p a) (join p b) ≡ true → ⊥
+  not_above a b longer plain low =
+      let up = parent_join p b path plain in
+      ⊎_elim
+      (λ is. absurd (omega (arith, longer, ap length (is ∙ up))))
+      (λ lower. absurd (omega (arith, longer, below_longer (join p a) p (subst (λ (x : Name). is_below (join p a) x ≡ true) up lower))))
+      (below_parent (join p a) (join p b) (no_empty (join p a) (omega (arith, longer))) low)
+
+  no_line : (a b : Name) → length p < length (join p a) → length p < length (join p b) → has_slash a ≡ false → has_slash b ≡ false → (a ≡ b → ⊥) → Line (join p a) (join p b) → ⊥
+  no_line a b long_a long_b plain_a plain_b other (one is) = other (join_same p a b is)
+  no_line a b long_a long_b plain_a plain_b other (first low) = not_above a b long_a plain_b low
+  no_line a b long_a long_b plain_a plain_b other (second low) = not_above b a long_b plain_a low
+
+  -- nothing is within both
+  pub apart : (a b : Name) → length p < length (join p a) → length p < length (join p b) → has_slash a ≡ false → has_slash b ≡ false → (a ≡ b → ⊥)
+      → (q : Name) → is_within (join p a) q ≡ true → is_within (join p b) q ≡ false
+  apart a b long_a long_b plain_a plain_b other q in_a = ⊎_elim (λ in_b. absurd (both in_b)) (λ out. out) (cases_Bool (is_within (join p b) q))
+    where
+      both : is_within (join p b) q ≡ true → ⊥
+      both in_b = ⊎_elim
+          (λ same_a. ⊎_elim
+          (λ same_b. other (join_same p a b (sym (same_means q (join p a) same_a) ∙ same_means q (join p b) same_b)))
+          (λ low_b. not_above b a long_b plain_a (subst (λ (x : Name). is_below (join p b) x ≡ true) (same_means q (join p a) same_a) low_b))
+          (or_cases (same_name q (join p b)) (is_below (join p b) q) in_b))
+          (λ low_a. ⊎_elim
+          (λ same_b. not_above a b long_a plain_b (subst (λ (x : Name). is_below (join p a) x ≡ true) (same_means q (join p b) same_b) low_a))
+          (λ low_b. no_line a b long_a long_b plain_a plain_b other (in_line (join p a) (join p b) q low_a low_b))
+          (or_cases (same_name q (join p b)) (is_below (join p b) q) in_b))
+          (or_cases (same_name q (join p a)) (is_below (join p a) q) in_a)
+
 -- ---- the journal's files
 
 pub in_gate : (base q : Name) → is_within (gate base) q ≡ true → is_own base q ≡ true
@@ -114,8 +164,16 @@ in_log base q within = or_right (same_name q base) _ (or_right (is_within (gate 
 pub base_own : (base q : Name) → same_name q base ≡ true → is_own base q ≡ true
 base_own base q same = or_left (same_name q base) _ same
 
-pub base_or_log_own : (base q : Name) → is_base_or_log base q ≡ true → is_own base q ≡ true
-base_or_log_own base q h = ⊎_elim (base_own base q) (in_log base q) (or_cases (same_name q base) (is_within (log base) q) h)
+pub in_work : (base q : Name) → is_within (work base) q ≡ true → is_own base q ≡ true
+in_work base q within = or_right (same_name q base) _ (or_right (is_within (gate base) q) _ (or_right (is_within (log base) q) _ (or_left (is_within (work base) q) _ within)))
+
+pub in_staged : (base q : Name) → is_within (staged base) q ≡ true → is_own base q ≡ true
+in_staged base q within = or_right (same_name q base) _ (or_right (is_within (gate base) q) _ (or_right (is_within (log base) q) _ (or_right (is_within (work base) q) _ within)))
+
+pub log_or_staged_own : (base q : Name) → is_log_or_staged base q ≡ true → is_own base q ≡ true
+log_or_staged_own base q h = ⊎_elim (base_own base q)
+    (λ rest. ⊎_elim (in_log base q) (in_staged base q) (or_cases (is_within (log base) q) (is_within (staged base) q) rest))
+    (or_cases (same_name q base) _ h)
 
 -- where a name lies that is one of the journal's own
 pub data OwnPlace (base q : Name) : Type 0 where
@@ -130,8 +188,8 @@ own_place base q own = ⊎_elim
     (λ more. ⊎_elim
     (λ within. in_file (codes "log") refl (in_log base) within)
     (λ rest. ⊎_elim
-    (λ within. in_file (codes "w") refl (λ x w. or_right (same_name x base) _ (or_right (is_within (gate base) x) _ (or_right (is_within (log base) x) _ (or_left (is_within (work base) x) _ w)))) within)
-    (λ within. in_file (codes "p") refl (λ x w. or_right (same_name x base) _ (or_right (is_within (gate base) x) _ (or_right (is_within (log base) x) _ (or_right (is_within (work base) x) _ w)))) within)
+    (λ within. in_file (codes "w") refl (in_work base) within)
+    (λ within. in_file (codes "p") refl (in_staged base) within)
     (or_cases (is_within (work base) q) (is_within (staged base) q) rest))
     (or_cases (is_within (log base) q) _ more))
     (or_cases (is_within (gate base) q) _ file))
@@ -192,13 +250,76 @@ module _ (base : Name) (path : is_path base ≡ true) where
           (λ lower. absurd (omega (arith, log_long, below_longer (log base) base (subst (λ (x : Name). is_below (log base) x ≡ true) up lower))))
           (below_parent (log base) (gate base) (not_empty (log base) (omega (arith, log_long))) low)
 
-  pub gate_not_written : is_base_or_log base (gate base) ≡ false
-  gate_not_written = or_none (same_name (gate base) base) (is_within (log base) (gate base))
-      (⊎_elim (λ same. absurd (omega (arith, gate_long, ap length (same_means (gate base) base same)))) (λ other. other) (cases_Bool (same_name (gate base) base)))
-      gate_not_in_log
-
   pub base_not_in_log : is_within (log base) base ≡ false
   base_not_in_log = not_longer (log base) base (omega (arith, log_long)) (longer_differs (log base) base (omega (arith, log_long)))
+
+  work_long : length base + 1 ≤ length (work base)
+  work_long = join_longer base (codes "w") path
+
+  pub staged_long : length base + 1 ≤ length (staged base)
+  staged_long = join_longer base (codes "p") path
+
+  pub base_not_in_work : is_within (work base) base ≡ false
+  base_not_in_work = not_longer (work base) base (omega (arith, work_long)) (longer_differs (work base) base (omega (arith, work_long)))
+
+  pub base_not_in_staged : is_within (staged base) base ≡ false
+  base_not_in_staged = not_longer (staged base) base (omega (arith, staged_long)) (longer_differs (staged base) base (omega (arith, staged_long)))
+
+  pub work_not_root : work base ≢ root
+  work_not_root is = absurd (omega (arith, work_long, ap length is, some base path))
+    where
+      some : (p : Name) → is_path p ≡ true → 0 < length p
+      some [] path = absurd (cc path)
+      some (b ∷ p) path = omega arith
+
+  pub staged_not_root : staged base ≢ root
+  staged_not_root is = absurd (omega (arith, staged_long, ap length is, some base path))
+    where
+      some : (p : Name) → is_path p ≡ true → 0 < length p
+      some [] path = absurd (cc path)
+      some (b ∷ p) path = omega arith
+
+  -- what is within one of the files isn't within another
+  pub gate_apart_work : (q : Name) → is_within (gate base) q ≡ true → is_within (work base) q ≡ false
+  gate_apart_work = apart base path (codes "gate") (codes "w") (omega (arith, gate_long)) (omega (arith, work_long)) refl refl (λ is. absurd (omega (arith, ap length is)))
+
+  pub gate_apart_staged : (q : Name) → is_within (gate base) q ≡ true → is_within (staged base) q ≡ false
+  gate_apart_staged = apart base path (codes "gate") (codes "p") (omega (arith, gate_long)) (omega (arith, staged_long)) refl refl (λ is. absurd (omega (arith, ap length is)))
+
+  pub log_apart_work : (q : Name) → is_within (log base) q ≡ true → is_within (work base) q ≡ false
+  log_apart_work = apart base path (codes "log") (codes "w") (omega (arith, log_long)) (omega (arith, work_long)) refl refl (λ is. absurd (omega (arith, ap length is)))
+
+  pub log_apart_staged : (q : Name) → is_within (log base) q ≡ true → is_within (staged base) q ≡ false
+  log_apart_staged = apart base path (codes "log") (codes "p") (omega (arith, log_long)) (omega (arith, staged_long)) refl refl (λ is. absurd (omega (arith, ap length is)))
+
+  pub staged_apart_gate : (q : Name) → is_within (staged base) q ≡ true → is_within (gate base) q ≡ false
+  staged_apart_gate = apart base path (codes "p") (codes "gate") (omega (arith, staged_long)) (omega (arith, gate_long)) refl refl (λ is. absurd (omega (arith, ap length is)))
+
+  pub staged_apart_log : (q : Name) → is_within (staged base) q ≡ true → is_within (log base) q ≡ false
+  staged_apart_log = apart base path (codes "p") (codes "log") (omega (arith, staged_long)) (omega (arith, log_long)) refl refl (λ is. absurd (omega (arith, ap length is)))
+
+  pub staged_apart_work : (q : Name) → is_within (staged base) q ≡ true → is_within (work base) q ≡ false
+  staged_apart_work = apart base path (codes "p") (codes "w") (omega (arith, staged_long)) (omega (arith, work_long)) refl refl other
+    where
+      p_head : head_of (codes "p") ≡ 112
+      p_head = refl
+
+      w_head : head_of (codes "w") ≡ 119
+      w_head = refl
+
+      other : codes "p" ≡ codes "w" → ⊥
+      other is = absurd (omega (arith, p_head, w_head, ap head_of is))
+
+  pub gate_not_in_work : is_within (work base) (gate base) ≡ false
+  gate_not_in_work = gate_apart_work (gate base) (within_itself (gate base))
+
+  pub log_not_in_work : is_within (work base) (log base) ≡ false
+  log_not_in_work = log_apart_work (log base) (within_itself (log base))
+
+  pub gate_not_written : is_log_or_staged base (gate base) ≡ false
+  gate_not_written = or_none (same_name (gate base) base) (is_within (log base) (gate base) || is_within (staged base) (gate base))
+      (⊎_elim (λ same. absurd (omega (arith, gate_long, ap length (same_means (gate base) base same)))) (λ other. other) (cases_Bool (same_name (gate base) base)))
+      (or_none (is_within (log base) (gate base)) (is_within (staged base) (gate base)) gate_not_in_log (gate_apart_staged (gate base) (within_itself (gate base))))
 
 -- ---- the last names are parts of a path
 
@@ -213,5 +334,44 @@ log_utf8 = is_utf8-from_IsUtf8 (codes "log") (IsUtf8-from_ascii (codes "log")
 pub gate_part : are_parts (codes "gate") ≡ true
 gate_part = ap (λ (b : Bool). b && true) gate_utf8
 
+work_utf8 : is_utf8 (codes "w") ≡ true
+work_utf8 = is_utf8-from_IsUtf8 (codes "w") (IsUtf8-from_ascii (codes "w") (IsAscii-cons 119 [] (lit< tt) IsAscii-nil))
+
+staged_utf8 : is_utf8 (codes "p") ≡ true
+staged_utf8 = is_utf8-from_IsUtf8 (codes "p") (IsUtf8-from_ascii (codes "p") (IsAscii-cons 112 [] (lit< tt) IsAscii-nil))
+
+pub work_part : are_parts (codes "w") ≡ true
+work_part = ap (λ (b : Bool). b && true) work_utf8
+
+pub staged_part : are_parts (codes "p") ≡ true
+staged_part = ap (λ (b : Bool). b && true) staged_utf8
+
 pub log_part : are_parts (codes "log") ≡ true
 log_part = ap (λ (b : Bool). b && true) log_utf8
+
+pub gate_own : (base q : Name) → same_name q (gate base) ≡ true → is_own base q ≡ true
+gate_own base q same = in_gate base q (or_left (same_name q (gate base)) (is_below (gate base) q) same)
+
+-- the work name has a path where the commit flag's file has one
+pub work_shorter : (base path : Name) → path ≡ gate base → is_path path ≡ true → length (join base (codes "w")) ≤ 1024
+work_shorter base path is fits = shorter base (path_short (gate base) (ap is_path (sym is) ∙ fits))
+  where
+    shorter : (base : Name) → length (gate base) ≤ 1024 → length (join base (codes "w")) ≤ 1024
+    shorter [] short = omega (arith, short)
+    shorter (a ∷ []) short = omega arith
+    shorter (a ∷ b ∷ p) short = omega (arith, short, length-append (a ∷ b ∷ p) (47 ∷ codes "gate"), length-append (a ∷ b ∷ p) (47 ∷ codes "w"))
+
+-- and so has each of the journal's names below a base that isn't too long
+pub short_own : (base last : Name) → length base ≤ 1011 → length last ≤ 4 → length (join base last) ≤ 1024
+short_own base last short few = omega (arith, join_short base last, short, few)
+
+pub staged_is_path : (base : Name) → is_path base ≡ true → length base ≤ 1011 → is_path (staged base) ≡ true
+staged_is_path base path short = own_is_path base (codes "p") path staged_part (short_own base (codes "p") short (omega arith))
+
+pub log_shorter : (base path : Name) → path ≡ gate base → is_path path ≡ true → length (log base) ≤ 1024
+log_shorter base path is fits = shorter base (path_short (gate base) (ap is_path (sym is) ∙ fits))
+  where
+    shorter : (base : Name) → length (gate base) ≤ 1024 → length (log base) ≤ 1024
+    shorter [] short = omega (arith, short)
+    shorter (a ∷ []) short = omega arith
+    shorter (a ∷ b ∷ p) short = omega (arith, short, length-append (a ∷ b ∷ p) (47 ∷ codes "gate"), length-append (a ∷ b ∷ p) (47 ∷ codes "log"))

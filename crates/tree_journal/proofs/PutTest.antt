@@ -194,7 +194,7 @@ pub one_more_can : (puts : List Put) (tree : Tree) (all : List Put) (i : ℕ) (p
 one_more_can puts tree all i p can lt is answer so before = All-more (CanBePut all tree) puts i p lt before (subst (CanBePut all tree) is (answer.holds so))
 
 -- a write whose path comes before that of the next stands before it
-listed_before : (puts : List Put) → Rises puts → (i : ℕ) (p q : Put) → i < length puts → p ≡ get_or puts i p → Contains puts q → name_cmp q.path p.path ≡ Less → Contains (take i puts) q
+pub listed_before : (puts : List Put) → Rises puts → (i : ℕ) (p q : Put) → i < length puts → p ≡ get_or puts i p → Contains puts q → name_cmp q.path p.path ≡ Less → Contains (take i puts) q
 listed_before [] rises i p q lt is in' less = absurd (omega (arith, lt))
 listed_before (r ∷ puts) rises zero p q lt is in' less = absurd (⊎_elim
     (λ same. not_itself p.path (ap (λ (x : Put). name_cmp x.path p.path) (is ∙ same) ∙ less))

@@ -1,5 +1,5 @@
 -- What crash images recover to while a log is replayed.
-use Rattle.std.proofs.Common.{◌≡◌, ⊎_elim, Bool, true, false, IsTrue, List, [], get_or, Option, Some, None, Contains, refl, sym, ◌∙◌, ap, subst}
+use Rattle.std.proofs.Common.{◌≡◌, inl, ⊎_elim, cond, Bool, true, false, ◌||◌, IsTrue, List, [], get_or, Option, Some, None, Contains, refl, sym, ◌∙◌, ap, subst, arith}
 use Rattle.std.proofs.lemmas.Bool.{cases_Bool}
 use Rattle.std.proofs.lemmas.List.Elements.{All-contains, Contains-get_or}
 use Rattle.std.specs.List.{All}
@@ -9,30 +9,33 @@ use Rattle.cny_base.specs.Below.{is_below, below_parent}
 use Rattle.cny_base.specs.declared.node.Node.{Node}
 use Rattle.cny_base.specs.declared.node.Node.TheVariants as node
 use Rattle.tree_disk.specs.Tree.{Name, Tree, same_name, is_dir, is_file}
-use Rattle.tree_disk.specs.Laws.{same_means, same_itself}
-use Rattle.tree_disk.specs.Clear.{is_within}
-use Rattle.tree_disk.specs.ClearLaws.{below_within, within_itself, or_left, or_cases}
-use Rattle.tree_disk.specs.Disk.{DiskModel}
+use Rattle.tree_disk.specs.Laws.{same_means, same_itself, only_reads}
+use Rattle.tree_disk.specs.Clear.{is_within, without_tree}
+use Rattle.tree_disk.specs.ClearLaws.{below_within, within_itself, or_left, or_cases, get-without_tree, bare_without}
+use Rattle.tree_disk.specs.Disk.{DiskModel, IsDisk}
 use Rattle.tree_disk.specs.Confined.{Among, Confined, DiffersOnlyAt, IsUnsyncedOr, IsSynced, LeavesOnly}
 use Rattle.tree_disk.specs.ConfinedLaws.{leaves_weaker}
 use Rattle.tree_disk.specs.Steps.{no_name}
 use Rattle.journal_log.specs.declared.put.Put.{Put}
-use Rattle.journal_log.specs.Own.{gate, log, is_own, StoresSame}
+use Rattle.journal_log.specs.Own.{gate, log, work, staged, is_own, StoresSame}
 use Rattle.journal_log.specs.WriteSet.{CanBeNamed, IsLoggable}
-use Rattle.journal_log.specs.Targets.{is_dir_want, is_target, with_targets}
+use Rattle.journal_log.specs.Targets.{is_dir_want, is_target}
 use Rattle.tree_journal.specs.CanBePut.{CanBePut, AllCanBePut}
-use Rattle.tree_journal.specs.Recovery.{is_flag, is_committed, HoldsLog, RecoversTo, at_rest, by_log, RecoversAsAt}
+use Rattle.tree_journal.specs.Recovery.{is_flag, is_committed, HoldsLog, RecoversTo, at_rest, by_log, RecoversAsThen}
+use Rattle.tree_journal.specs.Staging.{AllStaged, outcome}
 use Rattle.tree_journal.specs.Apply.{is_own_or_target}
-use Rattle.tree_journal.specs.Steps.{is_gate_or_target, IsCommitted}
-use Rattle.tree_journal.proofs.WriteSets.{neither, or_none, target_at, with_targets_outside, with_targets_inside}
-use Rattle.tree_journal.proofs.OwnNames.{parent_join, within_below, in_line, Line, one, first, second, in_gate, in_log, base_own, OwnPlace, at_base, in_file, own_place, base_not_in_gate, log_not_in_gate}
+use Rattle.tree_journal.specs.Passes.{is_work_or_target, all_put, CanReplay, CanPutAll}
+use Rattle.tree_journal.specs.Steps.{is_replay_name, IsCommitted}
+use Rattle.tree_journal.proofs.WriteSets.{neither, or_none}
+use Rattle.tree_journal.proofs.Staged.{AgreesStaged, own_free, all_staged_same, outcome_outside, same_outcome}
+use Rattle.tree_journal.proofs.OwnNames.{parent_join, within_below, in_line, Line, one, first, second, in_gate, in_log, in_work, base_own, OwnPlace, at_base, in_file, own_place, base_not_in_gate, base_not_in_work, log_not_in_gate, log_not_in_work, gate_not_in_work, staged_apart_gate, staged_apart_work, in_staged}
 
 -- ---- a tree that recovers
 
 -- it recovers to all trees that store the same
 pub recovers_same : (base : Name) (image a b : Tree) → RecoversTo base image a → StoresSame base a b → RecoversTo base image b
 recovers_same base image a b (at_rest clear stores) same = at_rest clear (λ q out. stores q out ∙ same q out)
-recovers_same base image a b (by_log set puts holds can stores) same = by_log set puts holds can (λ q out. stores q out ∙ same q out)
+recovers_same base image a b (by_log set puts holds stand can stores) same = by_log set puts holds stand can (λ q out. stores q out ∙ same q out)
 
 pub by_flag : (base : Name) (image : Tree) {P : Type 0} → (is_committed base image ≡ true → P) → (is_committed base image ≡ false → P) → P
 by_flag base image set clear = ⊎_elim set clear (cases_Bool (is_committed base image))
@@ -53,7 +56,7 @@ module _ (base : Name) (path : is_path base ≡ true) (puts : List Put) (paths :
   name_of p in' = All-contains (λ (x : Put). CanBeNamed base x.path) puts p named in'
 
   pub own_no_target : (q : Name) → is_own base q ≡ true → is_target puts q ≡ false
-  own_no_target q own = ⊎_elim (λ h. let p = target_at puts q h in absurd (not_false (is_own base q) own (ap (is_own base) p.2 ∙ (name_of p.0 p.1).not_own))) (λ h. h) (cases_Bool (is_target puts q))
+  own_no_target = own_free base puts named
 
   pub base_no_target : is_target puts base ≡ false
   base_no_target = own_no_target base (base_own base base (same_itself base))
@@ -131,27 +134,41 @@ module _ (base : Name) (path : is_path base ≡ true) (puts : List Put) (paths :
               (λ other. absurd (not_below_own p in' q own (λ same. not_false (same_name q base) same other) low))
               (cases_Bool (same_name q base))
 
-  -- trees that agree elsewhere store the same with all targets
-  pub same_targets : (a b : Tree) → ((q : Name) → is_own_or_target base puts q ≡ false → get a q ≡ get b q) → StoresSame base (with_targets puts a) (with_targets puts b)
-  same_targets a b agree q out = ⊎_elim (with_targets_inside puts a b q)
-      (λ free. with_targets_outside puts a q free ∙ agree q (or_none (is_own base q) (is_target puts q) out free) ∙ sym (with_targets_outside puts b q free))
-      (cases_Bool (is_target puts q))
-
-  gate_or_target : (q : Name) → is_own_or_target base puts q ≡ false → is_gate_or_target base puts q ≡ false
-  gate_or_target q out =
+  replay_name : (q : Name) → is_own_or_target base puts q ≡ false → is_replay_name base puts q ≡ false
+  replay_name q out =
       let parts = neither (is_own base q) (is_target puts q) out in
-      or_none (is_within (gate base) q) (is_target puts q) (⊎_elim (λ within. absurd (not_false (is_own base q) (in_gate base q within) parts.0)) (λ other. other) (cases_Bool (is_within (gate base) q))) parts.1
+      or_none (is_within (gate base) q) (is_within (work base) q || is_target puts q)
+      (⊎_elim (λ within. absurd (not_false (is_own base q) (in_gate base q within) parts.0)) (λ other. other) (cases_Bool (is_within (gate base) q)))
+      (or_none (is_within (work base) q) (is_target puts q)
+      (⊎_elim (λ within. absurd (not_false (is_own base q) (in_work base q within) parts.0)) (λ other. other) (cases_Bool (is_within (work base) q))) parts.1)
 
-  -- THE LEMMA OF THE REPLAY. Let a whole log that can be put stand in a tree. Then a tree that differs at the targets and
-  -- at the commit flag alone, and whose flag is set, recovers to the tree with all targets, whatever stands at them.
-  pub replay_image : (start image tree : Tree) → HoldsLog base puts start → AllCanBePut puts start → is_dir (get start base) ≡ true
-      → ((q : Name) → is_gate_or_target base puts q ≡ false → get image q ≡ get start q) → is_committed base image ≡ true
-      → StoresSame base (with_targets puts start) tree → RecoversTo base image tree
-  replay_image start image tree holds can stands agree set same = by_log set puts
-      (record { mode = holds.mode; bytes = holds.bytes; text = holds.text; file = agree (log base) (or_none _ _ (log_not_in_gate base path) log_no_target) ∙ holds.file })
-      (can_elsewhere start image (λ q out. sym (agree q (gate_or_target q out))) stands
-      (ap is_dir (agree base (or_none _ _ (base_not_in_gate base path) base_no_target)) ∙ stands) can)
-      (λ q out. same_targets image start (λ p free. agree p (gate_or_target p free)) q out ∙ same q out)
+  -- staged files are none of the names of a replay
+  staged_name : (q : Name) → is_within (staged base) q ≡ true → is_replay_name base puts q ≡ false
+  staged_name q within =
+      or_none (is_within (gate base) q) (is_within (work base) q || is_target puts q) (staged_apart_gate base path q within)
+      (or_none (is_within (work base) q) (is_target puts q) (staged_apart_work base path q within) (own_no_target q (in_staged base q within)))
+
+  log_name : is_replay_name base puts (log base) ≡ false
+  log_name =
+      or_none (is_within (gate base) (log base)) (is_within (work base) (log base) || is_target puts (log base)) (log_not_in_gate base path)
+      (or_none (is_within (work base) (log base)) (is_target puts (log base)) (log_not_in_work base path) log_no_target)
+
+  base_name : is_replay_name base puts base ≡ false
+  base_name =
+      or_none (is_within (gate base) base) (is_within (work base) base || is_target puts base) (base_not_in_gate base path)
+      (or_none (is_within (work base) base) (is_target puts base) (base_not_in_work base path) base_no_target)
+
+  -- THE LEMMA OF THE REPLAY. Let a whole log whose staged files stand and that can be put stand in a tree. Then a tree that
+  -- differs at the targets, at the work name and at the commit flag alone, and whose flag is set, recovers to the tree
+  -- with all targets, whatever stands at them.
+  pub replay_image : (start image tree : Tree) → HoldsLog base puts start → AllStaged base start puts → AllCanBePut puts start → is_dir (get start base) ≡ true
+      → ((q : Name) → is_replay_name base puts q ≡ false → get image q ≡ get start q) → is_committed base image ≡ true
+      → StoresSame base (outcome base puts start) tree → RecoversTo base image tree
+  replay_image start image tree holds stand can stands agree set same = by_log set puts
+      (record { mode = holds.mode; bytes = holds.bytes; text = holds.text; file = agree (log base) log_name ∙ holds.file })
+      (all_staged_same base path start image (λ q within. sym (agree q (staged_name q within))) puts stand)
+      (can_elsewhere start image (λ q out. sym (agree q (replay_name q out))) stands (ap is_dir (agree base base_name) ∙ stands) can)
+      (λ q out. same_outcome base path puts image start (λ p within. agree p (staged_name p within)) (λ p free. agree p (replay_name p free)) q out ∙ same q out)
 
 -- ---- a run of disk calls
 
@@ -161,52 +178,105 @@ pub image_agrees : {D : Type 0} (disk : DiskModel D) (d : D) (names : Name → B
 image_agrees disk d names image synced differs q out = differs.agrees q (λ h. ⊎_elim (λ was. absurd (cc (synced q, was))) (λ is. absurd (cc (out, is))) h)
 
 -- while nothing is changed, each image is one of those at entry
-pub unchanged_leaves : {D : Type 0} (disk : DiskModel D) (base : Name) (old new : D) → Confined disk (Among no_name) old new → LeavesOnly disk old new (RecoversAsAt disk base old)
+pub unchanged_leaves : {D : Type 0} (disk : DiskModel D) (base : Name) (old new : D) → Confined disk (Among no_name) old new → LeavesOnly disk old new (RecoversAsThen disk base old)
 unchanged_leaves disk base old new run = leaves_weaker each run.images
   where
-    each : (image : Tree) → DiffersOnlyAt (IsUnsyncedOr disk old (Among no_name)) (disk.reads old) image → RecoversAsAt disk base old image
-    each image differs = (
-      image,
-      record {
-        well_formed = differs.well_formed;
-        synced = λ p none. differs.agrees p (λ h. ⊎_elim (λ was. absurd (cc (none, was))) (λ is. absurd (cc is)) h);
-      },
-      λ tree h. h,
-    )
+    each : (image : Tree) → DiffersOnlyAt (IsUnsyncedOr disk old (Among no_name)) (disk.reads old) image → RecoversAsThen disk base old image
+    each image differs = inl (record {
+      well_formed = differs.well_formed;
+      synced = λ p none. differs.agrees p (λ h. ⊎_elim (λ was. absurd (cc (none, was))) (λ is. absurd (cc is)) h);
+    })
 
-module _ {D : Type 0} (disk : DiskModel D) (base : Name) (path : is_path base ≡ true) (puts : List Put) (old : D) (ready : IsCommitted disk base puts old) where
+-- a tree without what is within the work name
+pub without_work : (base : Name) (tree : Tree) (q : Name) → is_within (work base) q ≡ false → get (without_tree tree (work base)) q ≡ get tree q
+without_work base tree q out = get-without_tree tree (work base) q ∙ ap (λ (b : Bool). cond b None (get tree q)) out
+
+module _ (base : Name) (path : is_path base ≡ true) (puts : List Put) (tree : Tree) where
+  pub work_agrees_staged : AgreesStaged base (without_tree tree (work base)) tree
+  work_agrees_staged q within = without_work base tree q (staged_apart_work base path q within)
+
+  pub work_agrees : (q : Name) → is_own_or_target base puts q ≡ false → get (without_tree tree (work base)) q ≡ get tree q
+  work_agrees q out = without_work base tree q (⊎_elim (λ within. absurd (not_false (is_own base q) (in_work base q within) (neither (is_own base q) (is_target puts q) out).0)) (λ other. other) (cases_Bool (is_within (work base) q)))
+
+  -- with nothing at the work name the same is stored
+  pub same_all_put : StoresSame base (all_put base puts tree) (outcome base puts tree)
+  same_all_put = same_outcome base path puts (without_tree tree (work base)) tree work_agrees_staged work_agrees
+
+pub same_cleared : (base : Name) → is_path base ≡ true → (puts : List Put) (tree after : Tree) (work_path : Name) → work_path ≡ work base → after ≡ without_tree tree work_path
+    → StoresSame base (outcome base puts after) (outcome base puts tree)
+same_cleared base path puts tree after work_path at is = subst (λ (t : Tree). StoresSame base (outcome base puts t) (outcome base puts tree)) (sym (is ∙ ap (without_tree tree) at)) (same_all_put base path puts tree)
+
+-- with nothing at the work name the write set can be put as before
+pub can_put_all : (base : Name) → is_path base ≡ true → (puts : List Put) (tree : Tree) → CanReplay base puts tree → CanPutAll base puts (without_tree tree (work base))
+can_put_all base path puts tree can = record {
+  replay = record {
+    loggable = can.loggable;
+    stand = all_staged_same base path tree (without_tree tree (work base)) (λ q within. sym (work_agrees_staged base path puts tree q within)) puts can.stand;
+    can = can_elsewhere base path puts can.loggable.write_set.paths can.loggable.named tree (without_tree tree (work base)) (λ q out. sym (work_agrees base path puts tree q out)) can.base_stands base_stands can.can;
+    base_stands = base_stands;
+  };
+  bare = bare_without tree (work base) (work base) (within_itself (work base));
+}
+  where
+    base_stands : is_dir (get (without_tree tree (work base)) base) ≡ true
+    base_stands = ap is_dir (without_work base tree base (base_not_in_work base path)) ∙ can.base_stands
+
+module _ {D : Type 0} (disk : DiskModel D) (laws : IsDisk disk) (base : Name) (path : is_path base ≡ true) (puts : List Put) (old : D) (ready : IsCommitted disk base puts old) where
   log_of : IsLoggable base puts
-  log_of = ready.has_log.holds.text.loggable
+  log_of = ready.has_log.can.loggable
+
+  by_replay : (image : Tree) → ((q : Name) → is_replay_name base puts q ≡ false → get image q ≡ get (disk.reads old) q) → is_committed base image ≡ true
+      → RecoversTo base image (outcome base puts (disk.reads old))
+  by_replay image agree set = replay_image base path puts log_of.write_set.paths log_of.named (disk.reads old) image (outcome base puts (disk.reads old)) ready.has_log.holds
+      ready.has_log.can.stand ready.has_log.can.can ready.has_log.can.base_stands agree set (λ q out. refl)
+
+  -- before a call
+  pub start_leaves : LeavesOnly disk old old (λ image. RecoversTo base image (outcome base puts (disk.reads old)))
+  start_leaves = record {
+    later = omega arith;
+    each = λ image since. at image (only_reads laws old ready.synced image (laws.only_now old image since));
+    before = λ k image le since. inl since;
+    kept = λ k image le since. since;
+  }
+    where
+      at : (image : Tree) → image ≡ disk.reads old → RecoversTo base image (outcome base puts (disk.reads old))
+      at image is = by_replay image (λ q out. ap (λ (t : Tree). get t q) is) (ap (is_committed base) is ∙ ready.flag_set)
+
+  gate_apart : is_work_or_target base puts (gate base) ≡ false
+  gate_apart = or_none (is_within (work base) (gate base)) (is_target puts (gate base)) (gate_not_in_work base path) (gate_no_target base path puts log_of.write_set.paths log_of.named)
 
   -- while the targets are put
-  pub putting_leaves : (new : D) → Confined disk (Among (is_target puts)) old new → LeavesOnly disk old new (λ image. RecoversTo base image (with_targets puts (disk.reads old)))
+  pub putting_leaves : (new : D) → Confined disk (Among (is_work_or_target base puts)) old new → LeavesOnly disk old new (λ image. RecoversTo base image (outcome base puts (disk.reads old)))
   putting_leaves new run = leaves_weaker each run.images
     where
-      each : (image : Tree) → DiffersOnlyAt (IsUnsyncedOr disk old (Among (is_target puts))) (disk.reads old) image → RecoversTo base image (with_targets puts (disk.reads old))
+      each : (image : Tree) → DiffersOnlyAt (IsUnsyncedOr disk old (Among (is_work_or_target base puts))) (disk.reads old) image → RecoversTo base image (outcome base puts (disk.reads old))
       each image differs =
-          let agree = image_agrees disk old (is_target puts) image ready.synced differs in
-          replay_image base path puts log_of.write_set.paths log_of.named (disk.reads old) image (with_targets puts (disk.reads old)) ready.has_log.holds ready.has_log.can.can ready.has_log.base_stands
-          (λ q out. agree q (neither (is_within (gate base) q) (is_target puts q) out).1)
-          (ap is_flag (agree (gate base) (gate_no_target base path puts log_of.write_set.paths log_of.named)) ∙ ready.flag_set)
-          (λ q out. refl)
+          let agree = image_agrees disk old (is_work_or_target base puts) image ready.synced differs in
+          by_replay image (λ q out. agree q (neither (is_within (gate base) q) (is_work_or_target base puts q) out).1) (ap is_flag (agree (gate base) gate_apart) ∙ ready.flag_set)
 
   outside_gate : (q : Name) → is_within (gate base) q ≡ false → same_name q (gate base) ≡ false
   outside_gate q out = (neither (same_name q (gate base)) _ out).0
 
+  -- what all targets leave as it was
+  put_outside : (q : Name) → is_work_or_target base puts q ≡ false → get (all_put base puts (disk.reads old)) q ≡ get (disk.reads old) q
+  put_outside q out =
+      let parts = neither (is_within (work base) q) (is_target puts q) out in
+      outcome_outside base (without_tree (disk.reads old) (work base)) puts (without_tree (disk.reads old) (work base)) q parts.1 ∙ without_work base (disk.reads old) q parts.0
+
   -- and while the commit flag is taken away
-  pub clearing_leaves : (mid new : D) → disk.reads mid ≡ with_targets puts (disk.reads old) → IsSynced disk mid → Confined disk (Among (λ q. same_name q (gate base))) mid new
-      → LeavesOnly disk mid new (λ image. RecoversTo base image (with_targets puts (disk.reads old)))
+  pub clearing_leaves : (mid new : D) → disk.reads mid ≡ all_put base puts (disk.reads old) → IsSynced disk mid → Confined disk (Among (λ q. same_name q (gate base))) mid new
+      → LeavesOnly disk mid new (λ image. RecoversTo base image (outcome base puts (disk.reads old)))
   clearing_leaves mid new is synced run = leaves_weaker each run.images
     where
-      each : (image : Tree) → DiffersOnlyAt (IsUnsyncedOr disk mid (Among (λ q. same_name q (gate base)))) (disk.reads mid) image → RecoversTo base image (with_targets puts (disk.reads old))
+      each : (image : Tree) → DiffersOnlyAt (IsUnsyncedOr disk mid (Among (λ q. same_name q (gate base)))) (disk.reads mid) image → RecoversTo base image (outcome base puts (disk.reads old))
       each image differs =
           let agree = image_agrees disk mid (λ q. same_name q (gate base)) image synced differs in
           by_flag base image
-          (λ set. replay_image base path puts log_of.write_set.paths log_of.named (disk.reads old) image (with_targets puts (disk.reads old)) ready.has_log.holds ready.has_log.can.can ready.has_log.base_stands
-          (λ q out. let parts = neither (is_within (gate base) q) (is_target puts q) out in
-          agree q (outside_gate q parts.0) ∙ ap (λ (t : Tree). get t q) is ∙ with_targets_outside puts (disk.reads old) q parts.1)
-          set (λ q out. refl))
-          (λ clear. at_rest clear (λ q out. agree q (other q out) ∙ ap (λ (t : Tree). get t q) is))
+          (λ set. by_replay image
+          (λ q out. let parts = neither (is_within (gate base) q) (is_work_or_target base puts q) out in
+          agree q (outside_gate q parts.0) ∙ ap (λ (t : Tree). get t q) is ∙ put_outside q parts.1)
+          set)
+          (λ clear. at_rest clear (λ q out. agree q (other q out) ∙ ap (λ (t : Tree). get t q) is ∙ same_all_put base path puts (disk.reads old) q out))
         where
           other : (q : Name) → is_own base q ≡ false → same_name q (gate base) ≡ false
           other q out = ⊎_elim
@@ -214,5 +284,5 @@ module _ {D : Type 0} (disk : DiskModel D) (base : Name) (path : is_path base �
               (λ no_same. no_same) (cases_Bool (same_name q (gate base)))
 
   -- the commit flag is a file of the journal, also when all targets stand
-  pub flag_stands : is_file (get (with_targets puts (disk.reads old)) (gate base)) ≡ true
-  flag_stands = ap is_file (with_targets_outside puts (disk.reads old) (gate base) (gate_no_target base path puts log_of.write_set.paths log_of.named)) ∙ flag_is_file (get (disk.reads old) (gate base)) ready.flag_set
+  pub flag_stands : is_file (get (all_put base puts (disk.reads old)) (gate base)) ≡ true
+  flag_stands = ap is_file (put_outside (gate base) gate_apart) ∙ flag_is_file (get (disk.reads old) (gate base)) ready.flag_set

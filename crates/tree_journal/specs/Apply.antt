@@ -1,32 +1,45 @@
 -- What `apply` asks and leaves.
-use Rattle.std.specs.Prelude.{◌≡◌, ◌⊎◌, Bool, false, ◌||◌, IsTrue, List, Some, if◌then◌else◌}
+use Rattle.std.specs.Prelude.{◌≡◌, ◌⊎◌, ◌≤◌, Bool, false, ◌||◌, IsTrue, List, Some, Result, OnOk, OnErr, IfErr, IsErrOf, if◌then◌else◌}
 use Rattle.std.specs.List.{All}
+use Rattle.cny_base.specs.Count.{Rose}
 use Rattle.cny_base.specs.Path.{parent}
+use Rattle.cny_base.specs.declared.stop.Stop.{Stop}
+use Rattle.cny_base.specs.declared.stop.Stop.TheVariants.{Failed}
 use Rattle.cny_base.specs.declared.node.Node.TheVariants as node
 use Rattle.tree_disk.specs.Tree.{Name, Tree, put, WellFormed}
 use Rattle.tree_disk.specs.Rows.{is_dir_at}
 use Rattle.tree_disk.specs.Disk.{DiskModel, IsImageOf}
-use Rattle.tree_disk.specs.Confined.{IsSynced}
+use Rattle.tree_disk.specs.Confined.{Among, Confined, IsSynced, LeavesOnly}
+use Rattle.tree_disk.specs.Steps.{IsDiskStop}
+use Rattle.tree_disk.specs.Unfailed.{UnlessFailed}
 use Rattle.journal_log.specs.declared.put.Put.{Put}
 use Rattle.journal_log.specs.Own.{gate, is_own, StoresSame}
-use Rattle.journal_log.specs.Targets.{is_target, with_targets}
+use Rattle.journal_log.specs.Targets.{is_target}
 use Rattle.journal_log.specs.WriteSet.{CanBeNamed}
 use Rattle.tree_journal.specs.CanBePut.{AllCanBePut}
 use Rattle.tree_journal.specs.Recovery.{is_committed, RecoversTo}
+use Rattle.tree_journal.specs.Staging.{AllStaged, outcome}
+use Rattle.tree_journal.specs.Visible.{IsVisible}
 
 -- the tree with the base made a directory
 abbrev pub with_base : Name → Tree → Tree
 with_base base tree = if is_dir_at tree base then tree else put tree base (Some (node.Dir 493))
 
+-- the tree with the base made a directory and then all targets put
+abbrev pub goal : Name → List Put → Tree → Tree
+goal base puts tree = outcome base puts (with_base base tree)
+
 -- A write set may be applied: the parent of the base is a directory, the commit flag isn't set, also after a crash, a log
--- can name all paths, and with the base made a directory all writes can be put and give a well-formed tree.
+-- can name all paths, the files of staged writes stand with their sizes and SHA-1s, and with the base made a directory
+-- all writes can be put and give a well-formed tree.
 pub record CanApply {D : Type 0} (disk : DiskModel D) (base : Name) (puts : List Put) (d : D) : Type 0 where
   pub parent_stands : IsTrue (is_dir_at (disk.reads d) (parent base))
   pub flag_clear : is_committed base (disk.reads d) ≡ false
   pub flag_synced : disk.unsynced d (gate base) ≡ false
   pub named : All (λ p. CanBeNamed base p.path) puts
+  pub stand : AllStaged base (disk.reads d) puts
   pub can : AllCanBePut puts (with_base base (disk.reads d))
-  pub well_formed : WellFormed (with_targets puts (with_base base (disk.reads d)))
+  pub well_formed : WellFormed (goal base puts (disk.reads d))
 
 -- It recovers to some crash image of that moment.
 abbrev pub IsAsBefore : {D : Type 0} → DiskModel D → Name → D → Tree → Type 0
@@ -34,11 +47,11 @@ IsAsBefore disk base d image = (entry : Tree) × IsImageOf disk d entry × Recov
 
 -- It recovers to some crash image of that moment, or to the tree with all targets.
 abbrev pub IsBeforeOrAfter : {D : Type 0} → DiskModel D → Name → List Put → D → Tree → Type 0
-IsBeforeOrAfter disk base puts d image = IsAsBefore disk base d image ⊎ RecoversTo base image (with_targets puts (disk.reads d))
+IsBeforeOrAfter disk base puts d image = IsAsBefore disk base d image ⊎ RecoversTo base image (goal base puts (disk.reads d))
 
 -- The tree recovers to the tree before, or to that with all targets.
 abbrev pub IsOneOf : Name → List Put → Tree → Tree → Type 0
-IsOneOf base puts before tree = RecoversTo base tree before ⊎ RecoversTo base tree (with_targets puts before)
+IsOneOf base puts before tree = RecoversTo base tree before ⊎ RecoversTo base tree (goal base puts before)
 
 -- The disk stores the same as this tree, its commit flag isn't set, and a crash leaves what it reads.
 pub record IsAtRest {D : Type 0} (disk : DiskModel D) (base : Name) (tree : Tree) (d : D) : Type 0 where
@@ -49,3 +62,14 @@ pub record IsAtRest {D : Type 0} (disk : DiskModel D) (base : Name) (tree : Tree
 -- the journal's own names and the targets
 abbrev pub is_own_or_target : Name → List Put → Name → Bool
 is_own_or_target base puts q = is_own base q || is_target puts q
+
+-- all that applying a write set promises
+pub record Applies {D : Type 0} (disk : DiskModel D) (base : Name) (puts : List Put) (old new : D) (result : Result Unit Stop) : Type 0 where
+  pub any_moment : IsTrue disk.tells → LeavesOnly disk old new (IsBeforeOrAfter disk base puts old)
+  pub applied : IsTrue disk.tells → OnOk result (IsAtRest disk base (goal base puts (disk.reads old)) new)
+  pub stopped : IsTrue disk.tells → OnErr result (IsOneOf base puts (disk.reads old) (disk.reads new))
+  pub confined : IsTrue disk.tells → Confined disk (Among (is_own_or_target base puts)) old new
+  pub visible : IsTrue disk.tells → UnlessFailed disk old new (IsVisible base (disk.reads old) (goal base puts (disk.reads old)))
+  pub later : disk.faults old ≤ disk.faults new
+  pub failed : IsErrOf result Failed → Rose (disk.faults old) (disk.faults new)
+  pub stops : IfErr result IsDiskStop

@@ -12,11 +12,12 @@ use Rattle.tree_disk.specs.declared.disk.Look.{Look}
 use Rattle.tree_disk.specs.declared.disk.Look.TheVariants as look
 use Rattle.tree_disk.specs.Tree.{Name, Tree}
 use Rattle.tree_disk.specs.Disk.{DiskModel, HasRead}
+use Rattle.journal_log.specs.declared.put.Want.{Want}
 use Rattle.journal_log.specs.declared.put.Put.{Put}
-use Rattle.journal_log.specs.Own.{log}
 use Rattle.journal_log.specs.Targets.{is_target}
 use Rattle.tree_journal.specs.CanBePut.{AllCanBePut, IsClearBelow}
-use Rattle.tree_journal.specs.Recovery.{HoldsLog, IsFirstBlocked, HasBlockedLog, HasDamagedLog}
+use Rattle.tree_journal.specs.Recovery.{HoldsLog, IsStagedPath, IsFirstUnstaged, IsFirstBlocked, HasBlockedLog, IsDamagedAt}
+use Rattle.tree_journal.specs.Staging.{has_content, AllStaged}
 
 -- Why calls of a disk stop: a fault, or want of memory.
 abbrev pub IsFaultOr : Type 0 → Stop → Type 0
@@ -67,6 +68,11 @@ abbrev pub sees_one_byte : Look → Bool
 sees_one_byte (look.File mode size) = size == 1
 sees_one_byte _ = false
 
+-- whether a file of this size is seen
+abbrev pub sees_size : Look → ℕ → Bool
+sees_size (look.File mode size) wanted = size == wanted
+sees_size _ wanted = false
+
 -- the size of the file that is seen
 abbrev pub size_seen : Look → Option ℕ
 size_seen (look.File mode size) = Some size
@@ -77,20 +83,37 @@ abbrev pub FindsLog : Name → Tree → Option (List Put) → Type 0
 FindsLog base tree (Some puts) = HoldsLog base puts tree × ((others : List Put) → HoldsLog base others tree → others ≡ puts)
 FindsLog base tree None = (puts : List Put) → HoldsLog base puts tree → ⊥
 
+-- the staged file of a write, where it has one that doesn't stand with its size and SHA-1
+abbrev pub FindsContent : Name → Tree → Want → Option Name → Type 0
+FindsContent base tree wanted (Some path) = IsStagedPath base wanted path × (has_content base tree wanted ≡ false)
+FindsContent base tree wanted None = IsTrue (has_content base tree wanted)
+
+-- the first staged file that doesn't stand with its size and SHA-1
+abbrev pub FindsUnstaged : Name → List Put → Tree → Option Name → Type 0
+FindsUnstaged base puts tree (Some path) = IsFirstUnstaged base puts tree path
+FindsUnstaged base puts tree None = AllStaged base tree puts
+
 -- the first write that can't be put
 abbrev pub FindsBlocked : List Put → Tree → Option Name → Type 0
 FindsBlocked puts tree (Some path) = IsFirstBlocked puts tree path
 FindsBlocked puts tree None = AllCanBePut puts tree
 
+-- the log, which is whole, whose staged files stand, and which can be put
+pub record FindsReplayable (base : Name) (tree : Tree) (puts : List Put) : Type 0 where
+  pub holds : HoldsLog base puts tree
+  pub only : (others : List Put) → HoldsLog base others tree → others ≡ puts
+  pub stand : AllStaged base tree puts
+  pub can : AllCanBePut puts tree
+
 -- ---- how a recovery stops
 
 -- Why a recovery stops: the disk failed; memory ran out; the log behind a set commit flag has a write that can't be put,
--- or isn't whole. In the last two cases no node is changed.
+-- or this file of it is damaged. In the last two cases no node is changed.
 abbrev pub StopsSo : {D : Type 0} → DiskModel D → Name → D → D → Stop → Type 0
 StopsSo disk base old new Failed = Rose (disk.faults old) (disk.faults new)
 StopsSo disk base old new Memory = Unit {0}
 StopsSo disk base old new (Refused (refusal.Parent path)) = IsTrue disk.tells → HasBlockedLog base (disk.reads old) path × (disk.reads new ≡ disk.reads old)
 StopsSo disk base old new (Refused _) = ⊥
-StopsSo disk base old new (Damaged path) = IsTrue disk.tells → (path ≡ log base) × HasDamagedLog base (disk.reads old) × (disk.reads new ≡ disk.reads old)
+StopsSo disk base old new (Damaged path) = IsTrue disk.tells → IsDamagedAt base (disk.reads old) path × (disk.reads new ≡ disk.reads old)
 StopsSo disk base old new FarFailed = ⊥
 StopsSo disk base old new (FarDamaged path) = ⊥

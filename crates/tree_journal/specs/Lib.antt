@@ -1,6 +1,9 @@
 pub mod CanBePut
+pub mod Staging
 pub mod Recovery
-pub mod Apply
 pub mod Passes
+pub mod Visible
+pub mod Apply
 pub mod Steps
 pub mod Found
+pub mod Recovering

@@ -1,5 +1,5 @@
 -- What the steps of the journal make of a tree, and what they need.
-use Rattle.std.specs.Prelude.{◌≡◌, ◌⊎◌, ℕ, Bool, true, false, ◌||◌, IsTrue, List, Option, Some, codes}
+use Rattle.std.specs.Prelude.{◌≡◌, ◌⊎◌, ℕ, Bool, true, false, ◌||◌, not, IsTrue, List, [], ◌∷◌, Option, Some, codes}
 use Rattle.cny_base.specs.Path.{parent}
 use Rattle.cny_base.specs.declared.node.Node.{Node}
 use Rattle.cny_base.specs.declared.node.Node.TheVariants as node
@@ -9,44 +9,78 @@ use Rattle.tree_disk.specs.Clear.{is_within, without_tree}
 use Rattle.tree_disk.specs.Disk.{DiskModel}
 use Rattle.tree_disk.specs.Confined.{IsSynced}
 use Rattle.journal_log.specs.declared.put.Put.{Put}
-use Rattle.journal_log.specs.Own.{gate, log, StoresSame}
-use Rattle.journal_log.specs.Targets.{is_target, with_targets}
+use Rattle.journal_log.specs.declared.put.Want.{Want}
+use Rattle.journal_log.specs.declared.put.Want.TheVariants as want
+use Rattle.journal_log.specs.Own.{gate, log, work, staged, staged_file, StoresSame}
+use Rattle.journal_log.specs.Staged.{names_staged_at}
+use Rattle.journal_log.specs.Targets.{is_target}
+use Rattle.std.specs.List.{filter}
+use Rattle.tree_disk.specs.Tree.{children}
+use Rattle.tree_disk.specs.Clear.{without_each}
+use Rattle.tree_journal.specs.Staging.{outcome}
 use Rattle.tree_journal.specs.Recovery.{is_committed, HoldsLog, RecoversTo}
 use Rattle.tree_journal.specs.Apply.{with_base}
-use Rattle.tree_journal.specs.Passes.{CanReplay}
+use Rattle.tree_journal.specs.Passes.{CanReplay, all_put}
 
 -- the tree with a file of mode 0600 in place of all that stood at the path
 abbrev pub with_own_file : Name → List ℕ → Tree → Tree
 with_own_file path bytes tree = put (without_tree tree path) path (Some (node.File 384 bytes))
 
--- the base is a directory, and the log holds these bytes
-abbrev pub with_log : Name → List ℕ → Tree → Tree
-with_log base bytes tree = with_own_file (log base) bytes (with_base base tree)
+-- ---- staging
+
+-- none of the writes takes its bytes from a file of this last name
+abbrev pub is_stray : List Put → List ℕ → Bool
+is_stray puts last = not (names_staged_at puts last)
+
+-- of these names directly below a path, those that no write names are gone, with all below them
+abbrev pub without_strays : List Put → Name → List (List ℕ) → Tree → Tree
+without_strays puts dir names tree = without_each tree dir (filter (is_stray puts) names)
+
+-- the directory of staged bytes stands, and no name below it but those that writes name
+abbrev pub with_stage : Name → List Put → Tree → Tree
+with_stage dir puts tree = without_strays puts dir (children (with_base dir tree) dir) (with_base dir tree)
+
+-- the bytes of a file stand in the staged file that its numbered write names
+abbrev pub with_bytes : Name → Want → Want → Tree → Tree
+with_bytes base (want.File mode bytes) (want.Staged m number size name) tree = with_own_file (staged_file base number) bytes tree
+with_bytes base wanted numbered tree = tree
+
+-- the same for all writes
+abbrev pub with_all_bytes : Name → List Put → List Put → Tree → Tree
+with_all_bytes base [] numbered tree = tree
+with_all_bytes base (p ∷ puts) [] tree = tree
+with_all_bytes base (p ∷ puts) (n ∷ numbered) tree = with_all_bytes base puts numbered (with_bytes base p.want n.want tree)
+
+abbrev pub with_staged : Name → List Put → List Put → Tree → Tree
+with_staged base puts numbered tree = with_all_bytes base puts numbered (with_stage (staged base) puts tree)
+
+-- the base is a directory, the bytes of files are staged, and the log holds these bytes
+abbrev pub with_log : Name → List Put → List Put → List ℕ → Tree → Tree
+with_log base puts numbered bytes tree = with_own_file (log base) bytes (with_staged base puts numbered (with_base base tree))
+
+-- ---- the commit
 
 -- the commit flag is set
 abbrev pub with_flag : Name → Tree → Tree
 with_flag base tree = with_own_file (gate base) (codes "O") tree
 
--- all targets stand, and the commit flag is gone
+-- all targets stand, nothing at the work name, and the commit flag is gone
 abbrev pub replayed : Name → List Put → Tree → Tree
-replayed base puts tree = without (with_targets puts tree) (gate base)
+replayed base puts tree = without (all_put base puts tree) (gate base)
 
 abbrev pub committed : Name → List Put → Tree → Tree
 committed base puts tree = replayed base puts (with_flag base tree)
-
-abbrev pub applied : Name → List ℕ → List Put → Tree → Tree
-applied base bytes puts tree = committed base puts (with_log base bytes tree)
 
 -- a file or a link
 abbrev pub IsOther : Option Node → Type 0
 IsOther node = (is_file node ≡ true) ⊎ (is_link node ≡ true)
 
 -- the names of these steps
-abbrev pub is_base_or_log : Name → Name → Bool
-is_base_or_log base q = same_name q base || is_within (log base) q
+abbrev pub is_log_or_staged : Name → Name → Bool
+is_log_or_staged base q = same_name q base || (is_within (log base) q || is_within (staged base) q)
 
-abbrev pub is_gate_or_target : Name → List Put → Name → Bool
-is_gate_or_target base puts q = is_within (gate base) q || is_target puts q
+abbrev pub is_replay_name : Name → List Put → Name → Bool
+is_replay_name base puts q = is_within (gate base) q || (is_within (work base) q || is_target puts q)
 
 -- a disk on which a log may be written: its commit flag isn't set, also after a crash
 pub record CanPrepare {D : Type 0} (disk : DiskModel D) (base : Name) (d : D) : Type 0 where
@@ -57,8 +91,7 @@ pub record CanPrepare {D : Type 0} (disk : DiskModel D) (base : Name) (d : D) : 
 -- a whole log that can be put stands below the base
 pub record HasLog (base : Name) (puts : List Put) (tree : Tree) : Type 0 where
   pub holds : HoldsLog base puts tree
-  pub can : CanReplay puts tree
-  pub base_stands : IsTrue (is_dir_at tree base)
+  pub can : CanReplay base puts tree
 
 -- such a log, a commit flag that isn't set, and a crash leaves this
 pub record IsPrepared {D : Type 0} (disk : DiskModel D) (base : Name) (puts : List Put) (d : D) : Type 0 where
@@ -74,4 +107,4 @@ pub record IsCommitted {D : Type 0} (disk : DiskModel D) (base : Name) (puts : L
 
 -- The commit flag isn't set and the image stores the same as the tree, or it recovers to the tree with all targets.
 abbrev pub IsOldOrNew : Name → List Put → Tree → Tree → Type 0
-IsOldOrNew base puts tree image = ((is_committed base image ≡ false) × StoresSame base image tree) ⊎ RecoversTo base image (with_targets puts tree)
+IsOldOrNew base puts tree image = ((is_committed base image ≡ false) × StoresSame base image tree) ⊎ RecoversTo base image (outcome base puts tree)

@@ -140,8 +140,8 @@ fn are_names_clear<D: TreeDisk>(
     Ok(true)
 }
 
-// The path of a name directly below another.
-fn child_of(alloc: Global, path: &Path, last: &str) -> Result<Path, Stop>
+/// The path of a name directly below another.
+pub fn child_of(alloc: Global, path: &Path, last: &str) -> Result<Path, Stop>
     requires path { IsTrue (is_path path.now) }
     requires not_root { path.now ≢ root }
     requires child { IsTrue (is_path (join path.now last.now)) }

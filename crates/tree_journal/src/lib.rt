@@ -2,11 +2,15 @@
 #![tactic(auto)]
 
 mod blocked;
+mod copying;
 mod flag;
 mod found;
+mod moving;
 mod passes;
 mod recovery;
 mod replay;
+mod staging;
+mod unstaged;
 mod writing;
 
 pub use journal_log::{Put, Puts, Want};

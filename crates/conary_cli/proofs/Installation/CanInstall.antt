@@ -1,6 +1,6 @@
 -- After the tests the writes of the new items may be applied.
 use Rattle.std.proofs.Common.{◌≡◌, ◌≢◌, ◌⊎◌, inl, inr, ⊎_elim, Bool, true, false, cond, List, [], ◌∷◌, Option, Some, None, Result, Ok, Err, refl, sym, ap, ◌∙◌, subst, codes}
-use Rattle.std.specs.Prelude.{not, is_some, ◌&&◌}
+use Rattle.std.specs.Prelude.{IsTrue, not, is_some, ◌&&◌}
 use Rattle.std.proofs.Common.{arith}
 use Rattle.std.specs.List.{All, AllByRecursion, find, list_all}
 use Rattle.std.specs.FinMap.{get, keys, contains_key-keys}
@@ -24,22 +24,23 @@ use Rattle.tree_disk.specs.Clear.{is_within}
 use Rattle.tree_disk.specs.ClearLaws.{or_cases, or_left, or_right, within_join_below}
 use Rattle.tree_disk.specs.Disk.{DiskModel}
 use Rattle.journal_log.specs.declared.put.Put.{Put}
-use Rattle.journal_log.specs.Own.{gate, log, work, staged, is_own, is_own_file}
+use Rattle.journal_log.specs.Own.{gate, log, work, staged, is_own, is_own_file, StoresSame}
 use Rattle.journal_log.specs.Targets.{is_target, with_targets}
 use Rattle.journal_log.specs.WriteSet.{CanBeNamed}
 use Rattle.tree_journal.specs.CanBePut.{HasWay, IsClearBelow, CanBePut, AllCanBePut}
-use Rattle.tree_journal.specs.Apply.{with_base, CanApply}
+use Rattle.tree_journal.specs.Apply.{with_base, goal, CanApply}
+use Rattle.tree_journal.specs.Staging.{has_content, AllStaged}
 use Rattle.conary_cli.specs.declared.manifest.types.Item.{Item}
 use Rattle.conary_cli.specs.FixedDirs.{◌>>=◌, dir_at, fixed_dirs}
 use Rattle.conary_cli.specs.ManifestForm.{Rise, IsItem}
 use Rattle.conary_cli.specs.Install.{with_items, lacks_parent, none_of, parents, is_forbidden_item, reserved, unowned, checks}
-use Rattle.conary_cli.specs.NewPuts.{new_puts}
+use Rattle.conary_cli.specs.NewPuts.{want_of, new_puts}
 use Rattle.conary_cli.specs.OnRoot.{IsReady}
 use Rattle.conary_cli.specs.Recovered.{base}
 use Rattle.conary_cli.proofs.Installation.FirstNames.{is_listed, found_none, differ}
 use Rattle.conary_cli.proofs.Installation.ItemParents.{paths_of, item_stands}
 use Rattle.conary_cli.proofs.Installation.WithItems.{node_among, some_stays, none_adds}
-use Rattle.conary_cli.proofs.Installation.NewItems.{new_each, new_elsewhere, with_new_puts, outside_targets, targets_elsewhere, neither}
+use Rattle.conary_cli.proofs.Installation.NewItems.{new_each, new_elsewhere, new_resolved, with_new_puts, outside_targets, targets_elsewhere, neither}
 
 -- ---- tests
 
@@ -244,14 +245,29 @@ not_own q path free = ⊎_elim (λ own. absurd (by (or_cases (same_name q base) 
 
 -- ---- the writes
 
+bases_elsewhere : (t : Tree) (items some : List Item) → AllByRecursion (IsTested t items) some → AllByRecursion (λ item. same_name base item.path ≡ false) some
+bases_elsewhere t items [] all = tt
+bases_elsewhere t items (item ∷ some) all = (base_not item.path all.0.unreserved, bases_elsewhere t items some all.1)
+
+base_no_target : (t : Tree) (items : List Item) → AllByRecursion (IsTested t items) items → is_target (new_puts t items) base ≡ false
+base_no_target t items tested = new_elsewhere t items base (bases_elsewhere t items items tested)
+
+-- none takes its bytes from a staged file
+stands_any : (t : Tree) (n : Node) → has_content base t (want_of n) ≡ true
+stands_any t (node.Dir mode) = refl
+stands_any t (node.File mode bytes) = refl
+stands_any t (node.Link target) = refl
+
+goal_tested : (t : Tree) (items : List Item) → Rise [] items → AllByRecursion (IsTested t items) items → goal base (new_puts t items) t ≡ with_base base (with_items t items)
+goal_tested t items rise tested =
+    ap (λ (l : List Put). with_targets l (with_base base t)) (new_resolved t (with_base base t) items)
+    ∙ with_base_after (new_puts t items) t (base_no_target t items tested)
+    ∙ ap (with_base base) (with_new_puts t items rise)
+
 module _ (t : Tree) (items : List Item) (well : WellFormed t) (path : is_path base ≡ true) (lib : is_dir_at t (parent base) ≡ true)
     (rise : Rise [] items) (tested : AllByRecursion (IsTested t items) items) (formed : WellFormed (with_items t items)) where
-  bases_elsewhere : (some : List Item) → AllByRecursion (IsTested t items) some → AllByRecursion (λ item. same_name base item.path ≡ false) some
-  bases_elsewhere [] all = tt
-  bases_elsewhere (item ∷ some) all = (base_not item.path all.0.unreserved, bases_elsewhere some all.1)
-
-  base_no_target : is_target (new_puts t items) base ≡ false
-  base_no_target = new_elsewhere t items base (bases_elsewhere items tested)
+  all_staged : AllStaged base t (new_puts t items)
+  all_staged = All-from_recursion (λ p. IsTrue (has_content base t p.want)) (new_puts t items) (new_each (λ p. IsTrue (has_content base t p.want)) (IsTested t items) t items (λ item is empty. stands_any t item.node) tested)
 
   named : All (λ p. CanBeNamed base p.path) (new_puts t items)
   named = All-from_recursion (λ p. CanBeNamed base p.path) (new_puts t items) (new_each (λ p. CanBeNamed base p.path) (IsTested t items) t items
@@ -275,9 +291,8 @@ module _ (t : Tree) (items : List Item) (well : WellFormed t) (path : is_path ba
   can = All-from_recursion (CanBePut (new_puts t items) (with_base base t)) (new_puts t items) (new_each (CanBePut (new_puts t items) (with_base base t)) (IsTested t items) t items
       (λ item is empty. record { above = way item is; below = λ no_dir. clear item is empty }) tested)
 
-  whole_well_formed : WellFormed (with_targets (new_puts t items) (with_base base t))
-  whole_well_formed = subst WellFormed
-      (sym (with_base_after (new_puts t items) t base_no_target ∙ ap (with_base base) (with_new_puts t items rise)))
+  whole_well_formed : WellFormed (goal base (new_puts t items) t)
+  whole_well_formed = subst WellFormed (sym (goal_tested t items rise tested))
       (with_base_well_formed (with_items t items) formed path (dir_stays t items (parent base) lib))
 
 -- where all tests have passed on a ready root, the writes of the new items may be applied
@@ -295,6 +310,14 @@ can_install disk d items path ready well all nodes rise ok =
       flag_clear = ready.flag_clear;
       flag_synced = ready.synced (gate base);
       named = named t items well path lib rise tested formed;
+      stand = all_staged t items well path lib rise tested formed;
       can = can t items well path lib rise tested formed;
       well_formed = whole_well_formed t items well path lib rise tested formed;
     }
+
+-- where they have passed, the tree with all targets stores the same as the tree with the items
+pub goal_stores : (t : Tree) (items : List Item) → AllByRecursion IsItem items → Rise [] items → checks t items ≡ Ok tt → StoresSame base (goal base (new_puts t items) t) (with_items t items)
+goal_stores t items all rise ok q out =
+    let free = passed (λ (item : Item). refusal.Reserved item.path) (find is_forbidden_item items) (first_of (reserved items) (unowned t items >>= λ _. parents (with_items t items)) ok) in
+    let tested = all_tested t items items all free (item_listed t items) in
+    ap (λ (u : Tree). get u q) (goal_tested t items rise tested) ∙ with_base_else (with_items t items) q (neither (same_name q base) (is_own_file base q) out).0

@@ -6,6 +6,7 @@ use Rattle.cny_flow.specs.Flow.{SourceModel}
 use Rattle.tree_disk.specs.Tree.{Tree, AgreesOutside}
 use Rattle.tree_disk.specs.Disk.{DiskModel, IsDisk}
 use Rattle.tree_disk.specs.Confined.{LeavesOnly}
+use Rattle.tree_disk.specs.Unfailed.{UnlessFailed}
 use Rattle.journal_log.specs.Own.{is_own}
 use Rattle.conary_cli.specs.declared.failure.Failure.{Failure}
 use Rattle.conary_cli.specs.declared.failure.Failure.TheVariants as failure
@@ -17,6 +18,7 @@ use Rattle.conary_cli.specs.Install.{read_manifest, installs, install_outcome, i
 use Rattle.conary_cli.specs.OnRoot.{IsReady, Acted, ActsOnRoot, IsBeforeOrEffect}
 use Rattle.conary_cli.specs.ReadManifest.{manifest_in, ReadsManifest}
 use Rattle.conary_cli.specs.Ready.{StandsReady, PerformsReady}
+use Rattle.conary_cli.specs.Readers.{IsShown}
 use Rattle.conary_cli.specs.Recovered.{base}
 use Rattle.conary_cli.proofs.WholeCall.InputEnds.{some_map, ReadsFirst, StopsAs, read_stopped}
 
@@ -73,6 +75,7 @@ module _ {I D : Type 0} (source : SourceModel I) (disk : DiskModel D) (laws : Is
       input_later = later;
       root_later = acts.later;
       any_moment = λ told. some_map (source.left input) (λ all h. subst (λ (o : Result Effect Refusal). LeavesOnly disk root root' (IsBeforeOrEffect (Equals o) (disk.reads root))) (sym (outcome_is told all h.0)) (acts.any_moment told)) reads;
+      seen = λ told. some_map (source.left input) (λ all h. subst (λ (o : Result Effect Refusal). UnlessFailed disk root root' (IsShown (Equals o) (disk.reads root))) (sym (outcome_is told all h.0)) (acts.seen told)) reads;
       outside = λ told. some_map (source.left input) (λ all h. subst (λ (r : Result Manifest Refusal). AgreesOutside (λ p. is_own base p || names_in r p) (disk.reads root') (disk.reads root)) (sym (manifest_read all bytes h.0 ∙ found)) (acts.outside told)) reads;
       rests = acts.rests;
       stands = stands_by s acts.acted;

@@ -1,20 +1,23 @@
 -- What an installation does on a ready root.
-use Rattle.std.proofs.Common.{◌≡◌, ⊎_elim, ℕ, ◌≤◌, Bool, true, false, List, [], ◌∷◌, Result, Ok, Err, sym, ap, ◌∙◌, subst, inl, inr, arith}
+use Rattle.std.proofs.Common.{◌≡◌, ⊎_elim, ℕ, ◌≤◌, Bool, true, false, List, [], ◌∷◌, Option, Result, Ok, Err, sym, ap, ◌∙◌, subst, inl, inr, arith}
 use Rattle.std.specs.Prelude.{IsTrue, ◌||◌}
 use Rattle.std.specs.List.{AllByRecursion, list_all}
 use Rattle.std.specs.FinMap.{get}
+use Rattle.cny_base.specs.declared.node.Node.{Node}
 use Rattle.cny_base.specs.declared.refusal.Refusal.{Refusal}
 use Rattle.tree_disk.specs.Tree.{Name, Tree, same_name, is_node, AgreesOutside}
 use Rattle.tree_disk.specs.Disk.{DiskModel, IsDisk, IsImageOf, HasRead}
 use Rattle.tree_disk.specs.Confined.{LeavesOnly}
 use Rattle.tree_disk.specs.ConfinedLaws.{leaves_step, leaves_then, leaves_weaker}
 use Rattle.tree_disk.specs.Laws.{only_reads}
+use Rattle.tree_disk.specs.Unfailed.{unfailed_then, unfailed_weaker}
 use Rattle.tree_disk.specs.Moments.{rose_before, same_on, same_images, time_on}
 use Rattle.journal_log.specs.declared.put.Put.{Put}
 use Rattle.journal_log.specs.Own.{is_own, StoresSame}
-use Rattle.journal_log.specs.Targets.{is_target, with_targets}
-use Rattle.tree_journal.specs.Apply.{CanApply, IsBeforeOrAfter, IsOneOf, is_own_or_target}
+use Rattle.journal_log.specs.Targets.{is_target}
+use Rattle.tree_journal.specs.Apply.{goal, CanApply, IsBeforeOrAfter, IsOneOf, is_own_or_target}
 use Rattle.tree_journal.specs.Recovery.{is_committed, RecoversTo}
+use Rattle.tree_journal.specs.Visible.{ShowsNode, IsVisible}
 use Rattle.conary_cli.specs.declared.failure.Failure.{Failure}
 use Rattle.conary_cli.specs.declared.failure.Failure.TheVariants as failure
 use Rattle.conary_cli.specs.declared.manifest.types.Item.{Item}
@@ -25,11 +28,13 @@ use Rattle.conary_cli.specs.Install.{checks, installed_line, installs, is_named,
 use Rattle.conary_cli.specs.ManifestForm.{IsManifest}
 use Rattle.conary_cli.specs.NewPuts.{new_puts}
 use Rattle.conary_cli.specs.OnRoot.{Checked, ChecksRoot, Found, SearchesRoot, Applied, AppliesRoot, IsReady, Rests, Acted, IsBeforeOrEffect, ActsOnRoot}
+use Rattle.conary_cli.specs.Readers.{IsShown}
 use Rattle.conary_cli.specs.Recovered.{base}
-use Rattle.conary_cli.proofs.ReadyRoot.Applied.{recovers_itself}
-use Rattle.conary_cli.proofs.Installation.CanInstall.{can_install}
+use Rattle.conary_cli.proofs.ReadyRoot.Applied.{recovers_itself, recovers_on}
+use Rattle.conary_cli.proofs.Installation.CanInstall.{can_install, goal_stores}
 use Rattle.conary_cli.proofs.ReadyRoot.FixedPaths.{directory_path}
-use Rattle.conary_cli.proofs.Installation.NewItems.{new_elsewhere, with_new_puts, neither, or_none}
+use Rattle.conary_cli.proofs.ReadyRoot.Shown.{read_shown}
+use Rattle.conary_cli.proofs.Installation.NewItems.{new_elsewhere, neither, or_none}
 
 -- a name that isn't that of an item
 unnamed : (items : List Item) (p : Name) → is_named items p ≡ false → AllByRecursion (λ item. same_name p item.path ≡ false) items
@@ -96,6 +101,7 @@ module _ {D : Type 0} {disk : DiskModel D} (laws : IsDisk disk) where
   acts_read {outcome = outcome} {old = old} {new = new} f later read ready acted = record {
     later = later;
     any_moment = λ told. read_leaves (Equals (outcome (disk.reads old))) (read told) (ready told);
+    seen = λ told. unfailed_weaker (λ t is. inl is) (read_shown laws (read told));
     outside = λ told p other. ap (λ (t : Tree). get t p) (read told).same.reads;
     rests = λ told. rests_any new (Err f) (ready_on (read told) (ready told));
     acted = acted;
@@ -158,11 +164,13 @@ module _ {D : Type 0} {disk : DiskModel D} (laws : IsDisk disk) where
       (can_install disk mid m.items directory_path (ready_on b.read ready) (laws.reads_well_formed mid) valid.items nodes valid.rise (ap (λ (t : Tree). checks t m.items) same ∙ b.passed))
 
   module _ (m : Manifest) (puts : List Put) (old mid new : D) (valid : IsManifest m) where
-    targets_are : IsBegun disk m.items puts old mid → with_targets puts (disk.reads mid) ≡ with_items (disk.reads old) m.items
-    targets_are b = ap (λ (ps : List Put). with_targets ps (disk.reads mid)) b.writes ∙ ap (with_targets (new_puts (disk.reads old) m.items)) b.read.same.reads ∙ with_new_puts (disk.reads old) m.items valid.rise
+    targets_are : IsBegun disk m.items puts old mid → StoresSame base (goal base puts (disk.reads mid)) (with_items (disk.reads old) m.items)
+    targets_are b q out =
+        ap (λ (t : Tree). get t q) (ap (λ (ps : List Put). goal base ps (disk.reads mid)) b.writes ∙ ap (goal base (new_puts (disk.reads old) m.items)) b.read.same.reads)
+        ∙ goal_stores (disk.reads old) m.items valid.items valid.rise b.passed q out
 
-    to_effect : IsBegun disk m.items puts old mid → (tree : Tree) → RecoversTo base tree (with_targets puts (disk.reads mid)) → IsBeforeOrEffect (Equals (installs m (disk.reads old))) (disk.reads old) tree
-    to_effect b tree r = inr (record { effect = effect m (disk.reads old); is = outcome_is m (disk.reads old) b.passed; recovers = subst (RecoversTo base tree) (targets_are b) r })
+    to_effect : IsBegun disk m.items puts old mid → (tree : Tree) → RecoversTo base tree (goal base puts (disk.reads mid)) → IsBeforeOrEffect (Equals (installs m (disk.reads old))) (disk.reads old) tree
+    to_effect b tree r = inr (record { effect = effect m (disk.reads old); is = outcome_is m (disk.reads old) b.passed; recovers = recovers_on r (targets_are b) })
 
     one_of : IsBegun disk m.items puts old mid → (tree : Tree) → IsOneOf base puts (disk.reads mid) tree → IsBeforeOrEffect (Equals (installs m (disk.reads old))) (disk.reads old) tree
     one_of b tree h = ⊎_elim (λ r. inl (subst (RecoversTo base tree) b.read.same.reads r)) (λ r. to_effect b tree r) h
@@ -171,6 +179,15 @@ module _ {D : Type 0} {disk : DiskModel D} (laws : IsDisk disk) where
     moment_of ready b image h = ⊎_elim
         (λ was. inl (subst (RecoversTo base image) (only_reads laws mid (ready_on b.read ready).synced was.0 was.1 ∙ b.read.same.reads) was.2))
         (λ r. to_effect b image r) h
+
+    shown_of : IsBegun disk m.items puts old mid → (t : Tree) → IsVisible base (disk.reads mid) (goal base puts (disk.reads mid)) t → IsShown (Equals (installs m (disk.reads old))) (disk.reads old) t
+    shown_of b t seen = inr (
+      effect m (disk.reads old),
+      outcome_is m (disk.reads old) b.passed,
+      λ q out.
+          subst (λ (u : Tree). ShowsNode (get u q) (get (with_items (disk.reads old) m.items) q) (get t q)) b.read.same.reads
+          (subst (λ (o : Option Node). ShowsNode (get (disk.reads mid) q) o (get t q)) (targets_are b q out) (seen q out)),
+    )
 
     outside_of : IsBegun disk m.items puts old mid → AgreesOutside (is_own_or_target base puts) (disk.reads new) (disk.reads mid) → AgreesOutside (λ p. is_own base p || is_named m.items p) (disk.reads new) (disk.reads old)
     outside_of b agrees p other =
@@ -190,7 +207,7 @@ module _ {D : Type 0} {disk : DiskModel D} (laws : IsDisk disk) where
       effect = effect m (disk.reads old);
       is = outcome_is m (disk.reads old) (b told).passed;
       answered = sym line;
-      stores = subst (StoresSame base (disk.reads new)) (targets_are (b told)) (a told).stores;
+      stores = λ p out. (a told).stores p out ∙ targets_are (b told) p out;
     }
     acted_applied (Err failure.RootFault) out line le b a = (rose_before (disk.faults old) (disk.faults mid) (disk.faults new) le a.0, λ told. one_of (b told) (disk.reads new) (a.1 told))
     acted_applied (Err failure.Memory) out line le b a = λ told. one_of (b told) (disk.reads new) (a told)
@@ -202,6 +219,7 @@ module _ {D : Type 0} {disk : DiskModel D} (laws : IsDisk disk) where
     acts_applied s out line le ready b a = record {
       later = omega (arith, le, a.later);
       any_moment = λ told. leaves_then (read_leaves (Equals (installs m (disk.reads old))) (b told).read (ready told)) (leaves_weaker (moment_of (ready told) (b told)) (a.any_moment told));
+      seen = λ told. unfailed_then le a.later (unfailed_weaker (λ t is. inl is) (read_shown laws (b told).read)) (unfailed_weaker (shown_of (b told)) (a.seen told));
       outside = λ told. outside_of (b told) (a.outside told);
       rests = λ told. rests_applied s out told a.applied;
       acted = acted_applied s out line le b a.applied;

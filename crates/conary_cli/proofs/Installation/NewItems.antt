@@ -1,5 +1,5 @@
 -- The writes of the items that are new, and the tree with them.
-use Rattle.std.proofs.Common.{◌≡◌, Bool, true, false, cond, List, [], ◌∷◌, ◌++◌, Option, Some, None, refl, sym, ap, ◌∙◌}
+use Rattle.std.proofs.Common.{map, ◌≡◌, Bool, true, false, cond, List, [], ◌∷◌, ◌++◌, Option, Some, None, refl, sym, ap, ◌∙◌}
 use Rattle.std.specs.Prelude.{not, is_some, ◌||◌}
 use Rattle.std.specs.List.{AllByRecursion, cons_option}
 use Rattle.std.specs.FinMap.{get}
@@ -12,12 +12,15 @@ use Rattle.tree_disk.specs.Tree.{Name, Tree, same_name, put}
 use Rattle.tree_disk.specs.Rows.{is_empty_at}
 use Rattle.tree_disk.specs.Laws.{get_put, get_put_other, same_means, same_tree}
 use Rattle.journal_log.specs.declared.put.Put.{Put}
+use Rattle.journal_log.specs.declared.put.Want.{Want}
 use Rattle.journal_log.specs.Targets.{node_of, is_target, with_targets}
 use Rattle.journal_log.specs.WriteSet.{Rises, ComesBefore}
 use Rattle.conary_cli.specs.declared.manifest.types.Item.{Item}
 use Rattle.conary_cli.specs.ManifestForm.{Rise}
 use Rattle.conary_cli.specs.Install.{with_items}
+use Rattle.tree_journal.specs.Staging.{resolved, resolve}
 use Rattle.conary_cli.specs.NewPuts.{want_of, put_of, new_put, new_puts}
+use Rattle.conary_cli.specs.Recovered.{base}
 use Rattle.conary_cli.proofs.Installation.FirstNames.{Before, is_before, differ}
 use Rattle.conary_cli.proofs.Installation.ItemParents.{above, not_among, paths_of}
 use Rattle.conary_cli.proofs.Installation.WithItems.{node_among, or_else, get_with_items}
@@ -119,6 +122,23 @@ get_new t last (item ∷ items) q rise u = by (is_empty_at t item.path) refl (ge
         (get_put u item.path (node_of (want_of item.node)) q ∙ ap (λ (n : Option Node). cond (same_name q item.path) n (get u q)) (wanted item.node))
         ∙ new (same_name q item.path) (is_empty_at t q) is refl refl
     by false is rest = rest u ∙ old (is_empty_at t q) (same_name q item.path) is refl refl
+
+-- the write of an item takes no bytes from a staged file
+resolved_want : (u : Tree) (n : Node) → resolved base u (want_of n) ≡ want_of n
+resolved_want u (node.Dir mode) = refl
+resolved_want u (node.File mode bytes) = refl
+resolved_want u (node.Link target) = refl
+
+pub new_resolved : (t u : Tree) (items : List Item) → map (resolve base u) (new_puts t items) ≡ new_puts t items
+new_resolved t u [] = refl
+new_resolved t u (item ∷ items) = by (is_empty_at t item.path) (new_resolved t u items)
+  where
+    by : (b : Bool) → map (resolve base u) (new_puts t items) ≡ new_puts t items
+        → map (resolve base u) (cons_option (cond b (Some (put_of item)) None) (new_puts t items)) ≡ cons_option (cond b (Some (put_of item)) None) (new_puts t items)
+    by true rest =
+        ap (λ (w : Want). record { path = item.path; want = w } ∷ map (resolve base u) (new_puts t items)) (resolved_want u item.node)
+        ∙ ap (λ (l : List Put). put_of item ∷ l) rest
+    by false rest = rest
 
 whole : (o n : Option Node) → cond (not (is_some o)) (or_else n o) o ≡ or_else o n
 whole None None = refl

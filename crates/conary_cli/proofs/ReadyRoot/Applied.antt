@@ -9,11 +9,12 @@ use Rattle.tree_disk.specs.Disk.{DiskModel, IsDisk, IsImageOf}
 use Rattle.tree_disk.specs.Confined.{Among, Confined, LeavesOnly}
 use Rattle.tree_disk.specs.ConfinedLaws.{outside_among}
 use Rattle.tree_disk.specs.Steps.{IsDiskStop}
+use Rattle.tree_disk.specs.Unfailed.{UnlessFailed, unfailed_start}
 use Rattle.journal_log.specs.declared.put.Put.{Put}
-use Rattle.journal_log.specs.Own.{gate}
-use Rattle.journal_log.specs.Targets.{with_targets}
-use Rattle.tree_journal.specs.Apply.{CanApply, IsAtRest, IsBeforeOrAfter, IsOneOf, is_own_or_target}
-use Rattle.tree_journal.specs.Recovery.{is_flag, is_committed, RecoversTo, at_rest}
+use Rattle.journal_log.specs.Own.{gate, StoresSame}
+use Rattle.tree_journal.specs.Apply.{goal, CanApply, IsAtRest, IsBeforeOrAfter, IsOneOf, is_own_or_target}
+use Rattle.tree_journal.specs.Recovery.{is_flag, is_committed, RecoversTo, at_rest, by_log}
+use Rattle.tree_journal.specs.Visible.{IsVisible}
 use Rattle.conary_cli.specs.declared.failure.Failure.{Failure}
 use Rattle.conary_cli.specs.declared.failure.Failure.TheVariants as failure
 use Rattle.conary_cli.specs.OnRoot.{root_result, Applied, AppliesRoot}
@@ -22,7 +23,8 @@ use Rattle.conary_cli.specs.Recovered.{base}
 -- the clauses of `apply`
 pub record Application {D : Type 0} (disk : DiskModel D) (directory : Name) (puts : List Put) (old new : D) (r : Result (Unit {0}) Stop) : Type 0 where
   pub any_moment : IsTrue disk.tells → LeavesOnly disk old new (IsBeforeOrAfter disk directory puts old)
-  pub applied : IsTrue disk.tells → OnOk r (IsAtRest disk directory (with_targets puts (disk.reads old)) new)
+  pub visible : IsTrue disk.tells → UnlessFailed disk old new (IsVisible directory (disk.reads old) (goal directory puts (disk.reads old)))
+  pub applied : IsTrue disk.tells → OnOk r (IsAtRest disk directory (goal directory puts (disk.reads old)) new)
   pub stopped : IsTrue disk.tells → OnErr r (IsOneOf directory puts (disk.reads old) (disk.reads new))
   pub confined : IsTrue disk.tells → Confined disk (Among (is_own_or_target directory puts)) old new
   pub later : disk.faults old ≤ disk.faults new
@@ -39,9 +41,15 @@ pub puts_applied : {D : Type 0} {disk : DiskModel D} {puts : List Put} {old new 
 puts_applied {disk = disk} {puts = puts} {old = old} {new = new} r s a is = subst (AppliesRoot disk puts old new) (sym is) (record {
   later = a.later;
   any_moment = a.any_moment;
+  seen = a.visible;
   outside = λ told. outside_among (is_own_or_target base puts) (disk.reads new) (disk.reads old) (a.confined told).reads;
   applied = applied_on r a;
 })
+
+-- what stores the same is recovered to as well
+pub recovers_on : {image t u : Tree} → RecoversTo base image t → StoresSame base t u → RecoversTo base image u
+recovers_on (at_rest clear stores) same = at_rest clear (λ p out. stores p out ∙ same p out)
+recovers_on (by_log set puts holds stand can stores) same = by_log set puts holds stand can (λ p out. stores p out ∙ same p out)
 
 -- where the commit flag isn't set a tree recovers to itself
 pub recovers_itself : (t : Tree) → is_committed base t ≡ false → RecoversTo base t t
@@ -57,6 +65,7 @@ puts_waiting {D = D} {disk = disk} laws puts d can = record {
     before = λ k image le since. inl since;
     kept = λ k image le since. since;
   };
+  seen = λ told. unfailed_start d (IsVisible base (disk.reads d) (goal base puts (disk.reads d)));
   outside = λ told p out. refl;
   applied = λ told. inl (recovers_itself (disk.reads d) (can told).flag_clear);
 }

@@ -1,9 +1,9 @@
 -- The fixed directories of a recovered root.
 use Rattle.std.proofs.Common.{◌≡◌, Bool, true, false, cond, List, [], ◌∷◌, Option, Some, None, Result, Ok, Err, refl, sym, ap, ◌∙◌, codes}
-use Rattle.std.specs.Prelude.{IsTrue, ◌||◌, is_some}
+use Rattle.std.specs.Prelude.{IsTrue, ◌||◌, is_some, map}
 use Rattle.std.specs.List.{All}
 use Rattle.std.specs.FinMap.{get}
-use Rattle.std.proofs.lemmas.List.Elements.{All-head, All-tail, All-weaker}
+use Rattle.std.proofs.lemmas.List.Elements.{All-head, All-tail, All-weaker, All-map}
 use Rattle.cny_base.specs.Below.{is_below}
 use Rattle.cny_base.specs.Path.{is_path}
 use Rattle.cny_base.specs.declared.node.Node.{Node}
@@ -18,6 +18,7 @@ use Rattle.journal_log.specs.Own.{gate, is_own}
 use Rattle.journal_log.specs.Targets.{is_dir_want, node_of, is_target, with_targets}
 use Rattle.journal_log.specs.WriteSet.{CanBeNamed}
 use Rattle.tree_journal.specs.CanBePut.{CanBePut, AllCanBePut}
+use Rattle.tree_journal.specs.Staging.{resolved, resolve, outcome}
 use Rattle.tree_journal.specs.Recovery.{is_flag, is_committed, RecoversTo, at_rest, by_log}
 use Rattle.conary_cli.specs.FixedDirs.{◌>>=◌, fixed_dirs}
 use Rattle.conary_cli.specs.Recovered.{base}
@@ -57,6 +58,7 @@ want_dir want.Nothing h = absurd cc
 want_dir (want.Dir mode) h = refl
 want_dir (want.File mode bytes) h = absurd cc
 want_dir (want.Link target) h = absurd cc
+want_dir (want.Staged mode number size name) h = absurd cc
 
 with_dir : (puts : List Put) (t : Tree) (q : Name) → All (λ p. p.path ≡ q → is_dir_want p.want ≡ true) puts → is_dir_at t q ≡ true → is_dir_at (with_targets puts t) q ≡ true
 with_dir [] t q all dir = dir
@@ -105,19 +107,33 @@ above_base puts tree q well set named can path below = All-weaker (CanBePut puts
 never_root : (puts : List Put) → All (λ p. CanBeNamed base p.path) puts → All (λ p. p.path ≡ codes "/" → is_dir_want p.want ≡ true) puts
 never_root puts named = All-weaker (λ (p : Put). CanBeNamed base p.path) (λ p. p.path ≡ codes "/" → is_dir_want p.want ≡ true) (λ p can is. absurd (can.not_root is)) puts named
 
-dirs_with : (puts : List Put) (tree : Tree) → WellFormed tree → is_committed base tree ≡ true → All (λ p. CanBeNamed base p.path) puts → AllCanBePut puts tree → IsTrue (is_path base) → Dirs tree → Dirs (with_targets puts tree)
+-- a staged file is one in place of a file
+resolved_dir : (tree : Tree) (w : Want) → is_dir_want (resolved base tree w) ≡ is_dir_want w
+resolved_dir tree want.Nothing = refl
+resolved_dir tree (want.Dir mode) = refl
+resolved_dir tree (want.File mode bytes) = refl
+resolved_dir tree (want.Link target) = refl
+resolved_dir tree (want.Staged mode number size name) = refl
+
+with_outcome_dir : (puts : List Put) (tree : Tree) (q : Name) → All (λ p. p.path ≡ q → is_dir_want p.want ≡ true) puts → is_dir_at tree q ≡ true → is_dir_at (outcome base puts tree) q ≡ true
+with_outcome_dir puts tree q all dir = with_dir (map (resolve base tree) puts) tree q
+    (All-map (λ (p : Put). p.path ≡ q → is_dir_want p.want ≡ true) (resolve base tree) puts
+    (All-weaker (λ (p : Put). p.path ≡ q → is_dir_want p.want ≡ true) (λ (p : Put). p.path ≡ q → is_dir_want (resolved base tree p.want) ≡ true) (λ p here is. resolved_dir tree p.want ∙ here is) puts all))
+    dir
+
+dirs_with : (puts : List Put) (tree : Tree) → WellFormed tree → is_committed base tree ≡ true → All (λ p. CanBeNamed base p.path) puts → AllCanBePut puts tree → IsTrue (is_path base) → Dirs tree → Dirs (outcome base puts tree)
 dirs_with puts tree well set named can path dirs = record {
-  top = with_dir puts tree (codes "/") (never_root puts named) dirs.top;
-  var = with_dir puts tree (codes "/var") (above_base puts tree (codes "/var") well set named can path refl) dirs.var;
-  lib = with_dir puts tree (codes "/var/lib") (above_base puts tree (codes "/var/lib") well set named can path refl) dirs.lib;
+  top = with_outcome_dir puts tree (codes "/") (never_root puts named) dirs.top;
+  var = with_outcome_dir puts tree (codes "/var") (above_base puts tree (codes "/var") well set named can path refl) dirs.var;
+  lib = with_outcome_dir puts tree (codes "/var/lib") (above_base puts tree (codes "/var/lib") well set named can path refl) dirs.lib;
 }
 
 -- the fixed directories stand in what a root recovers to where they stand in the root
 pub dirs_recovered : (tree recovered : Tree) → WellFormed tree → IsTrue (is_path base) → RecoversTo base tree recovered → fixed_dirs tree ≡ Ok tt → fixed_dirs recovered ≡ Ok tt
 dirs_recovered tree recovered well path (at_rest clear stores) dirs = sym (same_dirs tree recovered stores) ∙ dirs
-dirs_recovered tree recovered well path (by_log set puts holds can stores) dirs =
-    sym (same_dirs (with_targets puts tree) recovered stores)
-    ∙ of_dirs (with_targets puts tree) (dirs_with puts tree well set holds.text.loggable.named can path (dirs_of tree dirs))
+dirs_recovered tree recovered well path (by_log set puts holds stand can stores) dirs =
+    sym (same_dirs (outcome base puts tree) recovered stores)
+    ∙ of_dirs (outcome base puts tree) (dirs_with puts tree well set holds.text.loggable.named can path (dirs_of tree dirs))
 
 -- ---- where they don't stand
 
@@ -136,5 +152,5 @@ committed_dirs tree well set =
 -- the same answer, of a root and of what it recovers to
 pub same_fixed : (tree recovered : Tree) → WellFormed tree → IsTrue (is_path base) → RecoversTo base tree recovered → fixed_dirs recovered ≡ fixed_dirs tree
 same_fixed tree recovered well path (at_rest clear stores) = sym (same_dirs tree recovered stores)
-same_fixed tree recovered well path (by_log set puts holds can stores) =
-    dirs_recovered tree recovered well path (by_log set puts holds can stores) (committed_dirs tree well set) ∙ sym (committed_dirs tree well set)
+same_fixed tree recovered well path (by_log set puts holds stand can stores) =
+    dirs_recovered tree recovered well path (by_log set puts holds stand can stores) (committed_dirs tree well set) ∙ sym (committed_dirs tree well set)

@@ -11,10 +11,12 @@ use Rattle.tree_disk.specs.Confined.{Among, Confined, LeavesOnly}
 use Rattle.tree_disk.specs.ConfinedLaws.{confined_start}
 use Rattle.tree_disk.specs.Laws.{same_tree}
 use Rattle.tree_disk.specs.Steps.{no_name}
-use Rattle.journal_log.specs.Targets.{with_targets}
+use Rattle.tree_disk.specs.Unfailed.{UnlessFailed, unfailed_start}
 use Rattle.tree_journal.specs.Found.{StopsSo}
-use Rattle.tree_journal.specs.Recovery.{is_committed, RecoversTo, by_log, RecoversAsAt, HasReplayable}
+use Rattle.tree_journal.specs.Recovery.{is_committed, RecoversTo, by_log, RecoversAsThen, HasReplayable}
+use Rattle.tree_journal.specs.Staging.{outcome}
 use Rattle.tree_journal.specs.Recovery as journal
+use Rattle.tree_journal.specs.Recovering.{IsVisibleIn}
 use Rattle.conary_cli.specs.declared.failure.Failure.{Failure}
 use Rattle.conary_cli.specs.declared.failure.Failure.TheVariants as failure
 use Rattle.conary_cli.specs.OnRoot.{root_failure, root_result}
@@ -34,7 +36,8 @@ stops_here disk old new _ so = absurd so
 
 -- the clauses of a recovery
 pub record Recovery {D : Type 0} (disk : DiskModel D) (directory : Name) (old new : D) (r : Result Bool Stop) : Type 0 where
-  pub any_moment : IsTrue disk.tells → LeavesOnly disk old new (RecoversAsAt disk directory old)
+  pub any_moment : IsTrue disk.tells → LeavesOnly disk old new (RecoversAsThen disk directory old)
+  pub visible : IsTrue disk.tells → UnlessFailed disk old new (IsVisibleIn directory (disk.reads old))
   pub recovered : IsTrue disk.tells → OnOk r (journal.IsRecovered disk directory old new)
   pub still : IsTrue disk.tells → (tree : Tree) → RecoversTo directory (disk.reads old) tree → RecoversTo directory (disk.reads new) tree
   pub untouched : IsTrue disk.tells → (is_committed directory (disk.reads old) ≡ true → HasReplayable directory (disk.reads old) → ⊥) → Confined disk (Among no_name) old new
@@ -45,13 +48,14 @@ same_clear : {D : Type 0} {disk : DiskModel D} {old new : D} {r : Result Bool St
 same_clear {disk = disk} {old = old} {new = new} recovery told clear = same_by_none (disk.reads new) (disk.reads old) (recovery.untouched told (λ set has. absurd (cc (set, clear)))).reads
 
 none_replayable : (tree : Tree) → RecoversToNone tree → is_committed base tree ≡ true → HasReplayable base tree → ⊥
-none_replayable tree none set has = none (with_targets has.puts tree) (by_log set has.puts has.holds has.can (λ p out. refl))
+none_replayable tree none set has = none (outcome base has.puts tree) (by_log set has.puts has.holds has.stand has.can (λ p out. refl))
 
 ends : {D : Type 0} {disk : DiskModel D} {old new : D} {r : Result Bool Stop} → Recovery disk base old new r → (s : Result (Unit {0}) Failure)
     → (IsTrue disk.tells → OnOk s (journal.IsRecovered disk base old new)) → ReadyStops disk old new s → RecoversRoot disk old new s
 ends {disk = disk} {old = old} recovery s recovered stops = record {
   later = recovery.later;
   any_moment = recovery.any_moment;
+  seen = recovery.visible;
   recovered = recovered;
   kept = λ told. record { still = recovery.still told; same = same_clear recovery told };
   untouched = λ told none. recovery.untouched told (none_replayable (disk.reads old) none);
@@ -72,10 +76,10 @@ recover_stopped {disk = disk} {old = old} {new = new} (Err e) f recovery is =
     same_failure h = cc
 
 -- nothing was done yet
-pub none_yet : {D : Type 0} {disk : DiskModel D} → IsDisk disk → (d : D) → LeavesOnly disk d d (RecoversAsAt disk base d)
+pub none_yet : {D : Type 0} {disk : DiskModel D} → IsDisk disk → (d : D) → LeavesOnly disk d d (RecoversAsThen disk base d)
 none_yet laws d = record {
   later = omega arith;
-  each = λ image since. (image, laws.only_now d image since, λ tree r. r);
+  each = λ image since. inl (laws.only_now d image since);
   before = λ k image le since. inl since;
   kept = λ k image le since. since;
 }
@@ -87,6 +91,7 @@ pub recover_nothing : {D : Type 0} {disk : DiskModel D} → IsDisk disk → (d :
 recover_nothing {disk = disk} laws d = record {
   later = omega arith;
   any_moment = λ told. none_yet laws d;
+  seen = λ told. unfailed_start d (IsVisibleIn base (disk.reads d));
   recovered = λ told. tt;
   kept = λ told. kept_so (disk.reads d);
   untouched = λ told none. confined_start laws (Among no_name) d;

@@ -58,7 +58,7 @@ neither false b h = (refl, h)
 
 clear_stores : (tree recovered : Tree) → is_committed base tree ≡ false → RecoversTo base tree recovered → StoresSame base tree recovered
 clear_stores tree recovered clear (at_rest is stores) = stores
-clear_stores tree recovered clear (by_log set puts holds can stores) = absurd (cc (set, clear))
+clear_stores tree recovered clear (by_log set puts holds stand can stores) = absurd (cc (set, clear))
 
 -- the effect is one of the trees that may be left, and so is the tree as it was
 done_cut : (c : Command) (out input : List ℕ) (before after : DiskState) → IsRecoveredRoot before after
@@ -86,7 +86,7 @@ same_kept before after same = record { still = λ recovered r. subst (λ (t : Tr
 -- a root with such a log recovers to none
 blocked_none : (tree recovered : Tree) (path : Name) → HasBlockedLog base tree path → RecoversTo base tree recovered → ⊥
 blocked_none tree recovered path blocked (at_rest clear stores) = let set = blocked.committed in absurd (cc (set, clear))
-blocked_none tree recovered path blocked (by_log set puts holds can stores) =
+blocked_none tree recovered path blocked (by_log set puts holds stand can stores) =
     let same : puts ≡ blocked.puts = blocked.only puts holds in
     let all = subst (λ (l : List Put). All (CanBePut l tree) l) same can in
     blocked.blocked.cannot (All-contains (CanBePut blocked.puts tree) blocked.puts blocked.blocked.write all blocked.blocked.listed)
@@ -237,7 +237,7 @@ module _ (before after : CallState) (status : ℕ) where
     ended = tells.answered;
     unread = stands.0;
     out = out;
-    root = λ told. let is = stands.1 told in record { damaged = is.1; tree = is.2; line = subst (λ (p : Name). Tells (failure.Damaged p) before.err after.err status) is.0 tells };
+    root = λ told. let is = stands.1 told in record { path = path; damaged = is.0; tree = is.1; line = tells };
   })
   err_end c (failure.Damaged path) stands out (inr owed) = absurd owed.0
   err_end c _ stands out reports = absurd stands

@@ -6,12 +6,14 @@ use Rattle.cny_base.specs.declared.refusal.Refusal.{Refusal}
 use Rattle.cny_flow.specs.Flow.{SourceModel}
 use Rattle.tree_disk.specs.Tree.{Tree}
 use Rattle.tree_disk.specs.Disk.{DiskModel, IsDisk}
+use Rattle.tree_disk.specs.Unfailed.{unfailed_start}
 use Rattle.conary_cli.specs.declared.failure.Failure.{Failure}
 use Rattle.conary_cli.specs.declared.failure.Failure.TheVariants as failure
 use Rattle.conary_cli.specs.Call.{Meaning, Effect, objects}
 use Rattle.conary_cli.specs.FixedDirs.{fixed_dirs}
 use Rattle.conary_cli.specs.Input.{within_limit, left_after_reading, ReadsInput}
 use Rattle.conary_cli.specs.OnRoot.{IsReady}
+use Rattle.conary_cli.specs.Readers.{IsShown}
 use Rattle.conary_cli.specs.Ready.{StandsReady, PerformsReady}
 use Rattle.conary_cli.proofs.ReadyRoot.Applied.{recovers_itself}
 use Rattle.conary_cli.proofs.Installation.Installing.{leaves_waiting, rests_any}
@@ -47,6 +49,7 @@ module _ {I D : Type 0} (source : SourceModel I) (disk : DiskModel D) (laws : Is
     input_later = later;
     root_later = omega arith;
     any_moment = λ told. some_all (source.left input) (λ bytes. leaves_waiting laws (m.IsOutcome (disk.reads root) bytes) root (ready told));
+    seen = λ told. some_all (source.left input) (λ bytes. unfailed_start {disk = disk} root (IsShown (m.IsOutcome (disk.reads root) bytes) (disk.reads root)));
     outside = λ told. some_all (source.left input) (λ bytes p other. refl);
     rests = λ told. rests_any laws root result (ready told);
     stands = stands;

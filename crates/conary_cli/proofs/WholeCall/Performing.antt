@@ -8,10 +8,11 @@ use Rattle.tree_disk.specs.Tree.{Tree, AgreesOutside}
 use Rattle.tree_disk.specs.Disk.{DiskModel, IsDisk, IsImageOf, HasRead}
 use Rattle.tree_disk.specs.Confined.{LeavesOnly}
 use Rattle.tree_disk.specs.ConfinedLaws.{leaves_then, leaves_weaker}
-use Rattle.tree_disk.specs.Laws.{reads_image}
 use Rattle.tree_disk.specs.Moments.{rose_before, same_start, time_start}
 use Rattle.journal_log.specs.Own.{is_own, StoresSame}
-use Rattle.tree_journal.specs.Recovery.{is_committed, RecoversTo, at_rest, by_log}
+use Rattle.tree_disk.specs.Unfailed.{unfailed_start}
+use Rattle.tree_journal.specs.Recovering.{IsVisibleIn}
+use Rattle.tree_journal.specs.Recovery.{is_committed, at_rest}
 use Rattle.conary_cli.specs.declared.failure.Failure.{Failure}
 use Rattle.conary_cli.specs.declared.failure.Failure.TheVariants as failure
 use Rattle.conary_cli.specs.declared.words.Command.{Command}
@@ -21,19 +22,17 @@ use Rattle.conary_cli.specs.FixedDirs.{◌>>=◌, fixed_dirs}
 use Rattle.conary_cli.specs.Input.{within_limit, left_by}
 use Rattle.conary_cli.specs.Install.{read_manifest, installs}
 use Rattle.conary_cli.specs.OnRoot.{IsBeforeOrEffect, IsRootAtRest}
+use Rattle.conary_cli.specs.Readers.{IsShown, ShowsCommand}
 use Rattle.conary_cli.specs.Ready.{ReadyStops, ReadiesRoot, PerformsReady}
 use Rattle.conary_cli.specs.Recovered.{base, IsRecoveredTree, Recovers, RecoversToNone, IsKept}
-use Rattle.conary_cli.specs.Run.{meaning, IsBeforeOrDone, IsBeforeOrAfterCall}
+use Rattle.conary_cli.specs.Run.{meaning, IsBeforeOrDone, IsBeforeOrAfterCall, ShowsCall}
 use Rattle.conary_cli.specs.ShowChangeSet.{Then, IsDescribed}
+use Rattle.conary_cli.proofs.ReadyRoot.Applied.{recovers_on}
 use Rattle.conary_cli.proofs.ReadyRoot.DirsRecovered.{same_dirs, same_fixed, committed_dirs}
 use Rattle.conary_cli.proofs.ReadyRoot.FixedPaths.{directory_path}
 use Rattle.conary_cli.proofs.WholeCall.Respects.{SameOutcome, same_outcome}
 
 -- ---- trees that store the same
-
-pub recovers_on : {image t u : Tree} → RecoversTo base image t → StoresSame base t u → RecoversTo base image u
-recovers_on (at_rest clear stores) same = at_rest clear (λ p out. stores p out ∙ same p out)
-recovers_on (by_log set puts holds can stores) same = by_log set puts holds can (λ p out. stores p out ∙ same p out)
 
 stores_back : (t u : Tree) → StoresSame base u t → StoresSame base t u
 stores_back t u same p out = sym (same p out)
@@ -81,7 +80,7 @@ both (Some input) f p q = f input p q
 -- ---- words
 
 entry_image : {D : Type 0} (disk : DiskModel D) (words : Result Command Failure) (input : List ℕ) (old : D) (image : Tree) → IsImageOf disk old image → IsBeforeOrAfterCall disk words input old image
-entry_image disk (Ok c) input old image is = inl (image, is, λ tree r. r)
+entry_image disk (Ok c) input old image is = inl (inl is)
 entry_image disk (Err e) input old image is = is
 
 -- words that are no command leave the root as it is
@@ -94,6 +93,21 @@ nothing_done source {disk = disk} laws words input old = λ told. some_is (sourc
   kept = λ k image le since. since;
 })
 
+pub nothing_shown : {I D : Type 0} (source : SourceModel I) (disk : DiskModel D) (words : Result Command Failure) (input : I) (old : D)
+    → WhereTold (objects source disk input old) (λ bytes. ShowsCall disk words bytes old old)
+nothing_shown source disk words input old = λ told. some_is (source.left input) (λ bytes left. here words bytes)
+  where
+    here : (words : Result Command Failure) (bytes : List ℕ) → ShowsCall disk words bytes old old
+    here (Ok c) bytes = record {
+      ready = old;
+      reached = inr refl;
+      recovery_later = omega arith;
+      command_later = omega arith;
+      recovery = unfailed_start old (IsVisibleIn base (disk.reads old));
+      command = unfailed_start old (IsShown ((meaning c).IsOutcome (disk.reads old) bytes) (disk.reads old));
+    }
+    here (Err e) bytes = unfailed_start old (λ t. t ≡ disk.reads old)
+
 pub nothing_read : {D : Type 0} {disk : DiskModel D} → IsDisk disk → (d : D) → HasRead disk d d (Unit {0})
 nothing_read {disk = disk} laws d = record { answer = tt; same = same_start disk d; time = time_start laws d }
 
@@ -101,6 +115,11 @@ pub of_command : {I D : Type 0} (source : SourceModel I) (disk : DiskModel D) (w
     → WhereTold (objects source disk input old) (λ bytes. LeavesOnly disk old new (IsBeforeOrDone disk (meaning c) bytes old))
     → WhereTold (objects source disk input old) (λ bytes. LeavesOnly disk old new (IsBeforeOrAfterCall disk words bytes old))
 of_command source disk words c input old new is run = subst (λ w. WhereTold (objects source disk input old) (λ bytes. LeavesOnly disk old new (IsBeforeOrAfterCall disk w bytes old))) (sym is) run
+
+pub shown_command : {I D : Type 0} (source : SourceModel I) (disk : DiskModel D) (words : Result Command Failure) (c : Command) (input : I) (old new : D) → words ≡ Ok c
+    → WhereTold (objects source disk input old) (λ bytes. ShowsCommand disk (meaning c) bytes old new)
+    → WhereTold (objects source disk input old) (λ bytes. ShowsCall disk words bytes old new)
+shown_command source disk words c input old new is run = subst (λ w. WhereTold (objects source disk input old) (λ bytes. ShowsCall disk w bytes old new)) (sym is) run
 
 module _ {I D : Type 0} (source : SourceModel I) {disk : DiskModel D} (laws : IsDisk disk) (c : Command) (input : I) where
   -- ---- the root isn't ready
@@ -143,6 +162,16 @@ module _ {I D : Type 0} (source : SourceModel I) {disk : DiskModel D} (laws : Is
 
   pub stopped_images : (old new : D) (f : Failure) → ReadiesRoot disk old new (Err f) → WhereTold (objects source disk input old) (λ bytes. LeavesOnly disk old new (IsBeforeOrDone disk (meaning c) bytes old))
   stopped_images old new f readies = λ told. some_is (source.left input) (λ bytes left. leaves_weaker (λ image h. inl h) (readies.any_moment told))
+
+  pub stopped_shown : (old new : D) (f : Failure) → ReadiesRoot disk old new (Err f) → WhereTold (objects source disk input old) (λ bytes. ShowsCommand disk (meaning c) bytes old new)
+  stopped_shown old new f readies = λ told. some_is (source.left input) (λ bytes left. record {
+    ready = new;
+    reached = inr refl;
+    recovery_later = readies.later;
+    command_later = omega arith;
+    recovery = readies.seen told;
+    command = unfailed_start new (IsShown ((meaning c).IsOutcome (disk.reads new) bytes) (disk.reads new));
+  })
 
   -- ---- the root is ready
 
@@ -206,7 +235,7 @@ module _ {I D : Type 0} (source : SourceModel I) {disk : DiskModel D} (laws : Is
 
     image_then : IsTrue disk.tells → (bytes : List ℕ) (image : Tree) → IsBeforeOrEffect ((meaning c).IsOutcome (disk.reads mid) bytes) (disk.reads mid) image → IsBeforeOrDone disk (meaning c) bytes old image
     image_then told bytes image either = ⊎_elim
-        (λ was. inl (disk.reads old, reads_image laws old, λ tree r. recovers_on was ((readies.readied told).stores tree r)))
+        (λ was. inl (inr (λ tree r. recovers_on was ((readies.readied told).stores tree r))))
         (λ is. inr (recovered_mid told, λ recovered of. recovers_effect (same_as told bytes recovered of) is))
         either
 
@@ -214,6 +243,19 @@ module _ {I D : Type 0} (source : SourceModel I) {disk : DiskModel D} (laws : Is
         → WhereTold (objects source disk input old) (λ bytes. LeavesOnly disk old new (IsBeforeOrDone disk (meaning c) bytes old))
     images_then input' new result performs = λ told. some_on (source.left input) (λ bytes run.
         leaves_then (leaves_weaker (λ image h. inl h) (readies.any_moment told)) (leaves_weaker (image_then told bytes) run)) (performs.any_moment told)
+
+    -- ---- readers
+
+    pub shown_then : (input' : I) (new : D) (result : Result (List ℕ) Failure) → PerformsReady source disk (meaning c) input mid input' new result
+        → WhereTold (objects source disk input old) (λ bytes. ShowsCommand disk (meaning c) bytes old new)
+    shown_then input' new result performs = λ told. some_on (source.left input) (λ bytes seen. record {
+      ready = mid;
+      reached = inl (readies.readied told).recovers;
+      recovery_later = readies.later;
+      command_later = performs.root_later;
+      recovery = readies.seen told;
+      command = seen;
+    }) (performs.seen told)
 
     pub never_missing : IsTrue disk.tells → (r : Refusal) → fixed_dirs (disk.reads old) ≡ Err r → ⊥
     never_missing told r is = let fixed = (readies.readied told).fixed in cc (fixed, is)

@@ -11,12 +11,11 @@ use super::fields::{dir_line, file_line, is_same, path_of, strip, text_of};
 use super::lines::{content_of, line_of};
 use super::types::{Item, Items, Manifest};
 use crate::failure::Failure;
-use cny_base::{Bytes, Mode, Name, NameKind, Node, OutOfMemory, Refusal, Text, TextFault, What};
+use cny_base::{
+    Bytes, CONTENT_LIMIT, FILES_LIMIT, Mode, Name, NameKind, Node, OutOfMemory, Refusal, Text,
+    TextFault, What,
+};
 use std::alloc::Global;
-
-const CONTENT_LIMIT: u64 = 16_777_216;
-
-const MAX_ITEMS: u32 = 65_535;
 
 // The item of a directory.
 fn dir_item<'a>(
@@ -58,7 +57,7 @@ fn file_item<'a>(
     let Some(read) = path_of(alloc, last, path)? else {
         return Err(line_fault(line, bytes));
     };
-    if size > CONTENT_LIMIT {
+    if size > CONTENT_LIMIT as u64 {
         return Err(ReadError::Unread(Unread::TooLarge { size }));
     }
     let (content, rest) = content_of(size as usize, rest)?;
@@ -252,7 +251,7 @@ fn manifest_of(alloc: Global, most: u32, bytes: &[u8]) -> Result<Manifest, ReadE
 fn manifest_or_failure(alloc: Global, bytes: &[u8]) -> Result<Manifest, Failure>
     ensures { ReadsManifest bytes.now result }
 {
-    match manifest_of(alloc, MAX_ITEMS, bytes) {
+    match manifest_of(alloc, FILES_LIMIT as u32, bytes) {
         Ok(manifest) => Ok(manifest),
         Err(ReadError::Unread(Unread::At { left })) => {
             let at = bytes.len().saturating_sub(left) as u64;

@@ -1,58 +1,127 @@
-// Write sets applied where something else stands at the journal's own names.
-use super::runs::{BASE, GATE, LOG, MANY, apply_up_to};
-use super::trees::Stands::{Dir, File, Link, Nothing};
-use super::trees::{Stands, Table, all_stand};
+// Write sets applied where something else stands at the journal's own names, and with staged files.
+use super::runs::{MANY, apply_to, apply_up_to};
+use super::trees::{all_stand, node_of, path_of, put_of, text_of, tree_of};
+use journal_log::Put;
+use std::alloc::Global;
 use std::test::Fail;
+use tree_memory::MemoryTree;
+
+// The tree without a private directory.
+const START: &str = "/ dir 0755
+/b file 0600 b
+/var dir 0755
+/var/lib dir 0755
+";
 
 // A file is new, and the name of another is a link.
-const PUTS: [(&str, Stands<'static>); 2] = [("/a", File(0o644, b"a")), ("/b", Link("a"))];
+const PUTS: &str = "/a file 0644 a
+/b link a
+";
 
-// A `gate` that isn't set, behind another log; a file and a link in place of the base, the link to a directory.
-const STARTS: [Table<'static>; 3] = [
-    &[
-        ("/", Dir(0o755)),
-        ("/b", File(0o600, b"b")),
-        ("/var", Dir(0o755)),
-        ("/var/lib", Dir(0o755)),
-        (BASE, Dir(0o755)),
-        (GATE, File(0o640, b"stale")),
-        (LOG, File(0o640, b"none")),
-    ],
-    &[
-        ("/", Dir(0o755)),
-        ("/b", File(0o600, b"b")),
-        ("/var", Dir(0o755)),
-        ("/var/lib", Dir(0o755)),
-        (BASE, File(0o644, b"base")),
-    ],
-    &[
-        ("/", Dir(0o755)),
-        ("/b", File(0o600, b"b")),
-        ("/var", Dir(0o755)),
-        ("/var/lib", Dir(0o755)),
-        (BASE, Link("/var")),
-    ],
-];
+const AFTER: &str = "/ dir 0755
+/a file 0644 a
+/b link a
+/var dir 0755
+/var/lib dir 0755
+";
 
-const AFTER: [(&str, Stands<'static>); 7] = [
-    ("/", Dir(0o755)),
-    ("/a", File(0o644, b"a")),
-    ("/b", Link("a")),
-    ("/var", Dir(0o755)),
-    ("/var/lib", Dir(0o755)),
-    (BASE, Dir(0o755)),
-    (GATE, Nothing),
-];
+// What stands besides, a case a line: a `gate` that isn't set, behind another log; files, links and directories at each of
+// the names; a file and a link in place of the base, the link to a directory.
+const OTHERS: &str = "@ dir 0755;@/gate file 0640 stale;@/log file 0640 none
+@ dir 0700;@/gate dir 0755;@/gate/x file 0600 x;@/log dir 0755;@/log/y link y
+@ dir 0755;@/p file 0600 p;@/w file 0600 w
+@ dir 0755;@/p dir 0755;@/p/0 dir 0755;@/p/0/x file 0600 x;@/p/7 file 0600 seven;@/w dir 0755;@/w/x link x
+@ dir 0755;@/p link /;@/w link /var
+@ file 0644 base
+@ link /var";
+
+// The tree with these nodes put, each of a line between semicolons.
+fn with_nodes(alloc: Global, start: &str, line: &str) -> Result<MemoryTree, Fail> {
+    let mut tree = tree_of(alloc, start)?;
+    for part in line.split(';') {
+        let Put { path, want } = put_of(alloc, part)?;
+        let node = node_of(want)?;
+        tree.edit(alloc, &path, node)?;
+    }
+    Ok(tree)
+}
 
 #[test]
 fn other_nodes_give_way(rt: HostRuntime) -> Result<(), Fail> {
-    for start in STARTS {
-        let applied = apply_up_to(rt.alloc(), start, &PUTS, MANY)?;
-        assert!(rt; applied.is_done, "over {start:?}");
+    for line in OTHERS.lines() {
+        let tree = with_nodes(rt.alloc(), START, line)?;
+        let applied = apply_to(rt.alloc(), tree, PUTS)?;
         assert!(rt;
-            all_stand(rt.alloc(), &applied.tree, &AFTER)?,
-            "over {start:?}"
+            applied.is_done && all_stand(rt.alloc(), &applied.tree, AFTER)?,
+            "over {line}"
+        );
+        assert!(rt;
+            applied.tree.node(&path_of(rt.alloc(), "@/gate")?).is_none(),
+            "over {line}"
         );
     }
+    Ok(())
+}
+
+// Two files that take their bytes from one staged file, between two with their own; other names stand among the staged
+// files.
+const STAGED: &str =
+    "@ dir 0755;@/p dir 0755;@/p/0 file 0600 zero;@/p/1 file 0600 x;@/p/01 file 0600 x;@/p/9 dir 0755";
+
+const STAGED_PUTS: &str = "/a file 0644 a
+/b staged 0640 1 1 %11%F6%AD%8E%C5%2A%29%84%AB%AA%FD%7C%3B%51%65%03%78%5C%20%72
+/c staged 0600 1 1 %11%F6%AD%8E%C5%2A%29%84%AB%AA%FD%7C%3B%51%65%03%78%5C%20%72
+/d file 0600 -
+";
+
+// The bytes of `/a` are staged under the number 0, and those of `/d` under 2.
+const STAGED_AFTER: &str = "/ dir 0755
+/a file 0644 a
+/b file 0640 x
+/c file 0600 x
+/d file 0600 -
+/var dir 0755
+/var/lib dir 0755
+/var/lib/conarydb dir 0755
+/var/lib/conarydb/p dir 0755
+/var/lib/conarydb/p/0 file 0600 a
+/var/lib/conarydb/p/1 file 0600 x
+/var/lib/conarydb/p/2 file 0600 -
+";
+
+#[test]
+fn staged_files_are_kept(rt: HostRuntime) -> Result<(), Fail> {
+    let tree = with_nodes(rt.alloc(), START, STAGED)?;
+    let mut applied = apply_to(rt.alloc(), tree, STAGED_PUTS)?;
+    assert!(rt; applied.is_done);
+    // Its bytes are those of the log's own tests.
+    applied
+        .tree
+        .edit(rt.alloc(), &path_of(rt.alloc(), "@/log")?, None)?;
+    assert!(rt; text_of(rt.alloc(), &applied.tree)?.as_str() == STAGED_AFTER);
+    Ok(())
+}
+
+// A file of more bytes than a piece of a copy has.
+#[test]
+fn long_files_are_copied(rt: HostRuntime) -> Result<(), Fail> {
+    let mut puts = String::from_str(rt.alloc(), "/a file 0644 ")?;
+    for _ in 0..9 {
+        for _ in 0..16_000 {
+            puts.push_str("a")?;
+        }
+        puts.push_str("%00")?;
+    }
+    let applied = apply_up_to(
+        rt.alloc(),
+        "/ dir 0755\n/var dir 0755\n/var/lib dir 0755\n",
+        puts.as_str(),
+        MANY,
+    )?;
+    assert!(rt; applied.is_done);
+    let mut after = String::from_str(rt.alloc(), "/ dir 0755\n")?;
+    after.push_str(puts.as_str())?;
+    after.push_str("\n/var dir 0755\n/var/lib dir 0755\n")?;
+    assert!(rt; all_stand(rt.alloc(), &applied.tree, after.as_str())?);
     Ok(())
 }

@@ -1,37 +1,41 @@
 // Write sets that are cut off after each number of calls, left as a crash may leave them, and recovered.
-use super::runs::{GATE, MANY, apply_up_to, recover_up_to};
-use super::trees::Stands::{Dir, File, Link, Nothing};
-use super::trees::{Stands, Table, all_stand};
+use super::runs::{MANY, apply_up_to, recover_up_to};
+use super::trees::{all_stand, path_of, stored};
 use std::alloc::Global;
 use std::test::Fail;
 use tree_memory::MemoryTree;
 
 // The fixed directories alone.
-const FIXED: [(&str, Stands<'static>); 3] = [
-    ("/", Dir(0o755)),
-    ("/var", Dir(0o755)),
-    ("/var/lib", Dir(0o755)),
-];
+const FIXED: &str = "/ dir 0755
+/var dir 0755
+/var/lib dir 0755
+";
 
 // A directory and a file in it are put.
-const COMPONENT: [(&str, Stands<'static>); 2] = [
-    ("/etc", Dir(0o755)),
-    ("/etc/foo", File(0o644, b"abc")),
-];
+const COMPONENT: &str = "/etc dir 0755
+/etc/foo file 0644 abc
+";
 
-// The same paths before.
-const NO_COMPONENT: [(&str, Stands<'static>); 2] = [("/etc", Nothing), ("/etc/foo", Nothing)];
+const WITH_COMPONENT: &str = "/ dir 0755
+/etc dir 0755
+/etc/foo file 0644 abc
+/var dir 0755
+/var/lib dir 0755
+";
 
-// The file's bytes weren't written when the crash came.
-const TORN: [(&str, Stands<'static>); 2] = [
-    ("/etc", Dir(0o755)),
-    ("/etc/foo", File(0o600, b"\xEE\xEE\xEE")),
-];
+// The file's bytes weren't kept when the crash came.
+const WITH_TORN: &str = "/ dir 0755
+/etc dir 0755
+/etc/foo file 0600 %EE%EE%EE
+/var dir 0755
+/var/lib dir 0755
+";
 
 // Which of two trees stands: whether it is the one after.
-fn is_after(alloc: Global, tree: &MemoryTree, before: Table, after: Table) -> Result<bool, Fail> {
-    let is_before = all_stand(alloc, tree, before)?;
-    let is_after = all_stand(alloc, tree, after)?;
+fn is_after(alloc: Global, tree: &MemoryTree, before: &str, after: &str) -> Result<bool, Fail> {
+    let found = stored(alloc, tree)?;
+    let is_before = found.as_str() == before;
+    let is_after = found.as_str() == after;
     if is_before == is_after {
         return Err(Fail::from("neither of the trees, or both"));
     }
@@ -44,8 +48,8 @@ fn finds_after(
     alloc: Global,
     tree: &MemoryTree,
     pick: u64,
-    before: Table,
-    after: Table,
+    before: &str,
+    after: &str,
 ) -> Result<bool, Fail> {
     let ended = recover_up_to(alloc, tree, pick, MANY)?;
     let was_committed = ended.was_committed.ok_or("a recovery that ends")?;
@@ -54,84 +58,6 @@ fn finds_after(
         return Err(Fail::from("a commit that was lost"));
     }
     Ok(found)
-}
-
-// The calls: a sync; a look at the base, which is made; a look at the log, which is made; a sync; a look at the flag (the
-// 7th), which is made; a sync; a look at each target, the deepest first; a look at the directory, which is made; the file,
-// made by two calls (the 14th and 15th); a sync.
-const BEFORE_FLAG: u32 = 7;
-
-const BEFORE_SYNC: u32 = 15;
-
-// Of two unsynced names the first reads as it did, and the second is torn.
-const SECOND_TORN: u64 = 0b11_00;
-
-// Each digit of the number is 1: all unsynced names are as at the last sync.
-const AS_SYNCED: u64 = 0x5555_5555_5555_5555;
-
-// What a crash leaves where the component is put and cut off after so many calls.
-fn crash_after(alloc: Global, calls: u32, pick: u64) -> Result<MemoryTree, Fail> {
-    let cut = apply_up_to(alloc, &FIXED, &COMPONENT, calls)?;
-    if cut.is_done {
-        return Err(Fail::from("a write set that isn't cut off"));
-    }
-    Ok(cut.tree.crash(alloc, pick)?)
-}
-
-// Whether a recovery says so of the commit flag, and leaves this.
-fn recovers_to(
-    alloc: Global,
-    tree: &MemoryTree,
-    was_committed: bool,
-    table: Table,
-) -> Result<bool, Fail> {
-    let ended = recover_up_to(alloc, tree, 0, MANY)?;
-    Ok(ended.was_committed == Some(was_committed) && all_stand(alloc, &ended.tree, table)?)
-}
-
-// One crash comes before the flag is written, the other after it is kept.
-#[test]
-fn crash_around_commit_flag(rt: HostRuntime) -> Result<(), Fail> {
-    let alloc = rt.alloc();
-    let before = crash_after(alloc, BEFORE_FLAG, AS_SYNCED)?;
-    assert!(rt; all_stand(alloc, &before, &NO_COMPONENT)?);
-    assert!(rt; recovers_to(alloc, &before, false, &NO_COMPONENT)?);
-    let after = crash_after(alloc, BEFORE_SYNC, SECOND_TORN)?;
-    assert!(rt; all_stand(alloc, &after, &TORN)?);
-    assert!(rt; recovers_to(alloc, &after, true, &COMPONENT)?);
-    Ok(())
-}
-
-// So many of the images that the first 64 numbers pick recover to the tree with the component.
-fn images_after(alloc: Global, tree: &MemoryTree) -> Result<u32, Fail> {
-    let mut count: u32 = 0;
-    for pick in 0..64 {
-        if finds_after(alloc, tree, pick, &NO_COMPONENT, &COMPONENT)? {
-            count = count.saturating_add(1);
-        }
-    }
-    Ok(count)
-}
-
-// There are never more than three unsynced names, so these are all images by digits. From the first number of calls up to
-// the next: none with the flag can be left; the flag's file is unsynced, and one of its four digits leaves it as it reads;
-// the flag is kept, or the component is.
-const COMMITTED: [(u32, u32, u32); 3] = [(0, 8, 0), (8, 9, 16), (9, 19, 64)];
-
-#[test]
-fn each_image_recovers(rt: HostRuntime) -> Result<(), Fail> {
-    for (first, end, count) in COMMITTED {
-        for calls in first..end {
-            let cut = apply_up_to(rt.alloc(), &FIXED, &COMPONENT, calls)?;
-            assert_eq!(rt;
-                images_after(rt.alloc(), &cut.tree)?,
-                count,
-                "after {calls} calls"
-            );
-            assert_eq!(rt; cut.is_done, calls == 18);
-        }
-    }
-    Ok(())
 }
 
 // All unsynced names as they read.
@@ -143,55 +69,196 @@ const FIRST_AS_SYNCED: u64 = 1;
 // The first 16, and 16 of each 32 after them, torn, and the rest as they read.
 const FIRST_TORN: u64 = 4_294_967_295;
 
+// Each digit of the number is 1: all unsynced names are as at the last sync.
+const AS_SYNCED: u64 = 0x5555_5555_5555_5555;
+
 const PICKS: [u64; 4] = [AS_READ, FIRST_AS_SYNCED, FIRST_TORN, AS_SYNCED];
 
-// There is no base. A directory with a file in it is to go, a file becomes a directory and a directory a link, a file is
-// new, and another file stays.
-const START: [(&str, Stands<'static>); 8] = [
-    ("/", Dir(0o755)),
-    ("/a", Dir(0o755)),
-    ("/a/f", File(0o644, b"old")),
-    ("/b", File(0o600, b"b")),
-    ("/c", Dir(0o700)),
-    ("/k", File(0o640, b"kept")),
-    ("/var", Dir(0o755)),
-    ("/var/lib", Dir(0o755)),
-];
+// Of two unsynced names the first reads as it did, and the second is torn.
+const SECOND_TORN: u64 = 0b11_00;
 
-const PUTS: [(&str, Stands<'static>); 5] = [
-    ("/a", Nothing),
-    ("/a/f", Nothing),
-    ("/b", Dir(0o750)),
-    ("/c", Link("b")),
-    ("/n", File(0o644, b"new")),
-];
+// What a crash leaves where the component is put and cut off after so many calls.
+fn crash_after(alloc: Global, calls: u32, pick: u64) -> Result<MemoryTree, Fail> {
+    let cut = apply_up_to(alloc, FIXED, COMPONENT, calls)?;
+    if cut.is_done {
+        return Err(Fail::from("a write set that isn't cut off"));
+    }
+    Ok(cut.tree.crash(alloc, pick)?)
+}
 
-// What stands before and after, at each name that stands in one of them.
-const BEFORE: [(&str, Stands<'static>); 9] = [
-    ("/a", Dir(0o755)),
-    ("/a/f", File(0o644, b"old")),
-    ("/b", File(0o600, b"b")),
-    ("/c", Dir(0o700)),
-    ("/n", Nothing),
-    ("/", Dir(0o755)),
-    ("/k", File(0o640, b"kept")),
-    ("/var", Dir(0o755)),
-    ("/var/lib", Dir(0o755)),
-];
+// Whether a recovery says so of the commit flag, and leaves this.
+fn recovers_to(
+    alloc: Global,
+    tree: &MemoryTree,
+    was_committed: bool,
+    after: &str,
+) -> Result<bool, Fail> {
+    let ended = recover_up_to(alloc, tree, 0, MANY)?;
+    Ok(ended.was_committed == Some(was_committed) && all_stand(alloc, &ended.tree, after)?)
+}
 
-const AFTER: [(&str, Stands<'static>); 9] = [
-    ("/a", Nothing),
-    ("/a/f", Nothing),
-    ("/b", Dir(0o750)),
-    ("/c", Link("b")),
-    ("/n", File(0o644, b"new")),
-    ("/", Dir(0o755)),
-    ("/k", File(0o640, b"kept")),
-    ("/var", Dir(0o755)),
-    ("/var/lib", Dir(0o755)),
-];
+// Whether the commit flag's file stands in a tree.
+fn has_flag(alloc: Global, tree: &MemoryTree) -> Result<bool, Fail> {
+    Ok(tree.node(&path_of(alloc, "@/gate")?).is_some())
+}
 
-const NO_FLAG: [(&str, Stands<'static>); 1] = [(GATE, Nothing)];
+// How many calls come before the first after which the flag's file stands, and how many before the first after which the
+// file of the component does.
+fn calls_before(alloc: Global, path: &str) -> Result<u32, Fail> {
+    for calls in 1..MANY {
+        let cut = apply_up_to(alloc, FIXED, COMPONENT, calls)?;
+        if cut.tree.node(&path_of(alloc, path)?).is_some() {
+            return Ok(calls.saturating_sub(1));
+        }
+    }
+    Err(Fail::from("a name that stands"))
+}
+
+// One crash comes before the flag is written. The other comes after it is kept and before the next sync, and the file of
+// the component is torn.
+#[test]
+fn crash_around_commit_flag(rt: HostRuntime) -> Result<(), Fail> {
+    let alloc = rt.alloc();
+    let before_flag = calls_before(alloc, "@/gate")?;
+    let before = crash_after(alloc, before_flag, AS_SYNCED)?;
+    assert!(rt; all_stand(alloc, &before, FIXED)?);
+    assert!(rt; recovers_to(alloc, &before, false, FIXED)?);
+    let made = calls_before(alloc, "/etc/foo")?.saturating_add(1);
+    let after = crash_after(alloc, made, FOO_TORN)?;
+    assert!(rt; all_stand(alloc, &after, WITH_TORN)?);
+    assert!(rt; recovers_to(alloc, &after, true, WITH_COMPONENT)?);
+    Ok(())
+}
+
+// The unsynced names are the directory, the file and the work name, in path order: the second is torn.
+const FOO_TORN: u64 = SECOND_TORN;
+
+// So many of the images that the first numbers pick recover to the tree with the component.
+fn images_after(alloc: Global, tree: &MemoryTree, picks: u64) -> Result<u32, Fail> {
+    let mut count: u32 = 0;
+    for pick in 0..picks {
+        if finds_after(alloc, tree, pick, FIXED, WITH_COMPONENT)? {
+            count = count.saturating_add(1);
+        }
+    }
+    Ok(count)
+}
+
+// How many numbers pick all images by digits. Up to the write of the flag four names are unsynced: the base, the directory of
+// staged files, the staged file and the log; from it on at most three are.
+fn picks_of(calls: u32, before_flag: u32) -> u64 {
+    if calls <= before_flag { 256 } else { 64 }
+}
+
+// How many images recover to the tree after: none up to the write of the flag; a quarter after it, since the flag's file is
+// the one unsynced name, and one of its four digits leaves it as it reads; and all from its sync on.
+fn wanted_after(calls: u32, before_flag: u32) -> u32 {
+    if calls <= before_flag {
+        return 0;
+    }
+    if calls == before_flag.saturating_add(1) {
+        return 16;
+    }
+    64
+}
+
+#[test]
+fn each_image_recovers(rt: HostRuntime) -> Result<(), Fail> {
+    let before_flag = calls_before(rt.alloc(), "@/gate")?;
+    for calls in 0..MANY {
+        let cut = apply_up_to(rt.alloc(), FIXED, COMPONENT, calls)?;
+        let picks = picks_of(calls, before_flag);
+        let wanted = wanted_after(calls, before_flag);
+        assert_eq!(rt;
+            images_after(rt.alloc(), &cut.tree, picks)?,
+            wanted,
+            "after {calls} calls"
+        );
+        if cut.is_done {
+            return Ok(());
+        }
+    }
+    Err(Fail::from("a write set without an end"))
+}
+
+// A tree without a base, the base and what stands below it, a write set, and the tree with all targets.
+#[derive(Clone, Copy, Debug)]
+struct Case {
+    start: &'static str,
+    base: &'static str,
+    puts: &'static str,
+    after: &'static str,
+}
+
+// A directory with a file in it is to go, a file becomes a directory and a directory a link, and another file stays.
+const KINDS: Case = Case {
+    start: "/ dir 0755
+/a dir 0755
+/a/f file 0644 old
+/b file 0600 b
+/c dir 0700
+/k file 0640 kept
+/var dir 0755
+/var/lib dir 0755
+",
+    base: "",
+    puts: "/a nothing
+/a/f nothing
+/b dir 0750
+/c link b
+",
+    after: "/ dir 0755
+/b dir 0750
+/c link b
+/k file 0640 kept
+/var dir 0755
+/var/lib dir 0755
+",
+};
+
+// A file gets other bytes and another mode, and a link another target.
+const RENAMED: Case = Case {
+    start: "/ dir 0755
+/o file 0644 old
+/s link k
+/var dir 0755
+/var/lib dir 0755
+",
+    base: "",
+    puts: "/o file 0755 other
+/s link o
+",
+    after: "/ dir 0755
+/o file 0755 other
+/s link o
+/var dir 0755
+/var/lib dir 0755
+",
+};
+
+// A directory becomes a file, another file is new, and a third one takes its bytes from a file that the caller staged.
+const STAGED: Case = Case {
+    start: "/ dir 0755
+/d dir 0755
+/var dir 0755
+/var/lib dir 0755
+",
+    base: "@ dir 0755
+@/p dir 0755
+@/p/0 file 0600 x
+",
+    puts: "/d file 0600 d
+/n file 0644 new
+/s staged 0640 0 1 %11%F6%AD%8E%C5%2A%29%84%AB%AA%FD%7C%3B%51%65%03%78%5C%20%72
+",
+    after: "/ dir 0755
+/d file 0600 d
+/n file 0644 new
+/s file 0640 x
+/var dir 0755
+/var/lib dir 0755
+",
+};
 
 // How often runs were cut off, and what was found after the last recovery.
 #[derive(Clone, Copy, Debug)]
@@ -210,8 +277,14 @@ const NONE_YET: Counts = Counts {
 };
 
 // Recovers what a crash leaves of a tree, to the end, and counts what is found.
-fn find(alloc: Global, tree: &MemoryTree, pick: u64, counts: &mut Counts) -> Result<(), Fail> {
-    if finds_after(alloc, tree, pick, &BEFORE, &AFTER)? {
+fn find(
+    alloc: Global,
+    tree: &MemoryTree,
+    case: Case,
+    pick: u64,
+    counts: &mut Counts,
+) -> Result<(), Fail> {
+    if finds_after(alloc, tree, pick, case.start, case.after)? {
         counts.found_after = counts.found_after.saturating_add(1);
     } else {
         counts.found_before = counts.found_before.saturating_add(1);
@@ -219,9 +292,14 @@ fn find(alloc: Global, tree: &MemoryTree, pick: u64, counts: &mut Counts) -> Res
     Ok(())
 }
 
-fn find_each(alloc: Global, tree: &MemoryTree, counts: &mut Counts) -> Result<(), Fail> {
+fn find_each(
+    alloc: Global,
+    tree: &MemoryTree,
+    case: Case,
+    counts: &mut Counts,
+) -> Result<(), Fail> {
     for pick in PICKS {
-        find(alloc, tree, pick, counts)?;
+        find(alloc, tree, case, pick, counts)?;
     }
     Ok(())
 }
@@ -231,12 +309,13 @@ fn find_each(alloc: Global, tree: &MemoryTree, counts: &mut Counts) -> Result<()
 fn recover_each(
     alloc: Global,
     tree: &MemoryTree,
+    case: Case,
     pick: u64,
     counts: &mut Counts,
 ) -> Result<(), Fail> {
     for calls in 0..MANY {
         let cut = recover_up_to(alloc, tree, pick, calls)?;
-        find_each(alloc, &cut.tree, counts)?;
+        find_each(alloc, &cut.tree, case, counts)?;
         if cut.was_committed.is_some() {
             return Ok(());
         }
@@ -245,11 +324,12 @@ fn recover_each(
     Err(Fail::from("a recovery without an end"))
 }
 
-// After Ok nothing is left to recovery: each crash leaves the tree after, with no commit flag.
-fn is_kept(alloc: Global, tree: &MemoryTree) -> Result<(), Fail> {
+// After Ok nothing is left to recovery: each crash leaves the tree after, with no commit flag and nothing at the work name.
+fn is_kept(alloc: Global, tree: &MemoryTree, after: &str) -> Result<(), Fail> {
     for pick in PICKS {
         let image = tree.crash(alloc, pick)?;
-        if !all_stand(alloc, &image, &AFTER)? || !all_stand(alloc, &image, &NO_FLAG)? {
+        let is_bare = !has_flag(alloc, &image)? && image.node(&path_of(alloc, "@/w")?).is_none();
+        if !is_bare || !all_stand(alloc, &image, after)? {
             return Err(Fail::from("a write set that isn't kept"));
         }
     }
@@ -257,55 +337,107 @@ fn is_kept(alloc: Global, tree: &MemoryTree) -> Result<(), Fail> {
 }
 
 // Applies the write set, cut off after each number of calls, each time with the crash that a number picks.
-fn apply_each(alloc: Global, pick: u64, counts: &mut Counts) -> Result<(), Fail> {
+fn apply_each(alloc: Global, case: Case, pick: u64, counts: &mut Counts) -> Result<(), Fail> {
+    let mut start = String::from_str(alloc, case.start)?;
+    start.push_str(case.base)?;
     for calls in 0..MANY {
-        let cut = apply_up_to(alloc, &START, &PUTS, calls)?;
-        recover_each(alloc, &cut.tree, pick, counts)?;
+        let cut = apply_up_to(alloc, start.as_str(), case.puts, calls)?;
+        recover_each(alloc, &cut.tree, case, pick, counts)?;
         if cut.is_done {
-            return is_kept(alloc, &cut.tree);
+            return is_kept(alloc, &cut.tree, case.after);
         }
         counts.applies_cut = counts.applies_cut.saturating_add(1);
     }
     Err(Fail::from("a write set without an end"))
 }
 
-// The write set makes 17 calls that change something or sync: a sync; the base is made; the log, and a sync; the flag, and
-// a sync (the 6th); 4 nodes are removed; 4 calls make the targets; a sync (the 15th); the flag is removed, and a sync.
+// Each write set makes at least 16 calls that change something or sync: a sync; the base and the directory of staged bytes
+// are made, or files are staged in those that stand; the log, and a sync; the flag, and a sync; what is in the way is removed or a file is staged; the targets take
+// at least 4; a sync; the flag is removed, and a sync.
 //
-// From the 6th to the 15th of them on the flag is set in the image, whatever is picked. Then a recovery makes at least 13
-// calls: a sync, two that read the flag, two that read the log, a look at each of the 5 targets, a sync, the removal of the
-// flag, and a sync. It is cut off after each of fewer, and each time four crashes are recovered from. Until the 4th the flag
-// isn't set, and a recovery makes two calls.
-fn one_of_two_trees_is_found(alloc: Global, pick: u64) -> Result<bool, Fail> {
+// From the sync of the flag to that of the targets, at least 7 of them, the flag is set in the image, whatever is picked.
+// Then a recovery makes at least 20 calls: four looks and a sync, two that read the flag, three that read the log, a look at
+// the work name and at each target in both tests, 4 that make the targets, a sync, the removal of the flag, and a sync. It
+// is cut off after each of fewer, and each time four crashes are recovered from. Until the 4th the flag isn't set, and a
+// recovery makes six calls.
+fn one_of_two_trees_is_found(alloc: Global, case: Case, pick: u64) -> Result<bool, Fail> {
     let mut counts = NONE_YET;
-    apply_each(alloc, pick, &mut counts)?;
-    let are_cut = counts.applies_cut >= 17 && counts.recoveries_cut >= 10 * 13;
-    let are_found = counts.found_after >= 10 * 13 * 4 && counts.found_before >= 5 * 3 * 4;
+    apply_each(alloc, case, pick, &mut counts)?;
+    let are_cut = counts.applies_cut >= 16 && counts.recoveries_cut >= 7 * 20;
+    let are_found = counts.found_after >= 7 * 20 * 4 && counts.found_before >= 4 * 6 * 4;
     Ok(are_cut && are_found)
 }
 
-// A test for each pick, since they take a while.
+// A test for each write set and pick, since they take a while.
 
 #[test]
-fn one_of_two_trees_as_read(rt: HostRuntime) -> Result<(), Fail> {
-    assert!(rt; one_of_two_trees_is_found(rt.alloc(), AS_READ)?);
+fn kinds_as_read(rt: HostRuntime) -> Result<(), Fail> {
+    assert!(rt; one_of_two_trees_is_found(rt.alloc(), KINDS, AS_READ)?);
     Ok(())
 }
 
 #[test]
-fn one_of_two_trees_first_as_synced(rt: HostRuntime) -> Result<(), Fail> {
-    assert!(rt; one_of_two_trees_is_found(rt.alloc(), FIRST_AS_SYNCED)?);
+fn kinds_first_as_synced(rt: HostRuntime) -> Result<(), Fail> {
+    assert!(rt; one_of_two_trees_is_found(rt.alloc(), KINDS, FIRST_AS_SYNCED)?);
     Ok(())
 }
 
 #[test]
-fn one_of_two_trees_first_torn(rt: HostRuntime) -> Result<(), Fail> {
-    assert!(rt; one_of_two_trees_is_found(rt.alloc(), FIRST_TORN)?);
+fn kinds_first_torn(rt: HostRuntime) -> Result<(), Fail> {
+    assert!(rt; one_of_two_trees_is_found(rt.alloc(), KINDS, FIRST_TORN)?);
     Ok(())
 }
 
 #[test]
-fn one_of_two_trees_as_synced(rt: HostRuntime) -> Result<(), Fail> {
-    assert!(rt; one_of_two_trees_is_found(rt.alloc(), AS_SYNCED)?);
+fn kinds_as_synced(rt: HostRuntime) -> Result<(), Fail> {
+    assert!(rt; one_of_two_trees_is_found(rt.alloc(), KINDS, AS_SYNCED)?);
+    Ok(())
+}
+
+#[test]
+fn renamed_as_read(rt: HostRuntime) -> Result<(), Fail> {
+    assert!(rt; one_of_two_trees_is_found(rt.alloc(), RENAMED, AS_READ)?);
+    Ok(())
+}
+
+#[test]
+fn renamed_first_as_synced(rt: HostRuntime) -> Result<(), Fail> {
+    assert!(rt; one_of_two_trees_is_found(rt.alloc(), RENAMED, FIRST_AS_SYNCED)?);
+    Ok(())
+}
+
+#[test]
+fn renamed_first_torn(rt: HostRuntime) -> Result<(), Fail> {
+    assert!(rt; one_of_two_trees_is_found(rt.alloc(), RENAMED, FIRST_TORN)?);
+    Ok(())
+}
+
+#[test]
+fn renamed_as_synced(rt: HostRuntime) -> Result<(), Fail> {
+    assert!(rt; one_of_two_trees_is_found(rt.alloc(), RENAMED, AS_SYNCED)?);
+    Ok(())
+}
+
+#[test]
+fn staged_as_read(rt: HostRuntime) -> Result<(), Fail> {
+    assert!(rt; one_of_two_trees_is_found(rt.alloc(), STAGED, AS_READ)?);
+    Ok(())
+}
+
+#[test]
+fn staged_first_as_synced(rt: HostRuntime) -> Result<(), Fail> {
+    assert!(rt; one_of_two_trees_is_found(rt.alloc(), STAGED, FIRST_AS_SYNCED)?);
+    Ok(())
+}
+
+#[test]
+fn staged_first_torn(rt: HostRuntime) -> Result<(), Fail> {
+    assert!(rt; one_of_two_trees_is_found(rt.alloc(), STAGED, FIRST_TORN)?);
+    Ok(())
+}
+
+#[test]
+fn staged_as_synced(rt: HostRuntime) -> Result<(), Fail> {
+    assert!(rt; one_of_two_trees_is_found(rt.alloc(), STAGED, AS_SYNCED)?);
     Ok(())
 }

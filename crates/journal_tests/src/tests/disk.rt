@@ -14,7 +14,7 @@ use tree_memory::MemoryTree;
 #[derive(Drop)]
 pub struct QuietDisk {
     pub inner: MemoryTree,
-    faults: u64,
+    pub(crate) faults: u64,
 }
 
 impl QuietDisk {

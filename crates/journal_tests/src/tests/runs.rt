@@ -2,21 +2,12 @@
 ghost use Rattle.std.specs.Prelude.{◌≤◌, IfOk, length};
 
 use super::disk::QuietDisk;
-use super::trees::{Table, puts_of, tree_of};
+use super::trees::{BASE, puts_of, tree_of};
 use cny_base::{Path, Stop};
 use std::alloc::Global;
 use std::test::Fail;
 use tree_journal::{apply, recover};
 use tree_memory::MemoryTree;
-
-/// The private directory of the journal.
-pub const BASE: &str = "/var/lib/conarydb";
-
-/// The file of the commit flag.
-pub const GATE: &str = "/var/lib/conarydb/gate";
-
-/// The file of the log.
-pub const LOG: &str = "/var/lib/conarydb/log";
 
 /// More calls than any of the runs makes.
 pub const MANY: u32 = 1000;
@@ -41,13 +32,6 @@ fn end_of<T: Drop>(answer: Result<T, Stop>) -> Result<Option<T>, Fail> {
     }
 }
 
-// The disk of this tree, with a stop after so many calls.
-fn disk_of(alloc: Global, start: Table, calls: u32) -> Result<QuietDisk, Fail> {
-    let mut tree = tree_of(alloc, start)?;
-    tree.stop_after(calls);
-    Ok(QuietDisk::new(tree))
-}
-
 /// A tree, and whether the run that made it came to its end.
 #[derive(Drop)]
 pub struct Applied {
@@ -55,9 +39,9 @@ pub struct Applied {
     pub is_done: bool,
 }
 
-/// Applies a write set to a tree, and stops after so many calls.
-pub fn apply_up_to(alloc: Global, start: Table, puts: Table, calls: u32) -> Result<Applied, Fail> {
-    let mut disk = disk_of(alloc, start, calls)?;
+/// Applies a write set to a tree.
+pub fn apply_to(alloc: Global, tree: MemoryTree, puts: &str) -> Result<Applied, Fail> {
+    let mut disk = QuietDisk::new(tree);
     let puts = puts_of(alloc, puts)?;
     let answer = apply(alloc, &mut disk, &base_path(alloc)?, &puts);
     let is_done = end_of(answer)?.is_some();
@@ -65,6 +49,13 @@ pub fn apply_up_to(alloc: Global, start: Table, puts: Table, calls: u32) -> Resu
         tree: disk.inner,
         is_done,
     })
+}
+
+/// Applies a write set to a tree, and stops after so many calls.
+pub fn apply_up_to(alloc: Global, start: &str, puts: &str, calls: u32) -> Result<Applied, Fail> {
+    let mut tree = tree_of(alloc, start)?;
+    tree.stop_after(calls);
+    apply_to(alloc, tree, puts)
 }
 
 /// What a recovery left of a tree, and what it answered; none where it was cut off.

@@ -12,6 +12,7 @@ pub returns : goal.returns
 returns g c = puts_applied c.apply.result c.on_root.result
     (subst (λ p. Application g.T.TreeDisk.disk p c.args.puts.now c.args.root.now c.apply.new.disk c.apply.result) c.in_ok-directory.ensures (record {
       any_moment = c.apply.ensures.any_moment;
+      visible = c.apply.ensures.visible;
       applied = c.apply.ensures.applied;
       stopped = c.apply.ensures.stopped;
       confined = c.apply.ensures.confined;

@@ -1,4 +1,4 @@
-use Rattle.conary_cli.proofs.WholeCall.Performing.{stopped, stopped_images, performed, images_then, never_none, never_missing}
+use Rattle.conary_cli.proofs.WholeCall.Performing.{stopped, stopped_images, stopped_shown, performed, images_then, shown_then, never_none, never_missing}
 use Rattle.conary_cli.proofs.ReadyRoot.Recovering.{err_is}
 use Rattle.conary_cli.specs.Call.{objects, Performs}
 use Rattle.conary_cli.specs.Run.{meaning}
@@ -14,6 +14,14 @@ returns-in_err-ready-clause-performs g c =
 pub returns-in_err-ready-clause-images : goal.returns-in_err-ready-clause-images
 returns-in_err-ready-clause-images g c =
     stopped_images g.I.Source.source g.met.T.TreeDisk.laws c.args.command c.args.input.now c.args.root.now c.ready.new.root c.in_err-ready.field-0.0 c.in_err-ready.ensures
+
+pub returns-in_err-ready-clause-seen : goal.returns-in_err-ready-clause-seen
+returns-in_err-ready-clause-seen g c =
+    stopped_shown g.I.Source.source g.met.T.TreeDisk.laws c.args.command c.args.input.now c.args.root.now c.ready.new.root c.in_err-ready.field-0.0 c.in_err-ready.ensures
+
+pub returns-clause-seen : goal.returns-clause-seen
+returns-clause-seen g c =
+    shown_then g.I.Source.source g.met.T.TreeDisk.laws c.args.command c.args.input.now c.args.root.now c.ready.new.root c.in_ok-ready.ensures c.perform_ready.new.input c.perform_ready.new.root c.perform_ready.result c.perform_ready.ensures
 
 pub returns-clause-performs : goal.returns-clause-performs
 returns-clause-performs g c =

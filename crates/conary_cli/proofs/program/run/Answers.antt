@@ -26,6 +26,7 @@ returns-clause-call g c =
       read_to_end = read_to_end command before after c.report.result owed end;
       form = form_decides c.unique_set.ensures command before after c.report.result end;
       images = c.perform_words-answered.ensures.images;
+      seen = c.perform_words-answered.ensures.seen;
       settled = settles_end end;
       untouched = c.perform_words-answered.ensures.untouched;
       missing = c.perform_words-answered.ensures.missing;

@@ -1,4 +1,4 @@
-use Rattle.std.proofs.Common.{Err, ap, sym}
+use Rattle.std.proofs.Common.{Err, ap}
 use Rattle.conary_cli.specs.declared.failure.Failure.TheVariants as failure
 use Rattle.conary_cli.specs.Failures.{failure_of_fault}
 use Rattle.conary_cli.specs.Ready.{PerformsReady}

@@ -3,7 +3,7 @@ use Rattle.tree_disk.specs.Tree.{Name}
 use Rattle.journal_log.specs.declared.put.Put.{Put}
 use Rattle.journal_log.specs.PutItem.{ArePutsOf}
 use Rattle.journal_log.specs.LogBytes.{IsLogText}
-use Rattle.journal_log.specs.Rules.{AreNamed, NothingBelow}
+use Rattle.journal_log.specs.Rules.{AreLogged, AreNamed, NothingBelow}
 use Rattle.journal_log.specs.WriteSet.{Rises}
 use Rattle.journal_log.proofs.Decoding.{log_of_puts, log_rises, log_rules, one_log}
 use Rattle.journal_log.proofs.decode.decode_log.Goals as goal
@@ -20,8 +20,8 @@ returns-in_default-clause-bad c = λ bad puts log.
 
 -- ---- puts that break a rule
 
-rules_of : (base : Name) (items made puts : List Put) (bytes : List ℕ) → made ≡ items → ArePutsOf items bytes → IsLogText base puts bytes → AreNamed base made × NothingBelow made
-rules_of base items made puts bytes same read log = subst (λ (l : List Put). AreNamed base l × NothingBelow l) (sym same) (log_rules base items puts bytes read log)
+rules_of : (base : Name) (items made puts : List Put) (bytes : List ℕ) → made ≡ items → ArePutsOf items bytes → IsLogText base puts bytes → AreNamed base made × NothingBelow made × AreLogged base made
+rules_of base items made puts bytes same read log = subst (λ (l : List Put). AreNamed base l × NothingBelow l × AreLogged base l) (sym same) (log_rules base items puts bytes read log)
 
 pub returns-then-not-keeps_rules-clause-only : goal.returns-then-not-keeps_rules-clause-only
 returns-then-not-keeps_rules-clause-only c = λ puts log.
@@ -33,7 +33,7 @@ returns-then-not-keeps_rules-clause-bad c = λ bad puts log.
 
 -- ---- the write set
 
-made_log : (base : Name) (items made : List Put) (bytes : List ℕ) → made ≡ items → ArePutsOf items bytes → Rises items → AreNamed base made × NothingBelow made → IsLogText base made bytes
+made_log : (base : Name) (items made : List Put) (bytes : List ℕ) → made ≡ items → ArePutsOf items bytes → Rises items → AreNamed base made × NothingBelow made × AreLogged base made → IsLogText base made bytes
 made_log base items made bytes same read rises rules =
     log_of_puts base made bytes (subst (λ (l : List Put). ArePutsOf l bytes) (sym same) read) (subst Rises (sym same) rises) rules
 

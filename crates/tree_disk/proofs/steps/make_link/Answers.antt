@@ -1,4 +1,4 @@
-use Rattle.tree_disk.proofs.Calls.{makes_call, one_step_call}
+use Rattle.tree_disk.proofs.Calls.{makes_call, one_step_call, seen_call}
 use Rattle.tree_disk.proofs.steps.make_link.Goals as goal
 
 pub returns-clause-makes : goal.returns-clause-makes
@@ -6,3 +6,6 @@ returns-clause-makes g c = makes_call g.met.D.TreeDisk.laws c.make_link.ensures.
 
 pub returns-clause-one_step : goal.returns-clause-one_step
 returns-clause-one_step g c = one_step_call g.met.D.TreeDisk.laws c.make_link.ensures.told c.allowed.ensures
+
+pub returns-clause-seen : goal.returns-clause-seen
+returns-clause-seen g c = seen_call g.met.D.TreeDisk.laws c.make_link.ensures.cause c.make_link.ensures.told

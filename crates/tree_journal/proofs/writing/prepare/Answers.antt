@@ -1,7 +1,7 @@
 use Rattle.std.proofs.Common.{refl}
 use Rattle.tree_disk.specs.ConfinedLaws.{leaves_then}
 use Rattle.tree_disk.specs.StepLaws.{makes_then, makes_stop, makes_wider}
-use Rattle.tree_journal.specs.Steps.{is_base_or_log, with_log}
+use Rattle.tree_journal.specs.Steps.{is_log_or_staged, with_log}
 use Rattle.tree_journal.proofs.Applying.{before_sync, after_sync}
 use Rattle.tree_journal.proofs.writing.prepare.Goals as goal
 
@@ -16,7 +16,7 @@ write_log-requires-clause-parent g c = λ tells. rw (c.in_ok-sync.ensures.makes.
 
 pub returns-clause-makes : goal.returns-clause-makes
 returns-clause-makes g c =
-    makes_then {first = λ tree. tree} {next = with_log c.args.base.now c.args.bytes.now} (makes_wider {many = is_base_or_log c.args.base.now} (λ p none. absurd (cc none)) c.in_ok-sync.ensures.makes) (λ p h. h) c.write_log.ensures.makes (λ tells. refl)
+    makes_then {first = λ tree. tree} {next = with_log c.args.base.now c.args.puts.now c.args.numbered.now c.args.bytes.now} (makes_wider {many = is_log_or_staged c.args.base.now} (λ p none. absurd (cc none)) c.in_ok-sync.ensures.makes) (λ p h. h) c.write_log.ensures.makes (λ tells. refl)
 
 pub returns-clause-any_moment : goal.returns-clause-any_moment
 returns-clause-any_moment g c = λ tells.
