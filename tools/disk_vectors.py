@@ -8,13 +8,43 @@ A line of the steps is a step on a disk in memory and its words, with a space be
 space, a percent sign, a control byte or a byte that isn't ASCII is written as `%` and two hexadecimal digits. A line of the
 answers is the answer to the step of its number. What each step answers is computed from the rules of docs/MODEL.md alone;
 nothing is shared with the program that is tested. The steps are worked cases, whose answers are also written out here by
-hand, and then histories made at random, the same in each run.
+hand, and then histories of a disk and of a content store over it, drawn by a generator of its own, the same in each run.
 """
-import random
+import hashlib
+import re
 import sys
 
 TORN = ("file", 0o600, b"\xee\xee\xee")
 CHUNK = 4096
+# how many bytes of a file a content store looks at at once, and the longest directory that it puts contents into
+PIECE = 65536
+LONGEST_DIR = 983
+# a longer content is told by its SHA-1
+TOLD = 64
+
+
+class Draws:
+    """Numbers drawn by a linear congruential generator, so that every Python draws the same."""
+
+    def __init__(self, seed):
+        self.state = seed
+
+    def below(self, bound):
+        self.state = (self.state * 6364136223846793005 + 1442695040888963407) % 2**64
+        return (self.state >> 33) * bound >> 31
+
+    def chance(self, percent):
+        return self.below(100) < percent
+
+    def one_of(self, items):
+        return items[self.below(len(items))]
+
+    def some_of(self, items, count):
+        items = list(items)
+        return [items.pop(self.below(len(items))) for _ in range(count)]
+
+    def bits(self, count):
+        return sum(self.below(256) << place for place in range(0, count, 8)) % 2**count
 
 
 def word(data):
@@ -239,6 +269,106 @@ class Disk:
             return "ok"
         return self.step(name, words)
 
+    # ---- a content store: a directory whose files are named by the digits of their contents' names
+
+    def store(self, name, words):
+        if name == "fill":
+            return self.step("append", [words[0], word(content_of(words[1:]))])
+        if name == "find":
+            return "none"
+        if name == "put":
+            return self.put(words[0], NAMERS[words[1]], content_of(words[2:]))
+        if name == "put_file":
+            return self.put_file(words[0], NAMERS[words[1]], words[2])
+        if len(words[0]) > LONGEST_DIR:
+            return {"get": "none", "has": "no", "clear": "ok"}[name]
+        path = under(words[0], words[1])
+        if name == "clear":
+            return self.clear(path)
+        seen = self.step("look", [path])
+        if seen == "failed":
+            return seen
+        is_file = seen.startswith("ok file")
+        if name == "has":
+            return "yes" if is_file else "no"
+        if not is_file:
+            return "none"
+        answer = self.whole(path, 2**64)
+        if not answer.startswith("ok "):
+            return answer
+        data = bytes_of(answer.split(" ")[1])
+        return f"ok {len(data)} {word(data) if len(data) <= TOLD else hashlib.sha1(data).hexdigest()}"
+
+    def put(self, dir, namer, data):
+        name = namer(data).hex()
+        path = under(dir, name)
+        seen = self.step("look", [path])
+        if seen == "failed":
+            return seen
+        if not seen.startswith("ok file"):
+            answer = self.step("append", [path, word(data)])
+            return f"ok {name}" if answer == "ok" else answer
+        kept = self.reads[path][2]
+        for at in range(0, len(data), PIECE):
+            room = min(PIECE, len(data) - at)
+            if self.step("read", [path, str(at), str(room)]) == "failed":
+                return "failed"
+            if kept[at : at + room] != data[at : at + room]:
+                break
+        return same_or_collision(name, kept, data)
+
+    def put_file(self, dir, namer, source):
+        seen = self.step("look", [source])
+        if seen == "failed":
+            return seen
+        size = int(seen.rsplit(" ", 1)[1])
+        data = b""
+        for at in range(0, size, PIECE):
+            piece = self.step("read", [source, str(at), str(min(PIECE, size - at))])
+            if piece == "failed":
+                return piece
+            data += bytes_of(piece.split(" ")[2])
+        name = namer(data).hex()
+        path = under(dir, name)
+        seen = self.step("look", [path])
+        if seen == "failed":
+            return seen
+        if not seen.startswith("ok file"):
+            answer = self.step("rename", [source, path])
+            return f"ok {name}" if answer == "ok" else answer
+        kept = self.reads[path][2]
+        for at in range(0, size, PIECE):
+            room = min(PIECE, size - at)
+            for file in (path, source):
+                if self.step("read", [file, str(at), str(room)]) == "failed":
+                    return "failed"
+            if kept[at : at + room] != data[at : at + room]:
+                break
+        return same_or_collision(name, kept, data)
+
+
+def under(dir, name):
+    return ("" if dir == "/" else dir) + "/" + name
+
+
+def content_of(words):
+    """A content is a word, how often it is repeated, and a word behind."""
+    return bytes_of(words[0]) * int(words[1]) + bytes_of(words[2])
+
+
+NAMERS = {
+    "sha1": lambda data: hashlib.sha1(data).digest(),
+    "byte": lambda data: (data[:1] or b"\0") * 20,
+}
+
+
+def same_or_collision(name, kept, data):
+    if kept == data:
+        return f"ok {name}"
+    common = min(len(kept), len(data))
+    at = next((k for k in range(common) if kept[k] != data[k]), common)
+    return f"collision {name} {at}"
+
 
 def node_of(words):
     if words[0] == "dir":
@@ -250,6 +380,9 @@ def node_of(words):
 
 def with_paths(name, words):
     """The words with each path as a text."""
+    if name == "store":
+        places = (1, 3) if words[0] == "put_file" else (1,)
+        return [bytes_of(w).decode() if at in places else w for at, w in enumerate(words)]
     first = 1 if name in ("any", "left", "seen") else 0
     last = len(words) if name in ("at", "left", "seen") else first + (2 if "rename" in [name] + words[:1] else 1)
     if name in ("new", "stop", "crash"):
@@ -297,6 +430,8 @@ class Script:
             return " ".join(["is"] + [node_text(tree.get(path)) for path in paths])
         if name == "any":
             return disk.over_any(words[0], words[1:])
+        if name == "store":
+            return disk.store(words[0], words[1:])
         return disk.call(name, words)
 
     def add(self, step):
@@ -307,6 +442,169 @@ class Script:
 
 
 # ---- worked cases: a step and, behind `=>`, its answer
+
+# Of a store: a content whose name another has (`digest_collision`), the same content again, and a content that is the
+# beginning of another; each call failing; contents of several pieces, which differ in the second one or behind it; files
+# that are moved, or stay; names that are cleared; crash images; and directories whose contents have no path.
+WORKED_STORE = """
+node / dir 0755 => ok
+node /s dir 0755 => ok
+new => ok
+store get /s A => none
+store has /s A => no
+store put /s byte a1 1 - => ok A
+store get /s A => ok 2 a1
+store put /s byte a2 1 - => collision A 1
+store get /s A => ok 2 a1
+store has /s A => yes
+store put /s byte a1 1 - => ok A
+store put /s byte a 1 - => collision A 1
+store put /s byte a11 1 - => collision A 2
+store put /s byte - 0 - => ok ZERO
+store put /s byte - 0 - => ok ZERO
+store put /s byte %00 1 - => collision ZERO 0
+store get /s ZERO => ok 0 -
+store put /s sha1 abc 1 - => ok a9993e364706816aba3e25717850c26c9cd0d89d
+store put /s sha1 - 0 - => ok da39a3ee5e6b4b0d3255bfef95601890afd80709
+store get /s a9993e364706816aba3e25717850c26c9cd0d89d => ok 3 abc
+list /s => ok ZERO A a9993e364706816aba3e25717850c26c9cd0d89d da39a3ee5e6b4b0d3255bfef95601890afd80709
+at /s/A => is file 0600 a1
+left 2730 /s/A /s => is nothing dir 0755
+sync => ok
+store put /s byte a1 1 - => ok A
+store put /s byte a2 1 - => collision A 1
+left 43690 /s/A /s => is file 0600 a1 dir 0755
+store clear /s A => ok
+store get /s A => none
+store has /s A => no
+store clear /s A => ok
+store put /s byte a2 1 - => ok A
+store get /s A => ok 2 a2
+make_dir /s/B 0755 => ok
+append /s/B/x x => ok
+store get /s B => none
+store has /s B => no
+store clear /s B => ok
+at /s/B /s/B/x /s/A => is nothing nothing file 0600 a2
+node / dir 0755 => ok
+node /s dir 0755 => ok
+node /s/A file 0640 a1 => ok
+new 1 2 4 5 6 8 10 12 14 15 => ok
+store get /s A => failed
+store put /s byte a1 1 - => failed
+store put /s byte a1 1 - => failed
+store has /s A => failed
+store put /s byte a2 1 - => failed
+store put /s byte bb 1 - => failed
+at /s/B => is file 0600 b
+store clear /s B => failed
+store clear /s B => failed
+at /s/B => is file 0600 b
+store clear /s B => failed
+at /s/B /s/A => is file 0600 b file 0640 a1
+node / dir 0755 => ok
+node /s dir 0755 => ok
+new => ok
+store put /s byte a 65536 - => ok A
+store put /s byte a 65536 - => ok A
+store put /s byte a 65536 b => collision A 65536
+store put /s byte a 65535 - => collision A 65535
+store put /s byte a 65535 b => collision A 65535
+store clear /s A => ok
+store put /s byte a 131072 bcd => ok A
+store put /s byte a 131072 bcd => ok A
+store put /s byte a 131072 bce => collision A 131074
+store put /s byte a 131072 bc => collision A 131074
+store put /s byte a 65540 b => collision A 65540
+store put /s byte a 130 b => collision A 130
+store get /s A => ok 131075 dbf72f8c2e397d2a4f26ea60126a895b2ce6ed7b
+node / dir 0755 => ok
+node /f file 0644 a1 => ok
+node /g file 0600 a1 => ok
+node /h file 0600 a2 => ok
+node /s dir 0755 => ok
+new => ok
+store put_file /s byte /f => ok A
+at /f /s/A => is nothing file 0644 a1
+store put_file /s byte /g => ok A
+at /g /s/A => is file 0600 a1 file 0644 a1
+store put_file /s byte /h => collision A 1
+at /h /s/A => is file 0600 a2 file 0644 a1
+left 341 /f /s/A => is file 0644 a1 nothing
+left 682 /f /s/A => is nothing nothing
+sync => ok
+store put_file /s byte /g => ok A
+store put_file /s byte /h => collision A 1
+left 682 /g /h /s/A => is file 0600 a1 file 0600 a2 file 0644 a1
+store put_file /s sha1 /g => ok f29bc91bbdab169fc0c0a326965953d11c7dff83
+store put_file /s byte /s/A => ok A
+look /s/A => ok file 0644 2
+store fill /b a 65540 x => ok
+store put_file /s byte /b => collision A 1
+store clear /s A => ok
+store put_file /s byte /b => ok A
+look /b => ok nothing
+store fill /b a 65540 y => ok
+store put_file /s byte /b => collision A 65540
+store fill /c a 65540 xx => ok
+store put_file /s byte /c => collision A 65541
+store fill /d a 65540 x => ok
+store put_file /s byte /d => ok A
+look /d => ok file 0600 65541
+store put /s byte a 65540 x => ok A
+node / dir 0755 => ok
+node /f file 0644 a1 => ok
+node /g file 0600 a1 => ok
+node /s dir 0755 => ok
+new 1 3 6 10 18 23 => ok
+store put_file /s byte /f => failed
+store put_file /s byte /f => failed
+store put_file /s byte /f => failed
+store put_file /s byte /f => failed
+at /f /s/A => is file 0644 a1 nothing
+store put_file /s byte /f => ok A
+store put_file /s byte /g => failed
+store put_file /s byte /g => failed
+store put_file /s byte /g => ok A
+at /f /g /s/A => is nothing file 0600 a1 file 0644 a1
+node / dir 0755 => ok
+node L1 dir 0755 => ok
+node L2 dir 0755 => ok
+node L3 dir 0755 => ok
+node LONG dir 0755 => ok
+node LONGER dir 0755 => ok
+new => ok
+store put / byte a1 1 - => ok A
+store get / A => ok 2 a1
+at /A => is file 0600 a1
+store put /x byte b1 1 - => failed
+store put LONG byte b1 1 - => ok B
+store get LONG B => ok 2 b1
+store has LONG A => no
+store clear LONG B => ok
+store get LONG B => none
+store get LONGER A => none
+store find / A => none
+store has LONGER A => no
+store clear LONGER A => ok
+"""
+
+
+def with_names(text):
+    """The worked cases of a store with their short names written out."""
+    parts = ["/" + letter * 245 for letter in "abc"]
+    names = {
+        "ZERO": "00" * 20,
+        "A": "61" * 20,
+        "B": "62" * 20,
+        "L1": "".join(parts[:1]),
+        "L2": "".join(parts[:2]),
+        "L3": "".join(parts[:3]),
+        "LONG": "".join(parts) + "/" + "d" * 244,
+        "LONGER": "".join(parts) + "/" + "d" * 245,
+    }
+    return re.sub(r"[A-Z][A-Z0-9]*", lambda found: names[found[0]], text)
+
 
 WORKED = """
 node / dir 0600 => ok
@@ -516,7 +814,8 @@ any write /m/x 0644 abc => failed
 stop 1 => ok
 any write /n 0644 abc => failed
 at /n => is file 0600 abc
-""".strip().replace("BIG", "7" * 4101)
+STORE
+""".strip().replace("STORE", with_names(WORKED_STORE.strip())).replace("BIG", "7" * 4101)
 
 
 def worked(script):
@@ -526,63 +825,105 @@ def worked(script):
         assert got == wanted, f"{step}: {got}, not {wanted}"
 
 
-# ---- histories made at random
+# ---- histories of a disk
 
 PATHS = ["/", "/a", "/a/b", "/a/b/c", "/a-", "/a.x", "/b", "/b/c", "/d", "/d/e", "/\u00e9"]
 CALLS = ["append", "append", "make_dir", "make_dir", "make_link", "set_mode", "remove", "rename", "rename", "sync", "look", "list", "read"]
 PICKS = [0, 0x5555555555555555, 0xAAAAAAAAAAAAAAAA, 0xFFFFFFFFFFFFFFFF]
 
 
-def some_call(rand):
-    call, path = rand.choice(CALLS), word(rand.choice(PATHS).encode())
+def some_call(draws):
+    call, path = draws.one_of(CALLS), word(draws.one_of(PATHS).encode())
     if call == "sync":
         return call
     more = {
-        "append": [word(bytes(rand.choices(b"xyz \xff", k=rand.randrange(6))))],
-        "make_dir": [f"{rand.choice([0, 0o755, 0o7777]):04o}"],
-        "make_link": [rand.choice(["to", "/a", "in%20it"])],
-        "set_mode": [f"{rand.choice([0o600, 0o644, 0o4711]):04o}"],
-        "rename": [word(rand.choice(PATHS).encode())],
-        "read": [str(rand.randrange(5)), str(rand.randrange(5))],
+        "append": [word(bytes(draws.one_of(b"xyz \xff") for _ in range(draws.below(6))))],
+        "make_dir": [f"{draws.one_of([0, 0o755, 0o7777]):04o}"],
+        "make_link": [draws.one_of(["to", "/a", "in%20it"])],
+        "set_mode": [f"{draws.one_of([0o600, 0o644, 0o4711]):04o}"],
+        "rename": [word(draws.one_of(PATHS).encode())],
+        "read": [str(draws.below(5)), str(draws.below(5))],
     }
     return " ".join([call, path] + more.get(call, []))
 
 
-def history(script, rand):
-    fails = sorted(rand.sample(range(1, 25), rand.randrange(4)))
+def history(script, draws):
+    fails = sorted(draws.some_of(range(1, 25), draws.below(4)))
     script.add("node / dir 0755")
-    if rand.random() < 0.5:
+    if draws.chance(50):
         script.add("node /a dir 0755")
     script.add(" ".join(["new"] + [str(n) for n in fails]))
     everything = " ".join(word(path.encode()) for path in PATHS)
-    for _ in range(rand.randrange(5, 25)):
-        draw = rand.random()
-        if draw < 0.04:
-            script.add(f"edit {word(rand.choice(PATHS).encode())} {rand.choice(['nothing', 'dir 0711', 'file 0600 e', 'link to'])}")
-        elif draw < 0.06:
-            script.add(f"stop {rand.randrange(6)}")
-        elif draw < 0.09:
-            script.add(f"any clear {word(rand.choice(PATHS[1:]).encode())}")
+    for _ in range(5 + draws.below(20)):
+        draw = draws.below(100)
+        if draw < 4:
+            script.add(f"edit {word(draws.one_of(PATHS).encode())} {draws.one_of(['nothing', 'dir 0711', 'file 0600 e', 'link to'])}")
+        elif draw < 6:
+            script.add(f"stop {draws.below(6)}")
+        elif draw < 9:
+            script.add(f"any clear {word(draws.one_of(PATHS[1:]).encode())}")
         else:
-            script.add(some_call(rand))
+            script.add(some_call(draws))
     script.add(f"at {everything}")
     script.add("moment")
     moments = len(script.disk.moments)
-    for moment in sorted(rand.sample(range(moments), min(3, moments))):
+    for moment in sorted(draws.some_of(range(moments), min(3, moments))):
         script.add(f"seen {moment} {everything}")
-    for pick in [rand.choice(PICKS), rand.getrandbits(64)]:
+    for pick in [draws.one_of(PICKS), draws.bits(64)]:
         script.add(f"left {pick} {everything}")
-    script.add(f"crash {rand.getrandbits(64)}")
-    script.add(some_call(rand))
+    script.add(f"crash {draws.bits(64)}")
+    script.add(some_call(draws))
     script.add(f"at {everything}")
+
+
+# ---- histories of a store
+
+CONTENTS = ["- 0 -", "a 1 1", "a 1 2", "a 1 11", "b 1 -", "b 1 %00", "a 70000 x", "a 70000 y", "a 65536 -"]
+
+
+def store_call(draws, kept):
+    call = draws.one_of(["put", "put", "put", "put_file", "put_file", "fill", "get", "get", "has", "clear"])
+    if call == "put":
+        return f"put /s {draws.one_of(['byte', 'byte', 'sha1'])} {draws.one_of(CONTENTS)}"
+    if call == "put_file":
+        return f"put_file /s {draws.one_of(['byte', 'byte', 'sha1'])} {draws.one_of(['/f', '/g'])}"
+    if call == "fill":
+        return f"fill {draws.one_of(['/f', '/g'])} {draws.one_of(CONTENTS)}"
+    return f"{call} /s {draws.one_of(kept)}"
+
+
+def store_history(script, draws):
+    fails = sorted(draws.some_of(range(1, 30), draws.below(4)))
+    script.add("node / dir 0755")
+    script.add(f"node /f file 0644 {draws.one_of(['-', 'a1', 'a2', 'bb'])}")
+    script.add(f"node /g file 0600 {draws.one_of(['-', 'a1', 'b'])}")
+    script.add("node /s dir 0755")
+    script.add(" ".join(["new"] + [str(n) for n in fails]))
+    kept = [byte * 20 for byte in ("00", "61", "62")]
+    for _ in range(5 + draws.below(12)):
+        step = store_call(draws, kept)
+        # a file stands at what is put
+        if step.startswith("put_file") and kind(script.disk.reads, step.split(" ")[3]) != "file":
+            continue
+        answer = script.add("store " + step)
+        if answer.startswith(("ok ", "collision ")) and step.startswith("put"):
+            kept.append(answer.split(" ")[1])
+    places = " ".join(f"/s/{name}" for name in sorted(set(kept)))
+    for path in ["/f", "/g"] + [f"/s/{name}" for name in sorted(set(kept))]:
+        script.add(f"look {path}")
+    if all(len(node[2]) < 100 for path, node in script.disk.reads.items() if node[0] == "file"):
+        script.add(f"at {places} /f /g")
+        script.add(f"left {draws.one_of(PICKS)} {places} /f /g")
 
 
 def main():
     script = Script()
     worked(script)
-    rand = random.Random(20)
+    draws = Draws(20)
     for _ in range(60):
-        history(script, rand)
+        history(script, draws)
+    for _ in range(40):
+        store_history(script, draws)
     lines = {"stdin": script.steps, "stdout": script.answers}[sys.argv[1]]
     sys.stdout.write("".join(line + "\n" for line in lines))
 

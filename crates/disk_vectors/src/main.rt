@@ -8,6 +8,7 @@ mod over;
 mod quiet;
 mod steps;
 mod stop;
+mod store;
 mod words;
 
 use crate::steps::{State, answer_step};

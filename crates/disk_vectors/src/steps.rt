@@ -1,9 +1,10 @@
 //! The steps of a script.
-use crate::nodes::{node_at, push_look, push_node};
+use crate::nodes::{count_text, look_text, names_text, node_at, push_node};
 use crate::over::over_any;
 use crate::quiet::Quiet;
 use crate::stop::Stop;
-use crate::words::{bytes_at, mode_at, number_at, path_at, push_word, text_at, words_of};
+use crate::store::store_step;
+use crate::words::{bytes_at, mode_at, number_at, path_at, text_at, words_of};
 use cny_base::{Fails, Mode, Names, Node, Path, Target};
 use std::alloc::Global;
 use tree_disk::{DiskStop, Look, TreeDisk};
@@ -13,17 +14,31 @@ use tree_memory::{MemoryTree, Nodes, TreeFault};
 const ROOM: usize = 64;
 
 /// What the steps have set up: a disk, and the nodes of the next one.
-#[derive(Drop)]
 pub struct State {
     disk: Quiet,
     nodes: Vec<(Path, Node)>,
 }
 
-fn root_alone(alloc: Global) -> Result<Quiet, Stop> {
+// Written by hand, so that to let a value go is a single call.
+impl Drop for State {
+    fn drop(self) {
+        let State {
+            disk: _disk,
+            nodes: _nodes,
+        } = self;
+    }
+}
+
+fn root_node(alloc: Global) -> Result<Nodes, Stop> {
     let mode = Mode::owner_only();
-    let nodes = vec![in alloc; (Path::read(alloc, "/")?, Node::Dir { mode })]?;
+    let root = Path::read(alloc, "/")?;
+    Ok(Nodes::new(vec![in alloc; (root, Node::Dir { mode })]?))
+}
+
+fn root_alone(alloc: Global) -> Result<Quiet, Stop> {
+    let nodes = root_node(alloc)?;
     let fails = Fails::new(Vec::new(alloc));
-    match MemoryTree::new(alloc, Nodes::new(nodes), fails) {
+    match MemoryTree::new(alloc, nodes, fails) {
         Ok(tree) => Ok(Quiet { tree, faults: 0 }),
         Err(TreeFault::NotATree) => Err(Stop::Unreadable),
         Err(TreeFault::Memory) => Err(Stop::Memory),
@@ -56,71 +71,105 @@ fn said(alloc: Global, answer: Result<(), DiskStop>) -> Result<String, Stop> {
 
 fn said_look(alloc: Global, answer: Result<Look, DiskStop>) -> Result<String, Stop> {
     match answer {
-        Ok(look) => {
-            let mut line = text(alloc, "ok")?;
-            push_look(alloc, &mut line, &look)?;
-            Ok(line)
-        }
+        Ok(look) => look_text(alloc, &look),
         Err(stop) => said(alloc, Err(stop)),
     }
 }
 
 fn said_names(alloc: Global, answer: Result<Names, DiskStop>) -> Result<String, Stop> {
     match answer {
-        Ok(names) => {
-            let mut line = text(alloc, "ok")?;
-            for name in names.get() {
-                push_word(&mut line, name.get().as_bytes())?;
-            }
-            Ok(line)
-        }
+        Ok(names) => names_text(alloc, names.get()),
         Err(stop) => said(alloc, Err(stop)),
     }
 }
 
-// Of a read: how many bytes came, and the whole buffer, which had bytes FF.
-fn said_bytes(alloc: Global, answer: Result<usize, DiskStop>, buf: &[u8]) -> Result<String, Stop> {
-    match answer {
-        Ok(count) => {
-            let mut line = format!(in alloc; "ok {count}")?;
-            push_word(&mut line, buf)?;
-            Ok(line)
-        }
+// At most `ROOM` bytes from a place on.
+fn read_some(
+    alloc: Global,
+    tree: &mut MemoryTree,
+    path: &Path,
+    at: u64,
+    len: usize,
+) -> Result<String, Stop> {
+    if len > ROOM {
+        return Err(Stop::Unreadable);
+    }
+    let mut buf = [0xFF; ROOM];
+    match tree.read_at(alloc, path, at, &mut buf[..len]) {
+        Ok(count) => count_text(alloc, count, &buf[..len]),
         Err(stop) => said(alloc, Err(stop)),
     }
 }
 
 // `read PATH AT LENGTH`.
-fn read(alloc: Global, tree: &mut MemoryTree, words: &[Vec<u8>]) -> Result<String, Stop> {
-    let path = path_at(alloc, words, 0)?;
+fn read(
+    alloc: Global,
+    tree: &mut MemoryTree,
+    path: &Path,
+    words: &[Vec<u8>],
+) -> Result<String, Stop> {
     let at = number_at(words, 1)?;
     let len = number_at(words, 2)? as usize;
-    if len > ROOM {
-        return Err(Stop::Unreadable);
-    }
-    let mut buf = [0xFF; ROOM];
-    let answer = tree.read_at(alloc, &path, at, &mut buf[..len]);
-    said_bytes(alloc, answer, &buf[..len])
+    read_some(alloc, tree, path, at, len)
 }
 
-// The calls that make or change what stands at a path.
-fn change(
+// `append PATH BYTES`.
+fn append(alloc: Global, tree: &mut MemoryTree, path: &Path, bytes: &[u8]) -> Result<String, Stop> {
+    said(alloc, tree.append(alloc, path, bytes))
+}
+
+// `make_dir PATH MODE`.
+fn make_dir(alloc: Global, tree: &mut MemoryTree, path: &Path, mode: Mode) -> Result<String, Stop> {
+    said(alloc, tree.make_dir(alloc, path, mode))
+}
+
+// `make_link PATH TARGET`.
+fn make_link(
+    alloc: Global,
+    tree: &mut MemoryTree,
+    path: &Path,
+    words: &[Vec<u8>],
+) -> Result<String, Stop> {
+    let target = Target::read(alloc, text_at(words, 1)?)?;
+    said(alloc, tree.make_link(alloc, path, &target))
+}
+
+// `set_mode PATH MODE`.
+fn set_mode(alloc: Global, tree: &mut MemoryTree, path: &Path, mode: Mode) -> Result<String, Stop> {
+    said(alloc, tree.set_mode(alloc, path, mode))
+}
+
+// `rename PATH PATH`.
+fn rename(
+    alloc: Global,
+    tree: &mut MemoryTree,
+    path: &Path,
+    words: &[Vec<u8>],
+) -> Result<String, Stop> {
+    let to = path_at(alloc, words, 1)?;
+    said(alloc, tree.rename(alloc, path, &to))
+}
+
+// A call of the disk at a path.
+fn at_path(
     alloc: Global,
     tree: &mut MemoryTree,
     name: &str,
+    path: &Path,
     words: &[Vec<u8>],
 ) -> Result<String, Stop> {
-    let path = path_at(alloc, words, 0)?;
-    let answer = match name {
-        "append" => tree.append(alloc, &path, bytes_at(words, 1)?),
-        "make_dir" => tree.make_dir(alloc, &path, mode_at(words, 1)?),
-        "make_link" => tree.make_link(alloc, &path, &Target::read(alloc, text_at(words, 1)?)?),
-        "set_mode" => tree.set_mode(alloc, &path, mode_at(words, 1)?),
-        "remove" => tree.remove(alloc, &path),
-        "rename" => tree.rename(alloc, &path, &path_at(alloc, words, 1)?),
-        _ => return Err(Stop::Unreadable),
-    };
-    said(alloc, answer)
+    match name {
+        "read" => read(alloc, tree, path, words),
+        "look" => said_look(alloc, tree.look(alloc, path)),
+        "list" => said_names(alloc, tree.list(alloc, path)),
+        "append" => append(alloc, tree, path, bytes_at(words, 1)?),
+        "make_dir" => make_dir(alloc, tree, path, mode_at(words, 1)?),
+        "make_link" => make_link(alloc, tree, path, words),
+        "set_mode" => set_mode(alloc, tree, path, mode_at(words, 1)?),
+        "remove" => said(alloc, tree.remove(alloc, path)),
+        "rename" => rename(alloc, tree, path, words),
+        _ => Err(Stop::Unreadable),
+    }
 }
 
 // A call of the disk.
@@ -130,13 +179,11 @@ fn call(
     name: &str,
     words: &[Vec<u8>],
 ) -> Result<String, Stop> {
-    match name {
-        "sync" => said(alloc, tree.sync(alloc)),
-        "read" => read(alloc, tree, words),
-        "look" => said_look(alloc, tree.look(alloc, &path_at(alloc, words, 0)?)),
-        "list" => said_names(alloc, tree.list(alloc, &path_at(alloc, words, 0)?)),
-        _ => change(alloc, tree, name, words),
+    if name == "sync" {
+        return said(alloc, tree.sync(alloc));
     }
+    let path = path_at(alloc, words, 0)?;
+    at_path(alloc, tree, name, &path, words)
 }
 
 fn said_fault(alloc: Global, answer: Result<(), TreeFault>) -> Result<String, Stop> {
@@ -148,23 +195,30 @@ fn said_fault(alloc: Global, answer: Result<(), TreeFault>) -> Result<String, St
 }
 
 // `node PATH NODE`: one node more of the next disk.
-fn add_node(alloc: Global, state: &mut State, words: &[Vec<u8>]) -> Result<String, Stop> {
+fn add_node(
+    alloc: Global,
+    nodes: &mut Vec<(Path, Node)>,
+    words: &[Vec<u8>],
+) -> Result<String, Stop> {
     let path = path_at(alloc, words, 0)?;
-    match node_at(alloc, words)? {
-        Some(node) => state.nodes.push((path, node))?,
-        None => return Err(Stop::Unreadable),
-    }
+    let node = node_at(alloc, words)?.ok_or(Stop::Unreadable)?;
+    nodes.push((path, node))?;
     text(alloc, "ok")
 }
 
-// `new CALL...`: a disk of the nodes told so far, whose calls of these numbers fail.
-fn make_disk(alloc: Global, state: &mut State, words: &[Vec<u8>]) -> Result<String, Stop> {
+fn fails_at(alloc: Global, words: &[Vec<u8>]) -> Result<Fails, Stop> {
     let mut fails = Vec::new(alloc);
     for at in 0..words.len() {
         fails.push(number_at(words, at)?)?;
     }
+    Ok(Fails::new(fails))
+}
+
+// `new CALL...`: a disk of the nodes told so far, whose calls of these numbers fail.
+fn make_disk(alloc: Global, state: &mut State, words: &[Vec<u8>]) -> Result<String, Stop> {
+    let fails = fails_at(alloc, words)?;
     let nodes = std::mem::replace(&mut state.nodes, Vec::new(alloc));
-    match MemoryTree::new(alloc, Nodes::new(nodes), Fails::new(fails)) {
+    match MemoryTree::new(alloc, Nodes::new(nodes), fails) {
         Ok(tree) => {
             state.disk = Quiet { tree, faults: 0 };
             text(alloc, "ok")
@@ -189,7 +243,8 @@ fn nodes_at(
 ) -> Result<String, Stop> {
     let mut line = text(alloc, "is")?;
     for at in place..words.len() {
-        push_node(&mut line, tree.node(&path_at(alloc, words, at)?))?;
+        let path = path_at(alloc, words, at)?;
+        push_node(&mut line, tree.node(&path))?;
     }
     Ok(line)
 }
@@ -228,10 +283,14 @@ fn stop(alloc: Global, tree: &mut MemoryTree, words: &[Vec<u8>]) -> Result<Strin
     text(alloc, "ok")
 }
 
-// A step that is no call of the disk, or else a call. `any CALL` makes one by the functions over any disk.
+fn moment_text(alloc: Global, moment: usize) -> Result<String, Stop> {
+    Ok(format!(in alloc; "{moment}")?)
+}
+
+// A step that is no call of the disk, or else a call.
 fn answer(alloc: Global, state: &mut State, name: &str, words: &[Vec<u8>]) -> Result<String, Stop> {
     match name {
-        "node" => add_node(alloc, state, words),
+        "node" => add_node(alloc, &mut state.nodes, words),
         "new" => make_disk(alloc, state, words),
         "left" => crash(alloc, state, words, false),
         "crash" => crash(alloc, state, words, true),
@@ -239,24 +298,19 @@ fn answer(alloc: Global, state: &mut State, name: &str, words: &[Vec<u8>]) -> Re
         "stop" => stop(alloc, &mut state.disk.tree, words),
         "at" => nodes_at(alloc, &state.disk.tree, words, 0),
         "seen" => seen(alloc, &state.disk.tree, words),
-        "moment" => {
-            let moment = state.disk.tree.moment();
-            Ok(format!(in alloc; "{moment}")?)
-        }
+        "moment" => moment_text(alloc, state.disk.tree.moment()),
         _ => call(alloc, &mut state.disk.tree, name, words),
     }
 }
 
-/// Makes the step of a line.
+/// Makes the step of a line: `any CALL` makes a call by the functions over any disk, `store CALL` one of a content store.
 pub fn answer_step(alloc: Global, state: &mut State, line: &str) -> Result<String, Stop> {
     let (name, rest) = line.split_once(' ').unwrap_or((line, ""));
     let words = words_of(alloc, rest)?;
     let words = words.as_slice();
-    if name != "any" {
-        return answer(alloc, state, name, words);
-    }
-    match words {
-        [_, rest @ ..] => over_any(alloc, &mut state.disk, text_at(words, 0)?, rest),
-        [] => Err(Stop::Unreadable),
+    match (name, words) {
+        ("any", [_, rest @ ..]) => over_any(alloc, &mut state.disk, text_at(words, 0)?, rest),
+        ("store", [_, rest @ ..]) => store_step(alloc, &mut state.disk, text_at(words, 0)?, rest),
+        _ => answer(alloc, state, name, words),
     }
 }

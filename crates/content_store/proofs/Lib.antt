@@ -1,0 +1,5 @@
+pub mod Differences
+pub mod Digits
+pub mod Paths
+pub mod Standing
+pub mod Deciding

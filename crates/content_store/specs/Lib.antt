@@ -1,0 +1,5 @@
+pub mod Difference
+pub mod Namers
+pub mod Store
+pub mod Outcome
+pub mod Contents

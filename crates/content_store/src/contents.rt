@@ -1,0 +1,85 @@
+//! Contents that are found by their names, wherever they are kept.
+ghost use Rattle.std.specs.Prelude.{◌≡◌, IfErr, IfOk, IfSome};
+ghost use Rattle.sha1.specs.Sha1.{sha1};
+ghost use Rattle.content_store.specs.declared.contents.FarStop.TheVariants as stop;
+ghost use Rattle.content_store.specs.Contents.{empty_contents, ContentMap, ContentsModel, KeepsContents, StopsFor};
+
+use cny_base::{Bytes, Copies, OutOfMemory, Path};
+use std::alloc::{AllocError, AllocFailed, Global};
+
+/// Why a content isn't found.
+#[derive(Debug, Drop)]
+pub enum FarStop {
+    /// Where the contents are kept there was a fault: its count rose.
+    Failed,
+    /// A file there isn't in its grammar or fails a cross-check.
+    Damaged { path: Path },
+    /// No memory was left.
+    Memory,
+}
+
+impl Copies for FarStop {
+    fn copy(&self) -> Result<Self, OutOfMemory> {
+        Ok(match self {
+            FarStop::Failed => FarStop::Failed,
+            FarStop::Damaged { path } => FarStop::Damaged { path: path.copy()? },
+            FarStop::Memory => FarStop::Memory,
+        })
+    }
+}
+
+impl From<OutOfMemory> for FarStop {
+    ghost from_gives = { λ _ made. made ≡ stop.Memory };
+
+    fn from(_: OutOfMemory) -> Self {
+        FarStop::Memory
+    }
+}
+
+impl From<AllocError> for FarStop {
+    ghost from_gives = { λ _ made. made ≡ stop.Memory };
+
+    fn from(_: AllocError) -> Self {
+        FarStop::Memory
+    }
+}
+
+impl<T: Drop> From<AllocFailed<T>> for FarStop {
+    ghost from_gives = { λ _ made. made ≡ stop.Memory };
+
+    fn from(_: AllocFailed<T>) -> Self {
+        FarStop::Memory
+    }
+}
+
+/// Contents that are found by their SHA-1.
+///
+/// What is kept can be known of some alone. So it may tell the map from names to contents, and which paths fail a
+/// cross-check; it counts its faults.
+pub trait Contents {
+    /// What it means: its map, which paths fail a cross-check, and how often it failed.
+    ghost contents: { ContentsModel Self };
+
+    /// The content of a name, and none where there is no content of that name.
+    ///
+    /// `Failed` comes only where the count of faults rose, and `Damaged` names a path that fails a cross-check, where that
+    /// is told.
+    fn find(&mut self, alloc: Global, name: &[u8; 20]) -> Result<Option<Bytes>, FarStop>
+        ensures found { (map : ContentMap) → contents.holds self.old map → IfOk result (λ found. found ≡ map name.now) }
+        // Also where no map is told.
+        ensures named { IfOk result (λ found. IfSome found (λ bytes. sha1 bytes ≡ name.now)) }
+        ensures stops { IfErr result (StopsFor contents self.old self.new) }
+        ensures keeps { KeepsContents contents self.old self.new };
+}
+
+/// A source without contents.
+#[derive(Clone, Copy, Debug)]
+pub struct NoContents;
+
+impl Contents for NoContents {
+    ghost contents = { empty_contents };
+
+    fn find(&mut self, _alloc: Global, _name: &[u8; 20]) -> Result<Option<Bytes>, FarStop> {
+        Ok(None)
+    }
+}
