@@ -1,0 +1,6 @@
+mod Members
+mod Steps
+mod Passes
+mod OneResult
+mod Leading
+mod Sent

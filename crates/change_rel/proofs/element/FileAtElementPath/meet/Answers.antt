@@ -1,0 +1,6 @@
+use Rattle.std.proofs.Common.{sym, ◌∙◌}
+use Rattle.change_rel.proofs.Leading.{equal_lists}
+use Rattle.change_rel.proofs.element.FileAtElementPath.meet.Goals as goal
+
+pub returns-clause-equal : goal.returns-clause-equal
+returns-clause-equal c is = equal_lists c.args.self.now.path c.args.other.now.path (sym c.cmp.ensures ∙ is)

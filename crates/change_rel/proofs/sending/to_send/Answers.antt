@@ -1,0 +1,6 @@
+use Rattle.trove_items.specs.Files.{file_cmp}
+use Rattle.change_rel.proofs.Members.{rising_nil}
+use Rattle.change_rel.proofs.sending.to_send.Goals as goal
+
+pub names_to_send-requires : goal.names_to_send-requires
+names_to_send-requires c = rising_nil file_cmp

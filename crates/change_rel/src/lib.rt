@@ -1,0 +1,17 @@
+//! What a relative trove makes of a trove, the one relative trove that leads from a trove to another, and which contents
+//! are to be sent with it.
+#![tactic(auto)]
+
+mod amending;
+mod applying;
+mod difference;
+mod element;
+mod laws;
+mod relating;
+mod same;
+mod sending;
+
+pub use applying::apply;
+pub use laws::{one_relative, one_result};
+pub use relating::relative;
+pub use sending::{ContentNames, to_send};

@@ -1,0 +1,51 @@
+//! Answers vectors of relative troves. Each line of standard input has a call and its arguments, with a space between two; the
+//! line of standard output with its number is what the call answers. An argument is `-` for no bytes, or terms with a `+`
+//! between two: hexadecimal digits, or digits, `#`, a number, `#` and digits, for each number below that one the first bytes,
+//! five decimal digits of it, and the second bytes. An answer in bytes is hexadecimal digits, or where they are many the number
+//! of the bytes and their SHA-1. Both come from tools/rel_vectors.py, which is made from the rules of the formats alone.
+#![tactic(auto)]
+
+mod arguments;
+mod calls;
+mod stop;
+
+use crate::arguments::arguments_of;
+use crate::stop::Stop;
+use std::alloc::Global;
+use std::io::{self, BufRead, BufReader, BufWriter, Write};
+
+// What a line asks for.
+fn answer_to(alloc: Global, line: &str) -> Result<String, Stop> {
+    let (name, rest) = line.split_once(' ').ok_or(Stop::Unreadable)?;
+    let arguments = arguments_of(alloc, rest)?;
+    let (first, second) = match arguments.as_slice() {
+        [first, second] => (first.as_slice(), second.as_slice()),
+        _ => return Err(Stop::Unreadable),
+    };
+    match name {
+        "relative" => calls::relative_of(alloc, first, second),
+        "apply" => calls::applied(alloc, first, second),
+        "round" => calls::round(alloc, first, second),
+        "to_send" => calls::sent(alloc, first, second),
+        _ => Err(Stop::Unreadable),
+    }
+}
+
+// The line that is written.
+fn line_to(alloc: Global, line: &str) -> io::Result<String> {
+    match answer_to(alloc, line) {
+        Ok(text) => Ok(text),
+        Err(Stop::Unreadable) => Ok(String::from_str(alloc, "unreadable")?),
+        Err(Stop::Memory) => Err(io::Error::from(io::ErrorKind::OutOfMemory)),
+    }
+}
+
+fn main(rt: HostRuntime) -> io::Result<()> {
+    let mut out = BufWriter::new(rt.alloc(), io::writer(&rt))?;
+    for line in BufReader::new(rt.alloc(), rt.reader())?.lines(rt.alloc()) {
+        let text = line_to(rt.alloc(), line?.as_str())?;
+        out.write_all(text.as_str().as_bytes())?;
+        out.write_all(b"\n")?;
+    }
+    out.flush()
+}

@@ -1,0 +1,409 @@
+#!/usr/bin/env python3
+"""Makes the vectors of what relative troves do: calls, and what they have to answer.
+
+    tools/rel_vectors.py stdin   >crates/rel_vectors/stdin     a call and its arguments in each line
+    tools/rel_vectors.py stdout  >crates/rel_vectors/stdout    what each has to answer
+    tools/rel_vectors.py count                                 how many lines there are, by topic
+
+The answers are made from docs/FORMATS.md alone: a trove is taken as sets and a map of paths here, a relative trove as a
+change of them. The streams are read and written by tools/stream_model.py.
+"""
+import hashlib
+import sys
+
+sys.dont_write_bytecode = True
+
+import stream_model as model
+from stream_model import Id, NotOfForm, Owner, Relative, Trove, directory, id_bytes, id_text, item, link, regular, str_field
+
+MOST_SHOWN = 400
+
+
+# ---- what relative troves do
+
+
+def by_lists(trove):
+    """The lists of references, requirements and provides, by the tag of what is gone."""
+    return {0x25: trove.refs, 0x27: trove.requires, 0x29: trove.provides}
+
+
+def relative_of(old, new):
+    """The one relative trove from the one to the other."""
+    was, is_ = dict(old.files), dict(new.files)
+    lists = {0x23: sorted(was.keys() - is_.keys()), 0x24: sorted((path, rec) for path, rec in is_.items() if was.get(path) != rec)}
+    for tag, ones in by_lists(old).items():
+        others = by_lists(new)[tag]
+        lists[tag] = sorted(set(ones) - set(others))
+        lists[tag + 1] = sorted(set(others) - set(ones))
+    return model.check_relative(Relative(old.identity, new.identity, lists))
+
+
+def applied(old, relative):
+    """What the relative trove makes of the old one; none where that is no base of it."""
+    if old.identity != relative.old:
+        return None
+    was, gone, set_ = dict(old.files), relative.lists[0x23], dict(relative.lists[0x24])
+    if any(path not in was for path in gone) or any(was.get(path) == rec for path, rec in set_.items()):
+        return None
+    files = sorted((path, rec) for path, rec in {**was, **set_}.items() if path not in gone)
+    lists = []
+    for tag, ones in by_lists(old).items():
+        away, more = set(relative.lists[tag]), set(relative.lists[tag + 1])
+        if not away <= set(ones) or more & set(ones):
+            return None
+        lists.append(sorted((set(ones) - away) | more))
+    try:
+        return model.check_trove(Trove(relative.new, files, *lists))
+    except NotOfForm:
+        return None
+
+
+def contents_to_send(old, new):
+    """The names of the contents that the new trove's files have and the old one's don't at the same path."""
+    content = lambda record: (record.name, record.size) if record is not None and record.kind == "f" else None
+    was = dict(old.files) if old is not None else {}
+    return sorted({record.name for path, record in new.files if content(record) not in (None, content(was.get(path)))})
+
+
+# ---- answers
+
+
+def shown(text):
+    return text.hex() if len(text) <= MOST_SHOWN else f"{len(text)} {hashlib.sha1(text).hexdigest()}"
+
+
+def applied_text(old, relative):
+    new = applied(old, relative)
+    return "missing base " + id_text(relative.old).decode() if new is None else shown(model.trove_bytes(new))
+
+
+def of_one_name(old, new):
+    model.need(old.identity.name == new.identity.name and old.identity != new.identity)
+
+
+def answer(call, first, second):
+    if call == "to_send":
+        names = contents_to_send(model.read_trove(first) if first else None, model.read_trove(second))
+        return f"{len(names)} {shown(b''.join(names))}"
+    old = model.read_trove(first)
+    if call == "apply":
+        return applied_text(old, model.read_relative(second))
+    new = model.read_trove(second)
+    of_one_name(old, new)
+    relative = relative_of(old, new)
+    return shown(model.relative_bytes(relative)) if call == "relative" else applied_text(old, relative)
+
+
+def answer_line(call, arguments):
+    try:
+        return answer(call, *[argument_bytes(argument) for argument in arguments])
+    except NotOfForm:
+        return "unreadable"
+
+
+# ---- arguments: bytes, or a list of bytes and of (bytes, count, bytes) for each number below the count between the two
+
+
+def terms_of(argument):
+    return argument if isinstance(argument, list) else [argument]
+
+
+def term_bytes(term):
+    return term if isinstance(term, bytes) else b"".join(term[0] + b"%05d" % number + term[2] for number in range(term[1]))
+
+
+def term_text(term):
+    return term.hex() if isinstance(term, bytes) else f"{term[0].hex()}#{term[1]}#{term[2].hex()}"
+
+
+def argument_bytes(argument):
+    return b"".join(map(term_bytes, terms_of(argument)))
+
+
+def argument_text(argument):
+    return "+".join(term_text(term) for term in terms_of(argument) if term) or "-"
+
+
+# ---- cases
+
+V1, V2, V3 = [b"/conary.example.com@ex:devel/1.0-%d-1" % count for count in (1, 2, 3)]
+SHORT = [b"/a@b:c/1-%d-1" % count for count in (1, 2)]
+
+
+def sha(text):
+    return hashlib.sha1(text).digest()
+
+
+def plain(text, mode=0o644, flags=0, owner=model.ROOT):
+    return regular(mode, flags, len(text), sha(text), owner)
+
+
+def component(version, files=(), requires=(), provides=(), name=b"foo:runtime", flavor=b""):
+    return Trove(Id(name, version, flavor), sorted(files), [], sorted(requires), sorted(provides))
+
+
+def of_refs(name, version, refs, flavor=b""):
+    return Trove(Id(name, version, flavor), [], sorted(refs), [], [])
+
+
+ETC = (b"/etc", directory(0o755))
+FOO_1 = component(V1, [ETC, (b"/etc/foo", plain(b"abc"))])
+FOO_2 = component(V2, [ETC, (b"/etc/foo", plain(b"abcd"))])
+FOO_3 = component(V3, [ETC, (b"/etc/foo", plain(b"abc"))])
+
+RECORDS = [
+    directory(0o755),
+    directory(0o700),
+    directory(0o755, Owner(b"daemon", b"root")),
+    directory(0o755, Owner(b"root", b"daemon")),
+    plain(b"abc"),
+    plain(b"abc", mode=0o600),
+    plain(b"abc", flags=1),
+    plain(b"abc", flags=2),
+    plain(b"abc", flags=4),
+    plain(b"abc", owner=Owner(b"daemon", b"adm")),
+    regular(0o644, 0, 4, sha(b"abc")),
+    plain(b"abd"),
+    link(b"abc"),
+    link(b"abd"),
+]
+
+
+def changed(relative, tag, values):
+    return Relative(relative.old, relative.new, {**relative.lists, tag: values})
+
+
+def none_of(old, new):
+    return Relative(old.identity, new.identity, {tag: [] for tag in range(0x23, 0x2B)})
+
+
+def streams(*troves):
+    return [model.trove_bytes(trove) for trove in troves]
+
+
+def between(old, new):
+    """All that two troves of one name and two ids can be asked."""
+    one, other = streams(old, new)
+    yield "relative", one, other
+    yield "round", one, other
+    yield "to_send", one, other
+
+
+def worked():
+    yield from between(FOO_1, FOO_2)
+    yield from between(FOO_2, FOO_1)
+    yield from between(FOO_1, FOO_3)
+    # A file edited on the machine, as the branch of local changes has it.
+    yield from between(FOO_1, component(V1 + b"/local@local:LOCAL/1.0-1-1", [ETC, (b"/etc/foo", plain(b"abX"))]))
+    yield "apply", *streams(FOO_1), model.relative_bytes(relative_of(FOO_1, FOO_2))
+    # Other names, one id, and bytes that are none.
+    yield "relative", *streams(FOO_1, component(V2, name=b"foo:doc"))
+    yield "relative", *streams(FOO_1, FOO_1)
+    yield "relative", *streams(FOO_1, component(V1))
+    yield "relative", *streams(FOO_1), b"\x01"
+    yield "apply", *streams(FOO_1), b"\x21"
+
+
+def flavors():
+    yield from between(component(V1, flavor=b"ssl"), component(V1, flavor=b"!ssl"))
+    yield from between(component(V1, flavor=b"ssl"), component(V2))
+
+
+def records():
+    """Each record in the place of each other, and alone."""
+    for old in RECORDS:
+        for new in RECORDS:
+            yield from between(component(SHORT[0], [(b"/a", old)]), component(SHORT[1], [(b"/a", new)]))
+    for record in RECORDS:
+        yield from between(component(SHORT[0]), component(SHORT[1], [(b"/a", record)]))
+        yield from between(component(SHORT[0], [(b"/a", record)]), component(SHORT[1]))
+        yield "to_send", b"", *streams(component(SHORT[1], [(b"/a", record)]))
+
+
+def subsets(values):
+    for bits in range(1 << len(values)):
+        yield [value for place, value in enumerate(values) if bits >> place & 1]
+
+
+DEPS = [b"file: /a", b"soname: a", b"trove: a", b"trove: a:b"]
+
+
+def lists():
+    """Each list of some elements to each other."""
+    paths = [b"/a", b"/a/b", b"/b"]
+    for old in subsets(paths):
+        for new in subsets(paths):
+            yield from between(component(SHORT[0], [(path, RECORDS[4]) for path in old]), component(SHORT[1], [(path, RECORDS[4]) for path in new]))
+    for old in subsets(DEPS[1:]):
+        for new in subsets(DEPS[1:]):
+            yield from between(component(SHORT[0], requires=old, provides=DEPS[:2]), component(SHORT[1], requires=new, provides=DEPS[2:]))
+            yield from between(component(SHORT[0], requires=DEPS[:2], provides=old), component(SHORT[1], requires=DEPS[1:3], provides=new))
+    refs = [Id(b"a", SHORT[0], b""), Id(b"a", SHORT[1], b""), Id(b"a", SHORT[1], b"ssl"), Id(b"a:b", SHORT[0], b"")]
+    for old in subsets(refs[1:]):
+        for new in subsets(refs[:3]):
+            yield from between(of_refs(b"group-x", SHORT[0], old), of_refs(b"group-x", SHORT[1], new))
+
+
+def packages():
+    parts = [[Id(b"foo:" + part, version, b"") for part in names] for version, names in zip(SHORT, ([b"doc", b"runtime"], [b"lib", b"runtime"]))]
+    yield from between(of_refs(b"foo", SHORT[0], parts[0]), of_refs(b"foo", SHORT[1], parts[1]))
+
+
+def both_kinds():
+    """Paths of a name that are gone, set, replaced and kept, in every order."""
+    for fates in range(4**4):
+        fate = [fates // 4**place % 4 for place in range(4)]
+        paths = [b"/%c" % (97 + place) for place in range(4)]
+        old = [(path, plain(b"old")) for path, one in zip(paths, fate) if one != 0]
+        new = [(path, plain(b"old" if one == 3 else b"new")) for path, one in zip(paths, fate) if one != 1]
+        yield from between(component(SHORT[0], old), component(SHORT[1], new))
+
+
+def bases():
+    """Relative troves on other bases than theirs."""
+    old = component(SHORT[0], [(b"/a", RECORDS[4]), (b"/b", RECORDS[0]), (b"/d", RECORDS[12])], [b"trove: a", b"trove: c"], [b"trove: b", b"trove: d"])
+    new = component(SHORT[1], [(b"/a", RECORDS[11]), (b"/c", RECORDS[4]), (b"/d", RECORDS[12])], [b"trove: b", b"trove: c"], [b"trove: a", b"trove: d"])
+    relative = relative_of(old, new)
+    right = streams(old)[0]
+    yield "apply", right, model.relative_bytes(relative)
+    # Another id of the base: version, flavor and name.
+    for identity in (new.identity, Id(b"foo:runtime", SHORT[0], b"ssl"), Id(b"foo:doc", SHORT[0], b"")):
+        yield "apply", *streams(old._replace(identity=identity)), model.relative_bytes(relative)
+    # The new trove as a base, with its own id and with the old one's.
+    yield "apply", *streams(new._replace(identity=old.identity)), model.relative_bytes(relative)
+    # One element of the base more or less, or another record.
+    for files in subsets(old.files + [(b"/c", RECORDS[4])]):
+        yield "apply", *streams(old._replace(files=sorted(files))), model.relative_bytes(relative)
+    for record in RECORDS:
+        for path in (b"/a", b"/b", b"/c"):
+            files = {**dict(old.files), path: record}
+            yield "apply", *streams(old._replace(files=sorted(files.items()))), model.relative_bytes(relative)
+    for deps in subsets([b"trove: a", b"trove: b", b"trove: c", b"trove: d"]):
+        yield "apply", *streams(old._replace(requires=deps)), model.relative_bytes(relative)
+        yield "apply", *streams(old._replace(provides=deps)), model.relative_bytes(relative)
+    # One change more: a path gone that isn't there, before, between and behind; a record set as it stands; others that are good.
+    for path in (b"/", b"/a/a", b"/bb", b"/dd", b"/d"):
+        yield "apply", right, model.relative_bytes(changed(relative, 0x23, sorted(relative.lists[0x23] + [path])))
+    for file in ((b"/d", RECORDS[12]), (b"/d", RECORDS[13]), (b"/", RECORDS[0]), (b"/e", RECORDS[0])):
+        yield "apply", right, model.relative_bytes(changed(relative, 0x24, sorted(relative.lists[0x24] + [file])))
+    for tag in (0x27, 0x28, 0x29, 0x2A):
+        for dep in (b"trove: 0", b"trove: c", b"trove: d", b"trove: e"):
+            if dep not in relative.lists[tag]:
+                yield "apply", right, model.relative_bytes(changed(relative, tag, sorted(relative.lists[tag] + [dep])))
+    # No change at all, and each list of changes left out.
+    yield "apply", right, model.relative_bytes(none_of(old, new))
+    for tag in range(0x23, 0x2B):
+        yield "apply", right, model.relative_bytes(changed(relative, tag, []))
+
+
+def rules():
+    """What comes of it has to be a trove."""
+    ref = Id(b"a", SHORT[0], b"")
+    bare = [component(version) for version in SHORT]
+    relative = none_of(*bare)
+    yield "apply", *streams(bare[0]), model.relative_bytes(changed(relative, 0x26, [ref]))
+    group = [of_refs(b"group-x", version, [ref]) for version in SHORT]
+    relative = none_of(*group)
+    for tag, values in ((0x24, [(b"/a", RECORDS[0])]), (0x28, DEPS[:1]), (0x2A, DEPS[:1]), (0x26, [Id(b"group-x", SHORT[0], b"")]), (0x26, [Id(b"b", SHORT[0], b"")])):
+        yield "apply", *streams(group[0]), model.relative_bytes(changed(relative, tag, values))
+    # A reference gone that isn't there, one added that is, and others that are good.
+    for tag, values in ((0x25, [Id(b"b", SHORT[0], b"")]), (0x25, [Id(b"a", SHORT[1], b"")]), (0x26, [ref]), (0x26, [Id(b"a", SHORT[1], b"")]), (0x25, [ref])):
+        yield "apply", *streams(group[0]), model.relative_bytes(changed(relative, tag, values))
+    # The components of a package have its version.
+    package = of_refs(b"foo", SHORT[0], [Id(b"foo:lib", SHORT[0], b"")])
+    relative = Relative(package.identity, Id(b"foo", SHORT[1], b""), {tag: [] for tag in range(0x23, 0x2B)})
+    yield "apply", *streams(package), model.relative_bytes(relative)
+    yield "apply", *streams(package), model.relative_bytes(changed(relative, 0x25, package.refs))
+    # A build count where there may be none, and none where there has to be one.
+    source = component(b"/a@b:c/1-1", name=b"foo:source")
+    yield "apply", *streams(source), model.relative_bytes(Relative(source.identity, Id(b"foo:source", b"/a@b:c/1-2", b""), relative.lists))
+    yield "apply", *streams(source), model.relative_bytes(Relative(source.identity, Id(b"foo:source", b"/a@b:c/1-2-1", b""), relative.lists))
+    yield "apply", *streams(bare[0]), model.relative_bytes(Relative(bare[0].identity, Id(b"foo:runtime", b"/a@b:c/1-2", b""), relative.lists))
+
+
+def counted(version, tag, head, count, tail, files=b""):
+    front = b"".join(item(number, text) for number, text in zip((1, 2, 3), (b"a:b", version, b"")))
+    value = len(head) + 5 + len(tail)
+    return [front + files, (bytes([tag]) + value.to_bytes(4, "big") + head, count, tail)]
+
+
+def limits():
+    """As many requirements as a trove may have, and one more."""
+    ids = b"".join(item(tag, id_bytes(Id(b"a:b", version, b""))) for tag, version in zip((0x21, 0x22), SHORT))
+    for count in (4_095, 4_096, 4_097):
+        relative = [ids, (bytes([0x2A]) + (13).to_bytes(4, "big") + b"trove: a", count, b"")]
+        yield "apply", *streams(component(SHORT[0], name=b"a:b")), relative
+        yield "apply", *streams(component(SHORT[0], name=b"a:b", provides=[b"trove: b"])), relative
+
+
+def long_lists():
+    """Some thousands of files, all of them changed, gone, new or kept."""
+    tails = [model.record_bytes(plain(text)) for text in (b"abc", b"abd")]
+    head = (7).to_bytes(2, "big") + b"/f"
+    one, other = [counted(version, 4, head, 2_000, tail) for version, tail in zip(SHORT, tails)]
+    kept = counted(SHORT[1], 4, head, 2_000, tails[0])
+    half = counted(SHORT[1], 4, head, 1_000, tails[0])
+    none = counted(SHORT[1], 4, head, 0, tails[0])[:1]
+    for fresh in (other, kept, half, none):
+        yield "relative", one, fresh
+        yield "round", one, fresh
+        yield "to_send", one, fresh
+
+
+def sendings():
+    """Contents of one name, and contents that move."""
+    same_name = [(b"/a", regular(0o644, 0, 3, sha(b"abc"))), (b"/b", regular(0o644, 0, 4, sha(b"abc"))), (b"/c", plain(b"abd"))]
+    trove = component(SHORT[1], same_name)
+    yield "to_send", b"", *streams(trove)
+    for files in subsets(same_name):
+        yield "to_send", *streams(component(SHORT[0], files), trove)
+    moved = [(path, record) for path, (_, record) in zip((b"/b", b"/c", b"/a"), same_name)]
+    yield "to_send", *streams(component(SHORT[0], moved), trove)
+    # Names in another order than the paths, and one many times.
+    texts = [b"%d" % number for number in range(12)]
+    many = component(SHORT[1], [(b"/%02d" % number, plain(text)) for number, text in enumerate(texts)])
+    again = component(SHORT[1], [(b"/%02d" % number, plain(texts[number % 3])) for number in range(12)])
+    yield "to_send", b"", *streams(many)
+    yield "to_send", b"", *streams(again)
+    yield "to_send", *streams(many, again)
+    yield "to_send", *streams(again, many)
+    yield "to_send", b"", *streams(of_refs(b"group-x", SHORT[0], []))
+
+
+CASES = [
+    ("worked relative troves", worked),
+    ("flavors", flavors),
+    ("records", records),
+    ("lists", lists),
+    ("packages", packages),
+    ("gone, set, replaced and kept", both_kinds),
+    ("bases", bases),
+    ("rules of troves", rules),
+    ("limits", limits),
+    ("long lists", long_lists),
+    ("contents to send", sendings),
+]
+
+
+def main(mode):
+    total = 0
+    for topic, cases in CASES:
+        number = 0
+        for call, *arguments in cases():
+            if mode == "stdin":
+                print(call, *map(argument_text, arguments))
+            elif mode == "stdout":
+                print(answer_line(call, arguments))
+            number += 1
+        if mode == "count":
+            print(f"{topic}: {number} lines")
+        total += number
+    if mode == "count":
+        print(f"all: {total} lines")
+
+
+if __name__ == "__main__":
+    if len(sys.argv) != 2 or sys.argv[1] not in ("stdin", "stdout", "count"):
+        sys.exit(__doc__)
+    sys.stdout.reconfigure(encoding="utf-8", newline="\n")
+    main(sys.argv[1])
