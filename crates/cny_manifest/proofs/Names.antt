@@ -1,0 +1,81 @@
+-- Names of packages and of their components, and the last of lists that rise.
+use Rattle.std.proofs.Common.{◌≡◌, ℕ, suc, ◌-◌, Bool, true, false, ◌&&◌, nat_eq, List, [], ◌∷◌, ◌++◌, length, take, drop, Some, refl, sym, ap, ◌∙◌, arith}
+use Rattle.std.specs.Prelude.{◌==◌, slice_get}
+use Rattle.std.specs.Cmp.{first_so, second_so}
+use Rattle.std.specs.Cmp.Lexicographic.{pointwise}
+use Rattle.std.specs.Ordering.{is_lt}
+use Rattle.std.specs.Str.{bytes_eq}
+use Rattle.std.specs.declared.cmp.Ordering.{Ordering}
+use Rattle.std.proofs.lemmas.Bool.{true≢false}
+use Rattle.std.proofs.lemmas.Bool.Decides.{nat_tests}
+use Rattle.cny_base.specs.Below.{begins_with}
+use Rattle.trove_items.specs.declared.files.FileAt.{FileAt}
+use Rattle.trove_stream.specs.Trove.{begins_with_colon, is_component_of}
+use Rattle.cny_manifest.specs.Body.{is_above, is_above_path, path_cmp}
+
+-- ---- fronts
+
+same_bit : (a b : ℕ) (x y : Bool) → x ≡ y → (nat_eq b a && x) ≡ ((a == b) && y)
+same_bit a b x y e = grind (arith, nat_tests)
+
+begins_by : (front bytes : List ℕ) → pointwise nat_eq (take (length front) bytes) front ≡ begins_with front bytes
+begins_by [] bytes = refl
+begins_by (a ∷ front) [] = refl
+begins_by (a ∷ front) (b ∷ bytes) = same_bit a b (pointwise nat_eq (take (length front) bytes) front) (begins_with front bytes) (begins_by front bytes)
+
+pub goes_on : (whole name rest : List ℕ) → pointwise nat_eq (take (length whole) name) whole ≡ true → rest ≡ drop (length whole) name → begins_with_colon rest ≡ is_component_of whole name
+goes_on whole name rest is same = ap begins_with_colon same ∙ sym (ap (λ b. b && begins_with_colon (drop (length whole) name)) (sym (begins_by whole name) ∙ is))
+
+pub other_front : (whole name : List ℕ) → pointwise nat_eq (take (length whole) name) whole ≡ false → false ≡ is_component_of whole name
+other_front whole name is = sym (ap (λ b. b && begins_with_colon (drop (length whole) name)) (sym (begins_by whole name) ∙ is))
+
+-- ---- a name, and more behind it
+
+and_more : (x y z : Bool) → (y ≡ false → z ≡ false) → (x && y) ≡ false → (x && z) ≡ false
+and_more true y z h e = h e
+and_more false y z h e = refl
+
+and_true : (x y z : Bool) → x ≡ true → y ≡ z → (x && y) ≡ z
+and_true true y z e h = h
+and_true false y z e h = absurd (true≢false (sym e))
+
+turned : (a b : ℕ) → nat_eq a b ≡ nat_eq b a
+turned a b = grind (arith, nat_tests)
+
+eq_other : (whole more name : List ℕ) → pointwise nat_eq (take (length whole) name) whole ≡ false → bytes_eq (whole ++ more) name ≡ false
+eq_other [] more name e = absurd (true≢false e)
+eq_other (a ∷ whole) more [] e = refl
+eq_other (a ∷ whole) more (b ∷ name) e =
+    and_more (nat_eq a b) (pointwise nat_eq (take (length whole) name) whole) (bytes_eq (whole ++ more) name) (eq_other whole more name)
+    (ap (λ x. x && pointwise nat_eq (take (length whole) name) whole) (turned a b) ∙ e)
+
+eq_behind : (whole more name : List ℕ) → pointwise nat_eq (take (length whole) name) whole ≡ true → bytes_eq (whole ++ more) name ≡ bytes_eq more (drop (length whole) name)
+eq_behind [] more name e = refl
+eq_behind (a ∷ whole) more [] e = absurd (true≢false (sym e))
+eq_behind (a ∷ whole) more (b ∷ name) e =
+    and_true (nat_eq a b) (bytes_eq (whole ++ more) name) (bytes_eq more (drop (length whole) name))
+    (turned a b ∙ first_so (nat_eq b a) (pointwise nat_eq (take (length whole) name) whole) e)
+    (eq_behind whole more name (second_so (nat_eq b a) (pointwise nat_eq (take (length whole) name) whole) e))
+
+pub not_named : (whole more name : List ℕ) → pointwise nat_eq (take (length whole) name) whole ≡ false → false ≡ bytes_eq (whole ++ more) name
+not_named whole more name e = sym (eq_other whole more name e)
+
+pub named : (whole more name rest : List ℕ) (answer : Bool) → pointwise nat_eq (take (length whole) name) whole ≡ true → rest ≡ drop (length whole) name → answer ≡ bytes_eq more rest
+    → answer ≡ bytes_eq (whole ++ more) name
+named whole more name rest answer e is told = told ∙ ap (bytes_eq more) is ∙ sym (eq_behind whole more name e)
+
+-- ---- the last
+
+pub last_above : {A : Type 0} (cmp : A → A → Ordering) (xs : List A) (x y : A) → Some x ≡ slice_get xs (length xs - 1) → is_above cmp xs y ≡ is_lt (cmp x y)
+last_above cmp [] x y is = absurd (cc)
+last_above cmp (a ∷ []) x y is = let same : a ≡ x = cc in ap (λ z. is_lt (cmp z y)) same
+last_above cmp (a ∷ b ∷ xs) x y is =
+    let place : length (a ∷ b ∷ xs) - 1 ≡ suc (length (b ∷ xs) - 1) = omega arith in
+    last_above cmp (b ∷ xs) x y (is ∙ ap (slice_get (a ∷ b ∷ xs)) place)
+
+pub last_path : (files : List FileAt) (file : FileAt) (path : List ℕ) → Some file ≡ slice_get files (length files - 1) → is_above_path files path ≡ is_lt (path_cmp file path)
+last_path [] file path is = absurd (cc)
+last_path (a ∷ []) file path is = let same : a ≡ file = cc in ap (λ z. is_lt (path_cmp z path)) same
+last_path (a ∷ b ∷ files) file path is =
+    let place : length (a ∷ b ∷ files) - 1 ≡ suc (length (b ∷ files) - 1) = omega arith in
+    last_path (b ∷ files) file path (is ∙ ap (slice_get (a ∷ b ∷ files)) place)

@@ -1,0 +1,11 @@
+pub mod Policy
+pub mod Lines
+pub mod Entries
+pub mod Body
+pub mod Grammar
+pub mod FirstFault
+pub mod Made
+pub mod Reading
+pub mod Makes
+pub mod Kept
+pub mod Shares

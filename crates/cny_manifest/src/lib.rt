@@ -1,0 +1,23 @@
+//! Manifests: what a person or a build writes of a component, a package or a group, and the troves that it makes.
+#![tactic(auto)]
+
+mod body;
+mod contents;
+mod deps;
+mod draft;
+mod entries;
+mod fault;
+mod fields;
+mod head;
+mod lines;
+mod made;
+mod order;
+mod policy;
+mod reading;
+mod shares;
+mod troves;
+mod words;
+
+pub use made::{Made, Troves};
+pub use policy::component_of;
+pub use reading::read;

@@ -1,0 +1,24 @@
+//! What a manifest makes.
+use change_set::CarriedList;
+use cny_base::{Copies, ListOf, OutOfMemory};
+use trove_stream::Trove;
+
+/// A list of troves.
+pub type Troves = ListOf<Trove>;
+
+/// What a manifest makes: its troves in name order, and the contents of their files.
+#[derive(Debug, Drop)]
+pub struct Made {
+    pub troves: Troves,
+    /// By strictly rising names, which are the SHA-1 of the bytes.
+    pub contents: CarriedList,
+}
+
+impl Copies for Made {
+    fn copy(&self) -> Result<Self, OutOfMemory> {
+        Ok(Made {
+            troves: self.troves.copy()?,
+            contents: self.contents.copy()?,
+        })
+    }
+}

@@ -1,0 +1,81 @@
+//! What may come next in lists that rise.
+ghost use Rattle.std.specs.Prelude.{◌≡◌};
+ghost use Rattle.std.specs.Ordering.{is_lt};
+ghost use Rattle.cny_base.specs.Name.{kind_of_name};
+ghost use Rattle.trove_stream.specs.Trove.{begins_with_colon, is_component_of};
+ghost use Rattle.trove_id.specs.Order.{id_cmp};
+ghost use Rattle.cny_manifest.specs.Body as spec;
+ghost use Rattle.cny_manifest.specs.Body.{is_above, dep_line_cmp};
+
+use crate::deps::DepLine;
+use cny_base::{Name, NameKind, Path};
+use trove_id::TroveId;
+use trove_items::FileAt;
+
+/// Whether the path is above the last one.
+pub(crate) fn is_above_path(files: &[FileAt], path: &Path) -> bool
+    ensures { result ≡ spec.is_above_path files.now path.now }
+{
+    match files.last() {
+        Some(last) => last.path < *path,
+        None => true,
+    }
+}
+
+/// Whether the id is above the last one.
+pub(crate) fn is_above_ref(refs: &[TroveId], id: &TroveId) -> bool
+    ensures { result ≡ is_above id_cmp refs.now id.now }
+{
+    match refs.last() {
+        Some(last) => last < id,
+        None => true,
+    }
+}
+
+// Whether a dependency line comes before another: by the names, then by the dependencies.
+fn comes_before(line: &DepLine, later: &DepLine) -> bool
+    ensures { result ≡ is_lt (dep_line_cmp line.now later.now) }
+{
+    let by_dep = line.dep.text().cmp(later.dep.text());
+    line.name.cmp(&later.name).then(by_dep).is_lt()
+}
+
+/// Whether the line is above the last one.
+pub(crate) fn is_above_line(lines: &[DepLine], line: &DepLine) -> bool
+    ensures { result ≡ is_above dep_line_cmp lines.now line.now }
+{
+    match lines.last() {
+        Some(last) => comes_before(last, line),
+        None => true,
+    }
+}
+
+fn begins_with_colon(bytes: &[u8]) -> bool
+    ensures { result ≡ begins_with_colon bytes.now }
+{
+    match bytes {
+        [] => false,
+        [first, ..] => *first == b':',
+    }
+}
+
+// Whether the name is the package's, a colon and more.
+fn is_component_of(whole: &[u8], name: &[u8]) -> bool
+    ensures { result ≡ is_component_of whole.now name.now }
+{
+    match name.strip_prefix(whole) {
+        None => false,
+        Some(rest) => begins_with_colon(rest),
+    }
+}
+
+/// Whether the name is that of the component, or of a component of the package.
+pub(crate) fn is_own(whole: &Name, name: &Name) -> bool
+    ensures { result ≡ spec.is_own_by (kind_of_name whole.now) whole.now name.now }
+{
+    match whole.kind() {
+        NameKind::Component => name.text().as_bytes() == whole.text().as_bytes(),
+        NameKind::Package => is_component_of(whole.text().as_bytes(), name.text().as_bytes()),
+        NameKind::Group => false,
+    }
+}

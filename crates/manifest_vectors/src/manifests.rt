@@ -1,0 +1,142 @@
+//! What a manifest makes, as a text.
+use crate::answer::{Stop, digits_of, fault_text};
+use change_set::Carried;
+use cny_base::{Copies, Mode};
+use cny_dep::Dep;
+use cny_manifest::{Made, read};
+use file_stream::{FileRec, Flags, Owner};
+use sha1::Sha1;
+use std::alloc::Global;
+use trove_id::{TroveId, id_text};
+use trove_items::FileAt;
+use trove_stream::Trove;
+
+/// A longer text is told by its digest.
+pub const LONGEST: usize = 4_000;
+
+fn push_ref(alloc: Global, out: &mut String, front: &str, id: &TroveId) -> Result<(), Stop> {
+    let id = id_text(alloc, id)?;
+    out.push_str(front)?;
+    out.push_str(id.get())?;
+    Ok(())
+}
+
+fn push_dep(out: &mut String, front: &str, dep: &Dep) -> Result<(), Stop> {
+    out.push_str(front)?;
+    out.push_str(dep.text())?;
+    Ok(())
+}
+
+// The four digits of a mode, and the names of an owner.
+fn owned(alloc: Global, mode: Mode, owner: &Owner) -> Result<String, Stop> {
+    let (user, group, bits) = (owner.user(), owner.group(), mode.bits());
+    Ok(format!(in alloc; "{bits} {user}:{group}")?)
+}
+
+fn flags_text(flags: Flags) -> &'static str {
+    match (flags.config, flags.initial, flags.transient) {
+        (false, false, false) => "---",
+        (true, false, false) => "c--",
+        (false, true, false) => "-i-",
+        (true, true, false) => "ci-",
+        (false, false, true) => "--t",
+        (true, false, true) => "c-t",
+        (false, true, true) => "-it",
+        (true, true, true) => "cit",
+    }
+}
+
+fn file_text(alloc: Global, file: &FileAt) -> Result<String, Stop> {
+    let path = file.path.text();
+    match &file.rec {
+        FileRec::Dir { mode, owner } => {
+            let owned = owned(alloc, *mode, owner)?;
+            Ok(format!(in alloc; "; dir {owned} {path}")?)
+        }
+        FileRec::File {
+            mode,
+            owner,
+            flags,
+            size,
+            name,
+        } => {
+            let owned = owned(alloc, *mode, owner)?;
+            let (flags, name) = (flags_text(*flags), digits_of(alloc, name)?);
+            Ok(format!(in alloc; "; file {owned} {flags} {size} {name} {path}")?)
+        }
+        FileRec::Link { target } => {
+            let target = target.text();
+            Ok(format!(in alloc; "; link {path} to {target}")?)
+        }
+    }
+}
+
+fn push_files(alloc: Global, out: &mut String, files: &[FileAt]) -> Result<(), Stop> {
+    for file in files {
+        let text = file_text(alloc, file)?;
+        out.push_str(text.as_str())?;
+    }
+    Ok(())
+}
+
+fn push_refs(alloc: Global, out: &mut String, refs: &[TroveId]) -> Result<(), Stop> {
+    for id in refs {
+        push_ref(alloc, out, "; ref ", id)?;
+    }
+    Ok(())
+}
+
+fn push_deps(out: &mut String, front: &str, deps: &[Dep]) -> Result<(), Stop> {
+    for dep in deps {
+        push_dep(out, front, dep)?;
+    }
+    Ok(())
+}
+
+fn push_trove(alloc: Global, out: &mut String, trove: &Trove) -> Result<(), Stop> {
+    push_ref(alloc, out, "; trove ", trove.id())?;
+    push_refs(alloc, out, trove.refs())?;
+    push_deps(out, "; requires ", trove.requires_())?;
+    push_deps(out, "; provides ", trove.provides())?;
+    push_files(alloc, out, trove.files())
+}
+
+fn push_content(alloc: Global, out: &mut String, content: &Carried) -> Result<(), Stop> {
+    let name = digits_of(alloc, &content.name)?;
+    let size = content.bytes.get().len();
+    let text = format!(in alloc; "; content {name} {size}")?;
+    out.push_str(text.as_str())?;
+    Ok(())
+}
+
+fn made_text(alloc: Global, made: &Made) -> Result<String, Stop> {
+    let mut out = String::from_str(alloc, "ok")?;
+    for trove in made.troves.get() {
+        push_trove(alloc, &mut out, trove)?;
+    }
+    for content in made.contents.get() {
+        push_content(alloc, &mut out, content)?;
+    }
+    Ok(out)
+}
+
+// The text itself, or its length and its digest.
+fn short(alloc: Global, text: String, longest: usize) -> Result<String, Stop> {
+    let len = text.len();
+    if len <= longest {
+        return Ok(text);
+    }
+    let digest = digits_of(alloc, &Sha1::digest(text.as_str().as_bytes()))?;
+    Ok(format!(in alloc; "ok {len} {digest}")?)
+}
+
+/// What a manifest makes, as a text or the digest of a longer one, or why it is refused.
+pub fn answer(alloc: Global, bytes: &[u8], longest: usize) -> Result<String, Stop> {
+    match read(alloc, bytes) {
+        Ok(made) => {
+            let text = made_text(alloc, &made.copy()?)?;
+            short(alloc, text, longest)
+        }
+        Err(fault) => fault_text(alloc, &fault),
+    }
+}
