@@ -1,0 +1,86 @@
+#!/bin/sh
+# Prints how long it takes to add so many troves of a tenth as many names to a catalogue, and to resolve as many specifications
+# in it.
+# It builds a program for that in a folder of its own, which proves what isn't proved yet on this machine.
+# Usage: bench/catalogue.sh [COUNT...]
+set -eu
+top=$(CDPATH='' cd "$(dirname "$0")/.." && pwd)
+work=$(mktemp -d)
+trap 'rm -rf "$work"' EXIT
+mkdir -p "$work/crates/catalogues/src"
+for crate in cny_base cny_stream cny_flavor cny_version cny_dep file_stream trove_id trove_items trove_stream repo_index trove_spec; do
+    cp -r "$top/crates/$crate" "$work/crates/"
+    grep "^$crate:" "$top/crates.txt" >>"$work/crates.txt"
+done
+echo 'catalogues may_abort=20: cny_base cny_flavor cny_version trove_id trove_stream repo_index trove_spec anyhow' >>"$work/crates.txt"
+cat >"$work/crates/catalogues/src/main.rt" <<'PROGRAM'
+//! Adds troves to a catalogue and resolves specifications in it, and prints how long each took.
+#![tactic(auto)]
+use cny_flavor::Flavor;
+use cny_version::Label;
+use repo_index::Catalogue;
+use std::alloc::Global;
+use std::env;
+use std::process::Abort;
+use std::time::Instant;
+use trove_id::read_id;
+use trove_spec::{Config, Labels, Spec, resolve};
+use trove_stream::{Deps, Files, Refs, Trove};
+
+// The trove of this number, of so many names.
+fn trove<R: Abort + Alloc<A = Global>>(rt: &R, number: u32, names: u32) -> Trove {
+    let alloc = rt.alloc();
+    let (name, revision) = if names == 0 { (0, 1) } else { (number % names, number / names) };
+    let text = format!(in alloc; "name{name}:runtime=/conary.example.com@ex:devel/1.0-{}-1[ssl]", u64::from(revision) + 1);
+    let id = read_id(alloc, text.expect(rt, "memory").as_str()).expect(rt, "an id");
+    let files = Files::new(Vec::new(alloc));
+    let refs = Refs::new(Vec::new(alloc));
+    let required = Deps::new(Vec::new(alloc));
+    let provided = Deps::new(Vec::new(alloc));
+    Trove::make(id, files, refs, required, provided).expect(rt, "a trove")
+}
+
+// Resolves the specification of this number.
+fn resolve_one<R: Abort + Alloc<A = Global>>(rt: &R, catalogue: &Catalogue, config: &Config, name: u32) {
+    let text = format!(in rt.alloc(); "name{name}:runtime").expect(rt, "memory");
+    let spec = Spec::read(rt.alloc(), text.as_str()).expect(rt, "a specification");
+    let id = resolve(rt.alloc(), catalogue, &spec, text.as_str(), config).expect(rt, "an id");
+    assert!(rt; id.name == spec.name);
+}
+
+fn main(rt: HostRuntime) -> Result<(), anyhow::Error> {
+    let mut count = 20_000;
+    for word in env::args(&rt)?.skip(1) {
+        count = word.as_str().parse::<u32>()?;
+    }
+    let names = count / 10;
+    let start = Instant::now(&rt)?;
+    let mut catalogue = Catalogue::new(rt.alloc());
+    for number in 0..count {
+        catalogue.add(rt.alloc(), trove(&rt, number, names)).expect(&rt, "a free place");
+    }
+    let added = start.elapsed(&rt)?;
+    let label = Label::read(rt.alloc(), "conary.example.com@ex:devel").expect(&rt, "a label");
+    let mut labels = Vec::new(rt.alloc());
+    labels.push(label).expect(&rt, "memory");
+    let flavor = Flavor::read(rt.alloc(), "ssl").expect(&rt, "a flavor");
+    let config = Config { labels: Labels::new(labels), flavor };
+    let start = Instant::now(&rt)?;
+    for number in 0..count {
+        let name = if names == 0 { 0 } else { number % names };
+        resolve_one(&rt, &catalogue, &config, name);
+    }
+    let resolved = start.elapsed(&rt)?;
+    println!(rt; "{count} troves of {names} names: added in {} ms, as many specifications resolved in {} ms", added.as_millis(), resolved.as_millis())?;
+    Ok(())
+}
+PROGRAM
+cd "$work/crates/catalogues"
+if ! rt run >"$work/build.log" 2>&1; then
+    tail -5 "$work/build.log" >&2
+    exit 70
+fi
+[ $# -gt 0 ] || set -- 5000 10000 20000 40000
+for count in "$@"; do
+    out/catalogues "$count"
+done

@@ -1,0 +1,116 @@
+//! The arguments of a line, and its answer.
+use cny_base::{Copies, Fault, OutOfMemory, TextFault};
+use cny_report::refusal_text;
+use std::alloc::{AllocError, AllocFailed, Global};
+
+/// Why a line has no answer.
+#[derive(Debug, Drop)]
+pub enum Stop {
+    /// It names no call, or its arguments aren't what the call takes.
+    Unreadable,
+    /// No memory was left.
+    Memory,
+}
+
+impl From<OutOfMemory> for Stop {
+    fn from(_: OutOfMemory) -> Self {
+        Stop::Memory
+    }
+}
+
+impl From<AllocError> for Stop {
+    fn from(_: AllocError) -> Self {
+        Stop::Memory
+    }
+}
+
+impl<T: Drop> From<AllocFailed<T>> for Stop {
+    fn from(_: AllocFailed<T>) -> Self {
+        Stop::Memory
+    }
+}
+
+// What a text has to be, as an argument of a call that takes only such.
+impl From<TextFault> for Stop {
+    fn from(fault: TextFault) -> Self {
+        match fault {
+            TextFault::Bad => Stop::Unreadable,
+            TextFault::Memory => Stop::Memory,
+        }
+    }
+}
+
+/// The arguments behind a call, with a tab between two.
+pub fn arguments_of(alloc: Global, text: &str) -> Result<Vec<String>, Stop> {
+    let mut arguments = Vec::new(alloc);
+    for field in text.split('\t') {
+        arguments.push(String::from_str(alloc, field)?)?;
+    }
+    Ok(arguments)
+}
+
+/// The argument at a place.
+pub fn text_at(arguments: &[String], place: usize) -> Result<&str, Stop> {
+    match arguments.get(place) {
+        Some(text) => Ok(text.as_str()),
+        None => Err(Stop::Unreadable),
+    }
+}
+
+/// The argument at a place, as a number.
+pub fn number_at(arguments: &[String], place: usize) -> Result<u64, Stop> {
+    match text_at(arguments, place)?.parse::<u64>() {
+        Ok(number) => Ok(number),
+        Err(_) => Err(Stop::Unreadable),
+    }
+}
+
+/// The name of a content that is twenty times the byte of this number.
+pub fn content_name(text: &str) -> Result<[u8; 20], Stop> {
+    match text.parse::<u8>() {
+        Ok(byte) => Ok([byte; 20]),
+        Err(_) => Err(Stop::Unreadable),
+    }
+}
+
+/// The bytes with these numbers, with a space between two; none for a hyphen.
+pub fn bytes_of(alloc: Global, text: &str) -> Result<Vec<u8>, Stop> {
+    let mut bytes = Vec::new(alloc);
+    if text != "-" {
+        for number in text.split(' ') {
+            match number.parse::<u8>() {
+                Ok(byte) => bytes.push(byte)?,
+                Err(_) => return Err(Stop::Unreadable),
+            }
+        }
+    }
+    Ok(bytes)
+}
+
+/// An answer of one word.
+pub fn word(alloc: Global, word: &str) -> Result<String, Stop> {
+    Ok(String::from_str(alloc, word)?)
+}
+
+/// Appends a field behind a tab.
+pub fn push_field(line: &mut String, field: &str) -> Result<(), OutOfMemory> {
+    line.push('\t')?;
+    line.push_str(field)?;
+    Ok(())
+}
+
+/// The answer of a call that refuses: the text of the refusal.
+pub fn refused(alloc: Global, fault: &Fault) -> Result<String, Stop> {
+    match fault {
+        Fault::Memory => Err(Stop::Memory),
+        Fault::Refused(refusal) => {
+            let text = refusal_text(alloc, &refusal.copy()?)?;
+            word(alloc, text.get())
+        }
+    }
+}
+
+/// The word for a truth value.
+pub fn yes_or_no(holds: bool) -> &'static str {
+    if holds { "yes" } else { "no" }
+}

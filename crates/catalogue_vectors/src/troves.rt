@@ -1,0 +1,262 @@
+//! Troves of a line, and the catalogue's look-ups.
+use crate::line::{Stop, content_name, number_at, push_field, refused, text_at, word, yes_or_no};
+use cny_base::{COMMITS_LIMIT, Copies, Mode, Name, OutOfMemory, Path};
+use cny_version::{Count, Version};
+use file_stream::{FileRec, Flags, Owner};
+use repo_index::Catalogue;
+use std::alloc::Global;
+use trove_id::{TroveId, id_text, read_id};
+use trove_stream::{Deps, FileAt, Files, Refs, Trove};
+
+// A file `/PLACE` with this content.
+fn file_at(alloc: Global, place: usize, content: &str) -> Result<FileAt, Stop> {
+    let name = content_name(content)?;
+    let mode = Mode::new(0o644).ok_or(Stop::Unreadable)?;
+    let owner = Owner::new(alloc, "root", "root")?;
+    let flags = Flags {
+        config: false,
+        initial: false,
+        transient: false,
+    };
+    let text = format!(in alloc; "/{place}")?;
+    Ok(FileAt {
+        path: Path::read(alloc, text.as_str())?,
+        rec: FileRec::File {
+            mode,
+            owner,
+            flags,
+            size: 1,
+            name,
+        },
+    })
+}
+
+// A file for each number of a list with spaces between; none for a hyphen.
+fn files_of(alloc: Global, text: &str) -> Result<Files, Stop> {
+    let mut files = Vec::new(alloc);
+    if text != "-" {
+        for content in text.split(' ') {
+            files.push(file_at(alloc, files.len(), content)?)?;
+        }
+    }
+    Ok(Files::new(files))
+}
+
+/// The ids of a list with `; ` between; none for a hyphen.
+pub fn ids_of(alloc: Global, text: &str) -> Result<Vec<TroveId>, Stop> {
+    let mut ids = Vec::new(alloc);
+    if text != "-" {
+        for id in text.split("; ") {
+            ids.push(read_id(alloc, id)?)?;
+        }
+    }
+    Ok(ids)
+}
+
+// A trove of the text of an id, of contents and of references.
+fn trove_of(alloc: Global, id: &str, contents: &str, refs: &str) -> Result<Trove, Stop> {
+    let id = read_id(alloc, id)?;
+    let files = files_of(alloc, contents)?;
+    let refs = Refs::new(ids_of(alloc, refs)?);
+    let required = Deps::new(Vec::new(alloc));
+    let provided = Deps::new(Vec::new(alloc));
+    Ok(Trove::make(id, files, refs, required, provided)?)
+}
+
+/// `Catalogue::add` of a trove: the text of its id, its contents, its references.
+pub fn add(alloc: Global, catalogue: &mut Catalogue, arguments: &[String]) -> Result<String, Stop> {
+    let id = text_at(arguments, 0)?;
+    let trove = trove_of(alloc, id, text_at(arguments, 1)?, text_at(arguments, 2)?)?;
+    match catalogue.add(alloc, trove) {
+        Ok(()) => word(alloc, "ok"),
+        Err(fault) => refused(alloc, &fault),
+    }
+}
+
+/// One commit more, where another may come: how many there are.
+pub fn count_commit(alloc: Global, catalogue: &mut Catalogue) -> Result<String, Stop> {
+    if catalogue.commits() < COMMITS_LIMIT {
+        catalogue.count_commit();
+    }
+    Ok(format!(in alloc; "{}", catalogue.commits())?)
+}
+
+/// The ids of some troves, a field each.
+pub fn ids_text(alloc: Global, troves: &[Trove]) -> Result<String, Stop> {
+    let mut line = word(alloc, "ok")?;
+    for trove in troves {
+        push_field(&mut line, id_text(alloc, trove.id())?.get())?;
+    }
+    Ok(line)
+}
+
+/// The number of commits and the ids of all troves.
+pub fn troves(alloc: Global, catalogue: &Catalogue) -> Result<String, Stop> {
+    let ids = ids_text(alloc, catalogue.troves())?;
+    Ok(format!(in alloc; "{}\t{}", catalogue.commits(), ids.as_str())?)
+}
+
+// The id of a trove and how many files it has, or `none`.
+fn trove_text(alloc: Global, trove: Option<&Trove>) -> Result<String, Stop> {
+    match trove {
+        None => word(alloc, "none"),
+        Some(trove) => {
+            let id = id_text(alloc, trove.id())?;
+            Ok(format!(in alloc; "ok\t{}\t{}", id.get(), trove.files().len())?)
+        }
+    }
+}
+
+/// `Catalogue::find` of the text of an id.
+pub fn find(alloc: Global, catalogue: &Catalogue, arguments: &[String]) -> Result<String, Stop> {
+    let id = read_id(alloc, text_at(arguments, 0)?)?;
+    trove_text(alloc, catalogue.find(&id))
+}
+
+// The places, a field each.
+fn places_text(alloc: Global, places: &[usize]) -> Result<String, Stop> {
+    let mut line = word(alloc, "ok")?;
+    for place in places {
+        push_field(&mut line, format!(in alloc; "{place}")?.as_str())?;
+    }
+    Ok(line)
+}
+
+/// `Catalogue::by_name` of a name.
+pub fn by_name(alloc: Global, catalogue: &Catalogue, arguments: &[String]) -> Result<String, Stop> {
+    let name = Name::read(alloc, text_at(arguments, 0)?)?;
+    places_text(alloc, catalogue.by_name(&name))
+}
+
+// The source count of a version, for the word `source`; none for another one.
+fn asked_source<'a>(version: &'a Version, asked: &str) -> Option<&'a Count> {
+    if asked == "source" {
+        Some(&version.revision().source)
+    } else {
+        None
+    }
+}
+
+/// `Catalogue::latest` of a name, and of the branch, the upstream and, for the word `source`, the source count of a version.
+pub fn latest(alloc: Global, catalogue: &Catalogue, arguments: &[String]) -> Result<String, Stop> {
+    let name = Name::read(alloc, text_at(arguments, 0)?)?;
+    let version = Version::read(alloc, text_at(arguments, 1)?)?;
+    let source = asked_source(&version, text_at(arguments, 2)?);
+    let upstream = version.revision().upstream.get();
+    trove_text(
+        alloc,
+        catalogue.latest(&name, version.branch(), upstream, source),
+    )
+}
+
+/// `Catalogue::has_content` of the name that is twenty times a byte.
+pub fn has_content(
+    alloc: Global,
+    catalogue: &Catalogue,
+    arguments: &[String],
+) -> Result<String, Stop> {
+    let name = content_name(text_at(arguments, 0)?)?;
+    word(alloc, yes_or_no(catalogue.has_content(&name)))
+}
+
+/// The catalogue becomes a copy of itself, to which troves can still be added.
+pub fn copy(alloc: Global, catalogue: &mut Catalogue) -> Result<String, Stop> {
+    *catalogue = catalogue.copy()?;
+    word(alloc, "ok")
+}
+
+// ---- many troves
+
+// The id of the trove of this number, of so many names.
+fn numbered_id(alloc: Global, number: u64, names: u64) -> Result<TroveId, Stop> {
+    if names == 0 {
+        return Err(Stop::Unreadable);
+    }
+    let text = format!(in alloc;
+        "n{}:runtime=/h@n:t/1.0-{}-1",
+        number % names,
+        number / names / 2 + 1
+    )?;
+    let flavor = if number / names % 2 == 0 { "" } else { "[ssl]" };
+    let text = format!(in alloc; "{}{flavor}", text.as_str())?;
+    Ok(read_id(alloc, text.as_str())?)
+}
+
+fn numbered_trove(alloc: Global, number: u64, names: u64) -> Result<Trove, Stop> {
+    let id = numbered_id(alloc, number, names)?;
+    let files = Files::new(Vec::new(alloc));
+    let refs = Refs::new(Vec::new(alloc));
+    let required = Deps::new(Vec::new(alloc));
+    let provided = Deps::new(Vec::new(alloc));
+    Ok(Trove::make(id, files, refs, required, provided)?)
+}
+
+// The place of the first trove of this id, or how many troves there are.
+fn searched(troves: &[Trove], id: &TroveId) -> usize {
+    let mut place = 0usize;
+    for trove in troves {
+        if *trove.id() == *id {
+            return place;
+        }
+        place = place.saturating_add(1);
+    }
+    place
+}
+
+// Whether the look-ups of this trove's id and name answer what the search of all troves does.
+fn is_found(catalogue: &Catalogue, place: usize, trove: &Trove) -> bool {
+    let id = trove.id();
+    let Some(found) = catalogue.find(id) else {
+        return false;
+    };
+    let same = *found.id() == *id && searched(catalogue.troves(), found.id()) == place;
+    let placed = catalogue.by_name(&id.name).contains(&place);
+    same && placed
+}
+
+// Whether the last trove of that name is the one of the last place.
+fn is_latest(catalogue: &Catalogue, trove: &Trove) -> bool {
+    let id = trove.id();
+    let revision = id.version.revision();
+    let latest = catalogue.latest(&id.name, id.version.branch(), revision.upstream.get(), None);
+    let last = catalogue.by_name(&id.name).last();
+    match (latest, last) {
+        (Some(latest), Some(last)) => searched(catalogue.troves(), latest.id()) == *last,
+        _ => false,
+    }
+}
+
+// How many troves the look-ups find where a search of all troves does, and of how many the latest is the last one of its
+// name.
+fn counts(catalogue: &Catalogue) -> (usize, usize) {
+    let mut found = 0usize;
+    let mut latest = 0usize;
+    let mut place = 0usize;
+    for trove in catalogue.troves() {
+        if is_found(catalogue, place, trove) {
+            found = found.saturating_add(1);
+        }
+        if is_latest(catalogue, trove) {
+            latest = latest.saturating_add(1);
+        }
+        place = place.saturating_add(1);
+    }
+    (found, latest)
+}
+
+/// Adds so many troves of so many names to an empty catalogue, and compares each look-up with the search of all troves.
+pub fn index_thousand_names(alloc: Global, arguments: &[String]) -> Result<String, Stop> {
+    let troves = number_at(arguments, 0)?;
+    let names = number_at(arguments, 1)?;
+    let mut catalogue = Catalogue::new(alloc);
+    for number in 0..troves {
+        if catalogue
+            .add(alloc, numbered_trove(alloc, number, names)?)
+            .is_err()
+        {
+            return Err(Stop::Memory);
+        }
+    }
+    let (found, latest) = counts(&catalogue);
+    Ok(format!(in alloc; "ok\t{found}\t{latest}")?)
+}

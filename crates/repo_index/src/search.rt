@@ -1,0 +1,81 @@
+//! Searches among the troves at some places.
+ghost use Rattle.std.specs.Prelude.{◌≡◌, None, filter, slice_get};
+ghost use Rattle.std.specs.List.{find, last_or};
+ghost use Rattle.std.specs.Option.{option_copied};
+ghost use Rattle.repo_index.specs.Catalogue as spec;
+ghost use Rattle.repo_index.specs.Catalogue.{has_id};
+ghost use Rattle.repo_index.specs.Places.{troves_at};
+
+use cny_version::{Count, Version};
+use trove_id::TroveId;
+use trove_stream::Trove;
+
+/// The trove at a place, if there is one.
+pub(crate) fn trove_at(troves: &[Trove], place: usize) -> Option<&Trove>
+    ensures { option_copied result ≡ slice_get troves.now place }
+{
+    troves.get(place)
+}
+
+/// The first of the troves at these places that has this id.
+pub(crate) fn find_among<'a>(
+    troves: &'a [Trove],
+    places: &[usize],
+    id: &TroveId,
+) -> Option<&'a Trove>
+    ensures { option_copied result ≡ find (has_id id.now) (troves_at troves.now places.now) }
+{
+    for place in places {
+        if let Some(trove) = trove_at(troves, *place) {
+            if *trove.id() == *id {
+                return Some(trove);
+            }
+        }
+    }
+    None
+}
+
+// Whether the source count is the given one, where one is given.
+fn has_source(given: Option<&Count>, source: &Count) -> bool
+    ensures { result ≡ spec.has_source (option_copied given.entry) source.now }
+{
+    match given {
+        Some(count) => *source == *count,
+        None => true,
+    }
+}
+
+// Whether the version is on this branch, with this upstream and, where one is given, this source count.
+fn is_revision_of(version: &Version, branch: &str, upstream: &str, source: Option<&Count>) -> bool
+    ensures { result ≡ spec.is_revision_of branch.now upstream.now (option_copied source.entry) version.now }
+{
+    let revision = version.revision();
+    let has_branch = version.branch() == branch;
+    let has_upstream = revision.upstream.get() == upstream;
+    let has_source = has_source(source, &revision.source);
+    has_branch && has_upstream && has_source
+}
+
+/// The last of the troves at these places whose version is on this branch, with this upstream and, where one is given, this
+/// source count.
+pub(crate) fn latest_among<'a>(
+    troves: &'a [Trove],
+    places: &[usize],
+    branch: &str,
+    upstream: &str,
+    source: Option<&Count>,
+) -> Option<&'a Trove>
+    ensures { option_copied result
+        ≡ last_or None (filter (spec.is_of branch.now upstream.now (option_copied source.entry)) (troves_at troves.now places.now)) }
+{
+    let mut rest = places;
+    while let Some((place, before)) = rest.split_last() {
+        if let Some(trove) = trove_at(troves, *place) {
+            if is_revision_of(&trove.id().version, branch, upstream, source) {
+                return Some(trove);
+            }
+        }
+        rest = before;
+    }
+    None
+}

@@ -1,0 +1,9 @@
+pub mod Cutting
+pub mod PlaceBytes
+pub mod NameBytes
+pub mod SpecTexts
+pub mod Choosing
+pub mod PlaceReading
+pub mod Newest
+pub mod Trimming
+pub mod ConfigLines

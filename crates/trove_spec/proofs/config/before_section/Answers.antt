@@ -1,0 +1,27 @@
+use Rattle.std.proofs.Common.{◌≡◌, ℕ, ◌+◌, ◌<◌, Bool, true, false, not, List, [], ◌∷◌, ◌++◌, length, take, drop, map, get_or, take_while, Bor, sym, ap, ◌∙◌, arith}
+use Rattle.std.proofs.lemmas.List.{take_more, at_drop_more}
+use Rattle.trove_spec.specs.Config.{begins_with_bracket, is_before_section}
+use Rattle.trove_spec.proofs.ConfigLines.{map-push, goes_on}
+use Rattle.trove_spec.proofs.config.before_section.Goals as goal
+
+abbrev now_of : Bor (List ℕ) → List ℕ
+now_of line = line.now
+
+abbrev none : Bor (List ℕ)
+none = record { ref_ptr = (0, 0); now = [] }
+
+pub loop-place-preserved : goal.loop-place-preserved
+loop-place-preserved c =
+    let pieces = c.args.pieces.now in
+    let i = c.loop-place.place in
+    let within : i < length pieces = omega arith in
+    let piece = (get_or pieces i none).now in
+    let before = map now_of (take i pieces) in
+    let after = map now_of (drop (i + 1) pieces) in
+    let passes : is_before_section piece ≡ true =
+    ap not (ap begins_with_bracket (sym c.trimmed.ensures) ∙ sym c.begins_with_bracket.ensures ∙ c.if-begins_with_bracket.false) in
+    let longer : map now_of (take (i + 1) pieces) ≡ before ++ piece ∷ [] = ap (map now_of) (take_more pieces i none within) ∙ map-push now_of (take i pieces) (get_or pieces i none) in
+    ap (λ (l : List (List ℕ)). l ++ take_while is_before_section after) longer
+    ∙ sym (goes_on is_before_section before after piece passes)
+    ∙ ap (λ (l : List (List ℕ)). before ++ take_while is_before_section l) (sym (at_drop_more (map now_of) pieces i none within))
+    ∙ c.loop-place.invariant

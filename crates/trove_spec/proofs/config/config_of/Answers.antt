@@ -1,0 +1,40 @@
+use Rattle.std.proofs.Common.{◌≡◌, ℕ, ◌+◌, ◌<◌, List, [], ◌∷◌, ◌++◌, length, take, map, get_or, Bor, Err, refl, sym, ap, subst, ◌∙◌, arith}
+use Rattle.std.proofs.lemmas.List.{take_more}
+use Rattle.cny_base.specs.declared.text.TextFault.TheVariants.{Bad}
+use Rattle.trove_spec.specs.declared.config.Config.{Config}
+use Rattle.trove_spec.specs.declared.config.Setting.{Setting}
+use Rattle.trove_spec.specs.Config.{cleaned, IsSetting, with_setting, IsConfigOf}
+use Rattle.trove_spec.proofs.ConfigLines.{map-push, take-map, length-map, get_or-map, config_more, first_bad}
+use Rattle.trove_spec.proofs.config.config_of.Goals as goal
+
+abbrev now_of : Bor (List ℕ) → List ℕ
+now_of line = line.now
+
+abbrev none : Bor (List ℕ)
+none = record { ref_ptr = (0, 0); now = [] }
+
+pub returns-in-Err-Bad-clause-fault : goal.returns-in-Err-Bad-clause-fault
+returns-in-Err-Bad-clause-fault c =
+    let lines = c.args.lines.now in
+    let i = c.loop-place.place in
+    let within : i < length lines = omega arith in
+    let all = map now_of lines in
+    let line : get_or all i [] ≡ (get_or lines i none).now = get_or-map now_of lines i none [] within in
+    let there : i < length all = omega (arith, length-map now_of lines) in (
+      i,
+      refl,
+      first_bad all i c.loop-place.config (subst (λ (l : List (List ℕ)). IsConfigOf l c.loop-place.config) (sym (take-map now_of i lines)) c.loop-place.invariant) there
+          (λ setting is. c.in-Err-Bad.ensures.bad (ap Err c.in-Err-Bad.field-0-is) setting (subst (λ (l : List ℕ). IsSetting l setting) (ap cleaned line ∙ sym c.trimmed.ensures) is)),
+    )
+
+pub loop-place-preserved : goal.loop-place-preserved
+loop-place-preserved c =
+    let lines = c.args.lines.now in
+    let i = c.loop-place.place in
+    let within : i < length lines = omega arith in
+    let line = get_or lines i none in
+    let before = map now_of (take i lines) in
+    let longer : map now_of (take (i + 1) lines) ≡ before ++ line.now ∷ [] = ap (map now_of) (take_more lines i none within) ∙ map-push now_of (take i lines) line in
+    let one : IsSetting (cleaned line.now) c.in-Ok.setting = subst (λ (l : List ℕ). IsSetting l c.in-Ok.setting) c.trimmed.ensures c.in-Ok.ensures.found in
+    subst (λ (l : List (List ℕ)). IsConfigOf l c.put.new.config) (sym longer)
+    (subst (λ (config : Config). IsConfigOf (before ++ line.now ∷ []) config) (sym c.put.ensures) (config_more before line.now c.loop-place.config c.in-Ok.setting c.loop-place.invariant one))

@@ -1,0 +1,3 @@
+pub mod Spec
+pub mod Resolve
+pub mod Config

@@ -1,0 +1,353 @@
+#!/usr/bin/env python3
+"""Prints the calls that the program catalogue_vectors is run on, or the answers that it has to give.
+
+Usage: tools/catalogue_vectors.py stdin >crates/catalogue_vectors/stdin
+       tools/catalogue_vectors.py stdout >crates/catalogue_vectors/stdout
+
+A line of the calls is the name of a call and its arguments, with a tab before each. They act on one catalogue, which is
+empty at first: the list of all troves that were added, which each look-up searches from end to end. The texts are read by
+tools/text_model.py; nothing is shared with the program that is tested.
+"""
+import sys
+
+# So that a run leaves nothing behind in tools/.
+sys.dont_write_bytecode = True
+
+from text_model import Bad, flavor_of, flavor_text, id_of, id_text, label_of, label_text, name_kind, need, score_answer, version_of
+
+LABEL = b"conary.example.com@ex:devel"
+OTHER = b"conary.example.com@ex:stable"
+
+
+def on(label, revision):
+    return b"/" + label + b"/" + revision
+
+
+# ---- the catalogue
+
+
+class Catalogue:
+    """Troves in the order in which they were added: the parts of an id, the bytes of contents, and the ids of references."""
+
+    def __init__(self):
+        self.commits, self.troves = 0, []
+
+    def add(self, text, contents, refs):
+        parts = id_of(text)
+        if any(trove[0] == parts for trove in self.troves):
+            return [b"exists " + id_text(parts)]
+        contents = [] if contents == b"-" else [int(one) for one in contents.split(b" ")]
+        refs = [] if refs == b"-" else [id_of(one) for one in refs.split(b"; ")]
+        self.troves.append((parts, contents, refs))
+        return [b"ok"]
+
+    def count_commit(self):
+        self.commits += 1
+        return [b"%d" % self.commits]
+
+    def copy(self):
+        return [b"ok"]
+
+    def listed(self):
+        return [b"%d" % self.commits, b"ok"] + [id_text(trove[0]) for trove in self.troves]
+
+    @staticmethod
+    def answer(troves):
+        return [b"ok", id_text(troves[-1][0]), b"%d" % len(troves[-1][1])] if troves else [b"none"]
+
+    def find(self, text):
+        return self.answer([trove for trove in self.troves if trove[0] == id_of(text)])
+
+    def by_name(self, name):
+        return [b"ok"] + [b"%d" % place for place, trove in enumerate(self.troves) if trove[0][0] == name]
+
+    def latest(self, name, text, asked):
+        wanted = version_of(text, False)
+
+        def fits(trove):
+            version = version_of(trove[0][1], True)
+            same_source = asked != b"source" or version.revision[1] == wanted.revision[1]
+            return (
+                trove[0][0] == name
+                and version.branch == wanted.branch
+                and version.revision[0] == wanted.revision[0]
+                and same_source
+            )
+
+        return self.answer([trove for trove in self.troves if fits(trove)])
+
+    def has_content(self, byte):
+        return [b"yes" if any(int(byte) in trove[1] for trove in self.troves) else b"no"]
+
+    def index_thousand_names(self, troves, names):
+        return [b"ok", troves, troves]
+
+    def chosen(self, name, system, holds):
+        """Of the candidates, the last one gives the version, of which the best one is chosen; of several the first by text."""
+
+        def worth(trove):
+            answer = score_answer(flavor_of(trove[0][2]), system)
+            return None if answer == [b"none"] else int(answer[1])
+
+        def is_candidate(trove):
+            return trove[0][0] == name and holds(version_of(trove[0][1], True)) and worth(trove) is not None
+
+        candidates = [trove for trove in self.troves if is_candidate(trove)]
+        if not candidates:
+            return None
+        newest = [trove for trove in candidates if trove[0][1] == candidates[-1][0][1]]
+        return min(newest, key=lambda trove: (-worth(trove), trove[0][2]))
+
+    def resolve(self, text, labels, flavor):
+        name, place, own = spec_of(text)
+        system = flavor_of(flavor) if own is None else own
+        labels = [] if labels == b"-" else labels.split(b" ")
+        if place is None:
+            if not labels:
+                return [b"no label"]
+            found = [self.chosen(name, system, lambda version, label=label: version.label == label) for label in labels]
+            found = next((trove for trove in found if trove is not None), None)
+        elif place[0] == b"label":
+            found = self.chosen(name, system, lambda version: version.label == place[1])
+        else:
+            found = self.chosen(name, system, lambda version: version.text == place[1])
+        return [b"missing trove " + text] if found is None else [id_text(found[0])]
+
+
+def spec_of(text):
+    """The name; nothing, a label or a version; the flavor in brackets, if there are any."""
+    front, bracket, flavor = text.partition(b"[")
+    need(not bracket or flavor.endswith(b"]"))
+    name, equals, place = front.partition(b"=")
+    name_kind(name)
+    if not equals:
+        place = None
+    elif place.startswith(b"/"):
+        place = (b"version", version_of(place, False).text)
+    else:
+        place = (b"label", label_text(label_of(place, None)))
+    return name, place, flavor_of(flavor[:-1]) if bracket else None
+
+
+def spec(text):
+    try:
+        name, place, flavor = spec_of(text)
+    except Bad:
+        return [b"bad"]
+    return [b"ok", name, *([b"any"] if place is None else place)] + ([b"none"] if flavor is None else [b"flavor", flavor_text(flavor)])
+
+
+def config(numbers):
+    """What the lines of a file set, up to the first that begins with a bracket; the number of the first bad one."""
+    data = b"" if numbers == b"-" else bytes(map(int, numbers.split(b" ")))
+    labels, flavor = [], flavor_of(b"")
+    for number, line in enumerate(data.split(b"\n"), 1):
+        line = (line[:-1] if line.endswith(b"\r") else line).strip(b" \t")
+        if line.startswith(b"["):
+            break
+        key, value = line, b""
+        for place, byte in enumerate(line):
+            if byte in b" \t":
+                key, value = line[:place], line[place:].lstrip(b" \t").replace(b"\t", b" ")
+                break
+        try:
+            if key == b"installLabelPath":
+                found = [label_text(label_of(word, None)) for word in value.split(b" ") if word]
+                need(len(found) <= 64)
+                labels = found
+            elif key == b"flavor":
+                flavor = flavor_of(value)
+        except Bad:
+            return [b"bad config line %d" % number]
+    return [b"ok", b" ".join(labels), flavor_text(flavor)]
+
+
+# ---- the calls
+
+
+def look_ups():
+    """Each look-up, of what is there and of what isn't."""
+    yield b"troves"
+    for name in (b"foo:runtime", b"foo:lib", b"foo:source", b"bar", b"absent:lib", b"group-x"):
+        yield b"by_name", name
+        for label in (LABEL, OTHER):
+            for revision in (b"1.0-1-1", b"1.0-2-1", b"1.1-1-7", b"1.0-2"):
+                if (b":source" in name) == (revision.count(b"-") == 1):
+                    yield b"find", name + b"=" + on(label, revision)
+                    yield b"find", name + b"=" + on(label, revision) + b"[ssl]"
+                for asked in (b"any", b"source"):
+                    yield b"latest", name, on(label, revision), asked
+    for byte in (0, 1, 97, 98, 99, 255):
+        yield b"has_content", b"%d" % byte
+
+
+def shadow(label, revision):
+    return b"/" + LABEL + b"//" + label + b"/" + revision
+
+
+def calls():
+    yield from look_ups()
+    yield b"add", b"foo:runtime=" + on(LABEL, b"1.0-1-1"), b"97", b"-"
+    yield b"count_commit",
+    yield from look_ups()
+    # The same id again, with other contents: nothing is added.
+    yield b"add", b"foo:runtime=" + on(LABEL, b"1.0-1-1"), b"98 255", b"-"
+    yield from look_ups()
+    # Another version, the same version with a flavor, another label, another name.
+    yield b"add", b"foo:runtime=" + on(LABEL, b"1.0-2-1"), b"98 97 98", b"-"
+    yield b"add", b"foo:runtime=" + on(LABEL, b"1.0-1-1") + b"[ssl]", b"-", b"-"
+    yield b"add", b"foo:runtime=" + on(OTHER, b"1.0-1-1"), b"0 1", b"-"
+    yield b"add", b"foo:lib=" + on(LABEL, b"1.0-1-1"), b"-", b"-"
+    yield b"count_commit",
+    yield from look_ups()
+    # An older revision committed last is the latest one.
+    yield b"add", b"foo:runtime=" + on(LABEL, b"1.1-1-7"), b"-", b"-"
+    yield b"add", b"foo:runtime=" + on(LABEL, b"1.0-1-9"), b"-", b"-"
+    yield b"add", b"foo:runtime=" + on(LABEL, b"1.1-1-3"), b"-", b"-"
+    yield from look_ups()
+    yield b"latest", b"foo:runtime", on(LABEL, b"1.1-1-1"), b"any"
+    yield b"latest", b"foo:runtime", on(LABEL, b"1.1-2-1"), b"source"
+    # Sources, their shadow, a package and a group.
+    yield b"add", b"foo:source=" + on(LABEL, b"1.0-1"), b"-", b"-"
+    yield b"add", b"foo:source=" + on(LABEL, b"1.0-2"), b"-", b"-"
+    yield b"add", b"foo:source=" + shadow(OTHER, b"1.0-1"), b"-", b"-"
+    yield b"add", b"foo:source=" + shadow(OTHER, b"1.0-1.1"), b"-", b"-"
+    yield b"add", b"foo=" + on(LABEL, b"1.0-1-1"), b"-", b"foo:lib=" + on(LABEL, b"1.0-1-1")
+    yield b"add", b"group-x=" + on(LABEL, b"1.0-1-1"), b"-", b"foo=" + on(LABEL, b"1.0-1-1") + b"; foo:lib=" + on(LABEL, b"1.0-1-1")
+    yield b"count_commit",
+    yield from look_ups()
+    for revision in (b"1.0-1", b"1.0-1.1", b"1.0-2", b"1.1-1"):
+        yield b"latest", b"foo:source", shadow(OTHER, revision), b"any"
+        yield b"latest", b"foo:source", shadow(OTHER, revision), b"source"
+    # A copy is a catalogue of its own.
+    yield b"copy",
+    yield b"add", b"foo:lib=" + on(LABEL, b"1.0-1-1"), b"-", b"-"
+    yield b"add", b"foo:lib=" + on(LABEL, b"1.0-1-2"), b"99", b"-"
+    yield from look_ups()
+    yield b"index_thousand_names", b"1000", b"100"
+    yield from spec_calls()
+    yield from config_calls()
+    yield from resolve_calls()
+
+
+def spec_calls():
+    """Texts of specifications, and texts of none."""
+    names = (b"foo", b"foo:runtime", b"group-x", b"", b"foo:", b"-foo", b"foo:bar:baz", b"group-x:lib", b"f" * 255, b"f" * 256, b"a+b.c_d-e")
+    places = (b"", b"=", b"=" + LABEL, b"=" + on(LABEL, b"1.0-1-1"), b"=" + on(LABEL, b"1.0-1"))
+    places += (b"==" + LABEL, b"=" + LABEL + b"=", b"=a@b:c", b"=a@b", b"=b:c", b"=/a@b:c", b"=a@b:c/1-1")
+    places += (b"=/a@b:c//d/1-1", b"=/a@b:c//e:d/1-1.1-1", b"=/b:c/1-1", b"=/a@b:c/1-1/d/1-2-3", b"=/a@b:c/1-01", b"= a@b:c", b"=a@b:c ", b" =a@b:c")
+    flavors = (b"", b"[]", b"[", b"]", b"[ssl]", b"[!ssl]", b"[ssl, ~krb is: x86(sse2)]", b"[krb,ssl  is:x86]", b"[ssl][krb]", b"[[ssl]]", b"[ssl] ", b"[ssl", b"ssl]", b"[ ssl]", b"[ssl,ssl]", b"[=]", b"[a=b]")
+    for name in names:
+        for place in places:
+            yield b"spec", name + place
+    for place in places:
+        for flavor in flavors:
+            yield b"spec", b"foo:runtime" + place + flavor
+
+
+def config_calls():
+    """Configuration files: one line of each kind, and files of several lines."""
+    keys = (b"installLabelPath", b"flavor", b"other", b"installLabelPaths", b"installlabelpath", b"Flavor", b"flavors", b"flavo", b"", b"#", b"#flavor", b"[", b"[flavor", b"\xff", b"flavor\r", b"flavor[")
+    values = (b"", LABEL, LABEL + b" " + OTHER, OTHER + b"\t \t" + LABEL, b"a@b", b"@b:c", b"a@b:c,a@b:c", b"a@b:c a@b:c", b"ssl", b"~ssl, krb", b"ssl\tis: x86", b"~ssl,\t!krb\tis:\tx86(sse2)", b"ssl,ssl", b"ssl,", b"is: ", b"\xc3\xa9", b"\xff", b"a@b:c \xff", b"a@b:c\ra@b:c", b"[x")
+    for key in keys:
+        for value in values:
+            for front, between, back in ((b"", b" ", b""), (b" \t", b"\t  ", b"\t \r"), (b"\r", b" ", b""), (b"", b"\r", b""), (b"", b" ", b"\r\r"), (b"", b" ", b"\r "), (b"", b"=", b"")):
+                yield b"config", front + key + between + value + back
+    paths = [b"installLabelPath " + b" ".join(b"a@b:c%d" % place for place in range(count)) for count in (63, 64, 65)]
+    lines = (b"", b"installLabelPath a@b:c", b"installLabelPath\td@e:f a@b:c", b"installLabelPath", b"flavor ssl", b"flavor", b"flavor ~krb is: x86", b"other", b"[section]", b" [", b"flavor ssl,", b"installLabelPath a@b", *paths)
+    for first in lines:
+        for second in lines:
+            yield b"config", first + b"\n" + second
+            yield b"config", first + b"\r\n\r\n" + second + b"\r\n"
+            yield b"config", b"flavor zip\ninstallLabelPath x@y:z\n" + first + b"\n" + second + b"\n"
+    yield b"config", b"\n" * 65528 + b"flavor !"
+
+
+def resolve_calls():
+    """Which troves specifications mean: on labels, at versions, on flavors."""
+    third = b"conary.example.com@ex:old"
+    for text in (
+        b"baz:lib=" + on(LABEL, b"1.0-1-1") + b"[ssl]",
+        b"baz:lib=" + on(LABEL, b"1.0-2-1") + b"[~ssl]",
+        b"two:lib=" + on(LABEL, b"1.0-1-1") + b"[ssl]",
+        b"two:lib=" + on(LABEL, b"1.0-1-1") + b"[!ssl]",
+        b"old:lib=" + on(third, b"1.0-1-1"),
+        b"old:lib=" + on(third, b"2.0-1-1") + b"[is: x86]",
+        b"old:lib=" + on(OTHER, b"1.5-1-1") + b"[krb]",
+        b"old:lib=" + on(LABEL, b"1.0-3-1") + b"[~!krb]",
+        b"old:lib=" + on(LABEL, b"1.0-3-1") + b"[~krb,~ssl]",
+        b"old:lib=" + on(LABEL, b"1.0-3-1") + b"[~krb]",
+        b"old:lib=" + on(LABEL, b"1.0-3-1") + b"[~ssl]",
+        b"old:lib=" + on(LABEL, b"1.0-2-1"),
+        b"old:lib=" + on(LABEL, b"1.0-3-1") + b"[!zip]",
+        b"tie:lib=" + on(LABEL, b"1.0-1-1") + b"[~b]",
+        b"tie:lib=" + on(LABEL, b"1.0-1-1") + b"[~a]",
+        b"tie:lib=" + on(LABEL, b"1.0-1-1") + b"[~c]",
+        b"tie:source=" + b"/" + LABEL + b"//" + OTHER + b"/1.0-1",
+    ):
+        yield b"add", text, b"-", b"-"
+    # A newer version wins over a better score; of one version the flavor that fits is chosen.
+    yield b"resolve", b"baz:lib=" + LABEL, b"-", b"ssl"
+    for flavor in (b"", b"~!ssl", b"ssl", b"~ssl", b"!ssl"):
+        yield b"resolve", b"two:lib=" + LABEL, b"-", flavor
+        yield b"resolve", b"two:lib", LABEL, flavor
+    # The refusals of specifications without a label, and of those that nothing resolves.
+    yield b"resolve", b"foo", b"-", b""
+    yield b"resolve", b"none=" + LABEL, b"-", b""
+    yield b"resolve", b"none", LABEL, b""
+    flavors = (b"", b"krb", b"~krb", b"~!krb", b"!krb", b"ssl", b"krb,ssl is: x86", b"~!ssl,zip", b"a,b", b"~a,c")
+    paths = (b"-", LABEL, OTHER, third, third + b" " + LABEL, OTHER + b" " + third + b" " + LABEL, b"a@b:c " + OTHER, b"a@b:c")
+    for name in (b"foo:runtime", b"old:lib", b"baz:lib", b"tie:lib", b"tie:source", b"absent"):
+        for flavor in flavors:
+            for path in paths:
+                yield b"resolve", name, path, flavor
+            for label in (LABEL, OTHER, third):
+                yield b"resolve", name + b"=" + label, b"a@b:c", flavor
+                yield b"resolve", name + b"=" + label + b"[~!krb]", b"-", flavor
+                yield b"resolve", name + b"=" + label + b"[]", LABEL, flavor
+            for revision in (b"1.0-1-1", b"1.0-2-1", b"1.0-3-1", b"2.0-1-1", b"9-9-9"):
+                yield b"resolve", name + b"=" + on(LABEL, revision), b"-", flavor
+                yield b"resolve", name + b"=" + on(third, revision) + b"[is: x86]", OTHER, flavor
+            yield b"resolve", name + b"=/" + LABEL + b"//stable/1.0-1", b"-", flavor
+
+
+def lines_of_calls():
+    """The calls with their arguments; the bytes of a file as their numbers."""
+    for one in calls():
+        if isinstance(one, bytes):
+            yield (one,)
+        elif one[0] == b"config":
+            yield one[0], b" ".join(b"%d" % byte for byte in one[1]) or b"-"
+        else:
+            yield one
+
+
+def answers():
+    catalogue = Catalogue()
+    methods = {
+        b"add": catalogue.add,
+        b"count_commit": catalogue.count_commit,
+        b"copy": catalogue.copy,
+        b"troves": catalogue.listed,
+        b"find": catalogue.find,
+        b"by_name": catalogue.by_name,
+        b"latest": catalogue.latest,
+        b"has_content": catalogue.has_content,
+        b"index_thousand_names": catalogue.index_thousand_names,
+        b"spec": spec,
+        b"config": config,
+        b"resolve": catalogue.resolve,
+    }
+    for one in lines_of_calls():
+        yield methods[one[0]](*one[1:])
+
+
+def main():
+    if sys.argv[1:] not in (["stdin"], ["stdout"]):
+        sys.exit(__doc__)
+    lines = answers() if sys.argv[1] == "stdout" else lines_of_calls()
+    sys.stdout.buffer.write(b"".join(b"\t".join(line) + b"\n" for line in lines))
+
+
+if __name__ == "__main__":
+    main()
