@@ -5,11 +5,16 @@ use cny_base::{Copies, Name, OutOfMemory, TextFault};
 use cny_dep::{Class, Dep, Flag, satisfies};
 use std::alloc::Global;
 
+fn push_flag(line: &mut String, flag: &Flag) -> Result<(), OutOfMemory> {
+    line.push_str(flag.text())?;
+    line.push(';')?;
+    Ok(())
+}
+
 // Appends the flags, a semicolon behind each.
 fn push_flags(line: &mut String, flags: &[Flag]) -> Result<(), OutOfMemory> {
     for flag in flags {
-        line.push_str(flag.text())?;
-        line.push(';')?;
+        push_flag(line, flag)?;
     }
     Ok(())
 }

@@ -4,28 +4,42 @@ use cny_base::{Copies, OutOfMemory, TextFault};
 use cny_flavor::{Flag, Flavor, InstructionSet, Sense, score};
 use std::alloc::Global;
 
+fn sense_word(sense: Sense) -> &'static str {
+    match sense {
+        Sense::Required => "required ",
+        Sense::Preferred => "preferred ",
+        Sense::PreferNot => "not preferred ",
+        Sense::Forbidden => "forbidden ",
+    }
+}
+
+fn push_flag(line: &mut String, flag: &Flag) -> Result<(), OutOfMemory> {
+    line.push_str(sense_word(flag.sense))?;
+    line.push_str(flag.word.get())?;
+    line.push(';')?;
+    Ok(())
+}
+
 // Appends each flag as its sense, its word and a semicolon.
 fn push_flags(line: &mut String, flags: &[Flag]) -> Result<(), OutOfMemory> {
     for flag in flags {
-        line.push_str(match flag.sense {
-            Sense::Required => "required ",
-            Sense::Preferred => "preferred ",
-            Sense::PreferNot => "not preferred ",
-            Sense::Forbidden => "forbidden ",
-        })?;
-        line.push_str(flag.word.get())?;
-        line.push(';')?;
+        push_flag(line, flag)?;
     }
+    Ok(())
+}
+
+fn push_set(line: &mut String, set: &InstructionSet) -> Result<(), OutOfMemory> {
+    line.push_str(set.word.get())?;
+    line.push('{')?;
+    push_flags(line, set.flags.get())?;
+    line.push('}')?;
     Ok(())
 }
 
 // Appends each set as its word and its flags in braces.
 fn push_sets(line: &mut String, sets: &[InstructionSet]) -> Result<(), OutOfMemory> {
     for set in sets {
-        line.push_str(set.word.get())?;
-        line.push('{')?;
-        push_flags(line, set.flags.get())?;
-        line.push('}')?;
+        push_set(line, set)?;
     }
     Ok(())
 }

@@ -119,16 +119,20 @@ pub fn fault(alloc: Global, fault: TextFault) -> Result<String, Stop> {
     }
 }
 
+fn quantity(what: What) -> &'static str {
+    match what {
+        What::Version => "version",
+        What::Count => "count",
+        _ => "other",
+    }
+}
+
 /// The answer of a call that refuses.
 pub fn refused(alloc: Global, fault: &Fault) -> Result<String, Stop> {
     match fault {
         Fault::Memory => Err(Stop::Memory),
         Fault::Refused(Refusal::TooLarge { what, size }) => {
-            let name = match what {
-                What::Version => "version",
-                What::Count => "count",
-                _ => "other",
-            };
+            let name = quantity(*what);
             Ok(format!(in alloc; "too large\t{name}\t{size}")?)
         }
         Fault::Refused(_) => word(alloc, "refused"),

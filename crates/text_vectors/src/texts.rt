@@ -7,9 +7,9 @@ use crate::line::{
     yes_or_no,
 };
 use cny_base::{
-    Bytes, Copies, Fails, Fault, Mode, Name, NameKind, Names, Node, Path, Paths, Refusal, Target,
-    Text, TextFault, decimal, is_word, last_name, next_str, octal, parent_of, put_str,
-    read_decimal, read_octal,
+    Bytes, Copies, Fails, Fault, Mode, Name, NameKind, Names, Node, OutOfMemory, Path, Paths,
+    Refusal, Target, Text, TextFault, decimal, is_word, last_name, next_str, octal, parent_of,
+    put_str, read_decimal, read_octal,
 };
 use std::alloc::Global;
 
@@ -46,16 +46,24 @@ pub fn name_order(alloc: Global, arguments: &[Vec<u8>]) -> Result<String, Stop> 
     order(alloc, first.cmp(&second), first == second)
 }
 
+// Appends the path above a path as a field.
+fn push_above(alloc: Global, line: &mut String, path: &Path) -> Result<(), Stop> {
+    let above = path.parent_path(alloc)?;
+    let text = match &above {
+        Some(above) => above.text(),
+        None => "none",
+    };
+    push_field(line, text)?;
+    Ok(())
+}
+
 // The text of a path, its last name, the path above it, whether it is reserved, and whether it is
 // fixed.
 fn path_parts(alloc: Global, path: &Path) -> Result<String, Stop> {
     let mut line = ok_text(alloc, path.text())?;
     push_field(&mut line, last_name(path.text()))?;
     push_field(&mut line, parent_of(path.text()))?;
-    match path.parent_path(alloc)? {
-        Some(above) => push_field(&mut line, above.text())?,
-        None => push_field(&mut line, "none")?,
-    }
+    push_above(alloc, &mut line, path)?;
     push_field(&mut line, yes_or_no(path.is_reserved()))?;
     push_field(&mut line, yes_or_no(path.is_pinned()))?;
     Ok(line)
@@ -101,15 +109,20 @@ pub fn target_equality(alloc: Global, arguments: &[Vec<u8>]) -> Result<String, S
 }
 
 // The bits of a mode in decimal digits, and its octal text.
+fn bits_and_text(alloc: Global, mode: Mode) -> Result<String, Stop> {
+    let bits = mode.bits();
+    match str::from_utf8(&octal(mode)) {
+        Ok(text) => Ok(format!(in alloc; "ok\t{bits}\t{text}")?),
+        Err(_) => Err(Stop::Unreadable),
+    }
+}
+
+// The same of a mode, where there is one.
 fn mode_parts(alloc: Global, mode: Option<Mode>) -> Result<String, Stop> {
-    let Some(mode) = mode else {
-        return word(alloc, "none");
-    };
-    let digits = octal(mode);
-    let Ok(text) = str::from_utf8(&digits) else {
-        return Err(Stop::Unreadable);
-    };
-    Ok(format!(in alloc; "ok\t{}\t{text}", mode.bits())?)
+    match mode {
+        Some(mode) => bits_and_text(alloc, mode),
+        None => word(alloc, "none"),
+    }
 }
 
 /// `read_octal` of bytes.
@@ -141,7 +154,8 @@ pub fn decimal_text(alloc: Global, arguments: &[Vec<u8>]) -> Result<String, Stop
 
 /// A copy of a text.
 pub fn text_copy(alloc: Global, arguments: &[Vec<u8>]) -> Result<String, Stop> {
-    let text = Text::from_string(Text::new(alloc, text_at(arguments, 0)?)?.into_string());
+    let text = Text::new(alloc, text_at(arguments, 0)?)?;
+    let text = Text::from_string(text.into_string());
     let copy = text.copy()?;
     let mut line = equality(alloc, copy == text)?;
     push_field(&mut line, copy.get())?;
@@ -150,55 +164,107 @@ pub fn text_copy(alloc: Global, arguments: &[Vec<u8>]) -> Result<String, Stop> {
 
 /// A copy of bytes behind which others were put.
 pub fn bytes_copy(alloc: Global, arguments: &[Vec<u8>]) -> Result<String, Stop> {
-    let mut bytes = Bytes::from_vec(Bytes::new(alloc, bytes_at(arguments, 0)?)?.into_vec());
+    let bytes = Bytes::new(alloc, bytes_at(arguments, 0)?)?;
+    let mut bytes = Bytes::from_vec(bytes.into_vec());
     bytes.push_slice(bytes_at(arguments, 1)?)?;
-    Ok(hex::encode(alloc, bytes.copy()?.get())?)
+    let copy = bytes.copy()?;
+    Ok(hex::encode(alloc, copy.get())?)
 }
 
-/// A copy of a file with these bytes, for the owner alone.
-pub fn file_copy(alloc: Global, arguments: &[Vec<u8>]) -> Result<String, Stop> {
-    let file = Node::File {
-        mode: Mode::owner_only(),
-        bytes: Bytes::new(alloc, bytes_at(arguments, 0)?)?,
-    };
-    let copy = file.copy()?;
-    match &copy {
-        Node::File { mode, bytes } => {
-            let mut line = mode_parts(alloc, Some(*mode))?;
-            push_field(&mut line, hex::encode(alloc, bytes.get())?.as_str())?;
-            Ok(line)
-        }
+// The mode and the bytes of a file.
+fn file_parts(alloc: Global, mode: Mode, bytes: &Bytes) -> Result<String, Stop> {
+    let mut line = mode_parts(alloc, Some(mode))?;
+    let digits = hex::encode(alloc, bytes.get())?;
+    push_field(&mut line, digits.as_str())?;
+    Ok(line)
+}
+
+fn node_parts(alloc: Global, node: &Node) -> Result<String, Stop> {
+    match node {
+        Node::File { mode, bytes } => file_parts(alloc, *mode, bytes),
         _ => word(alloc, "no file"),
     }
 }
 
+fn parts_of_copy(alloc: Global, node: &Node) -> Result<String, Stop> {
+    let copy = node.copy()?;
+    node_parts(alloc, &copy)
+}
+
+/// A copy of a file with these bytes, for the owner alone.
+pub fn file_copy(alloc: Global, arguments: &[Vec<u8>]) -> Result<String, Stop> {
+    let bytes = Bytes::new(alloc, bytes_at(arguments, 0)?)?;
+    let mode = Mode::owner_only();
+    parts_of_copy(alloc, &Node::File { mode, bytes })
+}
+
+// The stop that comes of a copy of a refusal.
+fn stop_of_copy(fault: &Fault) -> Result<cny_base::Stop, OutOfMemory> {
+    let copy = fault.copy()?;
+    Ok(cny_base::Stop::from(copy))
+}
+
+fn stop_word(stop: &cny_base::Stop) -> &'static str {
+    match stop {
+        cny_base::Stop::Refused(Refusal::StackEmpty) => "stack empty",
+        _ => "other",
+    }
+}
+
+fn word_of_copy(stop: &cny_base::Stop) -> Result<&'static str, OutOfMemory> {
+    let copy = stop.copy()?;
+    Ok(stop_word(&copy))
+}
+
 /// A copy of the stop that comes of a copy of a refusal, that of an empty stack.
 pub fn stop_copy(alloc: Global) -> Result<String, Stop> {
-    let fault = Fault::Refused(Refusal::StackEmpty);
-    match cny_base::Stop::from(fault.copy()?).copy()? {
-        cny_base::Stop::Refused(Refusal::StackEmpty) => word(alloc, "stack empty"),
+    let stop = stop_of_copy(&Fault::Refused(Refusal::StackEmpty))?;
+    word(alloc, word_of_copy(&stop)?)
+}
+
+fn names_of(alloc: Global, text: &str) -> Result<Names, Stop> {
+    let mut items = Vec::new(alloc);
+    items.push(Text::new(alloc, text)?)?;
+    Ok(Names::new(Names::new(items).into_vec()))
+}
+
+fn only_name(alloc: Global, names: &[Text]) -> Result<String, Stop> {
+    match names {
+        [name] => ok_text(alloc, name.get()),
         _ => word(alloc, "other"),
     }
 }
 
 /// A copy of the list of a text.
 pub fn names_copy(alloc: Global, arguments: &[Vec<u8>]) -> Result<String, Stop> {
+    let names = names_of(alloc, text_at(arguments, 0)?)?;
+    let copy = names.copy()?;
+    only_name(alloc, copy.get())
+}
+
+fn paths_of(alloc: Global, text: &str) -> Result<Paths, Stop> {
     let mut items = Vec::new(alloc);
-    items.push(Text::new(alloc, text_at(arguments, 0)?)?)?;
-    let names = Names::new(Names::new(items).into_vec()).copy()?;
-    match names.get() {
-        [name] => ok_text(alloc, name.get()),
+    items.push(Path::read(alloc, text)?)?;
+    Ok(Paths::new(Paths::new(items).into_vec()))
+}
+
+fn only_path(alloc: Global, paths: &[Path]) -> Result<String, Stop> {
+    match paths {
+        [path] => ok_text(alloc, path.text()),
         _ => word(alloc, "other"),
     }
 }
 
 /// A copy of the list of a path.
 pub fn paths_copy(alloc: Global, arguments: &[Vec<u8>]) -> Result<String, Stop> {
-    let mut items = Vec::new(alloc);
-    items.push(Path::read(alloc, text_at(arguments, 0)?)?)?;
-    let paths = Paths::new(Paths::new(items).into_vec()).copy()?;
-    match paths.get() {
-        [path] => ok_text(alloc, path.text()),
+    let paths = paths_of(alloc, text_at(arguments, 0)?)?;
+    let copy = paths.copy()?;
+    only_path(alloc, copy.get())
+}
+
+fn both_numbers(alloc: Global, numbers: &[u64]) -> Result<String, Stop> {
+    match numbers {
+        [first, second] => Ok(format!(in alloc; "ok\t{first}\t{second}")?),
         _ => word(alloc, "other"),
     }
 }
@@ -206,11 +272,9 @@ pub fn paths_copy(alloc: Global, arguments: &[Vec<u8>]) -> Result<String, Stop> 
 /// A copy of the list of two numbers.
 pub fn numbers_copy(alloc: Global, arguments: &[Vec<u8>]) -> Result<String, Stop> {
     let items = [number_at(arguments, 0)?, number_at(arguments, 1)?].to_vec(alloc)?;
-    let numbers = Fails::new(Fails::new(items).into_vec()).copy()?;
-    match numbers.get() {
-        [first, second] => Ok(format!(in alloc; "ok\t{first}\t{second}")?),
-        _ => word(alloc, "other"),
-    }
+    let numbers = Fails::new(Fails::new(items).into_vec());
+    let copy = numbers.copy()?;
+    both_numbers(alloc, copy.get())
 }
 
 // The bytes with the field of a value behind them.
@@ -225,7 +289,7 @@ fn with_field(alloc: Global, bytes: &[u8], value: &[u8]) -> Result<String, Stop>
 /// `put_str` of a value behind other bytes.
 pub fn put_field(alloc: Global, arguments: &[Vec<u8>]) -> Result<String, Stop> {
     let value = bytes_at(arguments, 1)?;
-    if value.len() > 65_535 {
+    if value.len() > usize::from(u16::MAX) {
         return Err(Stop::Unreadable);
     }
     with_field(alloc, bytes_at(arguments, 0)?, value)

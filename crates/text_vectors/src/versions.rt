@@ -6,17 +6,29 @@ ghost use Rattle.cny_version.specs.Version.{depth};
 use crate::line::{
     Stop, equality, fault, ok_text, push_field, refused, small_number_at, text_at, word,
 };
-use cny_base::{Copies, Fault, OutOfMemory, TextFault};
+use cny_base::{Copies, Fault, OutOfMemory, TextFault, VERSION_LIMIT};
 use cny_version::{Count, Label, Revision, Version, next_revision};
 use std::alloc::Global;
+
+// Appends a number behind what parts it from the one before.
+fn push_number(
+    alloc: Global,
+    text: &mut String,
+    between: &str,
+    number: u32,
+) -> Result<(), OutOfMemory> {
+    let digits = format!(in alloc; "{number}")?;
+    text.push_str(between)?;
+    text.push_str(digits.as_str())?;
+    Ok(())
+}
 
 // The numbers, with a dot between two.
 fn numbers_text(alloc: Global, numbers: &[u32]) -> Result<String, OutOfMemory> {
     let mut text = String::new(alloc);
     let mut between = "";
     for number in numbers {
-        let digits = format!(in alloc; "{between}{number}")?;
-        text.push_str(digits.as_str())?;
+        push_number(alloc, &mut text, between, *number)?;
         between = ".";
     }
     Ok(text)
@@ -147,14 +159,16 @@ pub fn revise(alloc: Global, arguments: &[Vec<u8>]) -> Result<String, Stop> {
     made_answer(alloc, version.with_revision(alloc, revision))
 }
 
+fn revision_parts(alloc: Global, revision: &Revision) -> Result<String, Stop> {
+    let mut line = word(alloc, "ok")?;
+    push_revision(alloc, &mut line, revision)?;
+    Ok(line)
+}
+
 // The parts of a revision that was made.
 fn next_answer(alloc: Global, made: Result<Revision, Fault>) -> Result<String, Stop> {
     match made {
-        Ok(revision) => {
-            let mut line = word(alloc, "ok")?;
-            push_revision(alloc, &mut line, &revision)?;
-            Ok(line)
-        }
+        Ok(revision) => revision_parts(alloc, &revision),
         Err(why) => refused(alloc, &why),
     }
 }
@@ -182,7 +196,8 @@ pub fn next(alloc: Global, arguments: &[Vec<u8>]) -> Result<String, Stop> {
 pub fn first(alloc: Global, arguments: &[Vec<u8>]) -> Result<String, Stop> {
     let wanted = version_at(alloc, arguments, 0)?;
     let deep = small_number_at(arguments, 1)?;
-    if deep > 512 {
+    // A version is less deep than its text is long.
+    if deep as usize > VERSION_LIMIT {
         return Err(Stop::Unreadable);
     }
     next_answer(alloc, next_revision(alloc, wanted.revision(), deep, None))
