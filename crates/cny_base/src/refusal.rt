@@ -30,7 +30,7 @@ pub enum What {
     ChangeSet,
     /// The number of a job.
     Jobs,
-    /// One message of a stream of requests or replies.
+    /// A stream of requests, or one of replies.
     Message,
     /// The system model file.
     Model,
