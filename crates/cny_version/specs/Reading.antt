@@ -2,6 +2,7 @@
 use Rattle.std.specs.Prelude.{◌≡◌, Result, Ok, Err, IsSome, ℕ, ◌+◌, Bool, suc, zero, List, [], ◌∷◌, length, ◌==◌, nat_le, Option, Some, None, is_some, if◌then◌else◌}
 use Rattle.std.specs.List.{slice_split}
 use Rattle.std.specs.Option.{option_map, option_and_then}
+use Rattle.cny_base.specs.declared.limits.TheConstants.{VERSION_LIMIT}
 use Rattle.cny_base.specs.declared.text.TextFault.{TextFault}
 use Rattle.cny_base.specs.declared.text.TextFault.TheVariants as fault
 use Rattle.cny_base.specs.Number.{is_decimal, decimal_value}
@@ -93,10 +94,10 @@ revision_found depth text = revision_cut depth (cut 45 text)
 
 -- the same branch, where its text may be that of a version
 abbrev pub short_branch : WholeBranch → Option WholeBranch
-short_branch b = if nat_le (length (branch_text b)) 512 then Some b else None
+short_branch b = if nat_le (length (branch_text b)) VERSION_LIMIT then Some b else None
 
 abbrev pub short_version : WholeVersion → Option WholeVersion
-short_version v = if nat_le (length (version_text v)) 512 then Some v else None
+short_version v = if nat_le (length (version_text v)) VERSION_LIMIT then Some v else None
 
 -- the branch after a further label: nothing before it is the sign of a shadow, else a revision
 abbrev pub step_to : WholeBranch → List ℕ → LabelParts → Option WholeBranch
@@ -134,4 +135,4 @@ depth_found depth (x ∷ xs) = if is_some (revision_found depth (x ∷ xs)) then
 abbrev pub size_found : ℕ → List ℕ → LabelParts → Option ℕ
 size_found size between label =
     let longer = size + (2 + length between + length (label_text label)) in
-    if nat_le longer 512 then Some longer else None
+    if nat_le longer VERSION_LIMIT then Some longer else None

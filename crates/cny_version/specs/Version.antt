@@ -2,6 +2,7 @@
 -- Without the last revision it is a branch.
 use Rattle.std.specs.Prelude.{◌≡◌, ℕ, ◌+◌, ◌≤◌, List, [], ◌∷◌, ◌++◌, length, sum_by, IsTrue}
 use Rattle.std.specs.List.{list_all, flat_map}
+use Rattle.cny_base.specs.declared.limits.TheConstants.{VERSION_LIMIT}
 use Rattle.cny_version.specs.declared.revision.Revision.{Revision}
 use Rattle.cny_version.specs.Label.{LabelParts, label_text, is_label}
 use Rattle.cny_version.specs.Revision.{revision_text, is_revision}
@@ -87,7 +88,7 @@ IsBranch b = ArePartsAfter 0 b.before × AreLabels b.first b.shadows
 pub record IsVersion (v : WholeVersion) : Type 0 where
   pub branch : IsBranch v.branch
   pub revision : IsTrue (is_revision (depth v.branch) v.revision)
-  pub short : length (version_text v) ≤ 512
+  pub short : length (version_text v) ≤ VERSION_LIMIT
 
 -- the text of a version
 abbrev pub IsVersionText : List ℕ → Type 0

@@ -4,6 +4,7 @@ ghost use Rattle.std.specs.Option.{ForSome, option_copied};
 ghost use Rattle.cny_base.specs.declared.refusal.Fault.TheVariants as fault;
 ghost use Rattle.cny_base.specs.declared.refusal.Refusal.TheVariants as refusal;
 ghost use Rattle.cny_base.specs.declared.refusal.What.TheVariants as what;
+ghost use Rattle.cny_base.specs.declared.limits.TheConstants.{COUNT_LIMIT};
 ghost use Rattle.cny_version.specs.Made.{filled_up};
 ghost use Rattle.cny_version.specs.Next as spec;
 ghost use Rattle.cny_version.specs.Next.{latest_count, number_to_raise, with_count};
@@ -12,7 +13,7 @@ ghost use Rattle.cny_version.specs.TooLarge.{TooLargeOrMemory};
 
 use crate::count::Count;
 use crate::revision::Revision;
-use cny_base::{Copies, Fault, OutOfMemory, Refusal, What};
+use cny_base::{COUNT_LIMIT, Copies, Fault, OutOfMemory, Refusal, What};
 use std::alloc::Global;
 
 /// The revision after the latest one of its branch. It keeps the upstream of the wanted revision
@@ -31,16 +32,16 @@ pub fn next_revision(
     requires build { ForSome latest (λ r. IsSome wanted.now.build → IsSome r.now.build) }
     ensures value { IfOk result (λ r. r ≡ spec.next_revision wanted.now depth (option_copied latest.entry)) }
     ensures fits { IsTrue (is_revision depth wanted.now) → IfOk result (λ r. IsTrue (is_revision depth r)) }
-    ensures too_large { IsErrOf result (fault.Refused (refusal.TooLarge what.Count 4294967295))
-        ↔ (number_to_raise depth (latest_count wanted.now (option_copied latest.entry)) ≡ 4294967295) }
-    ensures fault { IfErr result (TooLargeOrMemory what.Count 4294967295) }
+    ensures too_large { IsErrOf result (fault.Refused (refusal.TooLarge what.Count COUNT_LIMIT))
+        ↔ (number_to_raise depth (latest_count wanted.now (option_copied latest.entry)) ≡ COUNT_LIMIT) }
+    ensures fault { IfErr result (TooLargeOrMemory what.Count COUNT_LIMIT) }
 {
     let numbers = latest_numbers(wanted, latest);
     let last = number_at(numbers, depth);
-    if last == u32::MAX {
+    if last == COUNT_LIMIT {
         return Err(Fault::Refused(Refusal::TooLarge {
             what: What::Count,
-            size: 4_294_967_295,
+            size: COUNT_LIMIT as u64,
         }));
     }
     let count = raised(alloc, numbers, depth, last + 1)?;

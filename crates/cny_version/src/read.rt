@@ -12,7 +12,7 @@ use crate::label::{Label, LabelText};
 use crate::revision::read_revision;
 use crate::scan::{Step, first_label, next_step, size_after};
 use crate::version::Version;
-use cny_base::TextFault;
+use cny_base::{TextFault, VERSION_LIMIT};
 use std::alloc::Global;
 
 // The branch onto a label that leaves from the revision of a text.
@@ -56,7 +56,7 @@ fn longer_branch(
 fn last_version(alloc: Global, branch: Branch, piece: &str) -> Result<Version, TextFault>
     ensures { Gives result (option_and_then (λ r. short_version (record { branch = branch; revision = r })) (revision_found (depth branch) piece.now)) }
 {
-    if branch.text().len() + 1 + piece.len() > 512 {
+    if branch.text().len() + 1 + piece.len() > VERSION_LIMIT {
         return Err(TextFault::Bad);
     }
     let revision = read_revision(alloc, piece, branch.depth())?;

@@ -8,6 +8,7 @@ ghost use Rattle.cny_version.specs.Steps.{IsStep};
 use crate::cut::cut;
 use crate::label::LabelText;
 use crate::revision::is_revision_text;
+use cny_base::VERSION_LIMIT;
 
 /// The first label of a version's text, and what stands after the slash behind it. None where
 /// the text begins in no such way.
@@ -87,7 +88,11 @@ pub(crate) fn size_after(size: usize, between: &str, label: &LabelText<'_>) -> O
     ensures { result ≡ size_found size between.now (parts_of label.now) }
 {
     let longer = size + (2 + between.len() + label.len());
-    if longer <= 512 { Some(longer) } else { None }
+    if longer <= VERSION_LIMIT {
+        Some(longer)
+    } else {
+        None
+    }
 }
 
 // Whether the text is that of the last revision, behind a branch's text of so many bytes.
@@ -96,7 +101,7 @@ fn is_last_revision(text: &str, depth: u32, size: usize) -> bool
     ensures { result ≡ (is_some (revision_found depth text.now) && nat_le (size + 1 + length text.now) 512) }
 {
     let found = is_revision_text(text, depth);
-    found && size + 1 + text.len() <= 512
+    found && size + 1 + text.len() <= VERSION_LIMIT
 }
 
 /// Whether the text is that of a version, where that is asked for with whole labels.

@@ -6,6 +6,7 @@ ghost use Rattle.std.specs.Str.{bytes_eq};
 ghost use Rattle.cny_base.specs.declared.refusal.Fault.TheVariants as fault;
 ghost use Rattle.cny_base.specs.declared.refusal.Refusal.TheVariants as refusal;
 ghost use Rattle.cny_base.specs.declared.refusal.What.TheVariants as what;
+ghost use Rattle.cny_base.specs.declared.limits.TheConstants.{VERSION_LIMIT};
 ghost use Rattle.cny_version.specs.Label.{LabelParts, label_text, is_label};
 ghost use Rattle.cny_version.specs.Revision.{is_revision};
 ghost use Rattle.cny_version.specs.Version.{WholeBranch, WholeVersion, branch_text, version_text, last_label, depth, IsVersion, IsVersionText};
@@ -19,7 +20,7 @@ use crate::label::Label;
 use crate::read::read_parts;
 use crate::revision::{Revision, push_revision, revision_len};
 use crate::scan::is_version;
-use cny_base::{Fault, OutOfMemory, Refusal, TextFault, What};
+use cny_base::{Fault, OutOfMemory, Refusal, TextFault, VERSION_LIMIT, What};
 use std::alloc::Global;
 use std::fmt;
 use std::fmt::Debug;
@@ -166,11 +167,11 @@ impl Version {
     pub fn shadow_onto(&self, alloc: Global, label: &Label) -> Result<Self, Fault>
         ensures value { IfOk result (λ version. version ≡ shadow_onto self.now label.now) }
         ensures too_large { let size = length (version_text (shadow_onto self.now label.now)) in
-            IsErrOf result (fault.Refused (refusal.TooLarge what.Version size)) ↔ (512 < size) }
+            IsErrOf result (fault.Refused (refusal.TooLarge what.Version size)) ↔ (VERSION_LIMIT < size) }
         ensures fault { IfErr result (TooLargeOrMemory what.Version (length (version_text (shadow_onto self.now label.now)))) }
     {
         let size = self.text.len() + 2 + label.text().len();
-        if size > 512 {
+        if size > VERSION_LIMIT {
             return Err(too_large(size));
         }
         Ok(self.shadow(alloc, label)?)
@@ -192,12 +193,12 @@ impl Version {
     pub fn branch_onto(&self, alloc: Global, label: &Label) -> Result<Self, Fault>
         ensures value { IfOk result (λ version. version ≡ branch_onto self.now label.now) }
         ensures too_large { let size = length (version_text (branch_onto self.now label.now)) in
-            IsErrOf result (fault.Refused (refusal.TooLarge what.Version size)) ↔ (512 < size) }
+            IsErrOf result (fault.Refused (refusal.TooLarge what.Version size)) ↔ (VERSION_LIMIT < size) }
         ensures fault { IfErr result (TooLargeOrMemory what.Version (length (version_text (branch_onto self.now label.now)))) }
     {
         let revision_size = self.text.len() - self.branch.text().len();
         let size = self.text.len() + 1 + label.text().len() + revision_size;
-        if size > 512 {
+        if size > VERSION_LIMIT {
             return Err(too_large(size));
         }
         Ok(self.leave(alloc, label)?)
@@ -221,11 +222,11 @@ impl Version {
         requires { IsTrue (is_revision (depth self.now.branch) revision.now) }
         ensures value { IfOk result (λ version. version ≡ with_revision self.now revision.now) }
         ensures too_large { let size = length (version_text (with_revision self.now revision.now)) in
-            IsErrOf result (fault.Refused (refusal.TooLarge what.Version size)) ↔ (512 < size) }
+            IsErrOf result (fault.Refused (refusal.TooLarge what.Version size)) ↔ (VERSION_LIMIT < size) }
         ensures fault { IfErr result (TooLargeOrMemory what.Version (length (version_text (with_revision self.now revision.now)))) }
     {
         let size = self.branch.text().len() + 1 + revision_len(revision, self.branch.depth());
-        if size > 512 {
+        if size > VERSION_LIMIT {
             return Err(too_large(size));
         }
         Ok(self.revised(alloc, revision)?)
