@@ -1,6 +1,7 @@
 #!/bin/sh
 # Prints how long it takes to make the relative trove between two components of 8,192 to 65,535 files of which every second one
-# differs, and to apply it to the old one, ten times each.
+# differs, and to apply it to the old one: the least of twenty runs of the program each, by its own clock. Each run does both once,
+# as a command does, so that memory comes fresh from the system at each size.
 # It builds a program for that in a folder of its own, which proves what isn't proved yet on this machine.
 # Usage: bench/relative.sh [COUNT...]
 set -eu
@@ -15,13 +16,14 @@ for crate in $crates; do
 done
 echo 'relatives may_abort=40: cny_base trove_id trove_stream trove_rel change_rel anyhow' >>"$work/crates.txt"
 cat >"$work/crates/relatives/src/main.rt" <<'PROGRAM'
-//! Makes the relative trove between two components of so many files, or applies it, ten times.
+//! Makes the relative trove between two components of so many files and applies it, and prints the microseconds that each took.
 #![tactic(auto)]
 use change_rel::{apply, relative};
 use cny_base::Bytes;
 use std::alloc::Global;
 use std::env;
 use std::process::Abort;
+use std::time::Instant;
 use trove_rel::RelTrove;
 use trove_stream::{Trove, decode};
 
@@ -55,30 +57,26 @@ fn between(alloc: Global, old: &Trove, fresh: &Trove) -> Option<RelTrove> {
 
 fn main(rt: HostRuntime) -> Result<(), anyhow::Error> {
     let mut count = 8_192;
-    let mut calls = String::new(rt.alloc());
     for word in env::args(&rt)?.skip(1) {
-        match word.as_str().parse::<u32>() {
-            Ok(number) => count = number,
-            Err(_) => calls = word,
+        if let Ok(number) = word.as_str().parse::<u32>() {
+            count = number;
         }
     }
     let old = component(&rt, count, false);
     let fresh = component(&rt, count, true);
+    let start = Instant::now(&rt)?;
     let rel = between(rt.alloc(), &old, &fresh).expect(&rt, "memory");
-    for _ in 0..10 {
-        if calls.as_str() == "apply" {
-            let made = apply(rt.alloc(), &old, &rel).expect(&rt, "a base");
-            if made.files().len() != fresh.files().len() {
-                println!(rt; "another trove")?;
-            }
-        }
-        if calls.as_str() == "relative" {
-            let again = between(rt.alloc(), &old, &fresh).expect(&rt, "memory");
-            if again.parts().files_set.get().len() != count as usize / 2 {
-                println!(rt; "another relative trove")?;
-            }
-        }
+    let relating = start.elapsed(&rt)?.as_micros();
+    if rel.parts().files_set.get().len() != count as usize / 2 {
+        println!(rt; "another relative trove")?;
     }
+    let start = Instant::now(&rt)?;
+    let made = apply(rt.alloc(), &old, &rel).expect(&rt, "a base");
+    let applying = start.elapsed(&rt)?.as_micros();
+    if made.files().len() != fresh.files().len() {
+        println!(rt; "another trove")?;
+    }
+    println!(rt; "{relating} {applying}")?;
     Ok(())
 }
 PROGRAM
@@ -89,14 +87,11 @@ if ! rt run >"$work/build.log" 2>&1; then
 fi
 [ $# -gt 0 ] || set -- 8192 16384 32768 65535
 for count in "$@"; do
-    start=$(date +%s%N)
-    out/relatives "$count"
-    begin=$(date +%s%N)
-    out/relatives "$count" relative
-    middle=$(date +%s%N)
-    out/relatives "$count" apply
-    end=$(date +%s%N)
-    # All three make the two troves and one relative trove first.
-    made=$((begin - start))
-    echo "$count files, ten times: relative $(((middle - begin - made) / 1000000)) ms, apply $(((end - middle - made) / 1000000)) ms"
+    for run in $(seq 20); do
+        out/relatives "$count"
+    done | awk -v count="$count" '
+        NF != 2 || $0 !~ /^[0-9]+ [0-9]+$/ { print; next }
+        NR == 1 || $1 < relating { relating = $1 }
+        NR == 1 || $2 < applying { applying = $2 }
+        END { printf "%d files: relative %.1f ms, apply %.1f ms\n", count, relating / 1000, applying / 1000 }'
 done
