@@ -141,9 +141,9 @@ use tree_nodes::NodeMap;
 
 const LARGE: usize = 16_777_216;
 
-// How many calls are made for a directory and its files when about half of the targets are made: two calls stage each file;
-// after the flag there is a look at each target; then five calls make each file.
-const CALLS: u32 = 200 + 101 + 250;
+// How many calls are made for a directory and its files when about half of the targets are made: one call stages each file;
+// after the flag there is a look at each target; then four calls make each file.
+const CALLS: u32 = 100 + 101 + 200;
 
 fn path<R: Abort + Alloc<A = Global>>(rt: &R, text: &str) -> Path {
     Path::read(rt.alloc(), text).expect(rt, "a path")

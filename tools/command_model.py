@@ -334,7 +334,7 @@ def stage(tree, puts):
     numbers = numbers_of(puts)
     for path, node in puts:
         if path in numbers:
-            write_own(tree, staged_path(numbers[path]), node[2])
+            tree.append(staged_path(numbers[path]), node[2])
 
 
 def is_wanted(node, *kinds):
@@ -346,9 +346,7 @@ def put_target(tree, path, node, number):
     if not is_wanted(node, "dir", "file"):
         return
     if node[0] == "file":
-        tree.append(WORK, b"")
-        if node[2]:
-            tree.append(WORK, tree.read_at(staged_path(number)))
+        tree.append(WORK, tree.read_at(staged_path(number)))
         tree.set_mode(WORK, node[1])
         tree.rename(WORK, path)
     elif tree.look(path) is not None:

@@ -119,6 +119,9 @@ fn link_value(alloc: Global, path: &Path, target: &Target) -> Result<Bytes, OutO
     Ok(value)
 }
 
+// How many bytes the value of a staged file's item has beside those of its path.
+const STAGED_REST: usize = 32;
+
 fn staged_value(
     alloc: Global,
     path: &Path,
@@ -131,7 +134,9 @@ fn staged_value(
     ensures path { OnOk result (IsTrue (is_path path.now)) }
     ensures form { OnOk result (IsStagedForm mode number size name.now) }
 {
-    let mut value = Bytes::new(alloc, &mode.bits().to_be_bytes())?;
+    let items = Vec::with_capacity(alloc, path.text().len() + STAGED_REST)?;
+    let mut value = Bytes::from_vec(items);
+    value.push_slice(&mode.bits().to_be_bytes())?;
     put_str(&mut value, path.text().as_bytes())?;
     value.push_slice(&number.to_be_bytes())?;
     value.push_slice(&size.to_be_bytes())?;

@@ -24,20 +24,24 @@ pub fn staged_path(alloc: Global, base: &Path, number: u32) -> Result<Path, Text
     if !is_staged_path(base, number) {
         return Err(TextFault::Bad);
     }
-    let digits = decimal(alloc, u64::from(number))?;
     let mut text = staged_dir(alloc, base)?;
     text.push('/')?;
-    text.push_str(digits.get())?;
+    let mut digits = Buffer::new();
+    text.push_str(digits.format(number))?;
     Path::read(alloc, text.as_str())
 }
 
-// The path of the directory of staged bytes.
+// How many bytes the path of a staged file has at most behind that of the private directory.
+const LONGEST_END: usize = 13;
+
+// The path of the directory of staged bytes, with room for the rest of the path of a staged file.
 fn staged_dir(alloc: Global, base: &Path) -> Result<String, OutOfMemory>
     ensures path { IsTrue (is_path base.now) }
     ensures value { IfOk result (λ text. string_bytes text ≡ staged base.now) }
 {
     let dir = base.text();
-    let mut text = String::from_str(alloc, dir)?;
+    let mut text = String::with_capacity(alloc, dir.len() + LONGEST_END)?;
+    text.push_str(dir)?;
     if text.len() > 1 {
         text.push('/')?;
     }

@@ -1,5 +1,5 @@
 -- What crash images recover to while a write set is applied.
-use Rattle.std.proofs.Common.{◌≡◌, inl, inr, ⊎_elim, ℕ, ◌≤◌, ◌^◌, ◌<◌, Bool, true, false, cond, ◌==◌, IsTrue, List, [], ◌∷◌, get_or, map, codes, length, Some, None, Contains, Result, Ok, Err, OnOk, OnErr, IfErr, IsErrOf, IsErrAnd, refl, sym, ◌∙◌, ap, subst, arith}
+use Rattle.std.proofs.Common.{◌≡◌, ◌≢◌, inl, inr, ⊎_elim, ℕ, ◌≤◌, ◌^◌, ◌<◌, Bool, true, false, cond, ◌==◌, IsTrue, List, [], ◌∷◌, get_or, map, codes, length, Option, Some, None, is_some, Contains, Result, Ok, Err, OnOk, OnErr, IfErr, IsErrOf, IsErrAnd, refl, sym, ◌∙◌, ap, subst, arith}
 use Rattle.std.proofs.lemmas.Bool.{cases_Bool}
 use Rattle.std.proofs.lemmas.List.Elements.{All-head, All-tail, All-cons, All-weaker, Contains-get_or}
 use Rattle.std.proofs.lemmas.Bool.Decides.{nat_tests}
@@ -9,14 +9,15 @@ use Rattle.std.specs.FinMap.{get}
 use Rattle.cny_base.specs.Count.{Rose}
 use Rattle.cny_base.specs.Path.{is_path}
 use Rattle.cny_base.specs.Below.{is_below}
+use Rattle.cny_base.specs.declared.node.Node.{Node}
 use Rattle.cny_base.specs.declared.node.Node.TheVariants as node
 use Rattle.cny_base.specs.declared.stop.Stop.{Stop}
 use Rattle.cny_base.specs.declared.stop.Stop.TheVariants.{Refused, Memory, Failed, Damaged, FarFailed, FarDamaged}
-use Rattle.tree_disk.specs.Tree.{Name, Tree, same_name, is_dir, children, AgreesOutside, WellFormed}
+use Rattle.tree_disk.specs.Tree.{Name, Tree, same_name, is_dir, is_file, children, AgreesOutside, WellFormed}
 use Rattle.tree_disk.specs.Laws.{same_means, same_itself, get_put_here, get_put_other, reads_image}
-use Rattle.tree_disk.specs.Children.{none_below}
-use Rattle.tree_disk.specs.Clear.{is_within}
-use Rattle.tree_disk.specs.ClearLaws.{within_itself, or_left, or_right, or_cases}
+use Rattle.tree_disk.specs.Children.{none_below, stands_or_not}
+use Rattle.tree_disk.specs.Clear.{is_within, without_tree}
+use Rattle.tree_disk.specs.ClearLaws.{below_within, within_itself, or_left, or_right, or_cases}
 use Rattle.tree_disk.specs.Disk.{DiskModel, IsDisk, IsImageOf}
 use Rattle.tree_disk.specs.Confined.{Among, Confined, DiffersOnlyAt, IsUnsyncedOr, IsSynced, LeavesOnly}
 use Rattle.tree_disk.specs.ConfinedLaws.{leaves_weaker, leaves_then, confined_start, confined_wider, confined_then}
@@ -37,18 +38,18 @@ use Rattle.journal_log.specs.Targets.{is_dir_want, node_of, is_target, with_targ
 use Rattle.journal_log.specs.LogBytes.{IsSpelled}
 use Rattle.tree_journal.specs.CanBePut.{CanBePut, AllCanBePut}
 use Rattle.tree_journal.specs.Recovery.{is_flag, is_committed, RecoversTo, at_rest}
-use Rattle.tree_journal.specs.Staging.{AllStaged, resolved, resolve, outcome}
-use Rattle.tree_journal.specs.Apply.{with_base, goal, CanApply, Applies, IsAsBefore, IsBeforeOrAfter, IsAtRest, IsOneOf, is_own_or_target}
+use Rattle.tree_journal.specs.Staging.{has_content, AllStaged, HoldsNoOthers, resolved, resolve, outcome}
+use Rattle.tree_journal.specs.Apply.{with_base, goal, CanApply, Applies, HoldsStaged, IsAsBefore, IsBeforeOrAfter, IsAtRest, IsOneOf, is_own_or_target}
 use Rattle.tree_journal.specs.Passes.{all_put}
 use Rattle.tree_journal.specs.Visible.{IsVisible}
 use Rattle.tree_journal.specs.Steps.{with_log, with_flag, with_stage, with_staged, committed, is_log_or_staged, is_replay_name, CanPrepare, HasLog, IsPrepared, IsCommitted, IsOldOrNew}
 use Rattle.tree_journal.proofs.WriteSets.{neither}
-use Rattle.tree_journal.proofs.OwnNames.{in_gate, in_log, in_work, in_staged, base_own, log_or_staged_own, base_not_in_gate, base_not_in_log, base_not_in_staged, log_not_in_gate, gate_not_written, staged_apart_gate, staged_apart_log, staged_not_root}
+use Rattle.tree_journal.proofs.OwnNames.{in_gate, in_log, in_work, in_staged, base_own, log_or_staged_own, base_not_in_gate, base_not_in_log, base_not_in_staged, log_not_in_gate, gate_not_written, staged_apart_gate, staged_apart_log, staged_apart_work, staged_not_root}
 use Rattle.tree_journal.proofs.OwnFiles.{get-own_file_other, get-own_file_here, get-base_other, base_stands}
-use Rattle.tree_journal.proofs.Staged.{AgreesStaged, all_staged_same, resolve_all_same, same_targets, same_outcome, outcome_target, target_resolved, decimal_plain}
+use Rattle.tree_journal.proofs.Staged.{AgreesStaged, all_staged_same, content_file, outcome_outside, own_free, resolve_all_same, same_targets, same_outcome, outcome_target, target_resolved, decimal_plain}
 use Rattle.tree_journal.proofs.StagedBytes.{IsFree, Keeps, file_longer, strays_kept, staged_elsewhere, written_holds}
 use Rattle.tree_journal.proofs.Seen.{visible_same, visible_before, agrees_stores}
-use Rattle.tree_journal.proofs.ReplayImages.{recovers_same, by_flag, can_elsewhere, replay_image, image_agrees, same_all_put}
+use Rattle.tree_journal.proofs.ReplayImages.{recovers_same, by_flag, can_elsewhere, replay_image, image_agrees, same_all_put, without_work}
 
 not_false : {A : Type 0} (b : Bool) → b ≡ true → b ≡ false → A
 not_false b is other = absurd (cc (is, other))
@@ -477,6 +478,58 @@ module _ {D : Type 0} (disk : DiskModel D) (base : Name) (path : is_path base �
       (subst (λ (u : Tree). StoresSame base u (disk.reads old)) (sym is) flag_same)
       (subst (λ (u : Tree). StoresSame base (outcome base puts u) (outcome base puts (disk.reads old))) (sym is) same_goal)) seen
 
+-- ---- what is left of the staged bytes
+
+file_kind : (o : Option Node) → is_file o ≡ true → (is_some o ≡ true) × (is_dir o ≡ false)
+file_kind None file = absurd (cc file)
+file_kind (Some (node.Dir mode)) file = absurd (cc file)
+file_kind (Some (node.File mode bytes)) file = (refl, refl)
+file_kind (Some (node.Link target)) file = absurd (cc file)
+
+-- a staged file that a write names is a file
+named_file : (base : Name) (tree : Tree) (puts : List Put) (k : ℕ) → AllStaged base tree puts → names_staged puts k ≡ true → is_file (get tree (staged_file base k)) ≡ true
+named_file base tree [] k stand named = absurd (cc named)
+named_file base tree (p ∷ puts) k stand named = ⊎_elim
+    (λ here. at p.want (All-head (λ (x : Put). IsTrue (has_content base tree x.want)) p puts stand) here)
+    (λ later. named_file base tree puts k (All-tail (λ (x : Put). IsTrue (has_content base tree x.want)) p puts stand) later)
+    (or_cases (is_staged_as k p.want) (names_staged puts k) named)
+  where
+    at : (w : Want) → has_content base tree w ≡ true → is_staged_as k w ≡ true → is_file (get tree (staged_file base k)) ≡ true
+    at want.Nothing stands is = absurd (cc is)
+    at (want.Dir mode) stands is = absurd (cc is)
+    at (want.File mode bytes) stands is = absurd (cc is)
+    at (want.Link target) stands is = absurd (cc is)
+    at (want.Staged mode number size name) stands is =
+        let same = same_number number k is in
+        ap (λ (n : ℕ). is_file (get tree (staged_file base n))) (sym same) ∙ (content_file (get tree (staged_file base number)) size name stands).0
+
+-- where nothing else is left below the directory, no name is left beside the files themselves
+only_files : (base : Name) (made : List Put) (tree : Tree) → WellFormed tree → AllStaged base tree made → HoldsNoOthers base made tree
+    → (q : Name) → is_below (staged base) q ≡ true → ((k : ℕ) → names_staged made k ≡ true → q ≢ staged_file base k) → get tree q ≡ None
+only_files base made tree well stand clear q low other = ⊎_elim (λ none. none) (λ stands. clear q low (λ k named. free stands k named)) (stands_or_not (get tree q))
+  where
+    free : is_some (get tree q) ≡ true → (k : ℕ) → names_staged made k ≡ true → is_within (staged_file base k) q ≡ false
+    free stands k named = ⊎_elim
+        (λ within. absurd (⊎_elim
+        (λ same. other k named (same_means q (staged_file base k) same))
+        (λ deep. below_file deep)
+        (or_cases (same_name q (staged_file base k)) (is_below (staged_file base k) q) within)))
+        (λ out. out) (cases_Bool (is_within (staged_file base k) q))
+      where
+        kind : (is_some (get tree (staged_file base k)) ≡ true) × (is_dir (get tree (staged_file base k)) ≡ false)
+        kind = file_kind (get tree (staged_file base k)) (named_file base tree made k stand named)
+
+        below_file : is_below (staged_file base k) q ≡ true → ⊥
+        below_file deep = absurd (cc (stands, ap is_some (none_below tree (staged_file base k) q well (well.paths (staged_file base k) kind.0) kind.1 deep)))
+
+-- all that is staged stays when the flag is set and the targets are put
+committed_keeps : (base : Name) → is_path base ≡ true → (made : List Put) → All (λ p. CanBeNamed base p.path) made → (tree : Tree) → AgreesStaged base (committed base made tree) tree
+committed_keeps base path made named tree q within =
+    get_put_other (all_put base made (with_flag base tree)) (gate base) None q (neither (same_name q (gate base)) _ (staged_apart_gate base path q within)).0
+    ∙ outcome_outside base (without_tree (with_flag base tree) (work base)) made (without_tree (with_flag base tree) (work base)) q (own_free base made named q (in_staged base q within))
+    ∙ without_work base (with_flag base tree) q (staged_apart_work base path q within)
+    ∙ get-own_file_other (gate base) (codes "O") tree q (staged_apart_gate base path q within)
+
 -- ---- the whole
 
 -- what holds where a change ended well
@@ -551,6 +604,7 @@ module _ {D : Type 0} (disk : DiskModel D) (laws : IsDisk disk) (base : Name) (p
   applies_nothing r is = record {
     any_moment = λ tells. nothing_yet disk laws base puts old (can tells);
     applied = λ tells. ok_of_err _ (λ s. s ≡ Memory) r is;
+    cleared = λ tells. ok_of_err _ (λ s. s ≡ Memory) r is;
     stopped = λ tells. on_err r (stopped_at_once disk base puts old (can tells));
     confined = λ tells. confined_start laws (Among (is_own_or_target base puts)) old;
     visible = λ tells. unfailed_start old _;
@@ -575,6 +629,7 @@ module _ {D : Type 0} (disk : DiskModel D) (laws : IsDisk disk) (base : Name) (p
     applies_prepared change mid r e is made run = record {
       any_moment = λ tells. leaves_weaker (λ image h. inl h) (run tells);
       applied = λ tells. ok_of_err _ (λ s. s ≡ e) r is;
+      cleared = λ tells. ok_of_err _ (λ s. s ≡ e) r is;
       stopped = λ tells. on_err r (inl (at_rest (flag_kept mid (made.outside tells) (can tells).flag_clear)
           (λ q out. made.outside tells q (⊎_elim (λ h. not_false (is_own base q) (log_or_staged_own base q h) out) (λ h. h) (cases_Bool (is_log_or_staged base q))))));
       confined = λ tells. confined_wider (log_within base puts) (made.confined tells);
@@ -584,7 +639,8 @@ module _ {D : Type 0} (disk : DiskModel D) (laws : IsDisk disk) (base : Name) (p
       stops = ended_stops disk.tells (change (disk.reads old)) (disk.reads mid) r (disk.faults old) (disk.faults mid) made.ended;
     }
 
-    module _ (made : List Put) (bytes : List ℕ) (targets : (q : Name) → is_target made q ≡ is_target puts q) (mid new : D) (written : IsTrue disk.tells → IsWritten disk base puts made bytes old mid) (r : Result Unit Stop) where
+    module _ (made : List Put) (bytes : List ℕ) (targets : (q : Name) → is_target made q ≡ is_target puts q) (mid new : D) (written : IsTrue disk.tells → IsWritten disk base puts made bytes old mid) (r : Result Unit Stop)
+        (others : IsTrue disk.tells → HoldsNoOthers base made (disk.reads mid)) where
       each_image : IsTrue disk.tells → (image : Tree) → IsOldOrNew base made (disk.reads mid) image → IsBeforeOrAfter disk base puts old image
       each_image tells image (inl before) = inl (as_before disk laws base path old (may_prepare tells) image before.0
           (λ q out. before.1 q out ∙ mid_same disk base puts made bytes old mid (written tells) q out))
@@ -610,6 +666,20 @@ module _ {D : Type 0} (disk : DiskModel D) (laws : IsDisk disk) (base : Name) (p
               (λ same. absurd (cc (out, in_gate base q (or_left (same_name q (gate base)) _ same))))
               (λ other. other) (cases_Bool (same_name q (gate base)))
 
+      holds_staged : IsTrue disk.tells → (named : All (λ p. CanBeNamed base p.path) made) → IsPrepared disk base made mid → disk.reads new ≡ committed base made (disk.reads mid) → HoldsStaged base puts (disk.reads new)
+      holds_staged tells named ready done = record {
+        made = made;
+        numbered = (written tells).numbered;
+        stand = stand_new;
+        only = only_files base made (disk.reads new) (laws.reads_well_formed new) stand_new (λ q low free. kept q (below_within (staged base) q low) ∙ others tells q low free);
+      }
+        where
+          kept : AgreesStaged base (disk.reads new) (disk.reads mid)
+          kept q within = ap (λ (t : Tree). get t q) done ∙ committed_keeps base path made named (disk.reads mid) q within
+
+          stand_new : AllStaged base (disk.reads new) made
+          stand_new = all_staged_same base path (disk.reads mid) (disk.reads new) (λ q within. sym (kept q within)) made ready.has_log.can.stand
+
       -- both parts
       pub applies_whole : (change : Tree → Tree) → Makes {X = Unit {0}} disk (is_log_or_staged base) change old mid (Ok tt) → (IsTrue disk.tells → LeavesOnly disk old mid (IsAsBefore disk base old)) → (IsTrue disk.tells → IsSynced disk mid)
           → Makes disk (is_replay_name base made) (committed base made) mid new r → (IsTrue disk.tells → LeavesOnly disk mid new (IsOldOrNew base made (disk.reads mid)))
@@ -620,6 +690,8 @@ module _ {D : Type 0} (disk : DiskModel D) (laws : IsDisk disk) (base : Name) (p
         any_moment = λ tells. leaves_then (leaves_weaker (λ image h. inl h) (first_run tells)) (leaves_weaker (each_image tells) (then_run tells));
         applied = λ tells. on_ok_end disk.tells (committed base made (disk.reads mid)) (disk.reads new) r (disk.faults mid) (disk.faults new) then.ended tells (then_synced tells)
             (λ done synced. at_rest_now tells (numbered_named puts made (written tells).numbered base (can tells).named) (ready tells) done synced);
+        cleared = λ tells. on_ok_end disk.tells (committed base made (disk.reads mid)) (disk.reads new) r (disk.faults mid) (disk.faults new) then.ended tells (then_synced tells)
+            (λ done synced. holds_staged tells (numbered_named puts made (written tells).numbered base (can tells).named) (ready tells) done);
         stopped = λ tells. on_err r (one_of tells ((then_run tells).each (disk.reads new) (laws.counts_now new (disk.now mid) (disk.reads new) (then_run tells).later (reads_image laws new))));
         confined = λ tells. confined_then (confined_wider (log_within base puts) (first.confined tells)) (confined_wider (replay_within base puts made targets) (then.confined tells));
         visible = λ tells. unfailed_then first.later then.later (first_seen mid (first.confined tells))

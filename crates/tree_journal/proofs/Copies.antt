@@ -35,6 +35,12 @@ one_more file at room count most =
     ap (λ (l : List ℕ). take at file ++ l) (sym (take_min room (drop at file)) ∙ ap (λ (n : ℕ). take n (drop at file)) (ap (min room) (length-drop at file) ∙ sym most))
     ∙ sym (take-add at count file)
 
+-- the first piece
+first_piece : (file : List ℕ) (room count : ℕ) → count ≡ min room (length file - 0) → take room (drop 0 file) ≡ take count file
+first_piece file room count most =
+    let whole : length file ≡ length file - 0 = omega arith in
+    sym (take_min room file) ∙ ap (λ (n : ℕ). take n file) (ap (min room) whole ∙ sym most)
+
 -- ---- the tree meanwhile
 
 none_of : (b : Bool) (o : Option Node) → (b && not (is_some o)) ≡ true → (b ≡ true) × (o ≡ None)
@@ -58,8 +64,11 @@ module _ (tree : Tree) (from to : Name) (size : ℕ) (can : CanCopy tree from to
   parent_apart : same_name (parent to) to ≡ false
   parent_apart = apart_by tree (parent to) to (λ same. absurd (cc (parts.0, ap is_dir same, ap is_dir parts.1)))
 
-  pub copy_starts : with_append tree to [] ≡ with_node tree to (node.File 384 (take 0 (bytes_at tree from)))
-  copy_starts = ap (λ (o : Option Node). put tree to (Some (grown o []))) parts.1
+  pub copy_starts : (room count : ℕ) → count ≡ min room (length (bytes_at tree from) - 0)
+      → with_append tree to (take room (drop 0 (bytes_at tree from))) ≡ with_node tree to (node.File 384 (take count (bytes_at tree from)))
+  copy_starts room count most =
+      ap (λ (o : Option Node). put tree to (Some (grown o (take room (drop 0 (bytes_at tree from)))))) parts.1
+      ∙ ap (λ (l : List ℕ). with_node tree to (node.File 384 l)) (first_piece (bytes_at tree from) room count most)
 
   pub may_start : can_append tree to ≡ true
   may_start = cc (parts.0, ap (λ (b : Bool). b && (not (is_some (get tree to)) || is_file (get tree to))) parts.0, ap (λ (o : Option Node). not (is_some o) || is_file o) parts.1)

@@ -1,17 +1,20 @@
 -- What making the base and writing one of the journal's files does to a tree.
-use Rattle.std.proofs.Common.{◌≡◌, ◌≢◌, inl, inr, ⊎_elim, ℕ, Bool, true, false, cond, not, ◌&&◌, ◌||◌, List, length, Option, Some, None, is_some, refl, sym, ◌∙◌, ap, arith}
+use Rattle.std.proofs.Common.{◌≡◌, ◌≢◌, inl, inr, ⊎_elim, ℕ, Bool, true, false, cond, not, ◌&&◌, ◌||◌, List, length, Option, Some, None, is_some, Result, Ok, Err, OnOk, IsTrue, refl, sym, ◌∙◌, ap, arith}
 use Rattle.std.proofs.lemmas.Bool.{cases_Bool}
 use Rattle.std.specs.FinMap.{get}
 use Rattle.cny_base.specs.Path.{is_path, root, parent}
 use Rattle.cny_base.specs.Below.{parent_shorter}
 use Rattle.cny_base.specs.declared.node.Node.{Node}
 use Rattle.cny_base.specs.declared.node.Node.TheVariants as node
-use Rattle.tree_disk.specs.Tree.{Name, Tree, same_name, put, is_dir, is_file, is_link}
+use Rattle.cny_base.specs.declared.stop.Stop.{Stop}
+use Rattle.tree_disk.specs.Tree.{Name, Tree, same_name, put, is_dir, is_file, is_link, WellFormed}
 use Rattle.tree_disk.specs.Rows.{can_append, can_make, can_remove, is_childless, with_append, with_node, without, grown, look_of, seen_as}
 use Rattle.tree_disk.specs.Laws.{same_means, same_itself, get_put_here, get_put_other, put_put}
 use Rattle.tree_disk.specs.Clear.{is_within, without_tree}
 use Rattle.tree_disk.specs.Looks.{sees_nothing}
+use Rattle.tree_disk.specs.Steps.{Ended}
 use Rattle.tree_disk.specs.ClearLaws.{get-without_tree, bare_without, within_itself, or_left, or_right}
+use Rattle.tree_disk.proofs.Clearing.{without-nothing}
 use Rattle.tree_journal.specs.Apply.{with_base}
 use Rattle.tree_journal.specs.Steps.{with_own_file, IsOther}
 use Rattle.tree_journal.proofs.OwnNames.{not_longer}
@@ -102,6 +105,19 @@ may_write tree p path other above =
 pub written : (tree : Tree) (p : Name) (bytes : List ℕ) → with_append (without_tree tree p) p bytes ≡ with_own_file p bytes tree
 written tree p bytes = ap (λ (o : Option Node). put (without_tree tree p) p (Some (grown o bytes))) (bare_without tree p p (within_itself p))
 
+-- the same where nothing stood
+pub may_write_bare : (tree : Tree) (p : Name) → is_dir (get tree (parent p)) ≡ true → get tree p ≡ None → can_append tree p ≡ true
+may_write_bare tree p above none = allowed (is_dir (get tree (parent p))) (get tree p) above none
+  where
+    allowed : (x : Bool) (o : Option Node) → x ≡ true → o ≡ None → (x && (not (is_some o) || is_file o)) ≡ true
+    allowed x None is none = cc (ap (λ (b : Bool). b && true) is)
+    allowed x (Some n) is none = absurd (cc none)
+
+pub written_bare : (tree : Tree) (p : Name) (bytes : List ℕ) → WellFormed tree → is_path p ≡ true → get tree p ≡ None → with_append tree p bytes ≡ with_own_file p bytes tree
+written_bare tree p bytes well path none =
+    ap (λ (o : Option Node). put tree p (Some (grown o bytes))) none
+    ∙ ap (λ (t : Tree). put t p (Some (node.File 384 bytes))) (sym (without-nothing tree p well path none))
+
 -- what stands where with such a file
 pub get-own_file_other : (path : Name) (bytes : List ℕ) (tree : Tree) (q : Name) → is_within path q ≡ false → get (with_own_file path bytes tree) q ≡ get tree q
 get-own_file_other path bytes tree q out =
@@ -126,3 +142,10 @@ base_stands base tree = ⊎_elim
     (λ is. ap (λ (t : Tree). is_dir (get t base)) (base_kept base tree is) ∙ is)
     (λ is. ap (λ (t : Tree). is_dir (get t base)) (sym (base_made base tree is)) ∙ ap is_dir (get_put_here tree base (Some (node.Dir 493))))
     (cases_Bool (is_dir (get tree base)))
+
+-- ---- how a change ended
+
+-- what holds of the tree that is made holds where it ended well
+pub ends_so : {P : Type 0} (told : Bool) (after new : Tree) (result : Result Unit Stop) (a b : ℕ) → Ended told after new result a b → IsTrue told → (new ≡ after → P) → OnOk result P
+ends_so told after new (Ok u) a b ended tells so = so (ended tells)
+ends_so told after new (Err e) a b ended tells so = tt

@@ -1,5 +1,5 @@
 -- The bytes of files, staged.
-use Rattle.std.proofs.Common.{◌≡◌, ◌≢◌, ◌⊎◌, inl, ⊎_elim, ℕ, zero, suc, ◌+◌, ◌^◌, ◌<◌, ◌≤◌, Bool, true, false, cond, not, ◌&&◌, ◌==◌, IsTrue, List, [], ◌∷◌, ◌++◌, map, length, get_or, take, Option, Some, None, refl, sym, ◌∙◌, ap, subst, arith}
+use Rattle.std.proofs.Common.{◌≡◌, ◌≢◌, ◌⊎◌, inl, inr, ⊎_elim, ℕ, zero, suc, ◌+◌, ◌^◌, ◌<◌, ◌≤◌, Bool, true, false, cond, not, ◌&&◌, ◌||◌, ◌==◌, IsTrue, List, [], ◌∷◌, ◌++◌, map, length, get_or, take, Option, Some, None, refl, sym, ◌∙◌, ap, subst, arith}
 use Rattle.std.proofs.lemmas.Bool.{cases_Bool}
 use Rattle.std.proofs.lemmas.Bool.Decides.{nat_tests}
 use Rattle.std.proofs.lemmas.List.{take_more}
@@ -14,24 +14,24 @@ use Rattle.cny_base.specs.Path.{is_path, join, root, parent, has_slash}
 use Rattle.cny_base.specs.Below.{is_below}
 use Rattle.cny_base.specs.declared.node.Node.{Node}
 use Rattle.cny_base.specs.declared.node.Node.TheVariants as node
-use Rattle.tree_disk.specs.Tree.{Name, Tree, same_name, is_dir, children}
+use Rattle.tree_disk.specs.Tree.{Name, Tree, same_name, is_dir, children, WellFormed}
 use Rattle.tree_disk.specs.Rows.{bytes_of}
 use Rattle.tree_disk.specs.Laws.{same_means}
 use Rattle.tree_disk.specs.Clear.{is_within, without_tree, without_each}
-use Rattle.tree_disk.specs.ClearLaws.{within_join_below, or_cases, or_left, or_right}
-use Rattle.tree_disk.specs.Children.{child_longer, not_below_itself}
+use Rattle.tree_disk.specs.ClearLaws.{below_within, join_below, within_join_below, or_cases, or_left, or_right}
+use Rattle.tree_disk.specs.Children.{child_longer, covered_up, not_below_itself, stands_or_not}
 use Rattle.tree_disk.proofs.Clearing.{get-without_each, without_each-append}
 use Rattle.journal_log.specs.declared.put.Want.{Want}
 use Rattle.journal_log.specs.declared.put.Want.TheVariants as want
 use Rattle.journal_log.specs.declared.put.Put.{Put}
-use Rattle.journal_log.specs.Own.{staged, staged_file}
-use Rattle.journal_log.specs.Staged.{is_file_want, is_staged_as, names_staged, names_staged_at}
-use Rattle.journal_log.specs.Numbers.{staged_want, with_numbers, NumbersRise}
-use Rattle.tree_journal.specs.Staging.{is_content, has_content, AllStaged, resolved, resolve}
+use Rattle.journal_log.specs.Own.{log, staged, staged_file}
+use Rattle.journal_log.specs.Staged.{is_file_want, is_staged_as, is_staged_at, names_staged, names_staged_at}
+use Rattle.journal_log.specs.Numbers.{staged_want, with_numbers, IsNumbered, NumbersRise}
+use Rattle.tree_journal.specs.Staging.{is_content, has_content, AllStaged, HoldsNoOthers, resolved, resolve}
 use Rattle.tree_journal.specs.Apply.{with_base}
-use Rattle.tree_journal.specs.Steps.{is_stray, with_own_file, with_bytes, with_all_bytes, with_stage, with_staged, without_strays}
+use Rattle.tree_journal.specs.Steps.{is_stray, HasNoStrays, HasRoom, HaveRoom, with_own_file, with_bytes, with_all_bytes, with_stage, with_staged, without_strays}
 use Rattle.tree_journal.proofs.WriteSets.{or_none, neither}
-use Rattle.tree_journal.proofs.OwnNames.{join_same, not_above, not_longer, within_below, staged_not_root, staged_is_path, base_not_in_staged}
+use Rattle.tree_journal.proofs.OwnNames.{join_same, not_above, not_longer, within_below, staged_not_root, staged_is_path, staged_apart_log, base_not_in_staged}
 use Rattle.tree_journal.proofs.OwnFiles.{get-own_file_other, get-own_file_here, get-base_other, base_stands}
 use Rattle.tree_journal.proofs.Staged.{file_within, file_apart, staged_longer, decimal_plain, parent_long, dir_long}
 
@@ -106,7 +106,48 @@ module _ (puts : List Put) (dir : Name) (path : is_path dir ≡ true) (other : d
   pub strays_elsewhere : (names : List Name) (q : Name) → is_below dir q ≡ false → get (without_strays puts dir names tree) q ≡ get tree q
   strays_elsewhere names q out = strays_outside names q (λ s stray. ⊎_elim (λ within. absurd (cc (within_join_below dir s q path other within, out))) (λ free. free) (cases_Bool (is_within (join dir s) q)))
 
+any_of_filter : (test P : Name → Bool) (xs : List Name) → ((x : Name) → test x ≡ false → P x ≡ false) → list_any P xs ≡ true → list_any P (filter test xs) ≡ true
+any_of_filter test P [] none any = absurd (cc any)
+any_of_filter test P (x ∷ xs) none any = at (test x) refl (or_cases (P x) (list_any P xs) any) (any_of_filter test P xs none)
+  where
+    at : (b : Bool) → test x ≡ b → (P x ≡ true) ⊎ (list_any P xs ≡ true) → (list_any P xs ≡ true → list_any P (filter test xs) ≡ true) → list_any P (cond b (x ∷ filter test xs) (filter test xs)) ≡ true
+    at true is (inl here) rest = or_left (P x) (list_any P (filter test xs)) here
+    at true is (inr later) rest = or_right (P x) (list_any P (filter test xs)) (rest later)
+    at false is (inl here) rest = absurd (cc (here, none x is))
+    at false is (inr later) rest = rest later
+
+-- Nothing is left below the directory but at the names that writes name, and below these.
+pub no_strays : (puts : List Put) (dir : Name) → is_path dir ≡ true → (tree : Tree) → WellFormed tree → HasNoStrays dir puts (without_strays puts dir (children tree dir) tree)
+no_strays puts dir path tree well q low free =
+    get-without_each tree dir (filter (is_stray puts) (children tree dir)) q
+    ∙ ⊎_elim
+    (λ none. still_none (list_any (λ s. is_within (join dir s) q) (filter (is_stray puts) (children tree dir))) (get tree q) none)
+    (λ stands. ap (λ (b : Bool). cond b None (get tree q))
+    (any_of_filter (is_stray puts) (λ s. is_within (join dir s) q) (children tree dir) (λ s kept. free s (named s kept))
+    (covered_up tree dir well path (suc (length q)) q (omega arith) low stands)))
+    (stands_or_not (get tree q))
+  where
+    still_none : (b : Bool) (o : Option Node) → o ≡ None → cond b None o ≡ None
+    still_none true o none = refl
+    still_none false o none = none
+
+    not_false : (b : Bool) → not b ≡ false → b ≡ true
+    not_false true h = refl
+    not_false false h = absurd (cc h)
+
+    named : (s : Name) → is_stray puts s ≡ false → names_staged_at puts s ≡ true
+    named s kept = not_false (names_staged_at puts s) kept
+
 -- ---- the bytes are written one after the other
+
+pub room_at : (base : Name) (puts numbered : List Put) (tree : Tree) (i : ℕ) (p n : Put) → i < length puts → i < length numbered → p ≡ get_or puts i p → n ≡ get_or numbered i n
+    → HaveRoom base puts numbered tree → HasRoom base p.want n.want (with_all_bytes base (take i puts) (take i numbered) tree)
+room_at base [] numbered tree i p n lt lt' is is' room = absurd (omega (arith, lt))
+room_at base (r ∷ puts) [] tree i p n lt lt' is is' room = absurd (omega (arith, lt'))
+room_at base (r ∷ puts) (m ∷ numbered) tree zero p n lt lt' is is' room =
+    subst (λ (x : Put). HasRoom base x.want n.want tree) (sym is) (subst (λ (x : Put). HasRoom base r.want x.want tree) (sym is') room.0)
+room_at base (r ∷ puts) (m ∷ numbered) tree (suc i) p n lt lt' is is' room =
+    room_at base puts numbered (with_bytes base r.want m.want tree) i p n (omega (arith, lt)) (omega (arith, lt')) is is' room.1
 
 pub one_more_written : (base : Name) (puts numbered : List Put) (tree : Tree) (i : ℕ) (p n : Put) → i < length puts → i < length numbered → p ≡ get_or puts i p → n ≡ get_or numbered i n
     → with_bytes base p.want n.want (with_all_bytes base (take i puts) (take i numbered) tree) ≡ with_all_bytes base (take (i + 1) puts) (take (i + 1) numbered) tree
@@ -172,6 +213,74 @@ all_bytes_elsewhere base path (p ∷ puts) [] tree q out = refl
 all_bytes_elsewhere base path (p ∷ puts) (n ∷ numbered) tree q out =
     all_bytes_elsewhere base path puts numbered (with_bytes base p.want n.want tree) q out ∙ bytes_elsewhere base path p.want n.want tree q out
 
+-- what isn't within a file that a numbered write names stays too
+bytes_apart : (base : Name) (w n : Want) (tree : Tree) (q : Name) → ((k : ℕ) → is_staged_as k n ≡ true → is_within (staged_file base k) q ≡ false) → get (with_bytes base w n tree) q ≡ get tree q
+bytes_apart base (want.File mode bytes) (want.Staged m number size name) tree q free = get-own_file_other (staged_file base number) bytes tree q (free number (itself number))
+  where
+    itself : (n : ℕ) → (n == n) ≡ true
+    itself n = grind (arith, nat_tests)
+bytes_apart base want.Nothing n tree q free = refl
+bytes_apart base (want.Dir mode) n tree q free = refl
+bytes_apart base (want.Link target) n tree q free = refl
+bytes_apart base (want.Staged mode m size name) n tree q free = refl
+bytes_apart base (want.File mode bytes) want.Nothing tree q free = refl
+bytes_apart base (want.File mode bytes) (want.Dir m) tree q free = refl
+bytes_apart base (want.File mode bytes) (want.Link target) tree q free = refl
+bytes_apart base (want.File mode bytes) (want.File m more) tree q free = refl
+
+pub all_bytes_apart : (base : Name) (puts numbered : List Put) (tree : Tree) (q : Name) → ((k : ℕ) → names_staged numbered k ≡ true → is_within (staged_file base k) q ≡ false)
+    → get (with_all_bytes base puts numbered tree) q ≡ get tree q
+all_bytes_apart base [] numbered tree q free = refl
+all_bytes_apart base (p ∷ puts) [] tree q free = refl
+all_bytes_apart base (p ∷ puts) (n ∷ numbered) tree q free =
+    all_bytes_apart base puts numbered (with_bytes base p.want n.want tree) q (λ k named. free k (or_right (is_staged_as k n.want) (names_staged numbered k) named))
+    ∙ bytes_apart base p.want n.want tree q (λ k named. free k (or_left (is_staged_as k n.want) (names_staged numbered k) named))
+
+-- the staged files that writes name are named by the numbered ones
+pub named_still : (numbers : List ℕ) (puts : List Put) (k : ℕ) → names_staged puts k ≡ true → names_staged (with_numbers numbers puts) k ≡ true
+named_still numbers [] k named = absurd (cc named)
+named_still [] (p ∷ puts) k named = named
+named_still (n ∷ numbers) (p ∷ puts) k named = ⊎_elim
+    (λ here. or_left (is_staged_as k (staged_want n p.want)) (names_staged (with_numbers (cond (is_file_want p.want) numbers (n ∷ numbers)) puts) k) (at p.want here))
+    (λ later. or_right (is_staged_as k (staged_want n p.want)) (names_staged (with_numbers (cond (is_file_want p.want) numbers (n ∷ numbers)) puts) k) (named_still (cond (is_file_want p.want) numbers (n ∷ numbers)) puts k later))
+    (or_cases (is_staged_as k p.want) (names_staged puts k) named)
+  where
+    at : (w : Want) → is_staged_as k w ≡ true → is_staged_as k (staged_want n w) ≡ true
+    at want.Nothing is = absurd (cc is)
+    at (want.Dir mode) is = absurd (cc is)
+    at (want.File mode bytes) is = absurd (cc is)
+    at (want.Link target) is = absurd (cc is)
+    at (want.Staged mode number size name) is = is
+
+-- a last name that writes name is that of a staged file
+named_number : (puts : List Put) (last : Name) → names_staged_at puts last ≡ true → (k : ℕ) × (names_staged puts k ≡ true) × (decimal k ≡ last)
+named_number [] last named = absurd (cc named)
+named_number (p ∷ puts) last named = ⊎_elim
+    (λ here. at p.want here)
+    (λ later. let rest = named_number puts last later in (rest.0, or_right (is_staged_as rest.0 p.want) (names_staged puts rest.0) rest.1, rest.2))
+    (or_cases (is_staged_at last p.want) (names_staged_at puts last) named)
+  where
+    itself : (n : ℕ) → (n == n) ≡ true
+    itself n = grind (arith, nat_tests)
+
+    at : (w : Want) → is_staged_at last w ≡ true → (k : ℕ) × ((is_staged_as k w || names_staged puts k) ≡ true) × (decimal k ≡ last)
+    at want.Nothing is = absurd (cc is)
+    at (want.Dir mode) is = absurd (cc is)
+    at (want.File mode bytes) is = absurd (cc is)
+    at (want.Link target) is = absurd (cc is)
+    at (want.Staged mode number size name) is = (number, or_left (number == number) (names_staged puts number) (itself number), same_means (decimal number) last is)
+
+-- Below the directory nothing is left but what the numbered writes name.
+pub no_others : (base : Name) (puts made : List Put) → IsNumbered puts made → (tree : Tree) → HasNoStrays (staged base) puts tree → HoldsNoOthers base made (with_all_bytes base puts made tree)
+no_others base puts made is tree clear q low free =
+    all_bytes_apart base puts made tree q free
+    ∙ clear q low (λ last named. let file = named_number puts last named in
+    subst (λ (l : Name). is_within (join (staged base) l) q ≡ false) file.2
+    (free file.0 (subst (λ (l : List Put). names_staged l file.0 ≡ true) (sym is.writes) (named_still is.numbers puts file.0 file.1))))
+
+pub others_past_log : (base : Name) → is_path base ≡ true → (made : List Put) (bytes : List ℕ) (tree : Tree) → HoldsNoOthers base made tree → HoldsNoOthers base made (with_own_file (log base) bytes tree)
+others_past_log base path made bytes tree clear q low free = get-own_file_other (log base) bytes tree q (staged_apart_log base path q (below_within (staged base) q low)) ∙ clear q low free
+
 -- ---- each staged file holds what its write wants
 
 module _ (base : Name) (path : is_path base ≡ true) (dir : is_path (staged base) ≡ true) where
@@ -198,6 +307,45 @@ module _ (base : Name) (path : is_path base ≡ true) (dir : is_path (staged bas
           let here : IsOther m n = All-head (IsOther m) n numbers others in
           rest numbers (with_own_file (staged_file base n) bytes tree) (All-tail (IsOther m) n numbers others)
           ∙ get-own_file_other (staged_file base n) bytes tree (staged_file base m) (file_apart base path dir n m here.1 fits (λ is. here.0 (sym is)))
+
+  -- the files of numbers under which nothing stands have room, one after the other
+  abbrev pub IsBareAt : Tree → ℕ → Type 0
+  IsBareAt tree n = (get tree (staged_file base n) ≡ None) × (n < 2 ^ 64)
+
+  same_room : (puts : List Put) (tree : Tree) → HaveRoom base puts puts tree
+  same_room [] tree = tt
+  same_room (p ∷ puts) tree = (at p.want, same_room puts (with_bytes base p.want p.want tree))
+    where
+      at : (w : Want) → HasRoom base w w tree
+      at want.Nothing = tt
+      at (want.Dir mode) = tt
+      at (want.File mode bytes) = tt
+      at (want.Link target) = tt
+      at (want.Staged mode number size name) = tt
+
+  pub have_room : (puts : List Put) (numbers : List ℕ) (tree : Tree) → NumbersRise numbers → All (IsBareAt tree) numbers → HaveRoom base puts (with_numbers numbers puts) tree
+  have_room [] numbers tree rise bare = tt
+  have_room (p ∷ puts) [] tree rise bare = same_room (p ∷ puts) tree
+  have_room (p ∷ puts) (n ∷ numbers) tree rise bare = step p.want (have_room puts)
+    where
+      bare_rest : (bytes : List ℕ) → All (IsBareAt (with_own_file (staged_file base n) bytes tree)) numbers
+      bare_rest bytes k d lt =
+          let here : IsBareAt tree n = All-head (IsBareAt tree) n numbers bare in
+          let there : IsBareAt tree (get_or numbers k d) = All-tail (IsBareAt tree) n numbers bare k d lt in
+          let less : n < get_or numbers k d = rise.0 k d lt in (
+            get-own_file_other (staged_file base n) bytes tree (staged_file base (get_or numbers k d)) (file_apart base path dir n (get_or numbers k d) here.1 there.1 (λ is. absurd (omega (arith, is, less)))) ∙ there.0,
+            there.1,
+          )
+
+      step : (w : Want) → ((numbers : List ℕ) (tree : Tree) → NumbersRise numbers → All (IsBareAt tree) numbers → HaveRoom base puts (with_numbers numbers puts) tree)
+          → HasRoom base w (staged_want n w) tree × HaveRoom base puts (with_numbers (cond (is_file_want w) numbers (n ∷ numbers)) puts) (with_bytes base w (staged_want n w) tree)
+      step want.Nothing rest = (tt, rest (n ∷ numbers) tree rise bare)
+      step (want.Dir mode) rest = (tt, rest (n ∷ numbers) tree rise bare)
+      step (want.Link target) rest = (tt, rest (n ∷ numbers) tree rise bare)
+      step (want.Staged mode k size name) rest = (tt, rest (n ∷ numbers) tree rise bare)
+      step (want.File mode bytes) rest =
+          let here : IsBareAt tree n = All-head (IsBareAt tree) n numbers bare in
+          (here.0, rest numbers (with_own_file (staged_file base n) bytes tree) rise.1 (bare_rest bytes))
 
   -- the staged files of writes that aren't numbered anew
   abbrev pub Keeps : List Put → Tree → Tree → Type 0
@@ -334,6 +482,26 @@ module _ (base : Name) (path : is_path base ≡ true) (dir : is_path (staged bas
           one (want.Staged mode n (length bytes) (sha1 bytes)) (want.File mode bytes) numbers next
           (ap (λ (o : Option Node). want.File mode (bytes_of o)) kept) (ap (λ (o : Option Node). is_content o (length bytes) (sha1 bytes)) kept ∙ content_itself 384 bytes)
           (rest numbers next first rise.1 (All-tail (IsFree puts) n numbers free_all) (keeps_written puts tree first n bytes (All-head (IsFree puts) n numbers free_all) (keeps_rest p puts tree first keeps)) stand_rest)
+
+-- nothing stands at a number that no write names
+pub bare_number : (base : Name) → is_path base ≡ true → is_path (staged base) ≡ true → (puts : List Put) (tree : Tree) → HasNoStrays (staged base) puts tree → ((k : ℕ) → names_staged puts k ≡ true → k < 2 ^ 64)
+    → (n : ℕ) → n < 2 ^ 64 → names_staged puts n ≡ false → get tree (staged_file base n) ≡ None
+bare_number base path dir puts tree clear fits n n_fits free =
+    clear (staged_file base n) (join_below (staged base) (decimal n) dir (staged_not_root base path))
+    (λ last named. let file = named_number puts last named in
+    subst (λ (l : Name). is_within (join (staged base) l) (staged_file base n) ≡ false) file.2
+    (file_apart base path dir file.0 n (fits file.0 file.1) n_fits (λ is. absurd (cc (file.1, ap (names_staged puts) is, free)))))
+
+-- so the bytes of all files have room
+pub room_for : (base : Name) → is_path base ≡ true → is_path (staged base) ≡ true → (puts made : List Put) → IsNumbered puts made → (tree : Tree) → HasNoStrays (staged base) puts tree → ((k : ℕ) → names_staged puts k ≡ true → k < 2 ^ 64)
+    → HaveRoom base puts made tree
+room_for base path dir puts made is tree clear fits = subst (λ (l : List Put). HaveRoom base puts l tree) (sym is.writes) (have_room base path dir puts is.numbers tree is.free.rise bare)
+  where
+    small : {n : ℕ} → n < 2 ^ 32 → n < 2 ^ 64
+    small lt = omega (arith, lt)
+
+    bare : All (IsBareAt base path dir tree) is.numbers
+    bare = λ k d lt. (bare_number base path dir puts tree clear fits (get_or is.numbers k d) (small (is.fit k d lt)) (is.free.free k d lt), small (is.fit k d lt))
 
 -- ---- where a staged file lies
 

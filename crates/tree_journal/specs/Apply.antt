@@ -1,7 +1,9 @@
 -- What `apply` asks and leaves.
-use Rattle.std.specs.Prelude.{◌≡◌, ◌⊎◌, ◌≤◌, Bool, false, ◌||◌, IsTrue, List, Some, Result, OnOk, OnErr, IfErr, IsErrOf, if◌then◌else◌}
+use Rattle.std.specs.Prelude.{◌≡◌, ◌≢◌, ◌⊎◌, ℕ, ◌≤◌, Bool, false, ◌||◌, IsTrue, List, Some, None, Result, OnOk, OnErr, IfErr, IsErrOf, if◌then◌else◌}
 use Rattle.std.specs.List.{All}
+use Rattle.std.specs.FinMap.{get}
 use Rattle.cny_base.specs.Count.{Rose}
+use Rattle.cny_base.specs.Below.{is_below}
 use Rattle.cny_base.specs.Path.{parent}
 use Rattle.cny_base.specs.declared.stop.Stop.{Stop}
 use Rattle.cny_base.specs.declared.stop.Stop.TheVariants.{Failed}
@@ -13,7 +15,9 @@ use Rattle.tree_disk.specs.Confined.{Among, Confined, IsSynced, LeavesOnly}
 use Rattle.tree_disk.specs.Steps.{IsDiskStop}
 use Rattle.tree_disk.specs.Unfailed.{UnlessFailed}
 use Rattle.journal_log.specs.declared.put.Put.{Put}
-use Rattle.journal_log.specs.Own.{gate, is_own, StoresSame}
+use Rattle.journal_log.specs.Numbers.{IsNumbered}
+use Rattle.journal_log.specs.Own.{gate, is_own, staged, staged_file, StoresSame}
+use Rattle.journal_log.specs.Staged.{names_staged}
 use Rattle.journal_log.specs.Targets.{is_target}
 use Rattle.journal_log.specs.WriteSet.{CanBeNamed}
 use Rattle.tree_journal.specs.CanBePut.{AllCanBePut}
@@ -59,6 +63,14 @@ pub record IsAtRest {D : Type 0} (disk : DiskModel D) (base : Name) (tree : Tree
   pub flag_clear : is_committed base (disk.reads d) ≡ false
   pub synced : IsSynced disk d
 
+-- With the bytes of its files staged (under numbers of their own), the files that the write set names stand below the
+-- directory of staged bytes with their sizes and SHA-1s, and no other name.
+pub record HoldsStaged (base : Name) (puts : List Put) (tree : Tree) : Type 0 where
+  pub made : List Put
+  pub numbered : IsNumbered puts made
+  pub stand : AllStaged base tree made
+  pub only : (q : Name) → IsTrue (is_below (staged base) q) → ((number : ℕ) → IsTrue (names_staged made number) → q ≢ staged_file base number) → get tree q ≡ None
+
 -- the journal's own names and the targets
 abbrev pub is_own_or_target : Name → List Put → Name → Bool
 is_own_or_target base puts q = is_own base q || is_target puts q
@@ -67,6 +79,7 @@ is_own_or_target base puts q = is_own base q || is_target puts q
 pub record Applies {D : Type 0} (disk : DiskModel D) (base : Name) (puts : List Put) (old new : D) (result : Result Unit Stop) : Type 0 where
   pub any_moment : IsTrue disk.tells → LeavesOnly disk old new (IsBeforeOrAfter disk base puts old)
   pub applied : IsTrue disk.tells → OnOk result (IsAtRest disk base (goal base puts (disk.reads old)) new)
+  pub cleared : IsTrue disk.tells → OnOk result (HoldsStaged base puts (disk.reads new))
   pub stopped : IsTrue disk.tells → OnErr result (IsOneOf base puts (disk.reads old) (disk.reads new))
   pub confined : IsTrue disk.tells → Confined disk (Among (is_own_or_target base puts)) old new
   pub visible : IsTrue disk.tells → UnlessFailed disk old new (IsVisible base (disk.reads old) (goal base puts (disk.reads old)))

@@ -1,17 +1,20 @@
 -- The bytes that staged writes take from the tree.
-use Rattle.std.specs.Prelude.{ℕ, Bool, true, false, ◌&&◌, IsTrue, List, length, map, Option, Some, None, ◌==◌}
+use Rattle.std.specs.Prelude.{◌≡◌, ℕ, Bool, true, false, ◌&&◌, IsTrue, List, length, map, Option, Some, None, ◌==◌}
 use Rattle.std.specs.List.{All}
 use Rattle.std.specs.FinMap.{get}
 use Rattle.std.specs.Str.{bytes_eq}
 use Rattle.sha1.specs.Sha1.{sha1}
+use Rattle.cny_base.specs.Below.{is_below}
 use Rattle.cny_base.specs.declared.node.Node.{Node}
 use Rattle.cny_base.specs.declared.node.Node.TheVariants as node
+use Rattle.tree_disk.specs.Clear.{is_within}
 use Rattle.tree_disk.specs.Tree.{Name, Tree}
 use Rattle.tree_disk.specs.Rows.{bytes_at}
 use Rattle.journal_log.specs.declared.put.Want.{Want}
 use Rattle.journal_log.specs.declared.put.Want.TheVariants.{Nothing, Dir, File, Link, Staged}
 use Rattle.journal_log.specs.declared.put.Put.{Put}
-use Rattle.journal_log.specs.Own.{staged_file}
+use Rattle.journal_log.specs.Own.{staged, staged_file}
+use Rattle.journal_log.specs.Staged.{names_staged}
 use Rattle.journal_log.specs.Targets.{with_targets}
 
 -- a file with this size and SHA-1
@@ -47,3 +50,7 @@ resolve base tree p = record { path = p.path; want = resolved base tree p.want }
 -- the tree with all targets, where staged writes take the bytes that stand in it
 abbrev pub outcome : Name → List Put → Tree → Tree
 outcome base puts tree = with_targets (map (resolve base tree) puts) tree
+
+-- Below the directory of staged bytes nothing stands but the files that these writes name, and what lies below them.
+abbrev pub HoldsNoOthers : Name → List Put → Tree → Type 0
+HoldsNoOthers base puts tree = (q : Name) → IsTrue (is_below (staged base) q) → ((number : ℕ) → IsTrue (names_staged puts number) → is_within (staged_file base number) q ≡ false) → get tree q ≡ None

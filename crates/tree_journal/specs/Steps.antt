@@ -1,6 +1,8 @@
 -- What the steps of the journal make of a tree, and what they need.
-use Rattle.std.specs.Prelude.{◌≡◌, ◌⊎◌, ℕ, Bool, true, false, ◌||◌, not, IsTrue, List, [], ◌∷◌, Option, Some, codes}
-use Rattle.cny_base.specs.Path.{parent}
+use Rattle.std.specs.Prelude.{◌≡◌, ◌⊎◌, ℕ, Bool, true, false, ◌||◌, not, IsTrue, List, [], ◌∷◌, Option, Some, None, codes}
+use Rattle.std.specs.FinMap.{get}
+use Rattle.cny_base.specs.Below.{is_below}
+use Rattle.cny_base.specs.Path.{join, parent}
 use Rattle.cny_base.specs.declared.node.Node.{Node}
 use Rattle.cny_base.specs.declared.node.Node.TheVariants as node
 use Rattle.tree_disk.specs.Tree.{Name, Tree, same_name, put, is_file, is_link}
@@ -50,6 +52,21 @@ abbrev pub with_all_bytes : Name → List Put → List Put → Tree → Tree
 with_all_bytes base [] numbered tree = tree
 with_all_bytes base (p ∷ puts) [] tree = tree
 with_all_bytes base (p ∷ puts) (n ∷ numbered) tree = with_all_bytes base puts numbered (with_bytes base p.want n.want tree)
+
+-- Below the directory nothing stands but at the names that writes name, and below these.
+abbrev pub HasNoStrays : Name → List Put → Tree → Type 0
+HasNoStrays dir puts tree = (q : Name) → IsTrue (is_below dir q) → ((last : List ℕ) → IsTrue (names_staged_at puts last) → is_within (join dir last) q ≡ false) → get tree q ≡ None
+
+-- nothing stands where the bytes of a file are to be written
+abbrev pub HasRoom : Name → Want → Want → Tree → Type 0
+HasRoom base (want.File mode bytes) (want.Staged m number size name) tree = get tree (staged_file base number) ≡ None
+HasRoom base wanted numbered tree = Unit {0}
+
+-- the same for each write, once the bytes of those before it are written
+abbrev pub HaveRoom : Name → List Put → List Put → Tree → Type 0
+HaveRoom base [] numbered tree = Unit {0}
+HaveRoom base (p ∷ puts) [] tree = Unit {0}
+HaveRoom base (p ∷ puts) (n ∷ numbered) tree = HasRoom base p.want n.want tree × HaveRoom base puts numbered (with_bytes base p.want n.want tree)
 
 abbrev pub with_staged : Name → List Put → List Put → Tree → Tree
 with_staged base puts numbered tree = with_all_bytes base puts numbered (with_stage (staged base) puts tree)

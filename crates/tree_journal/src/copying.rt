@@ -53,8 +53,9 @@ fn copy_pieces<D: TreeDisk>(
     requires room { 0 < size → 0 < length piece.old }
     ensures { Makes D.disk (one_name to.now) (λ tree. with_node tree to.now (node.File 384 (bytes_at tree from.now))) disk.old disk.new result }
 {
-    steps::append(alloc, disk, to, &[])?;
-    let mut at = 0u64;
+    // The first piece makes the file, also one without bytes.
+    let first = copy_piece(alloc, disk, from, 0, to, piece)?;
+    let mut at = first as u64;
     'pieces: while at < u64::from(size) {
         let count = copy_piece(alloc, disk, from, at, to, piece)?;
         if count == 0 {

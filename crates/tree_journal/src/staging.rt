@@ -1,15 +1,19 @@
 //! The directory of staged bytes, from which the files of a write set are copied into their places. A crash can't lose
 //! them, since they stay until the commit flag is gone.
-ghost use Rattle.std.specs.Prelude.{◌≡◌, ◌≢◌, ◌≤◌, IsTrue, length};
+ghost use Rattle.std.specs.Prelude.{◌≡◌, ◌≢◌, ◌≤◌, IsTrue, None, OnOk, length};
+ghost use Rattle.std.specs.FinMap.{get};
+ghost use Rattle.std.specs.List.{All};
 ghost use Rattle.cny_base.specs.Path.{is_path, join, parent, root};
 ghost use Rattle.tree_disk.specs.Clear.{is_within, without_tree};
 ghost use Rattle.tree_disk.specs.Disk.{NamesOf};
 ghost use Rattle.tree_disk.specs.Rows.{is_dir_at};
 ghost use Rattle.tree_disk.specs.Steps.{Makes};
+ghost use Rattle.journal_log.specs.Numbers.{IsNumbered};
 ghost use Rattle.journal_log.specs.Own.{staged, staged_file};
 ghost use Rattle.journal_log.specs.Rules.{AreLogged};
-ghost use Rattle.journal_log.specs.WriteSet.{CanBeLogged};
-ghost use Rattle.tree_journal.specs.Steps.{with_all_bytes, with_bytes, with_own_file, with_stage, with_staged, without_strays};
+ghost use Rattle.journal_log.specs.WriteSet.{CanBeLogged, IsFormed};
+ghost use Rattle.tree_journal.specs.Staging.{HoldsNoOthers};
+ghost use Rattle.tree_journal.specs.Steps.{with_all_bytes, with_bytes, with_own_file, with_stage, with_staged, without_strays, HasNoStrays, HasRoom, HaveRoom};
 
 use crate::blocked::child_of;
 use crate::flag::{make_base, own_path};
@@ -31,9 +35,11 @@ pub fn stage<D: TreeDisk>(
     requires base { IsTrue (is_path base.now) }
     requires short { length base.now ≤ 1011 }
     requires logged { AreLogged base.now numbered.now }
-    requires same_number { length puts.now ≡ length numbered.now }
+    requires numbered { IsNumbered puts.now numbered.now }
+    requires formed { All (λ p. IsFormed p.want) numbered.now }
     requires told { IsTrue D.disk.tells → IsTrue (is_dir_at (D.disk.reads disk.old) base.now) }
-    ensures { Makes D.disk (is_within (staged base.now)) (λ tree. with_staged base.now puts.now numbered.now tree) disk.old disk.new result }
+    ensures makes { Makes D.disk (is_within (staged base.now)) (λ tree. with_staged base.now puts.now numbered.now tree) disk.old disk.new result }
+    ensures clear { IsTrue D.disk.tells → OnOk result (HoldsNoOthers base.now numbered.now (D.disk.reads disk.new)) }
 {
     let dir = own_path(alloc, base, "p")?;
     clear_stage(alloc, disk, &dir, puts)?;
@@ -49,7 +55,8 @@ fn clear_stage<D: TreeDisk>(
     requires path { IsTrue (is_path dir.now) }
     requires not_root { dir.now ≢ root }
     requires parent { IsTrue D.disk.tells → IsTrue (is_dir_at (D.disk.reads disk.old) (parent dir.now)) }
-    ensures { Makes D.disk (is_within dir.now) (λ tree. with_stage dir.now puts.now tree) disk.old disk.new result }
+    ensures makes { Makes D.disk (is_within dir.now) (λ tree. with_stage dir.now puts.now tree) disk.old disk.new result }
+    ensures clear { IsTrue D.disk.tells → OnOk result (HasNoStrays dir.now puts.now (D.disk.reads disk.new)) }
 {
     make_base(alloc, disk, dir)?;
     let names = steps::list(alloc, disk, dir)?;
@@ -101,6 +108,7 @@ fn write_all<D: TreeDisk>(
     requires logged { AreLogged base.now numbered.now }
     requires same_number { length puts.now ≡ length numbered.now }
     requires told { IsTrue D.disk.tells → IsTrue (is_dir_at (D.disk.reads disk.old) (staged base.now)) }
+    requires bare { IsTrue D.disk.tells → HaveRoom base.now puts.now numbered.now (D.disk.reads disk.old) }
     ensures { Makes D.disk (is_within (staged base.now)) (λ tree. with_all_bytes base.now puts.now numbered.now tree) disk.old disk.new result }
 {
     let mut place = 0;
@@ -121,6 +129,7 @@ fn write_bytes<D: TreeDisk>(
     requires base { IsTrue (is_path base.now) }
     requires logged { CanBeLogged base.now numbered.now.want }
     requires told { IsTrue D.disk.tells → IsTrue (is_dir_at (D.disk.reads disk.old) (staged base.now)) }
+    requires bare { IsTrue D.disk.tells → HasRoom base.now put.now.want numbered.now.want (D.disk.reads disk.old) }
     ensures { Makes D.disk (is_within (staged base.now)) (λ tree. with_bytes base.now put.now.want numbered.now.want tree) disk.old disk.new result }
 {
     let Want::File { bytes, .. } = &put.want else {
@@ -142,9 +151,9 @@ fn write_staged<D: TreeDisk>(
     requires base { IsTrue (is_path base.now) }
     requires path { IsTrue (is_path (staged_file base.now number)) }
     requires told { IsTrue D.disk.tells → IsTrue (is_dir_at (D.disk.reads disk.old) (staged base.now)) }
+    requires bare { IsTrue D.disk.tells → get (D.disk.reads disk.old) (staged_file base.now number) ≡ None }
     ensures { Makes D.disk (is_within (staged base.now)) (λ tree. with_own_file (staged_file base.now number) bytes.now tree) disk.old disk.new result }
 {
     let path = path_of(alloc, base, number)?;
-    steps::clear_tree(alloc, disk, &path)?;
     steps::append(alloc, disk, &path, bytes)
 }

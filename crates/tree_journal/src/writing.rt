@@ -1,5 +1,6 @@
 //! A write set, applied as a whole.
 ghost use Rattle.std.specs.Prelude.{◌≡◌, ◌≤◌, IfErr, IsErrOf, IsTrue, OnErr, OnOk, length};
+ghost use Rattle.std.specs.List.{All};
 ghost use Rattle.cny_base.specs.Count.{Rose};
 ghost use Rattle.cny_base.specs.Path.{is_path, parent};
 ghost use Rattle.tree_disk.specs.Rows.{is_dir_at};
@@ -7,10 +8,12 @@ ghost use Rattle.cny_base.specs.declared.stop.Stop.TheVariants as stop;
 ghost use Rattle.tree_disk.specs.Confined.{Among, Confined, IsSynced, LeavesOnly};
 ghost use Rattle.tree_disk.specs.Steps.{IsDiskStop, Makes};
 ghost use Rattle.tree_disk.specs.Unfailed.{UnlessFailed};
+ghost use Rattle.journal_log.specs.Numbers.{IsNumbered};
 ghost use Rattle.journal_log.specs.Own.{gate, log};
 ghost use Rattle.journal_log.specs.Rules.{AreLogged};
-ghost use Rattle.tree_journal.specs.Apply.{goal, Applies, CanApply, IsAsBefore, IsAtRest, IsBeforeOrAfter, IsOneOf, is_own_or_target};
-ghost use Rattle.tree_journal.specs.Staging.{outcome};
+ghost use Rattle.journal_log.specs.WriteSet.{IsFormed};
+ghost use Rattle.tree_journal.specs.Apply.{goal, Applies, CanApply, HoldsStaged, IsAsBefore, IsAtRest, IsBeforeOrAfter, IsOneOf, is_own_or_target};
+ghost use Rattle.tree_journal.specs.Staging.{outcome, HoldsNoOthers};
 ghost use Rattle.tree_journal.specs.Steps.{is_log_or_staged, is_replay_name, with_log, committed, CanPrepare, IsOldOrNew, IsPrepared};
 ghost use Rattle.tree_journal.specs.Visible.{IsVisible};
 
@@ -47,6 +50,8 @@ pub fn apply<D: TreeDisk>(alloc: Global, disk: &mut D, base: &Path, puts: &Puts)
     ensures applied { IsTrue D.disk.tells → OnOk result (IsAtRest D.disk base.now (goal base.now puts.now (D.disk.reads disk.old)) disk.new) }
     // After an error the disk, as it reads, recovers to the tree before or to the tree with all targets.
     ensures stopped { IsTrue D.disk.tells → OnErr result (IsOneOf base.now puts.now (D.disk.reads disk.old) (D.disk.reads disk.new)) }
+    // Then nothing is left of earlier changes below the directory of staged bytes.
+    ensures cleared { IsTrue D.disk.tells → OnOk result (HoldsStaged base.now puts.now (D.disk.reads disk.new)) }
     // However it ends, no name changed or became unsynced but the journal's own and the targets.
     ensures confined { IsTrue D.disk.tells → Confined D.disk (Among (is_own_or_target base.now puts.now)) disk.old disk.new }
     // Where no call of the disk failed, readers see at each name but the journal's own, at every moment, the node before,
@@ -95,9 +100,11 @@ fn prepare<D: TreeDisk>(
     requires log { log_path.now ≡ log base.now }
     requires log_path { IsTrue (is_path log_path.now) }
     requires logged { AreLogged base.now numbered.now }
-    requires same_number { length puts.now ≡ length numbered.now }
+    requires numbered { IsNumbered puts.now numbered.now }
+    requires formed { All (λ p. IsFormed p.want) numbered.now }
     requires told { IsTrue D.disk.tells → CanPrepare D.disk base.now disk.old }
     ensures makes { Makes D.disk (is_log_or_staged base.now) (λ tree. with_log base.now puts.now numbered.now bytes.now tree) disk.old disk.new result }
+    ensures clear { IsTrue D.disk.tells → OnOk result (HoldsNoOthers base.now numbered.now (D.disk.reads disk.new)) }
     ensures any_moment { IsTrue D.disk.tells → LeavesOnly D.disk disk.old disk.new (IsAsBefore D.disk base.now disk.old) }
     ensures synced { IsTrue D.disk.tells → OnOk result (IsSynced D.disk disk.new) }
 {
@@ -119,9 +126,11 @@ fn write_log<D: TreeDisk>(
     requires log { log_path.now ≡ log base.now }
     requires log_path { IsTrue (is_path log_path.now) }
     requires logged { AreLogged base.now numbered.now }
-    requires same_number { length puts.now ≡ length numbered.now }
+    requires numbered { IsNumbered puts.now numbered.now }
+    requires formed { All (λ p. IsFormed p.want) numbered.now }
     requires parent { IsTrue D.disk.tells → IsTrue (is_dir_at (D.disk.reads disk.old) (parent base.now)) }
     ensures makes { Makes D.disk (is_log_or_staged base.now) (λ tree. with_log base.now puts.now numbered.now bytes.now tree) disk.old disk.new result }
+    ensures clear { IsTrue D.disk.tells → OnOk result (HoldsNoOthers base.now numbered.now (D.disk.reads disk.new)) }
     ensures synced { IsTrue D.disk.tells → OnOk result (IsSynced D.disk disk.new) }
 {
     make_base(alloc, disk, base)?;

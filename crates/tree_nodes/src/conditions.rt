@@ -1,11 +1,12 @@
 // In which trees each changing call is allowed.
-ghost use Rattle.std.specs.Prelude.{◌≡◌, ◌≤◌, ℕ, List, IsTrue, IfOk, Some, true, false};
+ghost use Rattle.std.specs.Prelude.{◌≡◌, ◌≤◌, ◌||◌, ℕ, List, IsTrue, IfOk, Some, is_some, not, true, false};
+ghost use Rattle.std.specs.Option.{option_copied};
 ghost use Rattle.std.specs.FinMap.{get};
 ghost use Rattle.std.specs.List.{list_all};
 ghost use Rattle.cny_base.specs.declared.node.Node.{Node};
 ghost use Rattle.cny_base.specs.Path.{is_path, root};
 ghost use Rattle.tree_disk.specs.Tree as names;
-ghost use Rattle.tree_disk.specs.Tree.{WellFormed, put, is_byte, is_link, is_node, may_stand};
+ghost use Rattle.tree_disk.specs.Tree.{WellFormed, put, is_byte, is_dir, is_file, is_link, is_node, may_stand};
 ghost use Rattle.tree_disk.specs.Rows as rows;
 ghost use Rattle.tree_disk.specs.Rows.{with_append, with_node, with_mode, with_rename, without};
 ghost use Rattle.tree_nodes.specs.Edit.{can_edit};
@@ -28,6 +29,34 @@ pub(crate) fn node_ranges(node: &Option<Node>)
     if let Some(node) = node {
         tree_disk::node_ranges(node);
     }
+}
+
+// Nothing, or a file.
+fn may_grow(node: Option<&Node>) -> bool
+    ensures { result ≡ (not (is_some (option_copied node.entry)) || is_file (option_copied node.entry)) }
+{
+    matches!(node, None | Some(Node::File { .. }))
+}
+
+// A directory or a file.
+fn has_mode(node: Option<&Node>) -> bool
+    ensures { result ≡ (is_dir (option_copied node.entry) || is_file (option_copied node.entry)) }
+{
+    matches!(node, Some(Node::Dir { .. } | Node::File { .. }))
+}
+
+// A file or a link.
+fn may_move(node: Option<&Node>) -> bool
+    ensures { result ≡ (is_file (option_copied node.entry) || is_link (option_copied node.entry)) }
+{
+    matches!(node, Some(Node::File { .. } | Node::Link { .. }))
+}
+
+// Nothing, a file or a link.
+fn may_be_replaced(node: Option<&Node>) -> bool
+    ensures { result ≡ (not (is_some (option_copied node.entry)) || (is_file (option_copied node.entry) || is_link (option_copied node.entry))) }
+{
+    matches!(node, None | Some(Node::File { .. } | Node::Link { .. }))
 }
 
 impl NodeMap {
@@ -60,9 +89,8 @@ impl NodeMap {
         ensures { result ≡ rows.can_append self.now path.now }
     {
         let dir = self.is_dir_at(parent_of(path));
-        let empty = self.is_empty_at(path);
-        let file = self.is_file_at(path);
-        dir && (empty || file)
+        let grows = may_grow(self.node(path));
+        dir && grows
     }
 
     fn allows_make(&self, path: &str) -> bool
@@ -76,22 +104,17 @@ impl NodeMap {
     fn allows_set_mode(&self, path: &str) -> bool
         ensures { result ≡ rows.can_set_mode self.now path.now }
     {
-        let dir = self.is_dir_at(path);
-        let file = self.is_file_at(path);
-        dir || file
+        has_mode(self.node(path))
     }
 
     fn allows_rename(&self, from: &str, to: &str) -> bool
         ensures { result ≡ rows.can_rename self.now from.now to.now }
     {
         let same = same_name(from, to);
-        let file = self.is_file_at(from);
-        let link = self.is_link_at(from);
+        let moves = may_move(self.node(from));
         let dir = self.is_dir_at(parent_of(to));
-        let empty = self.is_empty_at(to);
-        let over_file = self.is_file_at(to);
-        let over_link = self.is_link_at(to);
-        !same && (file || link) && dir && (empty || over_file || over_link)
+        let free = may_be_replaced(self.node(to));
+        !same && moves && dir && free
     }
 
     /// Whether an append is allowed; it then leaves a tree.

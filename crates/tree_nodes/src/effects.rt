@@ -140,9 +140,6 @@ impl NodeMap {
         ensures others { OnOk result ((q : Name) → names.same_name q path.now ≡ false → get self.new q ≡ get self.old q) }
         ensures err { OnErr result (self.new ≡ self.old) }
     {
-        if self.node(path).is_some() {
-            return Ok(());
-        }
         let mode = Mode::owner_only();
         self.put(alloc, path, Node::Dir { mode })
     }

@@ -4,20 +4,23 @@ use Rattle.tree_journal.proofs.Copies.{copy_starts, may_start, file_kept, may_gr
 use Rattle.tree_journal.proofs.Seen.{makes_answer}
 use Rattle.tree_journal.proofs.copying.copy_pieces.Goals as goal
 
-pub append-requires : goal.append-requires
-append-requires g c = λ tells. may_start _ c.args.from.now c.args.to.now c.args.size (c.requires.told tells)
+pub copy_piece-requires-clause-file : goal.copy_piece-requires-clause-file
+copy_piece-requires-clause-file g c = λ tells. (c.requires.told tells).file.stands
+
+pub copy_piece-requires-clause-room : goal.copy_piece-requires-clause-room
+copy_piece-requires-clause-room g c = λ tells. may_start _ c.args.from.now c.args.to.now c.args.size (c.requires.told tells)
 
 pub pieces-init : goal.pieces-init
 pieces-init g c = record {
-  so_far = makes_as c.in_ok-append.ensures.makes (λ tells. copy_starts _ c.args.from.now c.args.to.now c.args.size (c.requires.told tells));
-  room = refl;
+  so_far = makes_answer tt (makes_as c.in_ok-first.ensures.makes (λ tells. copy_starts _ c.args.from.now c.args.to.now c.args.size (c.requires.told tells) _ c.in_ok-first.first (c.in_ok-first.ensures.count tells)));
+  room = omega arith;
 }
 
-pub copy_piece-requires-clause-file : goal.copy_piece-requires-clause-file
-copy_piece-requires-clause-file g c = λ tells. rw (c.pieces.invariant.so_far.ended tells) (file_kept _ c.args.from.now c.args.to.now c.args.size (c.requires.told tells) c.pieces.at)
+pub copy_piece-requires-in-pieces-clause-file : goal.copy_piece-requires-in-pieces-clause-file
+copy_piece-requires-in-pieces-clause-file g c = λ tells. rw (c.pieces.invariant.so_far.ended tells) (file_kept _ c.args.from.now c.args.to.now c.args.size (c.requires.told tells) c.pieces.at)
 
-pub copy_piece-requires-clause-room : goal.copy_piece-requires-clause-room
-copy_piece-requires-clause-room g c = λ tells. rw (c.pieces.invariant.so_far.ended tells) (may_grow _ c.args.from.now c.args.to.now c.args.size (c.requires.told tells) c.pieces.at)
+pub copy_piece-requires-in-pieces-clause-room : goal.copy_piece-requires-in-pieces-clause-room
+copy_piece-requires-in-pieces-clause-room g c = λ tells. rw (c.pieces.invariant.so_far.ended tells) (may_grow _ c.args.from.now c.args.to.now c.args.size (c.requires.told tells) c.pieces.at)
 
 pub returns-in_err-count : goal.returns-in_err-count
 returns-in_err-count g c = makes_then_stop c.pieces.invariant.so_far (λ p h. h) c.in_err-count.ensures.makes c.from_residual-in_err-count.ensures.1

@@ -8,7 +8,7 @@ use Rattle.journal_log.specs.declared.put.Put.{Put}
 use Rattle.journal_log.specs.Own.{staged}
 use Rattle.journal_log.specs.WriteSet.{CanBeLogged}
 use Rattle.tree_journal.specs.Steps.{with_all_bytes}
-use Rattle.tree_journal.proofs.StagedBytes.{one_more_written, all_bytes_elsewhere}
+use Rattle.tree_journal.proofs.StagedBytes.{one_more_written, all_bytes_elsewhere, room_at}
 use Rattle.tree_journal.proofs.WriteSets.{place_listed}
 use Rattle.tree_journal.proofs.staging.write_all.Goals as goal
 
@@ -22,6 +22,11 @@ write_bytes-requires-clause-logged g c = All-contains (λ (p : Put). CanBeLogged
 pub write_bytes-requires-clause-told : goal.write_bytes-requires-clause-told
 write_bytes-requires-clause-told g c = λ tells.
     rw (c.places.invariant.ended tells) (ap is_dir (all_bytes_elsewhere c.args.base.now c.requires.base (take c.places.place c.args.puts.now) (take c.places.place c.args.numbered.now) _ (staged c.args.base.now) (inr refl)) ∙ c.requires.told tells)
+
+pub write_bytes-requires-clause-bare : goal.write_bytes-requires-clause-bare
+write_bytes-requires-clause-bare g c = λ tells.
+    rw (c.places.invariant.ended tells) (room_at c.args.base.now c.args.puts.now c.args.numbered.now _ c.places.place c.index-puts-place.result c.index-numbered-place.result
+    (omega (arith, c.places-test.true)) (omega (arith, c.places-test.true, c.requires.same_number)) c.index-puts-place.is c.index-numbered-place.is (c.requires.bare tells))
 
 pub returns-in_err-write_bytes : goal.returns-in_err-write_bytes
 returns-in_err-write_bytes g c = makes_then_stop c.places.invariant (λ p h. h) c.in_err-write_bytes.ensures c.from_residual.ensures.1

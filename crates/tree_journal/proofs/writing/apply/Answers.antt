@@ -6,6 +6,9 @@ returns-clause-any_moment g c = c.apply_staged.ensures.any_moment
 pub returns-clause-applied : goal.returns-clause-applied
 returns-clause-applied g c = c.apply_staged.ensures.applied
 
+pub returns-clause-cleared : goal.returns-clause-cleared
+returns-clause-cleared g c = c.apply_staged.ensures.cleared
+
 pub returns-clause-stopped : goal.returns-clause-stopped
 returns-clause-stopped g c = c.apply_staged.ensures.stopped
 

@@ -9,7 +9,7 @@ use Rattle.tree_disk.specs.StepLaws.{makes_stop}
 use Rattle.tree_journal.specs.Steps.{with_log, IsPrepared}
 use Rattle.tree_journal.proofs.Finding.{passed_memory}
 use Rattle.tree_journal.proofs.OwnNames.{gate_part, log_part, short_own, staged_is_path}
-use Rattle.tree_journal.proofs.Applying.{applies_nothing, applies_prepared, applies_listed, prepared, may_prepare, logged_from, rises_back, same_length}
+use Rattle.tree_journal.proofs.Applying.{applies_nothing, applies_prepared, applies_listed, prepared, may_prepare, logged_from, rises_back}
 use Rattle.tree_journal.proofs.writing.apply_staged.Goals as goal
 
 pub own_path-requires-clause-part : goal.own_path-requires-clause-part
@@ -42,8 +42,11 @@ returns-in_err-log g c = applies_nothing _ g.met.D.TreeDisk.laws c.args.base.now
 pub prepare-requires-clause-logged : goal.prepare-requires-clause-logged
 prepare-requires-clause-logged g c = logged_from c.args.base.now c.own_path.ensures.base c.requires.short c.in_ok-numbered.numbered (numbered_no_bytes c.args.puts.now c.in_ok-numbered.numbered c.in_ok-numbered.ensures) c.in_ok-log.ensures.formed.1
 
-pub prepare-requires-clause-same_number : goal.prepare-requires-clause-same_number
-prepare-requires-clause-same_number g c = same_length c.args.puts.now c.in_ok-numbered.numbered c.in_ok-numbered.ensures
+pub prepare-requires-clause-numbered : goal.prepare-requires-clause-numbered
+prepare-requires-clause-numbered g c = c.in_ok-numbered.ensures
+
+pub prepare-requires-clause-formed : goal.prepare-requires-clause-formed
+prepare-requires-clause-formed g c = c.in_ok-log.ensures.formed.1
 
 pub prepare-requires-clause-told : goal.prepare-requires-clause-told
 prepare-requires-clause-told g c = may_prepare _ g.met.D.TreeDisk.laws c.args.base.now c.args.puts.now c.args.disk.now c.requires.told
@@ -91,5 +94,5 @@ returns g c =
       can = c.requires.told tells;
       reads = c.in_ok-prepare.ensures.makes.ended tells;
     }))
-    _ c.get-2.result.now c.get-2.ensures.value (with_log c.args.base.now c.args.puts.now c.in_ok-numbered.numbered c.get.result.now) c.in_ok-prepare.ensures.makes c.in_ok-prepare.ensures.any_moment c.in_ok-prepare.ensures.synced
+    _ c.in_ok-prepare.ensures.clear c.get-2.result.now c.get-2.ensures.value (with_log c.args.base.now c.args.puts.now c.in_ok-numbered.numbered c.get.result.now) c.in_ok-prepare.ensures.makes c.in_ok-prepare.ensures.any_moment c.in_ok-prepare.ensures.synced
     c.commit.ensures.makes c.commit.ensures.any_moment c.commit.ensures.synced c.commit.ensures.seen

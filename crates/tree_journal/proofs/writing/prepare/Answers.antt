@@ -24,3 +24,6 @@ returns-clause-any_moment g c = λ tells.
     let can = c.requires.told tells in
     leaves_then (before_sync _ laws c.args.base.now c.requires.base _ can _ (c.in_ok-sync.ensures.makes.confined tells))
     (after_sync _ laws c.args.base.now c.requires.base _ can _ _ (c.in_ok-sync.ensures.makes.ended tells) (c.in_ok-sync.ensures.synced tells) (c.write_log.ensures.makes.confined tells))
+
+pub returns-clause-clear : goal.returns-clause-clear
+returns-clause-clear g c = c.write_log.ensures.clear
