@@ -1,6 +1,6 @@
 #!/bin/sh
-# Prints how long it takes to add so many troves of a tenth as many names to a catalogue, and to resolve as many specifications
-# in it.
+# Prints how long it takes to add so many troves of a tenth as many names to a catalogue, to resolve as many specifications in it,
+# and to expand a group of a trove of each name.
 # It builds a program for that in a folder of its own, which proves what isn't proved yet on this machine.
 # Usage: bench/catalogue.sh [COUNT...]
 set -eu
@@ -16,6 +16,7 @@ echo 'catalogues may_abort=20: cny_base cny_flavor cny_version trove_id trove_st
 cat >"$work/crates/catalogues/src/main.rt" <<'PROGRAM'
 //! Adds troves to a catalogue and resolves specifications in it, and prints how long each took.
 #![tactic(auto)]
+use cny_base::Copies;
 use cny_flavor::Flavor;
 use cny_version::Label;
 use repo_index::Catalogue;
@@ -24,7 +25,7 @@ use std::env;
 use std::process::Abort;
 use std::time::Instant;
 use trove_id::read_id;
-use trove_spec::{Config, Labels, Spec, resolve};
+use trove_spec::{Config, Labels, Spec, expand, resolve};
 use trove_stream::{Deps, Files, Refs, Trove};
 
 // The trove of this number, of so many names.
@@ -38,6 +39,31 @@ fn trove<R: Abort + Alloc<A = Global>>(rt: &R, number: u32, names: u32) -> Trove
     let required = Deps::new(Vec::new(alloc));
     let provided = Deps::new(Vec::new(alloc));
     Trove::make(id, files, refs, required, provided).expect(rt, "a trove")
+}
+
+// The group of the first trove of each name.
+fn group<R: Abort + Alloc<A = Global>>(rt: &R, names: u32) -> Trove {
+    let alloc = rt.alloc();
+    let mut ids = Vec::new(alloc);
+    for number in 0..names {
+        let first = trove(rt, number, names);
+        ids.push(first.id().copy().expect(rt, "memory")).expect(rt, "memory");
+    }
+    ids.sort_unstable();
+    let id = read_id(alloc, "group-all=/conary.example.com@ex:devel/1.0-1-1").expect(rt, "an id");
+    let files = Files::new(Vec::new(alloc));
+    let required = Deps::new(Vec::new(alloc));
+    let provided = Deps::new(Vec::new(alloc));
+    Trove::make(id, files, Refs::new(ids), required, provided).expect(rt, "a group")
+}
+
+// Expands the group: how many troves that are.
+fn expand_group<R: Abort + Alloc<A = Global>>(rt: &R, catalogue: &Catalogue) -> usize {
+    let mut roots = Vec::new(rt.alloc());
+    let id = read_id(rt.alloc(), "group-all=/conary.example.com@ex:devel/1.0-1-1").expect(rt, "an id");
+    roots.push(id).expect(rt, "memory");
+    let troves = expand(rt.alloc(), catalogue, roots.as_slice()).expect(rt, "an expansion");
+    troves.get().len()
 }
 
 // Resolves the specification of this number.
@@ -71,7 +97,11 @@ fn main(rt: HostRuntime) -> Result<(), anyhow::Error> {
         resolve_one(&rt, &catalogue, &config, name);
     }
     let resolved = start.elapsed(&rt)?;
-    println!(rt; "{count} troves of {names} names: added in {} ms, as many specifications resolved in {} ms", added.as_millis(), resolved.as_millis())?;
+    catalogue.add(rt.alloc(), group(&rt, names)).expect(&rt, "a free place");
+    let start = Instant::now(&rt)?;
+    let found = expand_group(&rt, &catalogue);
+    let expanded = start.elapsed(&rt)?;
+    println!(rt; "{count} troves of {names} names: added in {} ms, as many specifications resolved in {} ms, a group expanded to {found} troves in {} ms", added.as_millis(), resolved.as_millis(), expanded.as_millis())?;
     Ok(())
 }
 PROGRAM

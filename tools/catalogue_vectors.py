@@ -9,6 +9,7 @@ empty at first: the list of all troves that were added, which each look-up searc
 tools/text_model.py; nothing is shared with the program that is tested.
 """
 import sys
+from random import Random
 
 # So that a run leaves nothing behind in tools/.
 sys.dont_write_bytecode = True
@@ -41,6 +42,10 @@ class Catalogue:
         self.troves.append((parts, contents, refs))
         return [b"ok"]
 
+    def new(self):
+        self.commits, self.troves = 0, []
+        return [b"ok"]
+
     def count_commit(self):
         self.commits += 1
         return [b"%d" % self.commits]
@@ -57,6 +62,10 @@ class Catalogue:
 
     def find(self, text):
         return self.answer([trove for trove in self.troves if trove[0] == id_of(text)])
+
+    def place_of(self, text):
+        places = [place for place, trove in enumerate(self.troves) if trove[0] == id_of(text)]
+        return [b"%d" % places[0]] if places else [b"none"]
 
     def by_name(self, name):
         return [b"ok"] + [b"%d" % place for place, trove in enumerate(self.troves) if trove[0][0] == name]
@@ -97,6 +106,17 @@ class Catalogue:
             return None
         newest = [trove for trove in candidates if trove[0][1] == candidates[-1][0][1]]
         return min(newest, key=lambda trove: (-worth(trove), trove[0][2]))
+
+    def expand(self, roots):
+        """The ids of the troves that the roots reach in as many rounds as there are troves, each once, in order."""
+        reached = set() if roots == b"-" else {id_of(one) for one in roots.split(b"; ")}
+        for _ in self.troves:
+            reached |= {ref for trove in self.troves if trove[0] in reached for ref in trove[2]}
+        found = sorted(trove[0] for trove in self.troves if trove[0] in reached)
+        for before, after in zip(found, found[1:]):
+            if before[0] == after[0]:
+                return [b"exists " + id_text(after)]
+        return [b"ok"] + [id_text(one) for one in found]
 
     def resolve(self, text, labels, flavor):
         name, place, own = spec_of(text)
@@ -173,8 +193,9 @@ def look_ups():
         for label in (LABEL, OTHER):
             for revision in (b"1.0-1-1", b"1.0-2-1", b"1.1-1-7", b"1.0-2"):
                 if (b":source" in name) == (revision.count(b"-") == 1):
-                    yield b"find", name + b"=" + on(label, revision)
-                    yield b"find", name + b"=" + on(label, revision) + b"[ssl]"
+                    for flavor in (b"", b"[ssl]"):
+                        yield b"find", name + b"=" + on(label, revision) + flavor
+                        yield b"place_of", name + b"=" + on(label, revision) + flavor
                 for asked in (b"any", b"source"):
                     yield b"latest", name, on(label, revision), asked
     for byte in (0, 1, 97, 98, 99, 255):
@@ -228,6 +249,8 @@ def calls():
     yield from spec_calls()
     yield from config_calls()
     yield from resolve_calls()
+    yield from expand_calls()
+    yield from row_calls()
 
 
 def spec_calls():
@@ -311,23 +334,137 @@ def resolve_calls():
             yield b"resolve", name + b"=/" + LABEL + b"//stable/1.0-1", b"-", flavor
 
 
+def expand_calls():
+    """What the references of some troves reach: shared components, rings, references to nothing, several ids of one name."""
+
+    def id_at(name, revision=b"1.0-1-1", flavor=b""):
+        return name + b"=" + on(LABEL, revision) + flavor
+
+    def add(text, *refs):
+        return b"add", text, b"97" if b":" in id_of(text)[0] else b"-", b"; ".join(sorted(refs, key=id_of)) or b"-"
+
+    # Two packages of two versions with their components, and groups that share them.
+    for revision in (b"1.0-1-1", b"1.0-2-1", b"1.0-10-1"):
+        for name in (b"one", b"two"):
+            parts = [id_at(name + part, revision) for part in (b":devel", b":lib", b":runtime")]
+            for part in parts:
+                yield add(part)
+            yield add(id_at(name, revision), *parts)
+    one, two, newer, newest = id_at(b"one"), id_at(b"two"), id_at(b"one", b"1.0-2-1"), id_at(b"one", b"1.0-10-1")
+    base, tools, both, mixed = (id_at(b"group-" + name) for name in (b"base", b"tools", b"both", b"mixed"))
+    yield add(base, one, two)
+    yield add(tools, one, id_at(b"two:lib"))
+    yield add(both, base, tools, id_at(b"one:lib"))
+    yield add(mixed, one, newer, newest)
+    # A ring, a reference to nothing, a chain, and one name with two flavors.
+    ring = [id_at(b"group-ring%d" % place) for place in range(4)]
+    for place, text in enumerate(ring):
+        yield add(text, ring[(place + 1) % 4], *([one] if place == 2 else []))
+    yield add(id_at(b"group-lost"), two, id_at(b"absent"), id_at(b"one:lib", b"9-9-9"))
+    chain = [id_at(b"group-chain%02d" % place) for place in range(30)]
+    for place, text in enumerate(chain):
+        yield add(text, *(chain[place + 1 : place + 2] or [two]))
+    plain, fitted = id_at(b"fits:lib"), id_at(b"fits:lib", flavor=b"[~ssl]")
+    yield add(fitted)
+    yield add(plain)
+    yield add(id_at(b"group-fits"), plain, fitted)
+    yield b"expand", b"-"
+    yield b"expand", id_at(b"absent")
+    texts = [one, two, newer, newest, base, tools, both, mixed, *ring, id_at(b"group-lost"), chain[0], chain[7], plain, fitted, id_at(b"group-fits")]
+    texts += [id_at(b"one:lib"), id_at(b"one:lib", b"1.0-2-1"), id_at(b"absent")]
+    for first in texts:
+        yield b"expand", first
+        for second in texts:
+            yield b"expand", first + b"; " + second
+    yield b"expand", b"; ".join(chain)
+    yield b"expand", b"; ".join(reversed(texts[:6]))
+    yield b"expand", b"; ".join([both, tools, base, two, one, ring[1], chain[29], plain])
+    yield from random_expansions()
+
+
+def random_expansions():
+    """Groups with references to some of the others, and what some of them reach."""
+    dice = Random(25)
+    for turn in range(6):
+        texts = [b"group-r%d-%02d=" % (turn, place % (12, 20)[turn % 2]) + on(LABEL, b"1.0-%d-1" % (place // 12 + 1)) for place in range(20)]
+        for text in texts:
+            others = [other for other in texts if id_of(other)[0] != id_of(text)[0]]
+            refs = dice.sample(others, dice.choice((0, 0, 1, 1, 2, 3)))
+            yield b"add", text, b"-", b"; ".join(sorted(refs, key=id_of)) or b"-"
+        for count in (1, 1, 1, 1, 2, 2, 3, 5):
+            for _ in range(5):
+                yield b"expand", b"; ".join(dice.sample(texts, count))
+
+
+V1, V2 = on(LABEL, b"1.0-1-1"), on(LABEL, b"1.0-2-1")
+F1, F2 = b"foo:runtime=" + V1, b"foo:runtime=" + V2
+CONFIG = [b"# mine", b"root /", b"installLabelPath " + LABEL, b"flavor ~ssl, ~!krb is: x86(~i686, sse2)", b"[build]", b"flavor (("]
+
+# The worked cases by their names: calls on an empty catalogue, and the answers, which are written by hand.
+ROWS = {
+    "flavor_chosen": [
+        ((b"add", F1 + b"[ssl]", b"97", b"-"), b"ok"),
+        ((b"add", F1 + b"[!ssl]", b"97", b"-"), b"ok"),
+        ((b"resolve", b"foo:runtime=" + LABEL, b"-", b"~!ssl"), F1 + b"[!ssl]"),
+        ((b"resolve", b"foo:runtime=" + LABEL, b"-", b""), F1 + b"[!ssl]"),
+    ],
+    "newer_version_over_better_score": [
+        ((b"add", F1 + b"[ssl]", b"97", b"-"), b"ok"),
+        ((b"add", F2 + b"[~ssl]", b"97", b"-"), b"ok"),
+        ((b"resolve", b"foo:runtime=" + LABEL, b"-", b"ssl"), F2 + b"[~ssl]"),
+    ],
+    "config_file": [
+        ((b"config", b"\n".join(CONFIG) + b"\n"), b"ok\t" + LABEL + b"\t~!krb,~ssl is: x86(~i686,sse2)"),
+        ((b"config", b"\n".join([CONFIG[0], b"flavor ((", *CONFIG[2:]]) + b"\n"), b"bad config line 2"),
+        ((b"add", F1, b"97", b"-"), b"ok"),
+        ((b"resolve", b"foo:runtime", LABEL, b"~!krb,~ssl is: x86(~i686,sse2)"), F1),
+    ],
+    "spec_refusals": [
+        ((b"resolve", b"foo", b"-", b""), b"no label"),
+        ((b"resolve", b"foo=" + LABEL, b"-", b""), b"missing trove foo=" + LABEL),
+    ],
+    "shared_component_once": [
+        ((b"add", b"x:lib=" + V1, b"97", b"-"), b"ok"),
+        ((b"add", b"group-a=" + V1, b"-", b"x:lib=" + V1), b"ok"),
+        ((b"add", b"group-b=" + V1, b"-", b"group-a=" + V1 + b"; x:lib=" + V1), b"ok"),
+        ((b"expand", b"group-b=" + V1), b"ok\tgroup-a=" + V1 + b"\tgroup-b=" + V1 + b"\tx:lib=" + V1),
+        ((b"expand", b"group-b=" + V1 + b"; group-a=" + V1), b"ok\tgroup-a=" + V1 + b"\tgroup-b=" + V1 + b"\tx:lib=" + V1),
+    ],
+    "two_versions_of_one_name": [
+        ((b"add", F1, b"97", b"-"), b"ok"),
+        ((b"add", F2, b"97", b"-"), b"ok"),
+        ((b"expand", F2 + b"; " + F1), b"exists " + F2),
+    ],
+}
+
+
+def row_calls():
+    for lines in ROWS.values():
+        yield b"new",
+        for call, _ in lines:
+            yield call
+
+
+def as_line(call):
+    if call[0] == b"config":
+        return call[0], b" ".join(b"%d" % byte for byte in call[1]) or b"-"
+    return call
+
+
 def lines_of_calls():
     """The calls with their arguments; the bytes of a file as their numbers."""
     for one in calls():
-        if isinstance(one, bytes):
-            yield (one,)
-        elif one[0] == b"config":
-            yield one[0], b" ".join(b"%d" % byte for byte in one[1]) or b"-"
-        else:
-            yield one
+        yield as_line((one,) if isinstance(one, bytes) else one)
 
 
-def answers():
-    catalogue = Catalogue()
-    methods = {
+def methods_of(catalogue):
+    return {
+        b"new": catalogue.new,
         b"add": catalogue.add,
         b"count_commit": catalogue.count_commit,
         b"copy": catalogue.copy,
+        b"place_of": catalogue.place_of,
+        b"expand": catalogue.expand,
         b"troves": catalogue.listed,
         b"find": catalogue.find,
         b"by_name": catalogue.by_name,
@@ -338,13 +475,28 @@ def answers():
         b"config": config,
         b"resolve": catalogue.resolve,
     }
+
+
+def answers():
+    methods = methods_of(Catalogue())
     for one in lines_of_calls():
         yield methods[one[0]](*one[1:])
+
+
+def check_rows():
+    """The answers of the worked cases are those written by hand."""
+    for name, lines in ROWS.items():
+        methods = methods_of(Catalogue())
+        for call, wanted in lines:
+            answer = b"\t".join(methods[call[0]](*as_line(call)[1:]))
+            if answer != wanted:
+                sys.exit(f"{name}: {answer!r} and not {wanted!r}")
 
 
 def main():
     if sys.argv[1:] not in (["stdin"], ["stdout"]):
         sys.exit(__doc__)
+    check_rows()
     lines = answers() if sys.argv[1] == "stdout" else lines_of_calls()
     sys.stdout.buffer.write(b"".join(b"\t".join(line) + b"\n" for line in lines))
 

@@ -22,12 +22,14 @@ fn look_up(
     match name {
         "troves" => troves::troves(alloc, catalogue),
         "find" => troves::find(alloc, catalogue, arguments),
+        "place_of" => troves::place_of(alloc, catalogue, arguments),
         "by_name" => troves::by_name(alloc, catalogue, arguments),
         "latest" => troves::latest(alloc, catalogue, arguments),
         "has_content" => troves::has_content(alloc, catalogue, arguments),
         "spec" => specs::spec(alloc, arguments),
         "config" => specs::config(alloc, arguments),
         "resolve" => specs::resolved(alloc, catalogue, arguments),
+        "expand" => specs::expanded(alloc, catalogue, arguments),
         "index_thousand_names" => troves::index_thousand_names(alloc, arguments),
         _ => Err(Stop::Unreadable),
     }
@@ -41,6 +43,7 @@ fn call(
     arguments: &[String],
 ) -> Result<String, Stop> {
     match name {
+        "new" => troves::new(alloc, catalogue),
         "add" => troves::add(alloc, catalogue, arguments),
         "count_commit" => troves::count_commit(alloc, catalogue),
         "copy" => troves::copy(alloc, catalogue),

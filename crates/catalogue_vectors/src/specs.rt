@@ -1,12 +1,13 @@
 //! Specifications, and which troves they mean.
 use crate::line::{Stop, bytes_of, push_field, refused, text_at, word};
+use crate::troves::{ids_of, ids_text};
 use cny_base::{CONFIG_LIMIT, Copies, OutOfMemory, TextFault};
 use cny_flavor::Flavor;
 use cny_version::Label;
 use repo_index::Catalogue;
 use std::alloc::Global;
 use trove_id::id_text;
-use trove_spec::{Config, Labels, Place, Spec, resolve};
+use trove_spec::{Config, Labels, Place, Spec, expand, resolve};
 
 // Where a trove is looked for.
 fn push_place(line: &mut String, place: &Place) -> Result<(), OutOfMemory> {
@@ -96,6 +97,19 @@ pub fn config(alloc: Global, arguments: &[String]) -> Result<String, Stop> {
     }
     match Config::read(alloc, bytes.as_slice()) {
         Ok(config) => config_text(alloc, &config),
+        Err(fault) => refused(alloc, &fault),
+    }
+}
+
+/// `expand` of a list of ids: the ids of the troves.
+pub fn expanded(
+    alloc: Global,
+    catalogue: &Catalogue,
+    arguments: &[String],
+) -> Result<String, Stop> {
+    let roots = ids_of(alloc, text_at(arguments, 0)?)?;
+    match expand(alloc, catalogue, roots.as_slice()) {
+        Ok(troves) => ids_text(alloc, troves.get()),
         Err(fault) => refused(alloc, &fault),
     }
 }

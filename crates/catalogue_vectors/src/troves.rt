@@ -63,6 +63,12 @@ fn trove_of(alloc: Global, id: &str, contents: &str, refs: &str) -> Result<Trove
     Ok(Trove::make(id, files, refs, required, provided)?)
 }
 
+/// The catalogue becomes an empty one.
+pub fn new(alloc: Global, catalogue: &mut Catalogue) -> Result<String, Stop> {
+    *catalogue = Catalogue::new(alloc);
+    word(alloc, "ok")
+}
+
 /// `Catalogue::add` of a trove: the text of its id, its contents, its references.
 pub fn add(alloc: Global, catalogue: &mut Catalogue, arguments: &[String]) -> Result<String, Stop> {
     let id = text_at(arguments, 0)?;
@@ -111,6 +117,19 @@ fn trove_text(alloc: Global, trove: Option<&Trove>) -> Result<String, Stop> {
 pub fn find(alloc: Global, catalogue: &Catalogue, arguments: &[String]) -> Result<String, Stop> {
     let id = read_id(alloc, text_at(arguments, 0)?)?;
     trove_text(alloc, catalogue.find(&id))
+}
+
+/// `Catalogue::place_of` of the text of an id.
+pub fn place_of(
+    alloc: Global,
+    catalogue: &Catalogue,
+    arguments: &[String],
+) -> Result<String, Stop> {
+    let id = read_id(alloc, text_at(arguments, 0)?)?;
+    match catalogue.place_of(&id) {
+        None => word(alloc, "none"),
+        Some(place) => Ok(format!(in alloc; "{place}")?),
+    }
 }
 
 // The places, a field each.
@@ -211,7 +230,8 @@ fn is_found(catalogue: &Catalogue, place: usize, trove: &Trove) -> bool {
     };
     let same = *found.id() == *id && searched(catalogue.troves(), found.id()) == place;
     let placed = catalogue.by_name(&id.name).contains(&place);
-    same && placed
+    let alone = catalogue.place_of(id) == Some(place);
+    same && placed && alone
 }
 
 // Whether the last trove of that name is the one of the last place.

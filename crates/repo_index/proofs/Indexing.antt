@@ -5,7 +5,7 @@ use Rattle.std.specs.Str.{bytes_eq}
 use Rattle.indexmap.specs.IndexSet.{IndexSet, Updates, insert_key}
 use Rattle.trove_stream.specs.declared.parts.TroveParts.{TroveParts}
 use Rattle.repo_index.specs.declared.index.Index.{Index}
-use Rattle.repo_index.specs.Catalogue.{has_name, places_of, is_file_of, names_content, has_content}
+use Rattle.repo_index.specs.Catalogue.{has_name, places_of, is_file_of, names_content}
 use Rattle.repo_index.specs.Keys.{places_in, knows, Extends}
 use Rattle.repo_index.specs.Index.{IsIndexOf}
 use Rattle.repo_index.proofs.Searching.{places_from-push}

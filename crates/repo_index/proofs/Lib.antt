@@ -1,2 +1,3 @@
 pub mod Searching
 pub mod Indexing
+pub mod Placing

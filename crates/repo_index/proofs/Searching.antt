@@ -1,5 +1,5 @@
 -- What is found at the places of the items that pass a test.
-use Rattle.std.proofs.Common.{◌≡◌, ℕ, ◌+◌, ◌<◌, Bool, true, false, cond, ◌&&◌, List, [], ◌∷◌, ◌++◌, length, filter, find, filter_map, slice_get, Option, Some, None, option_copied, refl, sym, ap, ◌∙◌, true≢false, append_assoc, arith}
+use Rattle.std.proofs.Common.{◌≡◌, ℕ, ◌+◌, Bool, true, false, cond, ◌&&◌, List, [], ◌∷◌, ◌++◌, length, filter, find, filter_map, slice_get, Option, Some, None, option_copied, refl, sym, ap, ◌∙◌, true≢false, append_assoc, arith}
 use Rattle.std.specs.Cmp.{first_so}
 use Rattle.std.specs.List.{cons_option}
 use Rattle.std.specs.Slice.{IsItemAt}

@@ -1,5 +1,5 @@
 -- The catalogue, and what is searched for in it. Each look-up is a search of the whole list.
-use Rattle.std.specs.Prelude.{◌≡◌, ℕ, ◌+◌, Bool, true, false, ◌&&◌, if◌then◌else◌, List, [], ◌∷◌, ◌++◌, filter, Option, Some, None, IsSome}
+use Rattle.std.specs.Prelude.{◌≡◌, ℕ, ◌+◌, Bool, true, false, ◌&&◌, if◌then◌else◌, List, [], ◌∷◌, ◌++◌, filter, slice_get, Option, Some, None, IsSome, IsTrue}
 use Rattle.std.specs.List.{find, last_or, list_any}
 use Rattle.std.specs.Str.{bytes_eq}
 use Rattle.cny_base.specs.declared.refusal.Fault.{Fault}
@@ -38,6 +38,10 @@ has_id id t = id_eq t.id id
 -- the trove of this id, if there is one
 abbrev pub found : TroveId → List TroveParts → Option TroveParts
 found id troves = find (has_id id) troves
+
+-- no two of the troves have one id
+abbrev pub HasDistinctIds : List TroveParts → Type 0
+HasDistinctIds troves = (i j : ℕ) (t u : TroveParts) → slice_get troves i ≡ Some t → slice_get troves j ≡ Some u → IsTrue (has_id u.id t) → i ≡ j
 
 -- A trove of this id stands there, and the refusal has its text; or memory ran out.
 abbrev pub IsExistsOrMemory : List TroveParts → TroveId → Fault → Type 0

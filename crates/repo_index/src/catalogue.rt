@@ -1,13 +1,13 @@
 //! The catalogue.
-ghost use Rattle.std.specs.Prelude.{◌≡◌, ◌+◌, ◌<◌, ◌++◌, ◌∷◌, [], None, slice_get, IfOk, IfErr, OnOk, OnErr};
+ghost use Rattle.std.specs.Prelude.{◌≡◌, ◌+◌, ◌<◌, ◌++◌, ◌∷◌, [], ℕ, Some, None, slice_get, IfSome, IfOk, IfErr, OnOk, OnErr};
 ghost use Rattle.std.specs.Option.{option_copied};
 ghost use Rattle.cny_base.specs.declared.limits.TheConstants.{COMMITS_LIMIT};
 ghost use Rattle.repo_index.specs.Catalogue as spec;
-ghost use Rattle.repo_index.specs.Catalogue.{no_commits, with_trove, with_commit, found, places_of, named, IsExistsOrMemory};
-ghost use Rattle.repo_index.specs.Places.{troves_at};
+ghost use Rattle.repo_index.specs.Catalogue.{no_commits, with_trove, with_commit, found, places_of, named, HasDistinctIds, IsExistsOrMemory};
+ghost use Rattle.repo_index.specs.Places.{IsPlaceOf, troves_at};
 
 use crate::index::Index;
-use crate::search::{find_among, latest_among, trove_at};
+use crate::search::{find_among, latest_among, place_among, trove_at};
 use cny_base::{Copies, Fault, Name, OutOfMemory, Refusal};
 use cny_version::Count;
 use std::alloc::Global;
@@ -30,11 +30,11 @@ impl Model for Catalogue {
 
     ghost Value = { CatalogueParts };
 
-    ghost use Rattle.repo_index.specs.Index.{IsIndexOf};
+    ghost use Rattle.repo_index.specs.Index.{IsIndexed};
 
     ghost view = { λ a. record { commits = a.commits; troves = a.troves.items } };
 
-    ghost invariant = { λ a. IsIndexOf a.troves.items a.index };
+    ghost invariant = { λ a. IsIndexed a.troves.items a.index };
 }
 
 // Written by hand, so that to let a value go is a single call wherever a function ends early.
@@ -76,8 +76,9 @@ impl Catalogue {
         Ok(self.push(alloc, trove)?)
     }
 
-    // Adds a trove behind the others; an error changes nothing.
+    // Adds a trove whose id isn't there behind the others; an error changes nothing.
     fn push(&mut self, alloc: Global, trove: Trove) -> Result<(), OutOfMemory>
+        requires { found trove.id self.old.troves ≡ None }
         ensures ok { OnOk result (self.new ≡ with_trove self.old trove) }
         ensures err { OnErr result (self.new ≡ self.old) }
     {
@@ -102,9 +103,10 @@ impl Catalogue {
         self.commits += 1;
     }
 
-    /// All troves, in the order of their commits.
+    /// All troves, in the order of their commits. No two have one id.
     pub fn troves(&self) -> &[Trove]
-        ensures { result.now ≡ self.now.troves }
+        ensures value { result.now ≡ self.now.troves }
+        ensures distinct { HasDistinctIds self.now.troves }
     {
         self.troves.as_slice()
     }
@@ -121,6 +123,14 @@ impl Catalogue {
         ensures { option_copied result ≡ found id.now self.now.troves }
     {
         find_among(self.troves(), self.by_name(&id.name), id)
+    }
+
+    /// The place of the trove of this id, if there is one. It is the only one.
+    pub fn place_of(&self, id: &TroveId) -> Option<usize>
+        ensures place { IfSome result (IsPlaceOf self.now.troves id.now) }
+        ensures only { (place : ℕ) → IsPlaceOf self.now.troves id.now place → result ≡ Some place }
+    {
+        place_among(self.troves(), self.by_name(&id.name), id)
     }
 
     /// The places of the troves of this name, rising.
@@ -156,12 +166,13 @@ impl Catalogue {
 impl Copies for Catalogue {
     fn copy(&self) -> Result<Self, OutOfMemory> {
         let alloc = *self.troves.allocator();
-        copied(alloc, self.commits, &self.troves)
+        copied(alloc, self.commits, self.troves())
     }
 }
 
-// A catalogue of copies of these troves.
+// A catalogue of copies of these troves, of which no two have one id.
 fn copied(alloc: Global, commits: u32, troves: &[Trove]) -> Result<Catalogue, OutOfMemory>
+    requires { HasDistinctIds troves.now }
     ensures { IfOk result (λ made. made ≡ record { commits = commits; troves = troves.now }) }
 {
     let mut copies = Vec::new(alloc);

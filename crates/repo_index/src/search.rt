@@ -1,13 +1,13 @@
 //! Searches among the troves at some places.
-ghost use Rattle.std.specs.Prelude.{◌≡◌, None, filter, slice_get};
+ghost use Rattle.std.specs.Prelude.{◌≡◌, ◌↔◌, ℕ, Some, None, filter, slice_get, IsTrue, IfSome};
 ghost use Rattle.std.specs.List.{find, last_or};
 ghost use Rattle.std.specs.Option.{option_copied};
 ghost use Rattle.repo_index.specs.Catalogue as spec;
-ghost use Rattle.repo_index.specs.Catalogue.{has_id};
-ghost use Rattle.repo_index.specs.Places.{troves_at};
+ghost use Rattle.repo_index.specs.Catalogue.{has_id, places_of, HasDistinctIds};
+ghost use Rattle.repo_index.specs.Places.{IsPlaceOf, troves_at};
 
 use cny_version::{Count, Version};
-use trove_id::TroveId;
+use trove_id::{TroveId, distinct_ids};
 use trove_stream::Trove;
 
 /// The trove at a place, if there is one.
@@ -30,6 +30,37 @@ pub(crate) fn find_among<'a>(
             if *trove.id() == *id {
                 return Some(trove);
             }
+        }
+    }
+    None
+}
+
+// Whether the trove of this id stands at this place.
+fn is_place_of(troves: &[Trove], place: usize, id: &TroveId) -> bool
+    ensures { IsTrue result ↔ IsPlaceOf troves.now id.now place }
+{
+    // Ids that are equal by their texts are one id.
+    distinct_ids();
+    id.is_valid();
+    match trove_at(troves, place) {
+        None => false,
+        Some(trove) => {
+            trove.id().is_valid();
+            *trove.id() == *id
+        }
+    }
+}
+
+/// The place of the trove of this id, if it is one of these, which are those of the troves of its name.
+pub(crate) fn place_among(troves: &[Trove], places: &[usize], id: &TroveId) -> Option<usize>
+    requires distinct { HasDistinctIds troves.now }
+    requires of_name { places.now ≡ places_of id.now.name troves.now }
+    ensures place { IfSome result (IsPlaceOf troves.now id.now) }
+    ensures only { (place : ℕ) → IsPlaceOf troves.now id.now place → result ≡ Some place }
+{
+    for place in places {
+        if is_place_of(troves, *place, id) {
+            return Some(*place);
         }
     }
     None

@@ -1,11 +1,10 @@
 -- The trove that is chosen among candidates.
-use Rattle.std.proofs.Common.{◌≡◌, ℕ, Bool, true, false, cond, ◌&&◌, List, [], ◌∷◌, ◌++◌, filter, slice_get, Option, Some, None, refl, sym, ap, ◌∙◌, append-nil, option_and_then}
-use Rattle.std.specs.List.{reduce, last_or, cons_option}
+use Rattle.std.proofs.Common.{◌≡◌, ℕ, Bool, true, false, cond, ◌&&◌, List, [], ◌∷◌, ◌++◌, filter, slice_get, Option, Some, None, refl, ap, ◌∙◌, append-nil, option_and_then}
+use Rattle.std.specs.List.{last_or, cons_option}
 use Rattle.std.proofs.lemmas.Grind.{fold-append}
-use Rattle.std.specs.Str.{bytes_eq}
 use Rattle.cny_flavor.specs.declared.parts.Parts.{Parts}
 use Rattle.cny_version.specs.Label.{LabelParts}
-use Rattle.cny_version.specs.Version.{WholeVersion, version_text}
+use Rattle.cny_version.specs.Version.{WholeVersion}
 use Rattle.trove_stream.specs.declared.parts.TroveParts.{TroveParts}
 use Rattle.repo_index.specs.Places.{troves_at}
 use Rattle.repo_index.specs.PlacesLaws.{at, at-push, passing-push}

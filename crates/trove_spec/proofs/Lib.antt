@@ -7,3 +7,6 @@ pub mod PlaceReading
 pub mod Newest
 pub mod Trimming
 pub mod ConfigLines
+pub mod Reaching
+pub mod InOrder
+pub mod Adding

@@ -1,5 +1,5 @@
 -- The bytes of the texts of labels and of versions whose labels may be abbreviated.
-use Rattle.std.proofs.Common.{◌≡◌, ℕ, ◌+◌, ◌<◌, ◌^◌, Bool, true, ◌&&◌, ◌||◌, ◌==◌, nat_le, List, [], ◌∷◌, ◌++◌, length, Option, Some, None, refl, sym, ap, subst, ◌∙◌, arith, rules}
+use Rattle.std.proofs.Common.{◌≡◌, ℕ, ◌+◌, ◌<◌, ◌^◌, Bool, true, ◌&&◌, ◌||◌, ◌==◌, nat_le, List, [], ◌∷◌, ◌++◌, length, Option, Some, None, refl, sym, subst, ◌∙◌, arith, rules}
 use Rattle.std.specs.Char.{is_ascii_alphanumeric}
 use Rattle.std.specs.Cmp.{first_so, second_so}
 use Rattle.std.specs.Fmt.{decimal}
@@ -13,8 +13,8 @@ use Rattle.cny_base.specs.Number.{is_digit, decimal_on, decimal_value}
 use Rattle.cny_version.specs.declared.revision.Revision.{Revision}
 use Rattle.cny_version.specs.Label.{LabelParts, label_text, is_label_byte, is_label_part, is_label}
 use Rattle.cny_version.specs.Revision.{count_text, build_text, revision_text, is_upstream_byte, is_upstream, fits_32_bits, ends_above_zero, is_count, is_build, is_revision}
-use Rattle.cny_version.specs.Version.{Part, WholeVersion, labels_text, part_text, branch_text_by, version_text_by, depth, AreLabels, ArePartsAfter, IsVersion}
-use Rattle.cny_version.specs.Filled.{AbbreviatedLabel, whole, without_host, only_tag, abbreviated_label_text, filled_label, filled_shadows, filled_parts, filled_part, label_after, no_label, AbbreviatedVersion, filled, abbreviated_text, IsAbbreviationOf}
+use Rattle.cny_version.specs.Version.{Part, labels_text, part_text, branch_text_by, depth, AreLabels, ArePartsAfter, IsVersion}
+use Rattle.cny_version.specs.Filled.{AbbreviatedLabel, whole, without_host, only_tag, abbreviated_label_text, filled_label, filled_shadows, filled_parts, filled_part, label_after, no_label, AbbreviatedVersion, filled, abbreviated_text}
 use Rattle.trove_spec.specs.Spec.{Lacks, IsLabelOrVersion}
 use Rattle.trove_spec.specs.declared.spec.Place.{Place}
 use Rattle.trove_spec.specs.declared.spec.Place.TheVariants.{Any, OnLabel, At}

@@ -1,14 +1,11 @@
 -- What a label read from a text says of the place that the text means.
-use Rattle.std.proofs.Common.{◌≡◌, ℕ, Bool, true, false, ◌&&◌, ◌==◌, nat_le, List, [], ◌∷◌, ◌++◌, length, Result, Ok, Err, IsErrOf, ◌↔◌, IsTrue, refl, sym, ap, subst, ◌∙◌, true≢false, arith}
-use Rattle.std.specs.Char.{is_ascii_alphanumeric}
-use Rattle.std.specs.Cmp.{first_so}
-use Rattle.std.specs.List.{list_all, flat_map}
-use Rattle.std.proofs.lemmas.Bool.Decides.{nat_tests}
+use Rattle.std.proofs.Common.{◌≡◌, ℕ, true, false, List, [], ◌∷◌, ◌++◌, Err, IsTrue, refl, sym, ap, ◌∙◌, true≢false}
+use Rattle.std.specs.List.{flat_map}
 use Rattle.cny_base.specs.declared.text.TextFault.{TextFault}
 use Rattle.cny_base.specs.declared.text.TextFault.TheVariants.{Bad, Memory}
-use Rattle.cny_version.specs.Label.{LabelParts, label_text, is_label_byte, is_label_part, is_label, IsLabelText}
-use Rattle.cny_version.specs.Version.{Part, WholeVersion, labels_text, part_text, IsVersion}
-use Rattle.cny_version.specs.Filled.{AbbreviatedLabel, abbreviated_label_text, AbbreviatedVersion, filled, abbreviated_text, IsAbbreviatedText}
+use Rattle.cny_version.specs.Label.{LabelParts, label_text, is_label, IsLabelText}
+use Rattle.cny_version.specs.Version.{Part, labels_text, part_text}
+use Rattle.cny_version.specs.Filled.{AbbreviatedLabel, abbreviated_label_text, AbbreviatedVersion, abbreviated_text}
 use Rattle.trove_spec.specs.declared.spec.Place.{Place}
 use Rattle.trove_spec.specs.declared.spec.Place.TheVariants.{Any, OnLabel, At}
 use Rattle.trove_spec.specs.Spec.{IsLabelOrVersion, IsReadAs, begins_with_slash}

@@ -1,5 +1,5 @@
 -- A text is cut into the parts of the specification that it is.
-use Rattle.std.proofs.Common.{◌≡◌, ℕ, List, [], ◌∷◌, ◌++◌, Option, Some, None, refl, sym, ap, subst, ◌∙◌, append-nil, arith}
+use Rattle.std.proofs.Common.{◌≡◌, ℕ, List, ◌++◌, Option, Some, None, refl, sym, ap, subst, ◌∙◌, arith}
 use Rattle.trove_spec.specs.declared.spec.Place.{Place}
 use Rattle.trove_spec.specs.declared.spec.Spec.{Spec}
 use Rattle.trove_spec.specs.Spec.{Lacks, IsPlaceText, behind_equals, in_brackets, ArePartsOf, IsSpecText, IsCutAtEquals, IsCutAtBracket}

@@ -1,5 +1,5 @@
 -- The configuration file, line by line.
-use Rattle.std.specs.Prelude.{◌≡◌, ℕ, ◌+◌, ◌<◌, ◌≤◌, Bool, true, false, ◌&&◌, ◌||◌, not, ◌==◌, if◌then◌else◌, IsTrue, List, [], ◌∷◌, ◌++◌, length, drop, take, map, filter, codes, slice_index_or}
+use Rattle.std.specs.Prelude.{◌≡◌, ℕ, ◌+◌, ◌<◌, ◌≤◌, Bool, true, false, ◌&&◌, ◌||◌, not, ◌==◌, if◌then◌else◌, IsTrue, List, [], ◌∷◌, length, drop, take, map, filter, codes, slice_index_or}
 use Rattle.std.specs.List.{take_while, fold, slice_split, AllZip}
 use Rattle.std.specs.Str.{is_utf8}
 use Rattle.cny_base.specs.Below.{begins_with}

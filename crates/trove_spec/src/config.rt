@@ -1,7 +1,9 @@
 //! The configuration.
-ghost use Rattle.std.specs.Prelude.{◌≡◌, ◌+◌, ◌-◌, ◌^◌, ◌<◌, ◌≤◌, ◌==◌, true, false, IfOk, IfErr, IsErrOf, List, ℕ, length, drop, map, filter, MatchOption};
+ghost use Rattle.std.specs.Prelude.{◌≡◌, ◌+◌, ◌-◌, ◌^◌, ◌<◌, ◌≤◌, ◌==◌, ◌↔◌, true, false, not, IsTrue, IfOk, IfErr, IsErrOf, List, ℕ, length, drop, map, filter, MatchOption};
 ghost use Rattle.std.specs.List.{AllZip, slice_split, take_while};
 ghost use Rattle.cny_base.specs.declared.limits.TheConstants.{CONFIG_LIMIT};
+ghost use Rattle.cny_base.specs.declared.refusal.Fault.TheVariants as fault;
+ghost use Rattle.cny_base.specs.declared.refusal.Refusal.TheVariants as refusal;
 ghost use Rattle.cny_version.specs.Label.{LabelParts};
 ghost use Rattle.trove_spec.specs.Config as spec;
 ghost use Rattle.trove_spec.specs.Config.{cleaned, has_key, is_word_there, IsTextOf, IsPathSetting, IsRelaxedSetting, IsFlavorSetting, IsSetting, IsConfigOf, IsBadConfigOrMemory, no_config, with_setting, lines_of, is_before_section, as_space, without_front, without_back, without_cr};
@@ -215,6 +217,13 @@ fn pieces_of(alloc: Global, bytes: &[u8]) -> Result<Vec<&[u8]>, AllocError>
     bytes.split(|byte| *byte == b'\n').collect(alloc)
 }
 
+// Whether another label would be one too many.
+fn are_most(labels: &[Label]) -> bool
+    ensures { IsTrue result ↔ (64 ≤ length labels.now) }
+{
+    labels.len() >= 64
+}
+
 // The labels of the words that aren't empty, at most 64.
 fn labels_of(alloc: Global, words: &[&str]) -> Result<Labels, TextFault>
     ensures found { IfOk result (AllZip IsTextOf (filter is_word_there (map (λ word. word.now) words.now))) }
@@ -225,7 +234,7 @@ fn labels_of(alloc: Global, words: &[&str]) -> Result<Labels, TextFault>
     let mut labels = Vec::new(alloc);
     for word in words {
         if !word.is_empty() {
-            if labels.len() >= 64 {
+            if are_most(labels.as_slice()) {
                 return Err(TextFault::Bad);
             }
             match Label::read(alloc, *word) {
@@ -287,17 +296,34 @@ fn read_line(alloc: Global, line: &[u8]) -> Result<Setting, TextFault>
     Ok(Setting::Skipped)
 }
 
+// Whether the piece begins with `[`, behind blanks or not.
+fn begins_section(piece: &[u8]) -> bool
+    ensures { not result ≡ is_before_section piece.now }
+{
+    begins_with_bracket(trimmed(piece))
+}
+
 // The pieces before the first that begins with `[`.
 fn before_section<'a, 'b>(pieces: &'b [&'a [u8]]) -> &'b [&'a [u8]]
     ensures lines { map (λ line. line.now) result.now ≡ take_while is_before_section (map (λ line. line.now) pieces.now) }
     ensures few { length result.now ≤ length pieces.now }
 {
     for (place, piece) in pieces.iter().enumerate() {
-        if begins_with_bracket(trimmed(*piece)) {
+        if begins_section(*piece) {
             return &pieces[..place];
         }
     }
     pieces
+}
+
+// The refusal for the line of this place, counted from 0.
+fn bad_line(place: usize) -> Fault
+    requires { place < 2 ^ 32 - 1 }
+    ensures { result ≡ fault.Refused (refusal.BadConfig (place + 1)) }
+{
+    Fault::Refused(Refusal::BadConfig {
+        line: place as u32 + 1,
+    })
 }
 
 // What these lines say.
@@ -311,11 +337,7 @@ fn config_of(alloc: Global, lines: &[&[u8]]) -> Result<Config, Fault>
         match read_line(alloc, trimmed(*line)) {
             Ok(setting) => setting.put(&mut config),
             Err(TextFault::Memory) => return Err(Fault::Memory),
-            Err(TextFault::Bad) => {
-                return Err(Fault::Refused(Refusal::BadConfig {
-                    line: place as u32 + 1,
-                }));
-            }
+            Err(TextFault::Bad) => return Err(bad_line(place)),
         }
     }
     Ok(config)

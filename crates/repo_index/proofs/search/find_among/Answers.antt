@@ -2,7 +2,6 @@ use Rattle.std.proofs.Common.{◌≡◌, ℕ, ◌+◌, ◌<◌, true, false, Lis
 use Rattle.std.proofs.lemmas.List.{at_drop_more}
 use Rattle.trove_id.specs.declared.id.TroveId.{TroveId}
 use Rattle.trove_id.specs.Order.{id_eq}
-use Rattle.trove_stream.specs.declared.parts.TroveParts.{TroveParts}
 use Rattle.repo_index.specs.Catalogue.{has_id}
 use Rattle.repo_index.specs.Places.{troves_at}
 use Rattle.repo_index.specs.PlacesLaws.{find_at-none, find_at-other, find_at-found}

@@ -1,6 +1,6 @@
-use Rattle.std.proofs.Common.{◌≡◌, ℕ, ◌+◌, ◌<◌, Bool, true, false, not, List, [], ◌∷◌, ◌++◌, length, take, drop, map, get_or, take_while, Bor, sym, ap, ◌∙◌, arith}
+use Rattle.std.proofs.Common.{◌≡◌, ℕ, ◌+◌, ◌<◌, true, not, List, [], ◌∷◌, ◌++◌, length, take, drop, map, get_or, take_while, Bor, sym, ap, ◌∙◌, arith}
 use Rattle.std.proofs.lemmas.List.{take_more, at_drop_more}
-use Rattle.trove_spec.specs.Config.{begins_with_bracket, is_before_section}
+use Rattle.trove_spec.specs.Config.{is_before_section}
 use Rattle.trove_spec.proofs.ConfigLines.{map-push, goes_on}
 use Rattle.trove_spec.proofs.config.before_section.Goals as goal
 
@@ -19,7 +19,7 @@ loop-place-preserved c =
     let before = map now_of (take i pieces) in
     let after = map now_of (drop (i + 1) pieces) in
     let passes : is_before_section piece ≡ true =
-    ap not (ap begins_with_bracket (sym c.trimmed.ensures) ∙ sym c.begins_with_bracket.ensures ∙ c.if-begins_with_bracket.false) in
+    sym c.begins_section.ensures ∙ ap not c.if-begins_section.false in
     let longer : map now_of (take (i + 1) pieces) ≡ before ++ piece ∷ [] = ap (map now_of) (take_more pieces i none within) ∙ map-push now_of (take i pieces) (get_or pieces i none) in
     ap (λ (l : List (List ℕ)). l ++ take_while is_before_section after) longer
     ∙ sym (goes_on is_before_section before after piece passes)

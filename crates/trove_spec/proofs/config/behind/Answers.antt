@@ -1,4 +1,4 @@
-use Rattle.std.proofs.Common.{◌≡◌, true, false, sym, ap, ◌∙◌}
+use Rattle.std.proofs.Common.{sym, ap, ◌∙◌}
 use Rattle.trove_spec.specs.Config.{ends_word}
 use Rattle.trove_spec.proofs.ConfigLines.{key_there, key_missing}
 use Rattle.trove_spec.proofs.config.behind.Goals as goal

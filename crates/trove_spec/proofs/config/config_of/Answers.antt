@@ -1,9 +1,7 @@
 use Rattle.std.proofs.Common.{◌≡◌, ℕ, ◌+◌, ◌<◌, List, [], ◌∷◌, ◌++◌, length, take, map, get_or, Bor, Err, refl, sym, ap, subst, ◌∙◌, arith}
 use Rattle.std.proofs.lemmas.List.{take_more}
-use Rattle.cny_base.specs.declared.text.TextFault.TheVariants.{Bad}
 use Rattle.trove_spec.specs.declared.config.Config.{Config}
-use Rattle.trove_spec.specs.declared.config.Setting.{Setting}
-use Rattle.trove_spec.specs.Config.{cleaned, IsSetting, with_setting, IsConfigOf}
+use Rattle.trove_spec.specs.Config.{cleaned, IsSetting, IsConfigOf, IsBadConfigOrMemory}
 use Rattle.trove_spec.proofs.ConfigLines.{map-push, take-map, length-map, get_or-map, config_more, first_bad}
 use Rattle.trove_spec.proofs.config.config_of.Goals as goal
 
@@ -20,7 +18,8 @@ returns-in-Err-Bad-clause-fault c =
     let within : i < length lines = omega arith in
     let all = map now_of lines in
     let line : get_or all i [] ≡ (get_or lines i none).now = get_or-map now_of lines i none [] within in
-    let there : i < length all = omega (arith, length-map now_of lines) in (
+    let there : i < length all = omega (arith, length-map now_of lines) in
+    subst (IsBadConfigOrMemory all) (sym c.bad_line.ensures) (
       i,
       refl,
       first_bad all i c.loop-place.config (subst (λ (l : List (List ℕ)). IsConfigOf l c.loop-place.config) (sym (take-map now_of i lines)) c.loop-place.invariant) there

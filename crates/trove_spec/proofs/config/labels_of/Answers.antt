@@ -1,4 +1,4 @@
-use Rattle.std.proofs.Common.{◌≡◌, ℕ, ◌+◌, ◌<◌, ◌≤◌, Bool, true, false, cond, not, ◌==◌, List, [], ◌∷◌, ◌++◌, length, take, drop, map, filter, get_or, Bor, Vec, Err, sym, ap, subst, ◌∙◌, length-append, append-nil, arith, rules}
+use Rattle.std.proofs.Common.{◌≡◌, ℕ, ◌+◌, ◌<◌, ◌≤◌, Bool, true, false, cond, not, List, [], ◌∷◌, ◌++◌, length, take, drop, map, filter, get_or, Bor, Vec, Err, sym, ap, subst, ◌∙◌, length-append, append-nil, arith, rules}
 use Rattle.std.specs.List.{AllZip}
 use Rattle.std.specs.declared.alloc.Global.{Global}
 use Rattle.std.proofs.lemmas.List.{take_more}
@@ -7,7 +7,7 @@ use Rattle.cny_base.specs.declared.text.TextFault.TheVariants.{Bad}
 use Rattle.cny_version.specs.Label.{LabelParts}
 use Rattle.trove_spec.specs.Config.{is_word_there, IsTextOf}
 use Rattle.trove_spec.proofs.ConfigLines.{map-push, paired-push, split_at, too_many, paired_at, same_fault}
-use Rattle.trove_spec.proofs.config.labels_of.Goals.{then-not-is_empty+else-len-ge64+in-Ok+in_ok-push-in-Ok, else-not-is_empty}
+use Rattle.trove_spec.proofs.config.labels_of.Goals.{then-not-is_empty+else-are_most+in-Ok+in_ok-push-in-Ok, else-not-is_empty}
 use Rattle.trove_spec.proofs.config.labels_of.Goals as goal
 
 abbrev now_of : Bor (List ℕ) → List ℕ
@@ -16,8 +16,8 @@ now_of word = word.now
 abbrev none : Bor (List ℕ)
 none = record { ref_ptr = (0, 0); now = [] }
 
-pub returns-then-len-ge64-clause-bad : goal.returns-then-len-ge64-clause-bad
-returns-then-len-ge64-clause-bad c h labels all few =
+pub returns-then-are_most-clause-bad : goal.returns-then-are_most-clause-bad
+returns-then-are_most-clause-bad c h labels all few =
     let words = c.args.words.now in
     let i = c.loop-word.word-index in
     let within : i < length words = omega arith in
@@ -47,7 +47,7 @@ loop-word-preserved c =
     let filtered : filter is_word_there (map now_of (take (i + 1) words)) ≡ filter is_word_there before ++ cond (is_word_there word) (word ∷ []) [] =
     ap (filter is_word_there) longer ∙ filter-append is_word_there before (word ∷ []) in
     elim c.if-not-is_empty.branch [
-      | then-not-is_empty+else-len-ge64+in-Ok+in_ok-push-in-Ok w ↦
+      | then-not-is_empty+else-are_most+in-Ok+in_ok-push-in-Ok w ↦
           let there : is_word_there word ≡ true = ap not (sym w.if-not-is_empty.ensures) in
           let items : c.if-not-is_empty.labels.items ≡ c.loop-word.labels.items ++ w.in-Ok.label ∷ [] =
           ap (λ (v : Vec LabelParts Global). v.items) w.labels-is ∙ w.in_ok-push-in-Ok.ensures.items in

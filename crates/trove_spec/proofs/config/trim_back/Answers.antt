@@ -1,4 +1,4 @@
-use Rattle.std.proofs.Common.{◌≡◌, ℕ, Bool, true, false, cond, List, [], ◌∷◌, ◌++◌, sym, ap, ◌∙◌, rules}
+use Rattle.std.proofs.Common.{◌≡◌, Bool, true, false, cond, [], ◌∷◌, ◌++◌, sym, ap, ◌∙◌, rules}
 use Rattle.trove_spec.specs.Config.{is_blank, without_back}
 use Rattle.trove_spec.proofs.Trimming.{without_back-push}
 use Rattle.trove_spec.proofs.config.trim_back.Goals as goal

@@ -3,7 +3,6 @@ use Rattle.std.specs.List.{last_or}
 use Rattle.trove_id.specs.declared.id.TroveId.{TroveId}
 use Rattle.trove_stream.specs.declared.parts.TroveParts.{TroveParts}
 use Rattle.repo_index.specs.Catalogue.{named}
-use Rattle.repo_index.specs.Places.{troves_at}
 use Rattle.trove_spec.specs.Resolve.{best, is_wanted, candidates_of}
 use Rattle.trove_spec.proofs.Choosing.{wanted_are, chosen_is}
 use Rattle.trove_spec.proofs.resolving.chosen.Goals as goal

@@ -9,6 +9,6 @@ pub returns : goal.returns
 returns c =
     let id = c.args.id.now in
     c.find_among.ensures
-    ∙ ap (λ (troves : List TroveParts). find (has_id id) (troves_at troves c.by_name.result.now)) c.troves.ensures
+    ∙ ap (λ (troves : List TroveParts). find (has_id id) (troves_at troves c.by_name.result.now)) c.troves.ensures.value
     ∙ ap (find (has_id id)) c.by_name.ensures.troves
     ∙ find-filter (has_id id) (has_name id.name) (has_id-name id) c.args.self.now.troves
