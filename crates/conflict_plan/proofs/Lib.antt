@@ -1,0 +1,14 @@
+pub mod Order
+pub mod Noting
+pub mod Entered
+pub mod Tables
+pub mod Remaining
+pub mod Building
+pub mod Orphaned
+pub mod Assembled
+pub mod Following
+pub mod Ahead
+pub mod Ending
+pub mod Above
+pub mod Sighted
+pub mod Whole

@@ -1,0 +1,9 @@
+pub mod Claims
+pub mod Table
+pub mod Plan
+pub mod Records
+pub mod Entries
+pub mod Drafts
+pub mod Making
+pub mod Settled
+pub mod Orphans

@@ -1,0 +1,182 @@
+-- Plans: which paths a job changes, and why it is refused.
+use Rattle.std.specs.Prelude.{◌≡◌, ◌≢◌, ℕ, ◌≤◌, Bool, true, false, ◌==◌, ◌&&◌, if◌then◌else◌, IsTrue, List, [], ◌∷◌, Option, Some, None, Result, Ok, Err, All}
+use Rattle.std.specs.Cmp.Lexicographic.{slice_cmp}
+use Rattle.std.specs.Ordering.{nat_cmp}
+use Rattle.std.specs.List.Sorted.{IsStrictlySortedBy}
+use Rattle.std.specs.declared.cmp.Ordering.{Ordering}
+use Rattle.std.specs.declared.cmp.Ordering.TheVariants.{Less}
+use Rattle.cny_base.specs.Count.{Rose}
+use Rattle.cny_base.specs.Path.{parent, root}
+use Rattle.cny_base.specs.declared.options.Options.{Options}
+use Rattle.cny_base.specs.declared.refusal.Refusal.{Refusal}
+use Rattle.cny_base.specs.declared.refusal.Refusal.TheVariants as refusal
+use Rattle.cny_base.specs.declared.stop.Stop.{Stop}
+use Rattle.cny_base.specs.declared.stop.Stop.TheVariants.{Refused, Memory, Failed, Damaged, FarFailed, FarDamaged}
+use Rattle.file_stream.specs.declared.record.FileRec.{FileRec}
+use Rattle.trove_stream.specs.declared.parts.TroveParts.{TroveParts}
+use Rattle.tree_disk.specs.Disk.{DiskModel, HasRead}
+use Rattle.tree_disk.specs.Tree.{Name, Tree, is_child, same_name}
+use Rattle.tree_scan.specs.declared.mark.Mark.{Mark}
+use Rattle.tree_scan.specs.declared.mark.Mark.TheVariants as mark
+use Rattle.tree_scan.specs.Marks.{fingerprint_at, fingerprint_of_record, is_dir, is_nothing}
+use Rattle.conflict_plan.specs.declared.planned.Planned.{Planned}
+use Rattle.conflict_plan.specs.declared.table.Outcome.{Outcome}
+use Rattle.conflict_plan.specs.declared.table.Outcome.TheVariants.{Stays, Removed, Written, Unowned, Edited}
+use Rattle.conflict_plan.specs.Claims.{record_at, owners_at}
+use Rattle.conflict_plan.specs.Table.{path_outcome}
+
+-- ---- what a plan leaves
+
+-- the fingerprint of what is to stand
+abbrev pub mark_of_want : Option FileRec → Mark
+mark_of_want None = mark.Nothing
+mark_of_want (Some rec) = fingerprint_of_record rec
+
+-- what the plan says of a path
+abbrev pub planned_at : List Planned → Name → Option Planned
+planned_at [] path = None
+planned_at (x ∷ plan) path = if same_name x.path path then Some x else planned_at plan path
+
+abbrev pub planned_mark : Option Planned → Mark → Mark
+planned_mark None was = was
+planned_mark (Some x) was = mark_of_want x.want
+
+-- The result: what stands at each path once the plan is carried out.
+abbrev pub mark_after : List Planned → Tree → Name → Mark
+mark_after plan tree path = planned_mark (planned_at plan path) (fingerprint_at tree path)
+
+-- the result has a name directly below the path
+abbrev pub HasChild : (Name → Mark) → Name → Type 0
+HasChild result path = (q : Name) × (is_child path q ≡ true) × (is_nothing (result q) ≡ false)
+
+-- something stands there in the result, and its parent isn't a directory
+pub record IsOrphan (result : Name → Mark) (path : Name) : Type 0 where
+  pub not_root : same_name path root ≡ false
+  pub stands : is_nothing (result path) ≡ false
+  pub no_way : is_dir (result (parent path)) ≡ false
+
+-- ---- what the table says
+
+-- what becomes of a path, where a name directly below it remains or none does
+abbrev pub outcome_at : List TroveParts → List TroveParts → Options → Tree → Name → Bool → Outcome
+outcome_at old fresh options tree path remains = path_outcome path (record_at old path) (record_at fresh path) (fingerprint_at tree path) remains options
+
+-- what is planned of a path
+abbrev pub change_of : Outcome → Name → Mark → Option FileRec → Option Planned
+change_of Removed path was rec = Some (record { path = path; was = was; want = None })
+change_of Written path was rec = Some (record { path = path; was = was; want = rec })
+change_of Stays path was rec = None
+change_of Unowned path was rec = None
+change_of Edited path was rec = None
+
+abbrev pub refusal_of : Outcome → Name → Option Refusal
+refusal_of Unowned path = Some (refusal.Unowned path)
+refusal_of Edited path = Some (refusal.Edited path)
+refusal_of Stays path = None
+refusal_of Removed path = None
+refusal_of Written path = None
+
+-- The refusal of a path. (That a name below it remains matters to no row that refuses.)
+abbrev pub conflict_at : List TroveParts → List TroveParts → Options → Tree → Name → Option Refusal
+conflict_at old fresh options tree path = refusal_of (outcome_at old fresh options tree path false) path
+
+-- ---- plans
+
+abbrev pub planned_cmp : Planned → Planned → Ordering
+planned_cmp a b = slice_cmp nat_cmp a.path b.path
+
+-- an answer to whether P holds
+pub record IsAnswer (P : Type 0) (answer : Bool) : Type 0 where
+  pub holds : answer ≡ true → P
+  pub fails : answer ≡ false → P → ⊥
+
+-- The paths rise, and at each path the plan is what the table says, by whether the result has a name directly below it: just the
+-- paths that differ, each with what stands and with its target.
+pub record ArePlanned (old fresh : List TroveParts) (options : Options) (tree : Tree) (plan : List Planned) : Type 0 where
+  pub rising : IsStrictlySortedBy planned_cmp plan
+  pub targets : (path : Name) (remains : Bool) → IsAnswer (HasChild (mark_after plan tree) path) remains
+      → planned_at plan path ≡ change_of (outcome_at old fresh options tree path remains) path (fingerprint_at tree path) (record_at fresh path)
+
+-- P holds of this path and of none before it
+pub record IsFirst (P : Name → Type 0) (path : Name) : Type 0 where
+  pub holds : P path
+  pub first : (q : Name) → slice_cmp nat_cmp q path ≡ Less → P q → ⊥
+
+-- two troves of the new list have the path, which isn't a directory in both
+abbrev pub IsShared : List TroveParts → Name → Type 0
+IsShared fresh path = owners_at fresh path ≢ None
+
+-- the table refuses at the path
+abbrev pub HasConflict : List TroveParts → List TroveParts → Options → Tree → Name → Type 0
+HasConflict old fresh options tree path = conflict_at old fresh options tree path ≢ None
+
+-- what a job plans that isn't refused
+pub record IsPlan (old fresh : List TroveParts) (options : Options) (tree : Tree) (plan : List Planned) : Type 0 where
+  pub unshared : (path : Name) → owners_at fresh path ≡ None
+  pub no_conflict : (path : Name) → conflict_at old fresh options tree path ≡ None
+  pub planned : ArePlanned old fresh options tree plan
+  pub no_orphan : (path : Name) → IsOrphan (mark_after plan tree) path → ⊥
+
+-- ---- refusals
+
+-- the first path that two troves of the new list have
+pub record IsFirstShared (fresh : List TroveParts) (path first second : List ℕ) : Type 0 where
+  pub owners : owners_at fresh path ≡ Some (first, second)
+  pub first_path : (q : Name) → slice_cmp nat_cmp q path ≡ Less → owners_at fresh q ≡ None
+
+-- no path is shared, and at this first path the table refuses so
+pub record IsFirstConflict (old fresh : List TroveParts) (options : Options) (tree : Tree) (path : Name) (why : Refusal) : Type 0 where
+  pub unshared : (q : Name) → owners_at fresh q ≡ None
+  pub refused : conflict_at old fresh options tree path ≡ Some why
+  pub first_path : (q : Name) → slice_cmp nat_cmp q path ≡ Less → conflict_at old fresh options tree q ≡ None
+
+-- no path is shared, the table refuses nowhere, and this is the first path of the result whose parent isn't a directory
+pub record IsFirstOrphan (old fresh : List TroveParts) (options : Options) (tree : Tree) (path : Name) : Type 0 where
+  pub unshared : (q : Name) → owners_at fresh q ≡ None
+  pub no_conflict : (q : Name) → conflict_at old fresh options tree q ≡ None
+  pub plan : List Planned
+  pub planned : ArePlanned old fresh options tree plan
+  pub orphan : IsFirst (IsOrphan (mark_after plan tree)) path
+
+-- the first refusal of a job's plan
+abbrev pub IsFirstRefusal : List TroveParts → List TroveParts → Options → Tree → Refusal → Type 0
+IsFirstRefusal old fresh options tree (refusal.Owned path first second) = IsFirstShared fresh path first second
+IsFirstRefusal old fresh options tree (refusal.Unowned path) = IsFirstConflict old fresh options tree path (refusal.Unowned path)
+IsFirstRefusal old fresh options tree (refusal.Edited path) = IsFirstConflict old fresh options tree path (refusal.Edited path)
+IsFirstRefusal old fresh options tree (refusal.Parent path) = IsFirstOrphan old fresh options tree path
+IsFirstRefusal old fresh options tree _ = ⊥
+
+-- ---- how planning ends
+
+-- Where the disk tells its tree, with the plan or the first refusal; else with a fault or want of memory.
+abbrev pub EndsSo : Bool → (List Planned → Type 0) → (Refusal → Type 0) → Result (List Planned) Stop → ℕ → ℕ → Type 0
+EndsSo told good bad (Ok plan) before now = IsTrue told → good plan
+EndsSo told good bad (Err (Refused why)) before now = IsTrue told → bad why
+EndsSo told good bad (Err Failed) before now = Rose before now
+EndsSo told good bad (Err Memory) before now = Unit {0}
+EndsSo told good bad (Err (Damaged path)) before now = ⊥
+EndsSo told good bad (Err FarFailed) before now = ⊥
+EndsSo told good bad (Err (FarDamaged path)) before now = ⊥
+
+-- Planning changes nothing, and finds the plan of the tree or its first refusal.
+pub record Plans {D : Type 0} (disk : DiskModel D) (good : Tree → List Planned → Type 0) (bad : Tree → Refusal → Type 0) (old new : D) (result : Result (List Planned) Stop) : Type 0 where
+  pub later : disk.faults old ≤ disk.faults new
+  pub same : IsTrue disk.tells → HasRead disk old new Unit
+  pub ends : EndsSo disk.tells (good (disk.reads old)) (bad (disk.reads old)) result (disk.faults old) (disk.faults new)
+
+-- On every disk, also on one that tells nothing: two troves that share a path are told exactly, and else only the three other
+-- refusals come.
+abbrev pub MayRefuse : List TroveParts → Refusal → Type 0
+MayRefuse fresh (refusal.Owned path first second) = IsFirstShared fresh path first second
+MayRefuse fresh (refusal.Unowned path) = (q : Name) → owners_at fresh q ≡ None
+MayRefuse fresh (refusal.Edited path) = (q : Name) → owners_at fresh q ≡ None
+MayRefuse fresh (refusal.Parent path) = (q : Name) → owners_at fresh q ≡ None
+MayRefuse fresh _ = ⊥
+
+abbrev pub StopsSo : List TroveParts → Stop → Type 0
+StopsSo fresh (Refused why) = MayRefuse fresh why
+StopsSo fresh Failed = Unit {0}
+StopsSo fresh Memory = Unit {0}
+StopsSo fresh (Damaged path) = ⊥
+StopsSo fresh FarFailed = ⊥
+StopsSo fresh (FarDamaged path) = ⊥

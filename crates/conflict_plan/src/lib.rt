@@ -1,0 +1,17 @@
+//! What a job makes of each path that it may change: the conflict table, over what the old and the new list of troves record
+//! and what stands. It only reads.
+#![tactic(auto)]
+
+mod drafting;
+mod entries;
+mod making;
+mod orphans;
+mod planned;
+mod planning;
+mod records;
+mod settling;
+mod table;
+
+pub use planned::{Planned, PlannedList};
+pub use planning::plan;
+pub use table::{Outcome, outcome_of};

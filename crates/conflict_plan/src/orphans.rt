@@ -1,0 +1,160 @@
+//! The first path of the result whose parent isn't a directory.
+ghost use Rattle.std.specs.Prelude.{◌≡◌, IsTrue, IfErr, IfOk, Ok, All};
+ghost use Rattle.tree_disk.specs.Disk.{NamesOf};
+ghost use Rattle.tree_disk.specs.Rows.{is_dir_at};
+ghost use Rattle.tree_disk.specs.Steps.{IsDiskStop, Tests};
+ghost use Rattle.tree_disk.specs.Tree.{children};
+ghost use Rattle.conflict_plan.specs.Orphans as spec;
+ghost use Rattle.conflict_plan.specs.Orphans.{first_remaining, has_way, orphan_by, least_orphan, IsSeenPlan};
+
+use crate::making::{Fate, Plan};
+use crate::planned::Planned;
+use crate::settling::{child_of, is_gone};
+use cny_base::{Copies, OutOfMemory, Path, Stop, Text};
+use file_stream::FileRec;
+use std::alloc::Global;
+use tree_disk::{TreeDisk, steps};
+
+// Whether the parent of a path is a directory in the result. (That of `/` is `/` itself.)
+fn has_way<D: TreeDisk>(alloc: Global, disk: &mut D, plan: &Plan, path: &Path) -> Result<bool, Stop>
+    ensures tests { Tests D.disk (λ has. has)
+        (λ tree. Ok (has_way plan.now tree path.now))
+        disk.old disk.new result }
+    ensures stops { IfErr result IsDiskStop }
+{
+    let found = path.parent_path(alloc)?;
+    let Some(above) = found else {
+        return Ok(true);
+    };
+    if let Some(fate) = plan.fate(&above) {
+        return Ok(fate == Fate::Dir);
+    }
+    let look = steps::look(alloc, disk, &above)?;
+    Ok(look.is_dir())
+}
+
+// The path of the first of the names directly below a path that doesn't go.
+fn first_remaining(
+    alloc: Global,
+    plan: &Plan,
+    path: &Path,
+    names: &[Text],
+) -> Result<Option<Path>, OutOfMemory>
+    requires { NamesOf path.now names.now }
+    ensures { IfOk result (λ first. first ≡ first_remaining plan.now path.now names.now) }
+{
+    for last in names {
+        let child = child_of(alloc, path, last.get())?;
+        if !is_gone(plan, &child) {
+            return Ok(Some(child));
+        }
+    }
+    Ok(None)
+}
+
+fn wants_dir(want: &Option<FileRec>) -> bool
+    ensures { result ≡ spec.wants_dir want.now }
+{
+    match want {
+        Some(rec) => rec.is_dir(),
+        None => false,
+    }
+}
+
+// Whether a directory stands at the path that isn't to be one.
+fn leaves_dir(planned: &Planned) -> bool
+    ensures { result ≡ spec.leaves_dir planned.now }
+{
+    let dir = planned.was.is_dir();
+    let wanted = wants_dir(&planned.want);
+    dir && !wanted
+}
+
+// The first name directly below a directory that remains.
+fn first_left<D: TreeDisk>(
+    alloc: Global,
+    disk: &mut D,
+    plan: &Plan,
+    path: &Path,
+) -> Result<Option<Path>, Stop>
+    requires { IsTrue D.disk.tells → IsTrue (is_dir_at (D.disk.reads disk.old) path.now) }
+    ensures tests { Tests D.disk (λ left. left)
+        (λ tree. Ok (first_remaining plan.now path.now (children tree path.now)))
+        disk.old disk.new result }
+    ensures stops { IfErr result IsDiskStop }
+{
+    let names = steps::list(alloc, disk, path)?;
+    let first = first_remaining(alloc, plan, path, names.get())?;
+    Ok(first)
+}
+
+// The first name directly below a directory that isn't to be one, and that remains.
+fn left_below<D: TreeDisk>(
+    alloc: Global,
+    disk: &mut D,
+    plan: &Plan,
+    planned: &Planned,
+) -> Result<Option<Path>, Stop>
+    requires { IsTrue D.disk.tells → IsSeenPlan (D.disk.reads disk.old) planned.now }
+    ensures tests { Tests D.disk (λ left. left)
+        (λ tree. Ok (spec.left_below plan.now tree planned.now))
+        disk.old disk.new result }
+    ensures stops { IfErr result IsDiskStop }
+{
+    if leaves_dir(planned) {
+        return first_left(alloc, disk, plan, &planned.path);
+    }
+    Ok(None)
+}
+
+// The first path that is left without a directory above by what is planned of this one.
+fn orphan_by<D: TreeDisk>(
+    alloc: Global,
+    disk: &mut D,
+    plan: &Plan,
+    planned: &Planned,
+) -> Result<Option<Path>, Stop>
+    requires { IsTrue D.disk.tells → IsSeenPlan (D.disk.reads disk.old) planned.now }
+    ensures tests { Tests D.disk (λ orphan. orphan)
+        (λ tree. Ok (orphan_by plan.now tree planned.now))
+        disk.old disk.new result }
+    ensures stops { IfErr result IsDiskStop }
+{
+    if planned.want.is_some() && !has_way(alloc, disk, plan, &planned.path)? {
+        return Ok(Some(planned.path.copy()?));
+    }
+    left_below(alloc, disk, plan, planned)
+}
+
+// The lesser of two paths.
+fn lesser(one: Option<Path>, other: Option<Path>) -> Option<Path>
+    ensures { result ≡ spec.lesser one other }
+{
+    match (one, other) {
+        (Some(one), Some(other)) => { if other < one { Some(other) } else { Some(one) } }
+        (None, other) => other,
+        (one, None) => one,
+    }
+}
+
+/// The first path of the result whose parent isn't a directory.
+pub fn first_orphan<D: TreeDisk>(
+    alloc: Global,
+    disk: &mut D,
+    plan: &Plan,
+) -> Result<Option<Path>, Stop>
+    requires { IsTrue D.disk.tells → All (IsSeenPlan (D.disk.reads disk.old)) plan.now }
+    ensures tests { Tests D.disk (λ orphan. orphan)
+        (λ tree. Ok (least_orphan plan.now tree plan.now))
+        disk.old disk.new result }
+    ensures stops { IfErr result IsDiskStop }
+{
+    let mut least = None;
+    let all = plan.planned();
+    for planned in all {
+        let orphan = orphan_by(alloc, disk, plan, planned)?;
+        let less = lesser(least, orphan);
+        least = less;
+    }
+    Ok(least)
+}

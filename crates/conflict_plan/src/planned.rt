@@ -1,0 +1,31 @@
+//! The paths that a job changes.
+use cny_base::{Copies, ListOf, OutOfMemory, Path};
+use file_stream::FileRec;
+use tree_scan::Mark;
+
+/// A path that a job changes.
+#[derive(Debug, Drop)]
+pub struct Planned {
+    pub path: Path,
+    /// The fingerprint of what stands there.
+    pub was: Mark,
+    /// The record of what is to stand there; none where nothing is.
+    pub want: Option<FileRec>,
+}
+
+impl Copies for Planned {
+    fn copy(&self) -> Result<Self, OutOfMemory> {
+        let want = match &self.want {
+            Some(rec) => Some(rec.copy()?),
+            None => None,
+        };
+        Ok(Planned {
+            path: self.path.copy()?,
+            was: self.was.copy()?,
+            want,
+        })
+    }
+}
+
+/// A list of such paths.
+pub type PlannedList = ListOf<Planned>;

@@ -1,0 +1,130 @@
+//! The calls.
+use crate::answers::{mark_text, plan_text, stop_text, word};
+use crate::nodes::{disk_of, record_of};
+use crate::stop::Stop;
+use crate::troves::troves_of;
+use crate::words::{contents_at, mode_at, parts_of, path_at, text_at};
+use cny_base::{Copies, Options, Stop as DiskEnd};
+use conflict_plan::plan;
+use std::alloc::Global;
+use tree_scan::{
+    Finding, Findings, Found, Mark, Verified, are_same_marks, differing, mark_at, mark_file,
+    matches,
+};
+
+fn copied_mark(alloc: Global, found: &Mark) -> Result<String, Stop> {
+    let copy = found.copy()?;
+    if found.is_same(&copy) {
+        mark_text(alloc, found)
+    } else {
+        word(alloc, "another copy")
+    }
+}
+
+// `mark NODES PATH`, and that the copy of the fingerprint is the same.
+fn mark(alloc: Global, parts: &[String]) -> Result<String, Stop> {
+    let fails = text_at(parts, 3).is_ok();
+    let mut disk = disk_of(alloc, text_at(parts, 1)?, fails)?;
+    let path = path_at(alloc, parts, 2)?;
+    match mark_at(alloc, &mut disk, &path) {
+        Ok(found) => copied_mark(alloc, &found),
+        Err(stop) => stop_text(alloc, &stop),
+    }
+}
+
+// `mark_file MODE CONTENTS`.
+fn mark_of_file(alloc: Global, parts: &[String]) -> Result<String, Stop> {
+    let mode = mode_at(parts, 1)?;
+    let bytes = contents_at(alloc, parts, 2)?;
+    mark_text(alloc, &mark_file(mode, bytes.get()))
+}
+
+fn yes_or_no(alloc: Global, answer: Result<bool, DiskEnd>) -> Result<String, Stop> {
+    match answer {
+        Ok(true) => word(alloc, "yes"),
+        Ok(false) => word(alloc, "no"),
+        Err(stop) => stop_text(alloc, &stop),
+    }
+}
+
+// `matches NODES RECORD`.
+fn matches_record(alloc: Global, parts: &[String]) -> Result<String, Stop> {
+    let fails = text_at(parts, 3).is_ok();
+    let mut disk = disk_of(alloc, text_at(parts, 1)?, fails)?;
+    let file = record_of(alloc, text_at(parts, 2)?)?;
+    let answer = matches(alloc, &mut disk, &file.path, &file.rec);
+    yes_or_no(alloc, answer)
+}
+
+// `same RECORD RECORD`: whether both have one fingerprint.
+fn same(alloc: Global, parts: &[String]) -> Result<String, Stop> {
+    let one = record_of(alloc, text_at(parts, 1)?)?;
+    let other = record_of(alloc, text_at(parts, 2)?)?;
+    yes_or_no(alloc, Ok(are_same_marks(&one.rec, &other.rec)))
+}
+
+// `differing NODES PATH CONTENTS`.
+fn differing_bytes(alloc: Global, parts: &[String]) -> Result<String, Stop> {
+    let fails = text_at(parts, 4).is_ok();
+    let mut disk = disk_of(alloc, text_at(parts, 1)?, fails)?;
+    let path = path_at(alloc, parts, 2)?;
+    let bytes = contents_at(alloc, parts, 3)?;
+    match differing(alloc, &mut disk, &path, bytes.get()) {
+        Ok(count) => Ok(format!(in alloc; "{count}")?),
+        Err(stop) => stop_text(alloc, &stop),
+    }
+}
+
+// Whether a word is one of those of a text, with a space between two.
+fn has_word(text: &str, wanted: &str) -> bool {
+    for word in text.split(' ') {
+        if word == wanted {
+            return true;
+        }
+    }
+    false
+}
+
+// `plan OPTIONS NODES OLD NEW`; of the options, `fail` makes the first call of the disk fail, and other words say what is shown.
+fn planned(alloc: Global, parts: &[String]) -> Result<String, Stop> {
+    let words = text_at(parts, 1)?;
+    let options = Options {
+        replace: has_word(words, "replace"),
+        keep: has_word(words, "keep"),
+    };
+    let mut disk = disk_of(alloc, text_at(parts, 2)?, has_word(words, "fail"))?;
+    let old = troves_of(alloc, text_at(parts, 3)?)?;
+    let fresh = troves_of(alloc, text_at(parts, 4)?)?;
+    match plan(alloc, &mut disk, &old, &fresh, &options) {
+        Ok(list) => plan_text(alloc, list.get()),
+        Err(stop) => stop_text(alloc, &stop),
+    }
+}
+
+// `verified PATH`: a copy of what a verification found there.
+fn verified(alloc: Global, parts: &[String]) -> Result<String, Stop> {
+    let path = path_at(alloc, parts, 1)?;
+    let what = Found::Missing;
+    let lines = Findings::new(vec![in alloc; Finding { path, what }]?);
+    let found = Verified { lines, paths: 1 };
+    let copy = found.copy()?;
+    match copy.lines.get().first() {
+        Some(line) => Ok(format!(in alloc; "{} {}", line.path.text(), copy.paths)?),
+        None => word(alloc, "none"),
+    }
+}
+
+/// The answer to a line.
+pub fn answer_to(alloc: Global, line: &str) -> Result<String, Stop> {
+    let parts = parts_of(alloc, line, '\t')?;
+    match text_at(&parts, 0)? {
+        "mark" => mark(alloc, &parts),
+        "mark_file" => mark_of_file(alloc, &parts),
+        "matches" => matches_record(alloc, &parts),
+        "same" => same(alloc, &parts),
+        "differing" => differing_bytes(alloc, &parts),
+        "plan" => planned(alloc, &parts),
+        "verified" => verified(alloc, &parts),
+        _ => Err(Stop::Unreadable),
+    }
+}

@@ -1,0 +1,4 @@
+pub mod Marks
+pub mod MarkLaws
+pub mod Looks
+pub mod Differing

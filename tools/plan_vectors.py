@@ -1,0 +1,446 @@
+#!/usr/bin/env python3
+"""Lines of calls on fingerprints and plans, and the answers, made from the rules of docs/MODEL.md alone.
+
+Usage: plan_vectors.py stdin|stdout
+"""
+import hashlib
+import itertools
+import random
+import sys
+
+# A node is None, ('dir', mode), ('file', mode, contents) or ('link', target). A record is None, ('dir', mode),
+# ('file', mode, flags, contents) or ('link', target), with flags a string of the letters c, i and t.
+
+PINNED = ('/', '/var', '/var/lib')
+
+
+def contents(text):
+    """The bytes of contents as they are written in a line."""
+    if text == '-':
+        return b''
+    out = b''
+    for piece in text.split('+'):
+        if '*' in piece:
+            count, byte = piece.split('*', 1)
+            out += byte[:1].encode() * int(count)
+        else:
+            out += piece.encode()
+    return out
+
+
+def mark(node):
+    """The fingerprint of what stands."""
+    if node is None:
+        return ('nothing',)
+    if node[0] == 'file':
+        data = contents(node[2])
+        return ('file', node[1], len(data), hashlib.sha1(data).hexdigest())
+    return node
+
+
+def mark_of_record(rec):
+    if rec[0] == 'file':
+        data = contents(rec[3])
+        return ('file', rec[1], len(data), hashlib.sha1(data).hexdigest())
+    return rec
+
+
+def flags_of(rec):
+    return rec[2] if rec is not None and rec[0] == 'file' else ''
+
+
+def mark_text(m):
+    if m[0] == 'dir':
+        return f'dir {m[1]}'
+    if m[0] == 'file':
+        return f'file {m[1]} {m[2]} {m[3]}'
+    if m[0] == 'link':
+        return f'link {m[1]}'
+    return 'nothing'
+
+
+def want_text(rec):
+    if rec is None:
+        return 'nothing'
+    text = mark_text(mark_of_record(rec))
+    if rec[0] == 'file':
+        text += ' ' + ''.join(f if f in rec[2] else '-' for f in 'cit')
+    return text
+
+
+# ---- the table
+
+STAYS, GOES, COMES = 'stays', 'goes', 'comes'
+
+
+def row(path, o, n, t, below, options):
+    """The target by the first row that applies: STAYS, GOES, COMES, 'unowned' or 'edited'."""
+    replace, keep = 'replace' in options, 'keep' in options
+    is_dir = lambda x: x is not None and x[0] == 'dir'
+    is_file = lambda x: x is not None and x[0] == 'file'
+    matches = lambda rec: rec is not None and mark(t) == mark_of_record(rec)
+
+    def gone_otherwise():
+        if 't' in flags_of(o) or replace:
+            return GOES
+        return STAYS if 'i' in flags_of(o) else 'edited'
+
+    def otherwise():
+        if 't' in flags_of(n):
+            return COMES
+        if 'c' in flags_of(n) and keep:
+            return STAYS
+        return COMES if replace else 'edited'
+
+    rows = [
+        (path in PINNED, lambda: STAYS),
+        (n is None and t is None, lambda: STAYS),
+        (n is None and is_dir(o) and is_dir(t), lambda: STAYS if below else GOES),
+        (n is None and matches(o), lambda: GOES),
+        (n is None, gone_otherwise),
+        (is_dir(n) and is_dir(t), lambda: STAYS),
+        (o is not None and n is not None and mark_of_record(o) == mark_of_record(n), lambda: STAYS),
+        ('i' in flags_of(n) and is_file(t), lambda: STAYS),
+        (matches(n), lambda: STAYS),
+        (o is None and t is None, lambda: COMES),
+        (o is None, lambda: COMES if replace else 'unowned'),
+        (matches(o), lambda: COMES),
+        (True, otherwise),
+    ]
+    for applies, target in rows:
+        if applies:
+            return target()
+
+
+# ---- plans
+
+
+def parent(path):
+    return path.rsplit('/', 1)[0] or '/'
+
+
+def key(path):
+    return path.encode()
+
+
+def recorders(troves, path):
+    return [(name, files[path]) for name, files in sorted(troves.items()) if path in files]
+
+
+def record(troves, path):
+    found = recorders(troves, path)
+    return found[0][1] if found else None
+
+
+def owned(troves, path):
+    found = recorders(troves, path)
+    for name, rec in found[1:]:
+        if not (rec[0] == 'dir' and found[0][1][0] == 'dir'):
+            return found[0][0], name
+    return None
+
+
+def plan(tree, old, fresh, options):
+    """The answer of a plan, by the whole result."""
+    paths = sorted({p for troves in (old, fresh) for files in troves.values() for p in files}, key=key)
+    for p in paths:
+        two = owned(fresh, p)
+        if two:
+            return f'owned {p} {two[0]} {two[1]}'
+    for p in paths:
+        target = row(p, record(old, p), record(fresh, p), tree.get(p), False, options)
+        if target in ('unowned', 'edited'):
+            return f'{target} {p}'
+    # what stands at each path of the result: a node or a record
+    result = dict(tree)
+    changes = {}
+    # the deepest first: all names below a path are settled before it
+    for p in sorted(paths, key=lambda p: (-p.count('/'), key(p))):
+        below = any(q != '/' and parent(q) == p for q in result)
+        o, n, t = record(old, p), record(fresh, p), tree.get(p)
+        target = row(p, o, n, t, below, options)
+        if target == GOES:
+            result.pop(p, None)
+            changes[p] = None
+        elif target == COMES:
+            result[p] = n
+            changes[p] = n
+    for p in sorted(result, key=key):
+        if p != '/' and (result.get(parent(p)) or ('nothing',))[0] != 'dir':
+            return f'parent {p}'
+    out = 'ok'
+    for p in sorted(changes, key=key):
+        out += f'\t{p}: {mark_text(mark(tree.get(p)))} -> {want_text(changes[p])}'
+    return out
+
+
+def looks(old, fresh):
+    """Whether any path has to be looked at."""
+    for p in {p for troves in (old, fresh) for files in troves.values() for p in files}:
+        o, n = record(old, p), record(fresh, p)
+        if p not in PINNED and not (o and n and mark_of_record(o) == mark_of_record(n)):
+            return True
+    return False
+
+
+# ---- lines
+
+
+def node_word(path, node):
+    return ' '.join(node) + ' ' + path
+
+
+def record_word(path, rec):
+    if rec[0] == 'file':
+        return f'file {rec[1]} {rec[2] or "-"} {rec[3]} {path}'
+    return ' '.join(rec) + ' ' + path
+
+
+def tree_field(tree):
+    return ';'.join(node_word(p, tree[p]) for p in sorted(tree, key=key) if p != '/') or '-'
+
+
+def records_field(files):
+    return ';'.join(record_word(p, files[p]) for p in sorted(files, key=key)) or '-'
+
+
+def troves_field(troves):
+    return '|'.join(f'{name}: {records_field(files)}' for name, files in sorted(troves.items())) or '-'
+
+
+def plan_line(options, tree, old, fresh):
+    tree = dict(tree)
+    tree.setdefault('/', ('dir', '0755'))
+    line = '\t'.join(['plan', ' '.join(options) or '-', tree_field(tree), troves_field(old), troves_field(fresh)])
+    if 'fail' in options:
+        if not any(owned(fresh, p) for files in fresh.values() for p in files) and looks(old, fresh):
+            return line, 'failed'
+    return line, plan(tree, old, fresh, options)
+
+
+D = ('dir', '0755')
+
+
+def table_lines():
+    """Each record before and after against each thing that may stand, with each choice of options."""
+    olds = [None, D, ('file', '0644', '', 'aa'), ('file', '0644', 'i', 'aa'), ('file', '0644', 't', 'aa'), ('link', 'a')]
+    news = [None, D, ('file', '0644', '', 'aa'), ('file', '0644', '', 'bb'), ('file', '0644', 'c', 'bb'), ('file', '0644', 'i', 'bb'),
+            ('file', '0644', 't', 'bb'), ('file', '0644', 'ci', 'cc'), ('link', 'a'), ('link', 'b')]
+    stand = [{}, {'/p': D}, {'/p': ('dir', '0700'), '/p/x': ('file', '0644', 'x')}, {'/p': ('file', '0644', 'aa')},
+             {'/p': ('file', '0600', 'aa')}, {'/p': ('file', '0644', 'bb')}, {'/p': ('link', 'a')}, {'/p': ('link', 'b')}]
+    for o, n, t, options in itertools.product(olds, news, stand, ([], ['replace'], ['keep'], ['keep', 'replace'])):
+        if o is None and n is None:
+            continue
+        yield plan_line(options, t, {'a:lib': {'/p': o}} if o else {}, {'a:lib': {'/p': n}} if n else {})
+
+
+def named_lines():
+    """The examples that docs/MODEL.md and the commands name."""
+    etc = {'/etc': D}
+    foo = lambda text, flags='': {'/etc': D, '/etc/foo': ('file', '0644', flags, text)}
+    one = lambda files: {'foo:runtime': files}
+    stands = lambda text: {'/etc': D, '/etc/foo': ('file', '0644', text)}
+    yield plan_line(['install_component'], {}, {}, one(foo('abc')))
+    yield plan_line(['unowned_file_kept'], stands('xyz'), {}, one(foo('abc')))
+    yield plan_line(['unowned_file_kept', 'replace'], stands('xyz'), {}, one(foo('abc')))
+    yield plan_line(['edited_file_refused'], stands('abX'), one(foo('abc')), one(foo('abcd')))
+    yield plan_line(['edited_file_refused', 'keep'], stands('abX'), one(foo('abc')), one(foo('abcd')))
+    yield plan_line(['edited_file_refused', 'keep'], stands('abX'), one(foo('abc')), one(foo('abcd', 'c')))
+    yield plan_line(['edited_file_refused', 'replace'], stands('abX'), one(foo('abc')), one(foo('abcd')))
+    yield plan_line(['edit_kept_when_unchanged'], stands('abX'), one(foo('abc')), one(foo('abc')))
+    yield plan_line(['erase_keeps_foreign_file'], dict(stands('abc'), **{'/etc/other': ('file', '0644', 'o')}), one(foo('abc')), {})
+    yield plan_line(['erase_removes_empty_directory'], stands('abc'), one(foo('abc')), {})
+    yield plan_line(['parent_reserved_owned'], {}, {}, one({'/etc/foo': ('file', '0644', '', 'abc')}))
+    yield plan_line(['parent_reserved_owned'], {}, {}, {'foo:runtime': foo('abc'), 'bar:runtime': foo('abc')})
+    yield plan_line(['parent_reserved_owned'], etc, one(foo('abc')), {'foo:runtime': foo('abc'), 'bar:runtime': foo('abc')})
+
+
+def shape_lines():
+    """Directories, parents, owners and the order of refusals."""
+    f = lambda text='x', flags='': ('file', '0644', flags, text)
+    node = lambda text='x': ('file', '0644', text)
+    deep = {'/a': D, '/a/b': D, '/a/b/c': D, '/a/b/c/f': node()}
+    owned_deep = {'/a': D, '/a/b': D, '/a/b/c': D, '/a/b/c/f': f()}
+    every = [[], ['replace'], ['keep']]
+    cases = [
+        # directories that go from the deepest up, and what keeps them
+        (deep, {'a:lib': owned_deep}, {}),
+        (dict(deep, **{'/a/b/foreign': node()}), {'a:lib': owned_deep}, {}),
+        (dict(deep, **{'/a/b/c/foreign': ('link', 'x')}), {'a:lib': owned_deep}, {}),
+        (deep, {'a:lib': {'/a': D, '/a/b': D}}, {}),
+        (deep, {'a:lib': {'/a/b': D, '/a/b/c': D, '/a/b/c/f': f()}}, {}),
+        (deep, {'a:lib': dict(owned_deep, **{'/a/b/c/f': f('y', 'i')})}, {}),
+        (deep, {'a:lib': dict(owned_deep, **{'/a/b/c/f': f('y', 't')})}, {}),
+        (deep, {'a:lib': owned_deep}, {'b:lib': {'/a/new': f('n')}}),
+        (deep, {'a:lib': owned_deep}, {'b:lib': {'/a/b/c/f': f('n')}}),
+        (deep, {'a:lib': owned_deep, 'b:lib': {'/a': D, '/a/b': D}}, {'b:lib': {'/a': D, '/a/b': D}}),
+        (deep, {'a:lib': owned_deep, 'b:lib': {'/a': ('dir', '0700')}}, {'b:lib': {'/a': ('dir', '0700')}}),
+        ({'/a': ('dir', '0700')}, {'a:lib': {'/a': D}}, {}),
+        # byte order isn't the order of subtrees
+        ({'/a': D, '/a-b': D, '/a-b/f': node(), '/a/f': node()}, {'a:lib': {'/a': D, '/a-b': D, '/a-b/f': f(), '/a/f': f()}}, {}),
+        ({'/a': D, '/a-b': node('e'), '/a/x': node('e')}, {'a:lib': {'/a': D, '/a/x': f()}}, {'a:lib': {'/a': D, '/a-b': f()}}),
+        ({'/a': D, '/a/x': node()}, {}, {'a:lib': {'/a': ('link', 'l'), '/a-b': f(), '/a-b/c': f()}}),
+        ({'/a': D, '/a/x': node()}, {'b:lib': {'/a': D}}, {'a:lib': {'/a': ('link', 'l'), '/a-b/c': f(), '/a0/c': f()}}),
+        # kinds that change
+        ({'/p': D, '/p/f': node()}, {'a:lib': {'/p': D, '/p/f': f()}}, {'a:lib': {'/p': f('n')}}),
+        ({'/p': D, '/p/f': node(), '/p/g': node()}, {'a:lib': {'/p': D, '/p/f': f()}}, {'a:lib': {'/p': f('n')}}),
+        ({'/p': D, '/p/f': node(), '/p/g': node()}, {'a:lib': {'/p': D}}, {'a:lib': {'/p': ('link', 'n')}}),
+        ({'/p': node()}, {'a:lib': {'/p': f()}}, {'a:lib': {'/p': D, '/p/f': f('n')}}),
+        ({'/p': node('e')}, {'a:lib': {'/p': f()}}, {'a:lib': {'/p': D, '/p/f': f('n')}}),
+        ({'/p': ('link', 'q'), '/q': D}, {}, {'a:lib': {'/p/f': f('n')}}),
+        ({'/p': D, '/p/f': node()}, {'a:lib': {'/p': f('e', 't'), '/p/f': f()}}, {}),
+        ({'/p': D, '/p/f': node()}, {'a:lib': {'/p': f('e', 't')}}, {}),
+        ({'/p': D, '/p/f': node()}, {'a:lib': {'/p': f('e')}}, {}),
+        # missing parents
+        ({}, {}, {'a:lib': {'/p/q/f': f()}}),
+        ({}, {}, {'a:lib': {'/p/q': D, '/p/q/f': f()}}),
+        ({}, {}, {'a:lib': {'/p': D, '/p/q': D, '/p/q/f': f()}}),
+        ({}, {'a:lib': {'/p': D}}, {'a:lib': {'/p': D, '/p/q': f()}}),
+        ({}, {'a:lib': {'/p': D}}, {'a:lib': {'/p': ('dir', '0700'), '/p/q': f()}}),
+        ({'/p': node()}, {}, {'a:lib': {'/p/q': f()}}),
+        # a path of several troves
+        ({}, {}, {'a:lib': {'/p': D}, 'b:lib': {'/p': D}, 'c:lib': {'/p': f()}}),
+        ({}, {}, {'a:lib': {'/p': f()}, 'b:lib': {'/p': D}, 'c:lib': {'/p': f()}}),
+        ({}, {}, {'a:lib': {'/p': ('link', 'x'), '/q': f()}, 'b:lib': {'/p': ('link', 'x'), '/q': f()}}),
+        ({}, {}, {'a:lib': {'/p': D}, 'b:lib': {'/p': ('dir', '0700')}}),
+        ({'/p': ('dir', '0700')}, {'a:lib': {'/p': D}, 'b:lib': {'/p': ('dir', '0700')}}, {'b:lib': {'/p': ('dir', '0700')}}),
+        # the order of refusals: owned, then the table, then parents, each by the first path
+        ({'/a': node('e')}, {}, {'a:lib': {'/a': f(), '/z': f()}, 'b:lib': {'/z': f()}}),
+        ({'/z': node('e')}, {}, {'a:lib': {'/a/b': f(), '/z': f()}}),
+        ({'/a': node('e'), '/z': node('e')}, {'a:lib': {'/z': f()}}, {'a:lib': {'/a': f(), '/z': f('n')}}),
+        ({'/a': node('e'), '/z': node('e')}, {'a:lib': {'/a': f()}}, {'a:lib': {'/a': f('n'), '/z': f()}}),
+        # fixed directories
+        ({'/var': D, '/var/lib': D}, {'a:lib': {'/': D, '/var': D, '/var/lib': D}}, {}),
+        ({'/var': D}, {}, {'a:lib': {'/': ('dir', '0700'), '/var': ('dir', '0700'), '/var/lib': D}}),
+        ({'/var': D}, {}, {'a:lib': {'/var/lib': D, '/var/lib/x': f()}}),
+        # nothing at all
+        ({'/a': D}, {}, {}),
+        ({'/a': D}, {'a:lib': {}}, {'b:lib': {}}),
+    ]
+    for (tree, old, fresh), options in itertools.product(cases, every):
+        yield plan_line(options, tree, old, fresh)
+    # what both lists record so isn't looked at
+    same = {'a:lib': {'/': D, '/a': D, '/a/f': f(), '/l': ('link', 'x')}}
+    for fresh in (same, {'b:lib': same['a:lib']}, {'a:lib': dict(same['a:lib'], **{'/a/f': f('x', 'c')})},
+                  {'a:lib': dict(same['a:lib'], **{'/n': f()})}, {'a:lib': {'/a': D}}):
+        yield plan_line(['fail'], {'/a': D, '/a/f': node('e')}, same, fresh)
+
+
+def random_lines(count):
+    """Small trees and lists by chance, from a fixed seed."""
+    rng = random.Random(30)
+    names = ['/a', '/a-b', '/a-b/c', '/a/b', '/a/b/c', '/a/b/d', '/a/c', '/b', '/b/a', '/b/a/b']
+    nodes = [D, D, ('dir', '0700'), ('file', '0644', 'x'), ('file', '0644', 'y'), ('link', 'a')]
+    recs = [D, D, D, ('dir', '0700'), ('file', '0644', '', 'x'), ('file', '0644', '', 'y'), ('file', '0644', 'c', 'y'),
+            ('file', '0644', 'i', 'y'), ('file', '0644', 't', 'y'), ('link', 'a'), ('link', 'b')]
+
+    def tree():
+        made = {'/': D}
+        for p in names:
+            if made.get(parent(p), ('nothing',))[0] == 'dir' and rng.random() < 0.75:
+                made[p] = rng.choice(nodes)
+        return made
+
+    def files(share):
+        return {p: rng.choice(recs) for p in names if rng.random() < share}
+
+    def troves(shares):
+        made = {}
+        for name in ('a:lib', 'b:lib', 'c:lib'):
+            if rng.random() < 0.6:
+                made[name] = files(shares)
+        return made
+
+    def without_clash(made):
+        """Of several troves with one path that isn't a directory in all, the first alone has it."""
+        for p in names:
+            found = [n for n in sorted(made) if p in made[n]]
+            if any(made[n][p][0] != 'dir' for n in found):
+                for n in found[1:]:
+                    del made[n][p]
+        return made
+
+    def near(list_, stands):
+        """The list with most of its records as things stand."""
+        for files_ in list_.values():
+            for p in files_:
+                t = stands.get(p)
+                if t is not None and rng.random() < 0.7:
+                    files_[p] = ('file', t[1], rng.choice(['', '', 'c', 'i']), t[2]) if t[0] == 'file' else t
+        return list_
+
+    for _ in range(count):
+        stands = tree()
+        old = without_clash(near(troves(0.6), stands))
+        fresh = troves(0.5)
+        if rng.random() < 0.9:
+            fresh = without_clash(fresh)
+        yield plan_line(rng.choice([[], ['replace'], ['replace'], ['keep']]), stands, old, fresh)
+
+
+def mark_lines():
+    texts = ['-', 'a', 'abc', '4096*a', '65535*b', '65536*b', '65537*b', '131072*c+d', '200000*e']
+    for text in texts:
+        data = contents(text)
+        m = mark(('file', '0644', text))
+        yield f'mark_file\t0644\t{text}', mark_text(m)
+        yield f'mark\tfile 0644 {text} /f\t/f', mark_text(m)
+        for other in ('0644', '0600'):
+            yield f'matches\tfile 0644 {text} /f\tfile {other} - {text} /f', 'yes' if other == '0644' else 'no'
+        yield f'matches\tfile 0644 {text} /f\tfile 0644 cit {text}+x /f', 'no'
+        swapped = text + '+1*y' if text != '-' else '1*y'
+        yield f'matches\tfile 0644 {text}{"+1*x" if text != "-" else ""} /f\tfile 0644 - {swapped} /f', 'no'
+    yield f'mark\tdir 0755 /d\t/d', 'dir 0755'
+    yield f'mark\tdir 0000 /d\t/d', 'dir 0000'
+    yield f'mark\tlink ../x /l\t/l', 'link ../x'
+    yield f'mark\tlink ../x /l\t/l/x', 'nothing'
+    yield f'mark\tdir 0755 /d\t/e', 'nothing'
+    yield f'mark\t-\t/', 'dir 0755'
+    yield f'mark\tfile 0644 a /f\t/f\tfail', 'failed'
+    yield f'matches\tfile 0644 a /f\tfile 0644 - a /f\tfail', 'failed'
+    yield f'differing\tfile 0644 a /f\t/f\ta\tfail', 'failed'
+    stand = ['dir 0755', 'dir 0700', 'file 0644 x', 'file 0644 y', 'link x', 'link y', None]
+    recs = ['dir 0755', 'dir 0700', 'file 0644 - x', 'file 0644 c x', 'file 0644 - yy', 'link x', 'link y']
+
+    def as_mark(text):
+        words = text.split(' ')
+        if words[0] == 'file':
+            return mark(('file', words[1], words[-1]))
+        return tuple(words)
+
+    for t, rec in itertools.product(stand, recs):
+        same = t is not None and as_mark(t) == as_mark(rec)
+        yield f'matches\t{t + " /p" if t else "-"}\t{rec} /p', 'yes' if same else 'no'
+    for one, other in itertools.product(recs, recs):
+        yield f'same\t{one} /p\t{other} /q', 'yes' if as_mark(one) == as_mark(other) else 'no'
+    yield 'verified\t/a/b', '/a/b 1'
+
+
+def differing_lines():
+    pairs = [('-', '-'), ('-', 'abc'), ('abc', '-'), ('abc', 'abc'), ('abc', 'abX'), ('abX', 'abcd'), ('abcd', 'aXc'), ('abc', 'xyz'),
+             ('65536*a', '65536*a'), ('65536*a+b', '65536*a+c'), ('65535*a+b', '65535*a+c'), ('65536*a', '65537*a'),
+             ('65537*a', '65536*a'), ('100000*a', '100000*b'), ('100000*a', '99999*b'), ('99999*b', '100000*a'),
+             ('131072*a+x', '131072*a+y'), ('65535*a+xy+65535*a+z', '65535*a+yx+65535*a+w+q'), ('200000*a', '-'), ('-', '200000*a'),
+             ('100*a+b+70000*c', '100*a+c+70000*c'), ('130*a', '129*a+b'), ('63*a+b', '64*a'), ('64*a+b', '65*a')]
+    for text, other in pairs:
+        a, b = contents(text), contents(other)
+        count = sum(x != y for x, y in zip(a, b)) + abs(len(a) - len(b))
+        yield f'differing\tfile 0644 {text} /f\t/f\t{other}', str(count)
+
+
+def lines():
+    yield from named_lines()
+    yield from table_lines()
+    yield from shape_lines()
+    yield from random_lines(700)
+    yield from mark_lines()
+    yield from differing_lines()
+
+
+def main():
+    part = {'stdin': 0, 'stdout': 1}[sys.argv[1]]
+    for pair in lines():
+        sys.stdout.write(pair[part] + '\n')
+
+
+main()
