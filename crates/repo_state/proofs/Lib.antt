@@ -1,0 +1,7 @@
+mod FileNames
+mod Streams
+mod TrovesRead
+mod Damages
+mod Committing
+mod Handing
+mod Written
