@@ -1,9 +1,9 @@
 //! Staged files: where they stand, and which of them a write set names.
-ghost use Rattle.std.specs.Prelude.{◌≡◌, ◌↔◌, ◌==◌, ◌||◌, ◌<◌, ◌^◌, false, ℕ, List, Some, IfOk, IsErrOf, IsTrue, OnOk, string_bytes};
+ghost use Rattle.std.specs.Prelude.{◌≡◌, ◌↔◌, ◌==◌, ◌||◌, ◌<◌, ◌^◌, false, ℕ, List, Some, IfOk, IsErrOf, IsTrue, OnOk};
 ghost use Rattle.std.specs.Fmt.{decimal};
 ghost use Rattle.std.specs.List.{list_any};
-ghost use Rattle.cny_base.specs.Path.{is_path};
-ghost use Rattle.journal_log.specs.Own.{staged, staged_file};
+ghost use Rattle.cny_base.specs.Path.{is_path, join};
+ghost use Rattle.journal_log.specs.Own.{staged_file};
 ghost use Rattle.journal_log.specs.Staged.{is_staged_as, names_staged_at, AreStagedNumbers, NumbersFit};
 ghost use Rattle.journal_log.specs.declared.put.Put.{Put};
 
@@ -14,39 +14,15 @@ use std::alloc::Global;
 use std::collections::BTreeSet;
 use std::marker::Model;
 
-/// The path of the staged file with this number in the private directory `base`. `Bad` exactly where
-/// it has none, the directory's path being too long.
-pub fn staged_path(alloc: Global, base: &Path, number: u32) -> Result<Path, TextFault>
-    ensures value { IfOk result (λ path. path ≡ staged_file base.now number) }
-    ensures ok { OnOk result (IsTrue (is_path (staged_file base.now number))) }
-    ensures bad { IsErrOf result TextFault.Bad ↔ (is_path (staged_file base.now number) ≡ false) }
+/// The path of the staged file with this number, `dir` being the directory of staged bytes. `Bad`
+/// exactly where it has none, the directory's path being too long.
+pub fn staged_path(alloc: Global, dir: &Path, number: u32) -> Result<Path, TextFault>
+    ensures value { IfOk result (λ path. path ≡ join dir.now (decimal number)) }
+    ensures ok { OnOk result (IsTrue (is_path (join dir.now (decimal number)))) }
+    ensures bad { IsErrOf result TextFault.Bad ↔ (is_path (join dir.now (decimal number)) ≡ false) }
 {
-    if !is_staged_path(base, number) {
-        return Err(TextFault::Bad);
-    }
-    let mut text = staged_dir(alloc, base)?;
-    text.push('/')?;
     let mut digits = Buffer::new();
-    text.push_str(digits.format(number))?;
-    Path::read(alloc, text.as_str())
-}
-
-// How many bytes the path of a staged file has at most behind that of the private directory.
-const LONGEST_END: usize = 13;
-
-// The path of the directory of staged bytes, with room for the rest of the path of a staged file.
-fn staged_dir(alloc: Global, base: &Path) -> Result<String, OutOfMemory>
-    ensures path { IsTrue (is_path base.now) }
-    ensures value { IfOk result (λ text. string_bytes text ≡ staged base.now) }
-{
-    let dir = base.text();
-    let mut text = String::with_capacity(alloc, dir.len() + LONGEST_END)?;
-    text.push_str(dir)?;
-    if text.len() > 1 {
-        text.push('/')?;
-    }
-    text.push('p')?;
-    Ok(text)
+    dir.join(alloc, digits.format(number))
 }
 
 /// Whether the staged file with this number has a path in the private directory `base`. Takes no

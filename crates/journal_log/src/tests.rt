@@ -279,16 +279,16 @@ fn long_path(alloc: Global, len: usize) -> Result<Path, TextFault> {
 
 #[test]
 fn staged_paths(rt: HostRuntime) -> Result<(), Fail> {
-    let base = Path::read(rt.alloc(), "/base")?;
-    let path = staged_path(rt.alloc(), &base, 4_294_967_295)?;
+    let dir = Path::read(rt.alloc(), "/base/p")?;
+    let path = staged_path(rt.alloc(), &dir, 4_294_967_295)?;
     assert!(rt; path.text() == "/base/p/4294967295");
-    let top = Path::read(rt.alloc(), "/")?;
+    let top = Path::read(rt.alloc(), "/p")?;
     let path = staged_path(rt.alloc(), &top, 0)?;
     assert!(rt; path.text() == "/p/0");
     Ok(())
 }
 
-// Below 1,011 bytes each number has a path, below 1,020 only one of one digit, and below 1,021 none.
+// Below a base of 1,011 bytes each number has a path, below 1,020 only one of one digit, and below 1,021 none.
 const LONG: [(usize, u32, bool); 7] = [
     (1_011, 4_294_967_295, true),
     (1_012, 999_999_999, true),
@@ -304,7 +304,8 @@ fn long_staged_paths(rt: HostRuntime) -> Result<(), Fail> {
     for (len, number, stands) in LONG {
         let base = long_path(rt.alloc(), len)?;
         assert_eq!(rt; is_staged_path(&base, number), stands, "{len} {number}");
-        let is_bad = matches!(staged_path(rt.alloc(), &base, number), Err(TextFault::Bad));
+        let dir = base.join(rt.alloc(), "p")?;
+        let is_bad = matches!(staged_path(rt.alloc(), &dir, number), Err(TextFault::Bad));
         assert_eq!(rt; is_bad, !stands, "{len} {number}");
     }
     Ok(())

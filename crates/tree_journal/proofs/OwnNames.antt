@@ -368,6 +368,12 @@ short_own base last short few = omega (arith, join_short base last, short, few)
 pub staged_is_path : (base : Name) → is_path base ≡ true → length base ≤ 1011 → is_path (staged base) ≡ true
 staged_is_path base path short = own_is_path base (codes "p") path staged_part (short_own base (codes "p") short (omega arith))
 
+-- the directory of staged bytes has a path where the log has one
+pub staged_shorter : (base : Name) → length (log base) ≤ 1024 → length (join base (codes "p")) ≤ 1024
+staged_shorter [] short = omega (arith, short)
+staged_shorter (a ∷ []) short = omega arith
+staged_shorter (a ∷ b ∷ p) short = omega (arith, short, length-append (a ∷ b ∷ p) (47 ∷ codes "log"), length-append (a ∷ b ∷ p) (47 ∷ codes "p"))
+
 pub log_shorter : (base path : Name) → path ≡ gate base → is_path path ≡ true → length (log base) ≤ 1024
 log_shorter base path is fits = shorter base (path_short (gate base) (ap is_path (sym is) ∙ fits))
   where

@@ -8,7 +8,7 @@ ghost use Rattle.tree_disk.specs.Rows.{bytes_at, with_node};
 ghost use Rattle.tree_disk.specs.Steps.{Makes};
 ghost use Rattle.tree_disk.specs.Tree.{put as with_put};
 ghost use Rattle.tree_disk.specs.Unfailed.{UnlessFailed};
-ghost use Rattle.journal_log.specs.Own.{staged_file, work};
+ghost use Rattle.journal_log.specs.Own.{staged, staged_file, work};
 ghost use Rattle.tree_journal.specs.Passes.{is_work_or_name, CanMove, CanWork, HasSize};
 ghost use Rattle.tree_journal.specs.Visible.{IsBetween};
 
@@ -43,6 +43,7 @@ pub fn put_file<D: TreeDisk>(
     alloc: Global,
     disk: &mut D,
     base: &Path,
+    dir: &Path,
     work_path: &Path,
     path: &Path,
     mode: Mode,
@@ -50,6 +51,7 @@ pub fn put_file<D: TreeDisk>(
     size: u32,
 ) -> Result<(), Stop>
     requires base { IsTrue (is_path base.now) }
+    requires dir { dir.now ≡ staged base.now }
     requires work { work_path.now ≡ work base.now }
     requires staged { IsTrue (is_path (staged_file base.now number)) }
     requires stands { IsTrue D.disk.tells → HasSize (D.disk.reads disk.old) (staged_file base.now number) size }
@@ -59,7 +61,7 @@ pub fn put_file<D: TreeDisk>(
     ensures seen { IsTrue D.disk.tells → UnlessFailed D.disk disk.old disk.new
         (IsBetween base.now (D.disk.reads disk.old) (with_put (D.disk.reads disk.old) path.now (Some (node.File mode (bytes_at (D.disk.reads disk.old) (staged_file base.now number)))))) }
 {
-    make_file_at(alloc, disk, base, work_path, mode, number, size)?;
+    make_file_at(alloc, disk, base, dir, work_path, mode, number, size)?;
     steps::rename(alloc, disk, work_path, path)
 }
 
@@ -68,12 +70,14 @@ fn make_file_at<D: TreeDisk>(
     alloc: Global,
     disk: &mut D,
     base: &Path,
+    dir: &Path,
     work_path: &Path,
     mode: Mode,
     number: u32,
     size: u32,
 ) -> Result<(), Stop>
     requires base { IsTrue (is_path base.now) }
+    requires dir { dir.now ≡ staged base.now }
     requires work { work_path.now ≡ work base.now }
     requires staged { IsTrue (is_path (staged_file base.now number)) }
     requires stands { IsTrue D.disk.tells → HasSize (D.disk.reads disk.old) (staged_file base.now number) size }
@@ -81,7 +85,7 @@ fn make_file_at<D: TreeDisk>(
     ensures { Makes D.disk (one_name work_path.now)
         (λ tree. with_node tree work_path.now (node.File mode (bytes_at tree (staged_file base.now number)))) disk.old disk.new result }
 {
-    let from = path_of(alloc, base, number)?;
+    let from = path_of(alloc, dir, number)?;
     copy_file(alloc, disk, &from, size, work_path)?;
     steps::set_mode(alloc, disk, work_path, mode)
 }

@@ -11,7 +11,7 @@ ghost use Rattle.tree_disk.specs.Rows.{with_node};
 ghost use Rattle.tree_disk.specs.Steps.{Makes};
 ghost use Rattle.tree_disk.specs.Tree.{put as with_put};
 ghost use Rattle.tree_disk.specs.Unfailed.{IsEither, UnlessFailed};
-ghost use Rattle.journal_log.specs.Own.{work};
+ghost use Rattle.journal_log.specs.Own.{staged, work};
 ghost use Rattle.journal_log.specs.Targets.{is_target};
 ghost use Rattle.journal_log.specs.WriteSet.{CanBeLogged};
 ghost use Rattle.journal_log.specs.Rules.{AreLogged};
@@ -105,10 +105,12 @@ fn make_target<D: TreeDisk>(
     alloc: Global,
     disk: &mut D,
     base: &Path,
+    dir: &Path,
     work_path: &Path,
     put: &Put,
 ) -> Result<(), Stop>
     requires base { IsTrue (is_path base.now) }
+    requires dir { dir.now ≡ staged base.now }
     requires work { work_path.now ≡ work base.now }
     requires logged { CanBeLogged base.now put.now.want }
     requires told { IsTrue D.disk.tells → CanMakeNow base.now (D.disk.reads disk.old) put.now }
@@ -126,7 +128,9 @@ fn make_target<D: TreeDisk>(
             number,
             size,
             ..
-        } => put_file(alloc, disk, base, work_path, path, *mode, *number, *size),
+        } => put_file(
+            alloc, disk, base, dir, work_path, path, *mode, *number, *size,
+        ),
         Want::File { .. } => unreachable!(),
     }
 }
@@ -136,10 +140,12 @@ fn make_targets<D: TreeDisk>(
     alloc: Global,
     disk: &mut D,
     base: &Path,
+    dir: &Path,
     work_path: &Path,
     puts: &[Put],
 ) -> Result<(), Stop>
     requires base { IsTrue (is_path base.now) }
+    requires dir { dir.now ≡ staged base.now }
     requires work { work_path.now ≡ work base.now }
     requires logged { AreLogged base.now puts.now }
     requires told { IsTrue D.disk.tells → CanMakePass base.now puts.now (D.disk.reads disk.old) }
@@ -148,7 +154,7 @@ fn make_targets<D: TreeDisk>(
         (IsBetween base.now (D.disk.reads disk.old) (outcome base.now puts.now (D.disk.reads disk.old))) }
 {
     for put in puts {
-        make_target(alloc, disk, base, work_path, put)?;
+        make_target(alloc, disk, base, dir, work_path, put)?;
     }
     Ok(())
 }
@@ -158,10 +164,12 @@ fn both_passes<D: TreeDisk>(
     alloc: Global,
     disk: &mut D,
     base: &Path,
+    dir: &Path,
     work_path: &Path,
     puts: &[Put],
 ) -> Result<(), Stop>
     requires base { IsTrue (is_path base.now) }
+    requires dir { dir.now ≡ staged base.now }
     requires work { work_path.now ≡ work base.now }
     requires logged { AreLogged base.now puts.now }
     requires told { IsTrue D.disk.tells → CanPutAll base.now puts.now (D.disk.reads disk.old) }
@@ -170,7 +178,7 @@ fn both_passes<D: TreeDisk>(
         (IsVisible base.now (D.disk.reads disk.old) (outcome base.now puts.now (D.disk.reads disk.old))) }
 {
     clear_targets(alloc, disk, puts)?;
-    make_targets(alloc, disk, base, work_path, puts)
+    make_targets(alloc, disk, base, dir, work_path, puts)
 }
 
 /// Puts all targets, and waits until they are kept. What stands at the work name goes first.
@@ -178,10 +186,12 @@ pub fn put_targets<D: TreeDisk>(
     alloc: Global,
     disk: &mut D,
     base: &Path,
+    dir: &Path,
     work_path: &Path,
     puts: &[Put],
 ) -> Result<(), Stop>
     requires base { IsTrue (is_path base.now) }
+    requires dir { dir.now ≡ staged base.now }
     requires work { work_path.now ≡ work base.now }
     requires logged { AreLogged base.now puts.now }
     requires told { IsTrue D.disk.tells → CanReplay base.now puts.now (D.disk.reads disk.old) }
@@ -191,6 +201,6 @@ pub fn put_targets<D: TreeDisk>(
         (IsVisible base.now (D.disk.reads disk.old) (outcome base.now puts.now (D.disk.reads disk.old))) }
 {
     steps::clear_tree(alloc, disk, work_path)?;
-    both_passes(alloc, disk, base, work_path, puts)?;
+    both_passes(alloc, disk, base, dir, work_path, puts)?;
     steps::sync(alloc, disk)
 }

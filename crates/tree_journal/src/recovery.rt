@@ -7,7 +7,7 @@ ghost use Rattle.tree_disk.specs.Disk.{HasRead};
 ghost use Rattle.tree_disk.specs.Steps.{no_name};
 ghost use Rattle.tree_disk.specs.Tree.{Tree};
 ghost use Rattle.tree_disk.specs.Unfailed.{UnlessFailed};
-ghost use Rattle.journal_log.specs.Own.{gate, log};
+ghost use Rattle.journal_log.specs.Own.{gate, log, staged};
 ghost use Rattle.journal_log.specs.WriteSet.{IsLoggable};
 ghost use Rattle.tree_journal.specs.Found.{Finds, FindsLog, FindsReplayable, StopsSo};
 ghost use Rattle.tree_journal.specs.Recovering.{IsVisibleIn, Recovers, Replays};
@@ -41,7 +41,7 @@ pub fn recover<D: TreeDisk>(alloc: Global, disk: &mut D, base: &Path) -> Result<
     // At every moment, also inside each call of the disk and where a call fails, a crash leaves a crash image at entry, or
     // a tree that recovers to all that the disk, as it read at entry, recovers to.
     ensures any_moment { IsTrue D.disk.tells → LeavesOnly D.disk disk.old disk.new (RecoversAsThen D.disk base.now disk.old) }
-    // Then the commit flag isn't set, a crash leaves what the disk reads, and that stores the same as all that the disk
+    // After Ok the commit flag isn't set, a crash leaves what the disk reads, and that stores the same as all that the disk
     // recovered to as it read.
     ensures recovered { IsTrue D.disk.tells → OnOk result (IsRecovered D.disk base.now disk.old disk.new) }
     ensures was_committed { IsTrue D.disk.tells → IfOk result (λ was. was ≡ is_committed base.now (D.disk.reads disk.old)) }
@@ -151,15 +151,23 @@ fn whole_log<D: TreeDisk>(alloc: Global, disk: &mut D, base: &Path) -> Result<Pu
     ensures later { D.disk.faults disk.old ≤ D.disk.faults disk.new }
 {
     let log_path = own_path(alloc, base, "log")?;
+    let dir = own_path(alloc, base, "p")?;
     let Some(puts) = read_log(alloc, disk, base, &log_path)? else {
         return Err(Stop::Damaged { path: log_path });
     };
-    check_log(alloc, disk, base, &puts)?;
+    check_log(alloc, disk, base, &dir, &puts)?;
     Ok(puts)
 }
 
 // Whether the staged files of the log stand, and it can be put.
-fn check_log<D: TreeDisk>(alloc: Global, disk: &mut D, base: &Path, puts: &Puts) -> Result<(), Stop>
+fn check_log<D: TreeDisk>(
+    alloc: Global,
+    disk: &mut D,
+    base: &Path,
+    dir: &Path,
+    puts: &Puts,
+) -> Result<(), Stop>
+    requires dir { dir.now ≡ staged base.now }
     requires loggable { IsLoggable base.now puts.now }
     requires flag_set { IsTrue D.disk.tells → is_committed base.now (D.disk.reads disk.old) ≡ true }
     requires found { IsTrue D.disk.tells → FindsLog base.now (D.disk.reads disk.old) (Some puts.now) }
@@ -167,7 +175,7 @@ fn check_log<D: TreeDisk>(alloc: Global, disk: &mut D, base: &Path, puts: &Puts)
     ensures causes { IfErr result (StopsSo D.disk base.now disk.old disk.new) }
     ensures later { D.disk.faults disk.old ≤ D.disk.faults disk.new }
 {
-    if let Some(path) = first_unstaged(alloc, disk, base, puts)? {
+    if let Some(path) = first_unstaged(alloc, disk, base, dir, puts)? {
         return Err(Stop::Damaged { path });
     }
     if let Some(path) = first_blocked(alloc, disk, puts)? {

@@ -4,7 +4,7 @@ ghost use Rattle.cny_base.specs.Path.{is_path};
 ghost use Rattle.tree_disk.specs.Confined.{IsSynced, LeavesOnly};
 ghost use Rattle.tree_disk.specs.Steps.{Makes};
 ghost use Rattle.tree_disk.specs.Unfailed.{UnlessFailed};
-ghost use Rattle.journal_log.specs.Own.{gate, work};
+ghost use Rattle.journal_log.specs.Own.{gate, staged, work};
 ghost use Rattle.journal_log.specs.Rules.{AreLogged};
 ghost use Rattle.tree_journal.specs.Recovery.{RecoversTo};
 ghost use Rattle.tree_journal.specs.Staging.{outcome};
@@ -38,19 +38,22 @@ pub fn replay<D: TreeDisk>(
     ensures seen { IsTrue D.disk.tells → UnlessFailed D.disk disk.old disk.new
         (IsVisible base.now (D.disk.reads disk.old) (outcome base.now puts.now (D.disk.reads disk.old))) }
 {
+    let dir = own_path(alloc, base, "p")?;
     let work_path = own_path(alloc, base, "w")?;
-    replay_at(alloc, disk, base, &work_path, gate_path, puts)
+    replay_at(alloc, disk, base, &dir, &work_path, gate_path, puts)
 }
 
 fn replay_at<D: TreeDisk>(
     alloc: Global,
     disk: &mut D,
     base: &Path,
+    dir: &Path,
     work_path: &Path,
     gate_path: &Path,
     puts: &[Put],
 ) -> Result<(), Stop>
     requires base { IsTrue (is_path base.now) }
+    requires dir { dir.now ≡ staged base.now }
     requires work { work_path.now ≡ work base.now }
     requires gate { gate_path.now ≡ gate base.now }
     requires logged { AreLogged base.now puts.now }
@@ -62,6 +65,6 @@ fn replay_at<D: TreeDisk>(
     ensures seen { IsTrue D.disk.tells → UnlessFailed D.disk disk.old disk.new
         (IsVisible base.now (D.disk.reads disk.old) (outcome base.now puts.now (D.disk.reads disk.old))) }
 {
-    put_targets(alloc, disk, base, work_path, puts)?;
+    put_targets(alloc, disk, base, dir, work_path, puts)?;
     clear_flag(alloc, disk, gate_path)
 }

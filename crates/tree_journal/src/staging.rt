@@ -43,7 +43,7 @@ pub fn stage<D: TreeDisk>(
 {
     let dir = own_path(alloc, base, "p")?;
     clear_stage(alloc, disk, &dir, puts)?;
-    write_all(alloc, disk, base, puts.get(), numbered.get())
+    write_all(alloc, disk, base, &dir, puts.get(), numbered.get())
 }
 
 fn clear_stage<D: TreeDisk>(
@@ -101,10 +101,12 @@ fn write_all<D: TreeDisk>(
     alloc: Global,
     disk: &mut D,
     base: &Path,
+    dir: &Path,
     puts: &[Put],
     numbered: &[Put],
 ) -> Result<(), Stop>
     requires base { IsTrue (is_path base.now) }
+    requires dir { dir.now ≡ staged base.now }
     requires logged { AreLogged base.now numbered.now }
     requires same_number { length puts.now ≡ length numbered.now }
     requires told { IsTrue D.disk.tells → IsTrue (is_dir_at (D.disk.reads disk.old) (staged base.now)) }
@@ -113,7 +115,7 @@ fn write_all<D: TreeDisk>(
 {
     let mut place = 0;
     'places: while place < puts.len() {
-        write_bytes(alloc, disk, base, &puts[place], &numbered[place])?;
+        write_bytes(alloc, disk, base, dir, &puts[place], &numbered[place])?;
         place += 1;
     }
     Ok(())
@@ -123,10 +125,12 @@ fn write_bytes<D: TreeDisk>(
     alloc: Global,
     disk: &mut D,
     base: &Path,
+    dir: &Path,
     put: &Put,
     numbered: &Put,
 ) -> Result<(), Stop>
     requires base { IsTrue (is_path base.now) }
+    requires dir { dir.now ≡ staged base.now }
     requires logged { CanBeLogged base.now numbered.now.want }
     requires told { IsTrue D.disk.tells → IsTrue (is_dir_at (D.disk.reads disk.old) (staged base.now)) }
     requires bare { IsTrue D.disk.tells → HasRoom base.now put.now.want numbered.now.want (D.disk.reads disk.old) }
@@ -138,22 +142,24 @@ fn write_bytes<D: TreeDisk>(
     let Want::Staged { number, .. } = &numbered.want else {
         return Ok(());
     };
-    write_staged(alloc, disk, base, *number, bytes.get())
+    write_staged(alloc, disk, base, dir, *number, bytes.get())
 }
 
 fn write_staged<D: TreeDisk>(
     alloc: Global,
     disk: &mut D,
     base: &Path,
+    dir: &Path,
     number: u32,
     bytes: &[u8],
 ) -> Result<(), Stop>
     requires base { IsTrue (is_path base.now) }
+    requires dir { dir.now ≡ staged base.now }
     requires path { IsTrue (is_path (staged_file base.now number)) }
     requires told { IsTrue D.disk.tells → IsTrue (is_dir_at (D.disk.reads disk.old) (staged base.now)) }
     requires bare { IsTrue D.disk.tells → get (D.disk.reads disk.old) (staged_file base.now number) ≡ None }
     ensures { Makes D.disk (is_within (staged base.now)) (λ tree. with_own_file (staged_file base.now number) bytes.now tree) disk.old disk.new result }
 {
-    let path = path_of(alloc, base, number)?;
+    let path = path_of(alloc, dir, number)?;
     steps::append(alloc, disk, &path, bytes)
 }

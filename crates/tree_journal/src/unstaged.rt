@@ -1,11 +1,12 @@
 //! Which staged file of a log doesn't stand with its size and SHA-1.
 ghost use Rattle.std.specs.Prelude.{◌≡◌, ◌<◌, ◌≤◌, [], length, min, OnOk, IfOk, IfErr, IfSome, IsTrue};
 ghost use Rattle.std.specs.FinMap.{get};
-ghost use Rattle.cny_base.specs.Path.{is_path};
+ghost use Rattle.std.specs.Fmt.{decimal};
+ghost use Rattle.cny_base.specs.Path.{is_path, join};
 ghost use Rattle.sha1.specs.Sha1.{sha1, Holds};
 ghost use Rattle.cny_base.specs.declared.stop.Stop.TheVariants as stop;
 ghost use Rattle.tree_disk.specs.Rows.{bytes_at, is_file_at};
-ghost use Rattle.journal_log.specs.Own.{staged_file};
+ghost use Rattle.journal_log.specs.Own.{staged};
 ghost use Rattle.journal_log.specs.WriteSet.{IsLoggable, CanBeLogged};
 ghost use Rattle.tree_journal.specs.Found.{sees_size, Finds, FindsUnstaged, FindsContent};
 ghost use Rattle.tree_journal.specs.Staging.{is_content};
@@ -22,13 +23,15 @@ pub fn first_unstaged<D: TreeDisk>(
     alloc: Global,
     disk: &mut D,
     base: &Path,
+    dir: &Path,
     puts: &Puts,
 ) -> Result<Option<Path>, Stop>
-    requires { IsLoggable base.now puts.now }
+    requires dir { dir.now ≡ staged base.now }
+    requires loggable { IsLoggable base.now puts.now }
     ensures { Finds D.disk (FindsUnstaged base.now puts.now) disk.old disk.new result }
 {
     for put in puts.get() {
-        if let Some(path) = unstaged_of(alloc, disk, base, put)? {
+        if let Some(path) = unstaged_of(alloc, disk, base, dir, put)? {
             return Ok(Some(path));
         }
     }
@@ -40,9 +43,11 @@ fn unstaged_of<D: TreeDisk>(
     alloc: Global,
     disk: &mut D,
     base: &Path,
+    dir: &Path,
     put: &Put,
 ) -> Result<Option<Path>, Stop>
-    requires { CanBeLogged base.now put.now.want }
+    requires dir { dir.now ≡ staged base.now }
+    requires logged { CanBeLogged base.now put.now.want }
     ensures { Finds D.disk (λ tree found. FindsContent base.now tree put.now.want found) disk.old disk.new result }
 {
     let Want::Staged {
@@ -54,20 +59,20 @@ fn unstaged_of<D: TreeDisk>(
     else {
         return Ok(None);
     };
-    let path = path_of(alloc, base, *number)?;
+    let path = path_of(alloc, dir, *number)?;
     if stands(alloc, disk, &path, *size, name)? {
         return Ok(None);
     }
     Ok(Some(path))
 }
 
-/// The path of the staged file with this number.
-pub fn path_of(alloc: Global, base: &Path, number: u32) -> Result<Path, Stop>
-    requires { IsTrue (is_path (staged_file base.now number)) }
-    ensures path { IfOk result (λ path. path ≡ staged_file base.now number) }
+/// The path of the staged file with this number in the directory of staged bytes.
+pub fn path_of(alloc: Global, dir: &Path, number: u32) -> Result<Path, Stop>
+    requires { IsTrue (is_path (join dir.now (decimal number))) }
+    ensures path { IfOk result (λ path. path ≡ join dir.now (decimal number)) }
     ensures memory { IfErr result (λ e. e ≡ stop.Memory) }
 {
-    match staged_path(alloc, base, number) {
+    match staged_path(alloc, dir, number) {
         Ok(path) => Ok(path),
         Err(TextFault::Memory) => Err(Stop::Memory),
         Err(TextFault::Bad) => unreachable!(),

@@ -46,11 +46,11 @@ pub fn apply<D: TreeDisk>(alloc: Global, disk: &mut D, base: &Path, puts: &Puts)
     // some crash image at entry, or to the tree with all targets.
     ensures any_moment { IsTrue D.disk.tells → LeavesOnly D.disk disk.old disk.new
         (IsBeforeOrAfter D.disk base.now puts.now disk.old) }
-    // Then the targets stand, the commit flag isn't set, and a crash leaves what the disk reads.
+    // After Ok the targets stand, the commit flag isn't set, and a crash leaves what the disk reads.
     ensures applied { IsTrue D.disk.tells → OnOk result (IsAtRest D.disk base.now (goal base.now puts.now (D.disk.reads disk.old)) disk.new) }
     // After an error the disk, as it reads, recovers to the tree before or to the tree with all targets.
     ensures stopped { IsTrue D.disk.tells → OnErr result (IsOneOf base.now puts.now (D.disk.reads disk.old) (D.disk.reads disk.new)) }
-    // Then nothing is left of earlier changes below the directory of staged bytes.
+    // After Ok nothing is left of earlier changes below the directory of staged bytes.
     ensures cleared { IsTrue D.disk.tells → OnOk result (HoldsStaged base.now puts.now (D.disk.reads disk.new)) }
     // However it ends, no name changed or became unsynced but the journal's own and the targets.
     ensures confined { IsTrue D.disk.tells → Confined D.disk (Among (is_own_or_target base.now puts.now)) disk.old disk.new }

@@ -1,5 +1,5 @@
 -- A map of texts and the tree that it stands for.
-use Rattle.std.proofs.Common.{◌≡◌, ℕ, Bool, true, false, cond, List, [], ◌∷◌, Option, Some, None, refl, sym, ◌∙◌, ap, subst, T, IsSome, Result, Ok, Err, OnOk, OnErr, string_bytes, String}
+use Rattle.std.proofs.Common.{◌≡◌, ℕ, Bool, true, false, cond, List, [], ◌∷◌, Option, Some, None, refl, sym, ◌∙◌, ap, subst, T, IsSome, is_some, Result, Ok, Err, OnOk, OnErr, string_bytes, String}
 use Rattle.std.specs.declared.alloc.Global.{Global}
 use Rattle.std.specs.Ordering.{nat_cmp, eq_by_cmp}
 use Rattle.std.specs.Cmp.{eq_by_cmp_equiv}
@@ -9,6 +9,7 @@ use Rattle.std.specs.BTreeMap.{is_at, insert_entry}
 use Rattle.std.specs.FinMap.{get, find, insert, remove, get-from_entries}
 use Rattle.cny_base.specs.declared.node.Node.{Node}
 use Rattle.tree_disk.specs.Tree.{Name, Tree, put}
+use Rattle.tree_disk.specs.Laws.{get_put_here, put_put}
 use Rattle.std.specs.FinMap.Entries as Entries
 use Rattle.std.specs.FinMap.{same_map, get-insert, get-remove, slice_cmp-IsAntisymmetric, nat_cmp-IsAntisymmetric}
 use Rattle.std.specs.declared.cmp.Ordering.{Ordering}
@@ -151,21 +152,29 @@ put_same t p (Some v) is =
 pub mode_none : (t : Tree) (p : Name) (mode : ℕ) → get t p ≡ None → with_mode t p mode ≡ t
 mode_none t p mode none = ap (λ o. put t p (of_mode o mode)) none ∙ put_same t p None none
 
--- ---- an append, to a file that is there and to one that is made
-pub grown_ok : {E : Type 0} (r : Result Unit E) (q : Name) (v w : Node) (bytes : List ℕ) (old new : List (String Global × Node)) → lookup (at_name q) old ≡ Some v → new ≡ set_value (at_name q) old w
-    → OnOk r (w ≡ grown (Some v) bytes) → OnOk r (tree_of new ≡ with_append (tree_of old) q bytes)
-grown_ok (Ok x) q v w bytes old new found is grew =
-    written_some q v w _ old new found is (ap Some (grew ∙ ap (λ o. grown o bytes) (sym (get_at q _ old found))))
-grown_ok (Err e) q v w bytes old new found is grew = tt
+-- ---- an append: a new file is put, and grows again from what stood there
+stood_at : (p : Name) (k : String Global) (found : Option Node) (old : List (String Global × Node)) → string_bytes k ≡ p → lookup (at_name (string_bytes k)) old ≡ found → get (tree_of old) p ≡ found
+stood_at p k found old spells is = ap (get (tree_of old)) (sym spells) ∙ get_at (string_bytes k) found old is
 
-pub grown_err : {E : Type 0} (r : Result Unit E) (q : Name) (v w : Node) (old new : List (String Global × Node)) → lookup (at_name q) old ≡ Some v → new ≡ set_value (at_name q) old w
-    → OnErr r (w ≡ v) → OnErr r (tree_of new ≡ tree_of old)
-grown_err (Ok x) q v w old new found is same = tt
-grown_err (Err e) q v w old new found is same =
-    written_some q v w _ old new found is (ap Some same) ∙ put_same (tree_of old) q _ (get_at q _ old found)
+pub stands_put : (p : Name) (k : String Global) (file : Node) (old mid : List (String Global × Node)) → string_bytes k ≡ p → mid ≡ insert_entry string_cmp old k file → is_some (get (tree_of mid) p) ≡ true
+stands_put p k file old mid spells is =
+    ap (λ (t : Tree). is_some (get t p)) (inserted_at p k file old mid spells is) ∙ ap is_some (get_put_here (tree_of old) p (Some file))
 
-pub made_ok : {E : Type 0} (r : Result Unit E) (t old new : Tree) (p : Name) (node : Node) (bytes : List ℕ) → old ≡ t → node ≡ grown None bytes → get t p ≡ None
-    → OnOk r (new ≡ put old p (Some node)) → OnOk r (new ≡ with_append t p bytes)
-made_ok (Ok x) t old new p node bytes same is none put_it =
-    put_it ∙ ap (λ u. put u p (Some node)) same ∙ ap (λ n. put t p (Some n)) (is ∙ ap (λ o. grown o bytes) (sym none))
-made_ok (Err e) t old new p node bytes same is none put_it = tt
+pub made_first : (p : Name) (k : String Global) (file : Node) (bytes : List ℕ) (old new : List (String Global × Node)) → string_bytes k ≡ p → new ≡ insert_entry string_cmp old k file
+    → lookup (at_name (string_bytes k)) old ≡ None → file ≡ grown None bytes → tree_of new ≡ with_append (tree_of old) p bytes
+made_first p k file bytes old new spells is none grew =
+    inserted_at p k file old new spells is ∙ ap (λ (n : Node). put (tree_of old) p (Some n)) (grew ∙ ap (λ (o : Option Node). grown o bytes) (sym (stood_at p k None old spells none)))
+
+pub regrown_ok : {E : Type 0} (r : Result Unit E) (p : Name) (k : String Global) (file v : Node) (bytes : List ℕ) (old mid new : List (String Global × Node)) → string_bytes k ≡ p → mid ≡ insert_entry string_cmp old k file
+    → lookup (at_name (string_bytes k)) old ≡ Some v → OnOk r (tree_of new ≡ put (tree_of mid) p (Some (grown (Some v) bytes))) → OnOk r (tree_of new ≡ with_append (tree_of old) p bytes)
+regrown_ok (Ok x) p k file v bytes old mid new spells is found put_it =
+    put_it ∙ ap (λ (t : Tree). put t p (Some (grown (Some v) bytes))) (inserted_at p k file old mid spells is) ∙ put_put (tree_of old) p (Some file) (Some (grown (Some v) bytes))
+    ∙ ap (λ (o : Option Node). put (tree_of old) p (Some (grown o bytes))) (sym (stood_at p k (Some v) old spells found))
+regrown_ok (Err e) p k file v bytes old mid new spells is found put_it = tt
+
+pub regrown_err : {E : Type 0} (r : Result Unit E) (p : Name) (k : String Global) (file v : Node) (old mid new : List (String Global × Node)) → string_bytes k ≡ p → mid ≡ insert_entry string_cmp old k file
+    → lookup (at_name (string_bytes k)) old ≡ Some v → OnErr r (tree_of new ≡ put (tree_of mid) p (Some v)) → OnErr r (tree_of new ≡ tree_of old)
+regrown_err (Ok x) p k file v old mid new spells is found put_it = tt
+regrown_err (Err e) p k file v old mid new spells is found put_it =
+    put_it ∙ ap (λ (t : Tree). put t p (Some v)) (inserted_at p k file old mid spells is) ∙ put_put (tree_of old) p (Some file) (Some v)
+    ∙ put_same (tree_of old) p (Some v) (stood_at p k (Some v) old spells found)

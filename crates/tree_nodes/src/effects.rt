@@ -7,7 +7,7 @@ ghost use Rattle.tree_disk.specs.Tree as names;
 ghost use Rattle.tree_nodes.specs.Stored.{tree_of};
 ghost use Rattle.tree_disk.specs.Rows.{grown, of_mode, with_append, with_mode, with_rename};
 
-use crate::map::{NodeMap, put_at};
+use crate::map::NodeMap;
 use cny_base::{Bytes, Mode, Node, OutOfMemory, Path};
 use std::alloc::Global;
 use std::collections::BTreeMap;
@@ -46,23 +46,6 @@ fn change_mode(node: &mut Node, mode: Mode)
     }
 }
 
-// Adds bytes to the file at a path, or makes one.
-fn append_at(
-    alloc: Global,
-    nodes: &mut BTreeMap<String, Node>,
-    path: &str,
-    bytes: &[u8],
-) -> Result<(), OutOfMemory>
-    ensures ok { OnOk result (tree_of nodes.new.entries ≡ with_append (tree_of nodes.old.entries) path.now bytes.now) }
-    ensures err { OnErr result (tree_of nodes.new.entries ≡ tree_of nodes.old.entries) }
-{
-    if let Some(node) = nodes.get_mut(path) {
-        return grow(alloc, node, bytes);
-    }
-    let node = new_file(alloc, bytes)?;
-    put_at(alloc, nodes, path, node)
-}
-
 // Sets the mode of the directory or file at a path.
 fn set_mode_at(nodes: &mut BTreeMap<String, Node>, path: &str, mode: Mode)
     ensures { tree_of nodes.new.entries ≡ with_mode (tree_of nodes.old.entries) path.now mode }
@@ -86,6 +69,42 @@ fn replace_at(nodes: &mut BTreeMap<String, Node>, path: &str, node: Node)
     if let Some(place) = nodes.get_mut(path) {
         overwrite(place, node);
     }
+}
+
+// Puts a node with more bytes in the place of the one at a path, or as it is where no memory is left.
+fn put_grown(
+    alloc: Global,
+    nodes: &mut BTreeMap<String, Node>,
+    path: &str,
+    mut node: Node,
+    bytes: &[u8],
+) -> Result<(), OutOfMemory>
+    requires { is_some (get (tree_of nodes.old.entries) path.now) ≡ true }
+    ensures ok { OnOk result (tree_of nodes.new.entries ≡ put (tree_of nodes.old.entries) path.now (Some (grown (Some node) bytes.now))) }
+    ensures err { OnErr result (tree_of nodes.new.entries ≡ put (tree_of nodes.old.entries) path.now (Some node)) }
+{
+    let done = grow(alloc, &mut node, bytes);
+    replace_at(nodes, path, node);
+    done
+}
+
+// Adds bytes to the file at a path, or makes one. The new file is put first, so that one search does where nothing stood.
+fn append_at(
+    alloc: Global,
+    nodes: &mut BTreeMap<String, Node>,
+    path: &str,
+    bytes: &[u8],
+) -> Result<(), OutOfMemory>
+    ensures ok { OnOk result (tree_of nodes.new.entries ≡ with_append (tree_of nodes.old.entries) path.now bytes.now) }
+    ensures err { OnErr result (tree_of nodes.new.entries ≡ tree_of nodes.old.entries) }
+{
+    let name = String::from_str(alloc, path)?;
+    let file = new_file(alloc, bytes)?;
+    let stood = nodes.insert(name, file)?;
+    let Some(node) = stood else {
+        return Ok(());
+    };
+    put_grown(alloc, nodes, path, node, bytes)
 }
 
 impl NodeMap {

@@ -29,7 +29,7 @@ impl Model for NodeMap {
 }
 
 // Puts a node at a path.
-pub(crate) fn put_at(
+fn put_at(
     alloc: Global,
     nodes: &mut BTreeMap<String, Node>,
     path: &str,

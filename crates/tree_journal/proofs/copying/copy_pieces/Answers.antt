@@ -1,4 +1,4 @@
-use Rattle.std.proofs.Common.{◌+◌, ◌∙◌, refl, arith}
+use Rattle.std.proofs.Common.{◌+◌, ◌∙◌, arith}
 use Rattle.tree_disk.specs.StepLaws.{makes_as, makes_then, makes_then_stop}
 use Rattle.tree_journal.proofs.Copies.{copy_starts, may_start, file_kept, may_grow, copy_grows, copy_ends, not_empty}
 use Rattle.tree_journal.proofs.Seen.{makes_answer}

@@ -1,5 +1,5 @@
 use Rattle.tree_journal.specs.Recovery.{log_damaged}
-use Rattle.tree_journal.proofs.OwnNames.{log_part}
+use Rattle.tree_journal.proofs.OwnNames.{log_part, staged_part, staged_shorter}
 use Rattle.tree_journal.proofs.Recovering.{err_if_ok, fault_stops, stops_on, read_start, read_ended, reads_joined, stopped_from}
 use Rattle.tree_journal.proofs.recovery.whole_log.Goals as goal
 
@@ -8,6 +8,15 @@ own_path-requires-clause-part g c = log_part
 
 pub returns-in_err-log_path-clause-reads : goal.returns-in_err-log_path-clause-reads
 returns-in_err-log_path-clause-reads g c = λ tells. read_start _ g.met.D.TreeDisk.laws c.args.disk.now (err_if_ok _ _ _ c.from_residual.ensures.1)
+
+pub own_path-requires-2-clause-part : goal.own_path-requires-2-clause-part
+own_path-requires-2-clause-part g c = staged_part
+
+pub own_path-requires-2-clause-short : goal.own_path-requires-2-clause-short
+own_path-requires-2-clause-short g c = staged_shorter c.args.base.now c.requires.short
+
+pub returns-in_err-dir-clause-reads : goal.returns-in_err-dir-clause-reads
+returns-in_err-dir-clause-reads g c = λ tells. read_start _ g.met.D.TreeDisk.laws c.args.disk.now (err_if_ok _ _ _ c.from_residual-in_err-dir.ensures.1)
 
 pub returns-in_err-puts-clause-reads : goal.returns-in_err-puts-clause-reads
 returns-in_err-puts-clause-reads g c = λ tells. read_ended (c.in_err-puts.ensures.finds.found tells) (err_if_ok _ _ _ c.from_residual-in_err-puts.ensures.1)

@@ -15,8 +15,8 @@ use Rattle.tree_journal.proofs.unstaged.first_unstaged.Goals as goal
 pub loop-put-init : goal.loop-put-init
 loop-put-init g c = finds_start g.met.D.TreeDisk.laws c.args.disk.now (tt {0}) (λ tells. All-nil _)
 
-pub unstaged_of-requires : goal.unstaged_of-requires
-unstaged_of-requires g c = item_has (λ (p : Put). CanBeLogged c.args.base.now p.want) c.args.puts.now c.get-put-items.result.now c.get-put-items.ensures.value c.loop-put.put-index c.put-item.result c.loop-put-test.true c.put-item.is c.requires.logged
+pub unstaged_of-requires-clause-logged : goal.unstaged_of-requires-clause-logged
+unstaged_of-requires-clause-logged g c = item_has (λ (p : Put). CanBeLogged c.args.base.now p.want) c.args.puts.now c.get-put-items.result.now c.get-put-items.ensures.value c.loop-put.put-index c.put-item.result c.loop-put-test.true c.put-item.is c.requires.loggable.logged
 
 pub returns-in_err-path : goal.returns-in_err-path
 returns-in_err-path g c = finds_then g.met.D.TreeDisk.laws c.loop-put.invariant (finds_stop {P = FindsUnstaged c.args.base.now c.args.puts.now} c.in_err-path.ensures c.from_residual.ensures.1) (λ tells before found is. is)
