@@ -77,7 +77,7 @@ pub(crate) fn amended<T: Element<K> + Copies, K>(
     ensures { IfOk result (λ made. MatchOption made (Fits T.key_of gone.now set.now old.now → ⊥)
         (λ fresh. IsAmended T.key_of T.order gone.now set.now old.now fresh)) }
 {
-    let mut fresh = Vec::new(alloc);
+    let mut fresh = Vec::with_capacity(alloc, old.len().saturating_add(set.len()))?;
     let mut at = 0;
     let mut away = 0;
     let mut next = 0;

@@ -85,7 +85,7 @@ pub(crate) fn difference<T: Element<K> + Copies, K: Drop>(
     ensures { IfOk result (λ changes. IsAmended T.key_of T.order changes.gone changes.set old.now fresh.now) }
 {
     let mut gone = Vec::new(alloc);
-    let mut set = Vec::new(alloc);
+    let mut set = Vec::with_capacity(alloc, fresh.len())?;
     let mut at = 0;
     let mut next = 0;
     'merge: loop {
