@@ -11,3 +11,7 @@ pub mod Differing
 pub mod Keeping
 pub mod Owners
 pub mod Sharing
+pub mod FieldTexts
+pub mod LineTexts
+pub mod Adding
+pub mod Leading

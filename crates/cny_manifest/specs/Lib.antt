@@ -9,3 +9,4 @@ pub mod Reading
 pub mod Makes
 pub mod Kept
 pub mod Shares
+pub mod Spelling

@@ -9,6 +9,7 @@ mod entries;
 mod fault;
 mod fields;
 mod head;
+mod laws;
 mod lines;
 mod made;
 mod order;
@@ -18,6 +19,7 @@ mod shares;
 mod troves;
 mod words;
 
+pub use laws::spelled;
 pub use made::{Made, Troves};
 pub use policy::component_of;
 pub use reading::read;
