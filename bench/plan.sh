@@ -1,7 +1,7 @@
 #!/bin/sh
 # Prints how long it takes to plan the update of every second of so many troves with 20 files each, over a tree in memory in
 # which all of them stand, and how many calls of the disk it makes: one look and one read for each of the 10 COUNT files that
-# change, and one look for each of their parents; none for the others. It builds a program for that in a folder of its own,
+# change, and none for the others. It builds a program for that in a folder of its own,
 # which proves what isn't proved yet on this machine.
 # Usage: bench/plan.sh [COUNT...]
 set -eu
@@ -61,7 +61,7 @@ fn start<R: Abort + Alloc<A = Global>>(rt: &R, count: u64) -> Quiet {
         }
     }
     let tree = MemoryTree::new(alloc, Nodes::new(nodes), Fails::new(Vec::new(alloc))).expect(rt, "a tree");
-    Quiet { tree, faults: 0, calls: 0 }
+    Quiet::new(tree)
 }
 
 fn record<R: Abort + Alloc<A = Global>>(rt: &R, trove: u64, file: u64, round: u64) -> FileAt {
@@ -117,7 +117,7 @@ fn main(rt: HostRuntime) -> Result<(), anyhow::Error> {
         let planned = plan(rt.alloc(), &mut disk, &old, &fresh, &options).expect(&rt, "a plan");
         println!(rt; "{} paths", planned.get().len())?;
     }
-    println!(rt; "{} calls", disk.calls)?;
+    println!(rt; "{} looks, {} reads, {} lists", disk.looks, disk.reads, disk.lists)?;
     Ok(())
 }
 PROGRAM

@@ -1,5 +1,6 @@
 #!/usr/bin/env python3
-"""Lines of calls on fingerprints and plans, and the answers, made from the rules of docs/MODEL.md alone.
+"""Lines of calls on fingerprints and plans, and the answers, made from the rules of docs/MODEL.md; how often a plan looks at the
+disk and reads it, from what docs/ARCHITECTURE.md says of its cost.
 
 Usage: plan_vectors.py stdin|stdout
 """
@@ -142,15 +143,20 @@ def owned(troves, path):
 
 def plan(tree, old, fresh, options):
     """The answer of a plan, by the whole result."""
+    return plan_and_calls(tree, old, fresh, options)[0]
+
+
+def plan_and_calls(tree, old, fresh, options):
+    """The answer of a plan, and how often the disk is asked where it isn't refused."""
     paths = sorted({p for troves in (old, fresh) for files in troves.values() for p in files}, key=key)
     for p in paths:
         two = owned(fresh, p)
         if two:
-            return f'owned {p} {two[0]} {two[1]}'
+            return f'owned {p} {two[0]} {two[1]}', None
     for p in paths:
         target = row(p, record(old, p), record(fresh, p), tree.get(p), False, options)
         if target in ('unowned', 'edited'):
-            return f'{target} {p}'
+            return f'{target} {p}', None
     # what stands at each path of the result: a node or a record
     result = dict(tree)
     changes = {}
@@ -167,20 +173,47 @@ def plan(tree, old, fresh, options):
             changes[p] = n
     for p in sorted(result, key=key):
         if p != '/' and (result.get(parent(p)) or ('nothing',))[0] != 'dir':
-            return f'parent {p}'
+            return f'parent {p}', None
     out = 'ok'
     for p in sorted(changes, key=key):
         out += f'\t{p}: {mark_text(mark(tree.get(p)))} -> {want_text(changes[p])}'
-    return out
+    return out, calls(tree, old, fresh, changes)
 
 
-def looks(old, fresh):
-    """Whether any path has to be looked at."""
+def compared(old, fresh):
+    """The paths whose fingerprint is taken: those of which the two lists record something else."""
     for p in {p for troves in (old, fresh) for files in troves.values() for p in files}:
         o, n = record(old, p), record(fresh, p)
         if p not in PINNED and not (o and n and mark_of_record(o) == mark_of_record(n)):
-            return True
-    return False
+            yield p
+
+
+PIECE = 65536
+
+
+def calls(tree, old, fresh, changes):
+    """The looks, the reads of files in pieces, and the lists of directories, by docs/ARCHITECTURE.md."""
+    looks = reads = lists = 0
+    for p in compared(old, fresh):
+        looks += 1
+        node = tree.get(p)
+        if node and node[0] == 'file':
+            reads += -(-len(contents(node[2])) // PIECE)
+        made = any(q != '/' and parent(q) == p and want is not None for q, want in changes.items())
+        if node and node[0] == 'dir' and not made and is_left(old, fresh, p):
+            lists += 1
+    for p, want in changes.items():
+        if want is not None and p not in tree and parent(p) not in changes:
+            looks += 1
+        if (tree.get(p) or ('nothing',))[0] == 'dir' and (want is None or want[0] != 'dir'):
+            lists += 1
+    return f'{looks} looks, {reads} reads, {lists} lists'
+
+
+def is_left(old, fresh, p):
+    """Whether the old list alone records the path, as a directory."""
+    o = record(old, p)
+    return o is not None and o[0] == 'dir' and record(fresh, p) is None
 
 
 # ---- lines
@@ -213,9 +246,10 @@ def plan_line(options, tree, old, fresh):
     tree.setdefault('/', ('dir', '0755'))
     line = '\t'.join(['plan', ' '.join(options) or '-', tree_field(tree), troves_field(old), troves_field(fresh)])
     if 'fail' in options:
-        if not any(owned(fresh, p) for files in fresh.values() for p in files) and looks(old, fresh):
+        if not any(owned(fresh, p) for files in fresh.values() for p in files) and any(compared(old, fresh)):
             return line, 'failed'
-    return line, plan(tree, old, fresh, options)
+    answer, asked = plan_and_calls(tree, old, fresh, options)
+    return line, answer + (f'\t{asked}' if 'calls' in options and asked else '')
 
 
 D = ('dir', '0755')
@@ -227,10 +261,21 @@ def table_lines():
     news = [None, D, ('file', '0644', '', 'aa'), ('file', '0644', '', 'bb'), ('file', '0644', 'c', 'bb'), ('file', '0644', 'i', 'bb'),
             ('file', '0644', 't', 'bb'), ('file', '0644', 'ci', 'cc'), ('link', 'a'), ('link', 'b')]
     stand = [{}, {'/p': D}, {'/p': ('dir', '0700'), '/p/x': ('file', '0644', 'x')}, {'/p': ('file', '0644', 'aa')},
-             {'/p': ('file', '0600', 'aa')}, {'/p': ('file', '0644', 'bb')}, {'/p': ('link', 'a')}, {'/p': ('link', 'b')}]
+             {'/p': ('file', '0600', 'aa')}, {'/p': ('file', '0644', 'bb')}, {'/p': ('link', 'a')}, {'/p': ('link', 'b')},
+             {'/p': ('dir', '0700')}]
     for o, n, t, options in itertools.product(olds, news, stand, ([], ['replace'], ['keep'], ['keep', 'replace'])):
         if o is None and n is None:
             continue
+        yield plan_line(options, t, {'a:lib': {'/p': o}} if o else {}, {'a:lib': {'/p': n}} if n else {})
+
+
+def flag_lines():
+    """Records with several flags at once, before and after."""
+    file = lambda flags, text: ('file', '0644', flags, text)
+    pairs = [(file(flags, 'aa'), n) for flags in ('ci', 'ct', 'it', 'cit') for n in (None, file('', 'bb'))]
+    pairs += [(o, file(flags, 'bb')) for flags in ('ci', 'ct', 'it', 'cit') for o in (None, file('', 'aa'), D)]
+    stand = [{}, {'/p': D}, {'/p': ('file', '0644', 'aa')}, {'/p': ('file', '0644', 'ee')}, {'/p': ('link', 'a')}]
+    for (o, n), t, options in itertools.product(pairs, stand, ([], ['replace'], ['keep'], ['keep', 'replace'])):
         yield plan_line(options, t, {'a:lib': {'/p': o}} if o else {}, {'a:lib': {'/p': n}} if n else {})
 
 
@@ -261,7 +306,7 @@ def shape_lines():
     node = lambda text='x': ('file', '0644', text)
     deep = {'/a': D, '/a/b': D, '/a/b/c': D, '/a/b/c/f': node()}
     owned_deep = {'/a': D, '/a/b': D, '/a/b/c': D, '/a/b/c/f': f()}
-    every = [[], ['replace'], ['keep']]
+    every = [[], ['replace'], ['keep'], ['keep', 'replace']]
     cases = [
         # directories that go from the deepest up, and what keeps them
         (deep, {'a:lib': owned_deep}, {}),
@@ -313,6 +358,11 @@ def shape_lines():
         ({'/var': D, '/var/lib': D}, {'a:lib': {'/': D, '/var': D, '/var/lib': D}}, {}),
         ({'/var': D}, {}, {'a:lib': {'/': ('dir', '0700'), '/var': ('dir', '0700'), '/var/lib': D}}),
         ({'/var': D}, {}, {'a:lib': {'/var/lib': D, '/var/lib/x': f()}}),
+        ({'/var': D}, {'a:lib': {'/var': f()}}, {}),
+        ({'/var': D}, {}, {'a:lib': {'/var': f()}}),
+        ({'/var': D}, {}, {'a:lib': {'/var': ('link', 'x')}}),
+        ({'/var': D}, {'a:lib': {'/var': ('link', 'x')}}, {'a:lib': {'/var': f()}}),
+        ({'/var': node('e')}, {'a:lib': {'/var': f()}}, {'a:lib': {'/var': f('n')}}),
         # nothing at all
         ({'/a': D}, {}, {}),
         ({'/a': D}, {'a:lib': {}}, {'b:lib': {}}),
@@ -324,6 +374,39 @@ def shape_lines():
     for fresh in (same, {'b:lib': same['a:lib']}, {'a:lib': dict(same['a:lib'], **{'/a/f': f('x', 'c')})},
                   {'a:lib': dict(same['a:lib'], **{'/n': f()})}, {'a:lib': {'/a': D}}):
         yield plan_line(['fail'], {'/a': D, '/a/f': node('e')}, same, fresh)
+
+
+def call_lines():
+    """How often the disk is asked: what both lists record so is never looked at and never read."""
+    node = lambda text: ('file', '0644', text)
+    rec = lambda text, flags='': ('file', '0644', flags, text)
+    stands = {'/d': D, '/d/a': node('edited'), '/d/b': node('b'), '/d/c': node('65536*c+c'), '/d/e': node('-'), '/l': ('link', 'x')}
+    old = {'/d': D, '/d/a': rec('a'), '/d/b': rec('b'), '/d/c': rec('65536*c+c'), '/d/e': rec('-'), '/l': ('link', 'x')}
+    without = lambda *names: {p: r for p, r in old.items() if p not in names}
+    foreign = dict(stands, **{'/d/foreign': node('f')})
+    cases = [
+        (stands, old, old),
+        (stands, old, dict(old, **{'/d/b': rec('b', 'c')})),
+        (stands, old, dict(old, **{'/d/b': rec('n')})),
+        (stands, old, dict(old, **{'/d/c': rec('n')})),
+        (stands, old, dict(old, **{'/d/e': rec('n'), '/d/c': rec('-')})),
+        (stands, old, dict(old, **{'/d/n': rec('n')})),
+        (stands, old, dict(old, **{'/d/n': rec('n'), '/d/m': rec('m'), '/z': rec('z')})),
+        (stands, old, dict(old, **{'/d/n': D, '/d/n/f': rec('f')})),
+        (stands, old, dict(old, **{'/l': ('link', 'y')})),
+        (stands, old, without('/d/b')),
+        (stands, old, without('/d/b', '/d/c', '/d/e', '/l')),
+        (stands, old, without('/d')),
+        (stands, old, dict(without('/d'), **{'/d/n': rec('n')})),
+        (dict(stands, **{'/d/a': node('a')}), old, {}),
+        (dict(foreign, **{'/d/a': node('a')}), old, {}),
+        (dict(stands, **{'/d/a': node('a')}), old, {'/d': ('link', 'n')}),
+        ({}, {}, old),
+        (stands, {}, old),
+    ]
+    for tree, before, after in cases:
+        yield plan_line(['calls'], tree, {'a:lib': before}, {'a:lib': after})
+        yield plan_line(['calls', 'replace'], tree, {'a:lib': before}, {'a:lib': after})
 
 
 def random_lines(count):
@@ -375,7 +458,7 @@ def random_lines(count):
         fresh = troves(0.5)
         if rng.random() < 0.9:
             fresh = without_clash(fresh)
-        yield plan_line(rng.choice([[], ['replace'], ['replace'], ['keep']]), stands, old, fresh)
+        yield plan_line(rng.choice([[], ['replace'], ['replace'], ['keep'], ['keep', 'replace']]) + rng.choice([[], ['calls']]), stands, old, fresh)
 
 
 def mark_lines():
@@ -431,7 +514,9 @@ def differing_lines():
 def lines():
     yield from named_lines()
     yield from table_lines()
+    yield from flag_lines()
     yield from shape_lines()
+    yield from call_lines()
     yield from random_lines(700)
     yield from mark_lines()
     yield from differing_lines()

@@ -1,28 +1,29 @@
 -- Parents of planned paths, and decisions after a look at the disk.
-use Rattle.std.proofs.Common.{◌≡◌, ◌≢◌, ◌⊎◌, inl, inr, ⊎_elim, ℕ, Bool, true, false, cond, not, ◌&&◌, ◌||◌, List, Option, Some, None, is_some, Result, Ok, Err, IsTrue, IfErr, refl, sym, ◌∙◌, ap, subst}
+use Rattle.std.proofs.Common.{◌≡◌, ⊎_elim, ℕ, Bool, true, false, cond, not, ◌&&◌, ◌||◌, List, Option, Some, None, is_some, Result, Ok, Err, IsTrue, IfErr, refl, sym, ◌∙◌, ap, subst}
 use Rattle.std.proofs.lemmas.Bool.{cases_Bool}
 use Rattle.std.specs.FinMap.{get}
 use Rattle.cny_base.specs.Path.{parent, root}
-use Rattle.cny_base.specs.declared.options.Options.{Options}
 use Rattle.cny_base.specs.declared.refusal.Refusal.{Refusal}
 use Rattle.cny_base.specs.declared.stop.Stop.{Stop}
 use Rattle.cny_base.specs.declared.stop.Stop.TheVariants.{Refused, Memory, Failed, Damaged, FarFailed, FarDamaged}
-use Rattle.tree_disk.specs.declared.disk.Look.{Look}
 use Rattle.tree_disk.specs.Disk.{DiskModel}
 use Rattle.tree_disk.specs.Laws.{same_means}
-use Rattle.tree_disk.specs.Looks.{dir_seen, sees_dir}
-use Rattle.tree_disk.specs.Rows.{is_dir_at, look_of}
+use Rattle.tree_disk.specs.Rows.{is_dir_at}
 use Rattle.tree_disk.specs.Steps.{Found, Tests}
-use Rattle.tree_disk.specs.Tree.{Name, Tree, is_child, same_name}
+use Rattle.tree_disk.specs.Tree.{Name, Tree, WellFormed, is_child, same_name}
 use Rattle.tree_scan.specs.declared.mark.Mark.{Mark}
+use Rattle.tree_scan.specs.Marks.{is_nothing}
 use Rattle.conflict_plan.specs.declared.drafting.Draft.{Draft}
 use Rattle.conflict_plan.specs.declared.entries.Entry.{Entry}
+use Rattle.conflict_plan.specs.declared.making.Fate.{Fate}
+use Rattle.conflict_plan.specs.declared.making.Fate.TheVariants as fates
 use Rattle.conflict_plan.specs.declared.planned.Planned.{Planned}
 use Rattle.conflict_plan.specs.declared.table.Outcome.{Outcome}
 use Rattle.conflict_plan.specs.declared.table.Outcome.TheVariants.{Stays, Removed, Written, Unowned, Edited}
 use Rattle.conflict_plan.specs.Drafts.{drafted, Decided, RefusesAtMost}
 use Rattle.conflict_plan.specs.Making.{fate_at, makes_in}
-use Rattle.conflict_plan.specs.Orphans.{has_way, is_dir_fate}
+use Rattle.conflict_plan.specs.Orphans.{has_way, is_dir_fate, IsSeenPlan}
+use Rattle.conflict_plan.proofs.Remaining.{some_stands}
 
 pub not_root : (path : Name) → (path ≡ root → ⊥) → same_name path root ≡ false
 not_root path other = ⊎_elim (λ same. absurd (other (same_means path root same))) (λ no. no) (cases_Bool (same_name path root))
@@ -44,13 +45,29 @@ parent_noted x above q old new wanted other is_above is =
         ∙ ap (λ n. same_name n q) (sym is_above)
 
 -- the parent as it stands, where it isn't planned
-pub way_seen : (plan : List Planned) (tree : Tree) (path above : Name) (look : Look) → (path ≡ root → ⊥) → above ≡ parent path → fate_at plan above ≡ None → look ≡ look_of tree above
-    → has_way plan tree path ≡ sees_dir look
-way_seen plan tree path above look other is_above none seen =
+pub way_above : (plan : List Planned) (tree : Tree) (path above : Name) → (path ≡ root → ⊥) → above ≡ parent path → fate_at plan above ≡ None → has_way plan tree path ≡ is_dir_at tree above
+way_above plan tree path above other is_above none =
     ap (λ b. b || is_dir_fate (fate_at plan (parent path)) (is_dir_at tree (parent path))) (not_root path other)
     ∙ ap (λ n. is_dir_fate (fate_at plan n) (is_dir_at tree n)) (sym is_above)
     ∙ ap (λ o. is_dir_fate o (is_dir_at tree above)) none
-    ∙ sym (ap sees_dir seen ∙ dir_seen tree above)
+
+-- the parent as it is planned
+pub way_planned : (plan : List Planned) (tree : Tree) (path above : Name) (fate : Fate) → (path ≡ root → ⊥) → above ≡ parent path → fate_at plan above ≡ Some fate → has_way plan tree path ≡ is_dir_fate (Some fate) false
+way_planned plan tree path above fate other is_above is =
+    ap (λ b. b || is_dir_fate (fate_at plan (parent path)) (is_dir_at tree (parent path))) (not_root path other)
+    ∙ ap (λ n. is_dir_fate (fate_at plan n) (is_dir_at tree n)) (sym is_above)
+    ∙ ap (λ o. is_dir_fate o (is_dir_at tree above)) is
+    ∙ by fate
+  where
+    by : (fate : Fate) → is_dir_fate (Some fate) (is_dir_at tree above) ≡ is_dir_fate (Some fate) false
+    by fates.Gone = refl
+    by fates.Dir = refl
+    by fates.Other = refl
+
+-- what stands stands in a directory
+pub stands_above : (tree : Tree) (x : Planned) (above : Name) → WellFormed tree → IsSeenPlan tree x → above ≡ parent x.path → is_nothing x.was ≡ false → is_dir_at tree above ≡ true
+stands_above tree x above well seen is_above stands =
+    ap (is_dir_at tree) is_above ∙ well.parents x.path (some_stands (get tree x.path) (sym (ap is_nothing seen) ∙ stands))
 
 -- ---- decisions
 

@@ -1,5 +1,5 @@
 -- From what is recorded and what stands to the plan, or to the first refusal.
-use Rattle.std.proofs.Common.{◌≡◌, ◌≢◌, ◌⊎◌, inl, inr, ⊎_elim, ℕ, Bool, true, false, ◌&&◌, List, [], ◌∷◌, map, Option, Some, None, Result, Ok, Err, T, refl, sym, ◌∙◌, ap, subst}
+use Rattle.std.proofs.Common.{◌≡◌, ℕ, Bool, true, false, ◌&&◌, List, [], ◌∷◌, map, Option, Some, None, T, refl, sym, ◌∙◌, ap}
 use Rattle.std.proofs.lemmas.List.Elements.{All-from_recursion}
 use Rattle.std.specs.List.{All, AllByRecursion}
 use Rattle.std.specs.FinMap.{entries_sorted, entries, is_sorted, keys}
@@ -14,28 +14,22 @@ use Rattle.cny_base.specs.declared.node.Node.{Node}
 use Rattle.cny_base.specs.declared.options.Options.{Options}
 use Rattle.cny_base.specs.declared.refusal.Refusal.{Refusal}
 use Rattle.cny_base.specs.declared.refusal.Refusal.TheVariants as refusal
-use Rattle.file_stream.specs.declared.record.FileRec.{FileRec}
 use Rattle.trove_stream.specs.declared.parts.TroveParts.{TroveParts}
 use Rattle.tree_disk.specs.Tree.{Name, Tree, WellFormed}
 use Rattle.tree_scan.specs.Marks.{fingerprint_at}
-use Rattle.conflict_plan.specs.declared.drafting.Draft.{Draft}
 use Rattle.conflict_plan.specs.declared.entries.Entry.{Entry}
 use Rattle.conflict_plan.specs.declared.planned.Planned.{Planned}
 use Rattle.conflict_plan.specs.declared.records.Recorded.{Recorded}
-use Rattle.conflict_plan.specs.declared.records.Shared.{Shared}
-use Rattle.conflict_plan.specs.declared.table.Outcome.{Outcome}
-use Rattle.conflict_plan.specs.declared.table.Outcome.TheVariants.{Stays, Removed, Written, Unowned, Edited}
+use Rattle.conflict_plan.specs.declared.table.Outcome.TheVariants.{Stays}
 use Rattle.conflict_plan.specs.Claims.{Claim, claims, first_record, owners, owners_at, record_at, rival, with_rival}
-use Rattle.conflict_plan.specs.Drafts.{drafts_of}
 use Rattle.conflict_plan.specs.Entries.{entry_of, first_refusal, first_shared, owned_at, owned_by}
 use Rattle.conflict_plan.specs.Making.{child_remains}
 use Rattle.conflict_plan.specs.Orphans.{least_orphan}
-use Rattle.conflict_plan.specs.Plan.{change_of, conflict_at, mark_after, outcome_at, planned_at, planned_cmp, refusal_of, ArePlanned, HasChild, IsAnswer, IsFirstConflict, IsFirstOrphan, IsFirstRefusal, IsFirstShared, IsPlan}
-use Rattle.conflict_plan.specs.Records.{record_of, second_of}
-use Rattle.conflict_plan.specs.Settled.{settled}
+use Rattle.conflict_plan.specs.Plan.{change_of, conflict_at, mark_after, outcome_at, planned_at, planned_cmp, refusal_of, ArePlanned, HasChild, IsAnswer, IsFirstConflict, IsFirstOrphan, IsFirstShared, IsPlan}
+use Rattle.conflict_plan.specs.Records.{record_of}
 use Rattle.conflict_plan.specs.Table.{path_outcome}
-use Rattle.conflict_plan.proofs.Building.{AreSeenIn, HavePaths, IsBuilt, built, change_by, drafts_passed, drafts_plan, drafts_refusal, found_planned, not_found_not_planned, plan_of, refusal_by, remains_alike}
-use Rattle.conflict_plan.proofs.Entered.{At, AreRising, IsFirstAt, first_found, found_at, none_found, rising_keys}
+use Rattle.conflict_plan.proofs.Building.{HavePaths, IsBuilt, built, change_by, found_planned, not_found_not_planned, plan_of, refusal_by}
+use Rattle.conflict_plan.proofs.Entered.{At, AreRising, IsFirstAt, first_found, found_at, none_found}
 use Rattle.conflict_plan.proofs.Noting.{recorded_by, shared_of}
 use Rattle.conflict_plan.proofs.Order.{name_cmp}
 use Rattle.conflict_plan.proofs.Orphaned.{AreLater, AreSorted, least_first, least_none}

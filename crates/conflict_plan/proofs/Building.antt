@@ -1,5 +1,5 @@
 -- The plan that is built from the entries, path by path.
-use Rattle.std.proofs.Common.{◌≡◌, ◌≢◌, ◌⊎◌, inl, inr, ⊎_elim, ℕ, Bool, true, false, cond, List, [], ◌∷◌, map, Option, Some, None, Result, Ok, Err, refl, sym, ◌∙◌, ap, subst}
+use Rattle.std.proofs.Common.{◌≡◌, ◌≢◌, inl, inr, ⊎_elim, Bool, true, false, cond, List, [], ◌∷◌, map, Option, Some, None, Result, Ok, Err, refl, sym, ◌∙◌, ap, subst}
 use Rattle.std.proofs.lemmas.Bool.{cases_Bool}
 use Rattle.std.specs.declared.cmp.Ordering.TheVariants.{Less}
 use Rattle.cny_base.specs.Path.{is_path, root}
@@ -17,14 +17,14 @@ use Rattle.conflict_plan.specs.declared.planned.Planned.{Planned}
 use Rattle.conflict_plan.specs.declared.records.Recorded.{Recorded}
 use Rattle.conflict_plan.specs.declared.table.Outcome.{Outcome}
 use Rattle.conflict_plan.specs.declared.table.Outcome.TheVariants.{Stays, Removed, Written, Unowned, Edited}
-use Rattle.conflict_plan.specs.Drafts.{draft_of, drafts_of, in_front, then_drafts}
+use Rattle.conflict_plan.specs.Drafts.{draft_of, drafts_of, then_drafts}
 use Rattle.conflict_plan.specs.Entries.{entry_of, first_refusal, or_later}
 use Rattle.conflict_plan.specs.Making.{child_remains}
 use Rattle.conflict_plan.specs.Plan.{change_of, planned_at}
-use Rattle.conflict_plan.specs.Settled.{settled, settled_on, with_settled}
+use Rattle.conflict_plan.specs.Settled.{settled, with_settled}
 use Rattle.conflict_plan.specs.Table.{outcome_by, path_outcome}
-use Rattle.conflict_plan.proofs.Entered.{At, AreBehind, AreRising, found_at, found_behind, none_behind}
-use Rattle.conflict_plan.proofs.Order.{name_cmp, IsUpTo, less_other, other_sym}
+use Rattle.conflict_plan.proofs.Entered.{At, AreBehind, AreRising, found_at, found_behind}
+use Rattle.conflict_plan.proofs.Order.{name_cmp, IsUpTo, other_sym}
 use Rattle.conflict_plan.proofs.Remaining.{AreAfter, ArePaths, RisePlanned, none_after, planned_here, planned_other, remains_on}
 use Rattle.conflict_plan.proofs.Tables.{after_draft, change_at, draft_step, err_of, with_change}
 

@@ -1,7 +1,6 @@
 -- How planning ends.
-use Rattle.std.proofs.Common.{◌≡◌, ◌⊎◌, inl, inr, ℕ, Bool, false, List, Option, Some, None, Result, Ok, Err, IfErr, IsTrue, refl, sym, ◌∙◌, ap, subst}
+use Rattle.std.proofs.Common.{◌≡◌, ℕ, Bool, false, List, Option, Some, Result, Ok, Err, IfErr, IsTrue, sym, subst}
 use Rattle.std.specs.Prelude.{IsErrAnd}
-use Rattle.cny_base.specs.Count.{Rose}
 use Rattle.cny_base.specs.declared.options.Options.{Options}
 use Rattle.cny_base.specs.Stop.{stop_of_fault}
 use Rattle.cny_base.specs.declared.refusal.Fault.{Fault}
@@ -13,14 +12,13 @@ use Rattle.cny_base.specs.declared.stop.Stop.TheVariants.{Refused, Memory, Faile
 use Rattle.trove_stream.specs.declared.parts.TroveParts.{TroveParts}
 use Rattle.tree_disk.specs.Disk.{DiskModel}
 use Rattle.tree_disk.specs.Steps.{Found, IsDiskStop, Tests}
-use Rattle.tree_disk.specs.Tree.{Name, Tree}
+use Rattle.tree_disk.specs.Tree.{Tree}
 use Rattle.conflict_plan.specs.declared.planned.Planned.{Planned}
 use Rattle.conflict_plan.specs.declared.table.Outcome.{Outcome}
 use Rattle.conflict_plan.specs.declared.table.Outcome.TheVariants.{Stays, Removed, Written, Unowned, Edited}
-use Rattle.conflict_plan.specs.Claims.{owners_at}
 use Rattle.conflict_plan.specs.Drafts.{IsTableRefusal, RefusesAtMost}
 use Rattle.conflict_plan.specs.Entries.{IsRefusedSo}
-use Rattle.conflict_plan.specs.Plan.{conflict_at, outcome_at, refusal_of, EndsSo, IsFirstConflict, IsFirstRefusal, MayRefuse, Plans, StopsSo}
+use Rattle.conflict_plan.specs.Plan.{outcome_at, refusal_of, EndsSo, IsFirstConflict, IsFirstRefusal, IsPlanRefusal, IsPlanStop, IsUnshared, Plans, RefusesShared, TellsShared}
 use Rattle.conflict_plan.proofs.Assembled.{IsConflictFirst, IsOwnedFirst}
 
 -- a stop passed on by `?`
@@ -84,9 +82,6 @@ module _ {D : Type 0} {disk : DiskModel D} {good : Tree → List Planned → Typ
 pub owned_refuses : (old fresh : List TroveParts) (options : Options) (tree : Tree) (why : Refusal) → IsOwnedFirst fresh why → IsFirstRefusal old fresh options tree why
 owned_refuses old fresh options tree why first = subst (IsFirstRefusal old fresh options tree) first.is first.shared
 
-pub owned_may : (fresh : List TroveParts) (why : Refusal) → IsOwnedFirst fresh why → MayRefuse fresh why
-owned_may fresh why first = subst (MayRefuse fresh) first.is first.shared
-
 pub conflict_refuses : (old fresh : List TroveParts) (options : Options) (tree : Tree) (why : Refusal) → IsConflictFirst old fresh options tree why → IsFirstRefusal old fresh options tree why
 conflict_refuses old fresh options tree why first = at (outcome_at old fresh options tree first.path false) first.conflict.refused
   where
@@ -101,48 +96,93 @@ conflict_refuses old fresh options tree why first = at (outcome_at old fresh opt
         let is_why : refusal.Edited first.path ≡ why = cc is in
         subst (IsFirstRefusal old fresh options tree) is_why (subst (IsFirstConflict old fresh options tree first.path) (sym is_why) first.conflict)
 
-pub table_may : (fresh : List TroveParts) (why : Refusal) → IsTableRefusal why → ((q : Name) → owners_at fresh q ≡ None) → MayRefuse fresh why
-table_may fresh (refusal.Unowned path) is free = free
-table_may fresh (refusal.Edited path) is free = free
-table_may fresh _ is free = absurd is
+pub owned_refuses_shared : (fresh : List TroveParts) (why : Refusal) → IsOwnedFirst fresh why → RefusesShared fresh why
+owned_refuses_shared fresh why first = subst (RefusesShared fresh) first.is first.shared
 
-pub stop_may : (fresh : List TroveParts) (e : Stop) → RefusesAtMost e → ((q : Name) → owners_at fresh q ≡ None) → StopsSo fresh e
-stop_may fresh (Refused why) is free = table_may fresh why is free
-stop_may fresh Failed is free = tt
-stop_may fresh Memory is free = tt
-stop_may fresh (Damaged path) is free = is
-stop_may fresh FarFailed is free = is
-stop_may fresh (FarDamaged path) is free = is
+table_refuses : (fresh : List TroveParts) (why : Refusal) → IsTableRefusal why → IsUnshared fresh → RefusesShared fresh why
+table_refuses fresh (refusal.Unowned path) is free = free
+table_refuses fresh (refusal.Edited path) is free = free
+table_refuses fresh _ is free = absurd is
 
-pub disk_may : (fresh : List TroveParts) (e : Stop) → IsDiskStop e → StopsSo fresh e
-disk_may fresh (Refused why) is = absurd is
-disk_may fresh Failed is = tt
-disk_may fresh Memory is = tt
-disk_may fresh (Damaged path) is = is
-disk_may fresh FarFailed is = is
-disk_may fresh (FarDamaged path) is = is
+table_refusal : (why : Refusal) → IsTableRefusal why → IsPlanRefusal why
+table_refusal (refusal.Unowned path) is = tt
+table_refusal (refusal.Edited path) is = tt
+table_refusal _ is = absurd is
+
+owned_refusal : (why : Refusal) (path first second : List ℕ) → refusal.Owned path first second ≡ why → IsPlanRefusal why
+owned_refusal why path first second is = subst IsPlanRefusal is tt
 
 -- ---- stops passed on by `?`
+
+-- those of the disk are among those of the table
+disk_at_most : (e : Stop) → IsDiskStop e → RefusesAtMost e
+disk_at_most (Refused why) is = absurd is
+disk_at_most Failed is = tt
+disk_at_most Memory is = tt
+disk_at_most (Damaged path) is = is
+disk_at_most FarFailed is = is
+disk_at_most (FarDamaged path) is = is
+
+plan_stop : (e : Stop) → RefusesAtMost e → IsPlanStop e
+plan_stop (Refused why) is = table_refusal why is
+plan_stop Failed is = tt
+plan_stop Memory is = tt
+plan_stop (Damaged path) is = is
+plan_stop FarFailed is = is
+plan_stop (FarDamaged path) is = is
 
 passed_on : (P : Stop → Type 0) (e : Stop) (r : Result (List Planned) Stop) → IsErrAnd r (λ s. s ≡ e) → P e → IfErr r P
 passed_on P e (Ok plan) is may = absurd is
 passed_on P e (Err s) is may = subst P (sym is) may
 
-pub memory_passed : (fresh : List TroveParts) (r : Result (List Planned) Stop) → IsErrAnd r (λ s. s ≡ Memory) → IfErr r (StopsSo fresh)
-memory_passed fresh r is = passed_on (StopsSo fresh) Memory r is tt
+pub memory_passed : (r : Result (List Planned) Stop) → IsErrAnd r (λ s. s ≡ Memory) → IfErr r IsPlanStop
+memory_passed r is = passed_on IsPlanStop Memory r is tt
 
-pub disk_passed : (fresh : List TroveParts) (e : Stop) (r : Result (List Planned) Stop) → IsErrAnd r (λ s. s ≡ e) → IsDiskStop e → IfErr r (StopsSo fresh)
-disk_passed fresh e r is may = passed_on (StopsSo fresh) e r is (disk_may fresh e may)
+pub table_passed : (e : Stop) (r : Result (List Planned) Stop) → IsErrAnd r (λ s. s ≡ e) → RefusesAtMost e → IfErr r IsPlanStop
+table_passed e r is may = passed_on IsPlanStop e r is (plan_stop e may)
 
-pub table_passed : (fresh : List TroveParts) (e : Stop) (r : Result (List Planned) Stop) → IsErrAnd r (λ s. s ≡ e) → RefusesAtMost e → ((q : Name) → owners_at fresh q ≡ None) → IfErr r (StopsSo fresh)
-table_passed fresh e r is may free = passed_on (StopsSo fresh) e r is (stop_may fresh e may free)
+pub disk_passed : (e : Stop) (r : Result (List Planned) Stop) → IsErrAnd r (λ s. s ≡ e) → IsDiskStop e → IfErr r IsPlanStop
+disk_passed e r is may = table_passed e r is (disk_at_most e may)
 
--- ---- what two lists can't share
+-- ---- what two troves share, on every disk
 
-pub shared_passed : (fresh : List TroveParts) (found : Option Refusal) (f : Fault) (r : Result (List Planned) Stop) → IsErrAnd r (λ s. s ≡ stop_of_fault f)
-    → IsRefusedSo found f → ((why : Refusal) → found ≡ Some why → IsOwnedFirst fresh why) → IfErr r (StopsSo fresh)
-shared_passed fresh found (fault.Refused why) r is so first = passed_on (StopsSo fresh) (Refused why) r is (owned_may fresh why (first why so))
-shared_passed fresh found fault.Memory r is so first = passed_on (StopsSo fresh) Memory r is tt
+told_on : (fresh : List TroveParts) (e : Stop) (r : Result (List Planned) Stop) → IsErrAnd r (λ s. s ≡ e) → TellsShared fresh (Err e) → TellsShared fresh r
+told_on fresh e (Ok plan) is told = absurd is
+told_on fresh e (Err s) is told = subst (λ x. TellsShared fresh (Err x)) (sym is) told
+
+stop_told : (fresh : List TroveParts) (e : Stop) → RefusesAtMost e → IsUnshared fresh → TellsShared fresh (Err e)
+stop_told fresh (Refused why) is free = table_refuses fresh why is free
+stop_told fresh Failed is free = free
+stop_told fresh Memory is free = tt
+stop_told fresh (Damaged path) is free = is
+stop_told fresh FarFailed is free = is
+stop_told fresh (FarDamaged path) is free = is
+
+pub memory_told : (fresh : List TroveParts) (r : Result (List Planned) Stop) → IsErrAnd r (λ s. s ≡ Memory) → TellsShared fresh r
+memory_told fresh r is = told_on fresh Memory r is tt
+
+pub table_told : (fresh : List TroveParts) (e : Stop) (r : Result (List Planned) Stop) → IsErrAnd r (λ s. s ≡ e) → RefusesAtMost e → IsUnshared fresh → TellsShared fresh r
+table_told fresh e r is may free = told_on fresh e r is (stop_told fresh e may free)
+
+pub disk_told : (fresh : List TroveParts) (e : Stop) (r : Result (List Planned) Stop) → IsErrAnd r (λ s. s ≡ e) → IsDiskStop e → IsUnshared fresh → TellsShared fresh r
+disk_told fresh e r is may free = table_told fresh e r is (disk_at_most e may) free
+
+-- ---- the refusal of a shared path, passed on
+
+module _ {fresh : List TroveParts} (found : Option Refusal) (f : Fault) (r : Result (List Planned) Stop) where
+  pub shared_passed : IsErrAnd r (λ s. s ≡ stop_of_fault f) → IsRefusedSo found f → ((why : Refusal) → found ≡ Some why → IsOwnedFirst fresh why) → IfErr r IsPlanStop
+  shared_passed is so first = passed_on IsPlanStop (stop_of_fault f) r is (by f so)
+    where
+      by : (f : Fault) → IsRefusedSo found f → IsPlanStop (stop_of_fault f)
+      by (fault.Refused why) so = let owned = first why so in owned_refusal why owned.path owned.first owned.second owned.is
+      by fault.Memory so = tt
+
+  pub shared_told : IsErrAnd r (λ s. s ≡ stop_of_fault f) → IsRefusedSo found f → ((why : Refusal) → found ≡ Some why → IsOwnedFirst fresh why) → TellsShared fresh r
+  shared_told is so first = told_on fresh (stop_of_fault f) r is (by f so)
+    where
+      by : (f : Fault) → IsRefusedSo found f → TellsShared fresh (Err (stop_of_fault f))
+      by (fault.Refused why) so = owned_refuses_shared fresh why (first why so)
+      by fault.Memory so = tt
 
 module _ {D : Type 0} {disk : DiskModel D} {good : Tree → List Planned → Type 0} where
   pub plans_shared : {X Y : Type 0} {view : X → Y} {test : Tree → Result Y Refusal} {before now : D} {q : Result X Stop} {r : Result (List Planned) Stop} (old fresh : List TroveParts) (options : Options) (found : Option Refusal) (f : Fault)

@@ -6,9 +6,9 @@ pub mod Remaining
 pub mod Building
 pub mod Orphaned
 pub mod Assembled
-pub mod Following
 pub mod Ahead
 pub mod Ending
 pub mod Above
 pub mod Sighted
 pub mod Whole
+pub mod OnePlan

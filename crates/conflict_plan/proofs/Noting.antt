@@ -1,5 +1,5 @@
 -- What both lists record of a path, from claim to claim.
-use Rattle.std.proofs.Common.{◌≡◌, ℕ, Bool, true, false, cond, ◌&&◌, ◌||◌, List, [], ◌∷◌, ◌++◌, Option, Some, None, is_some, refl, sym, ◌∙◌, ap, append_assoc}
+use Rattle.std.proofs.Common.{◌≡◌, ℕ, Bool, true, false, cond, ◌&&◌, ◌||◌, List, [], ◌∷◌, ◌++◌, Option, Some, None, refl, sym, ◌∙◌, ap, append_assoc}
 use Rattle.file_stream.specs.declared.record.FileRec.{FileRec}
 use Rattle.file_stream.specs.Record.{is_dir}
 use Rattle.trove_items.specs.declared.files.FileAt.{FileAt}
@@ -9,8 +9,8 @@ use Rattle.conflict_plan.specs.declared.records.Shared.{Shared}
 use Rattle.conflict_plan.specs.declared.records.Recorded.{Recorded}
 use Rattle.conflict_plan.specs.declared.records.Side.{Side}
 use Rattle.conflict_plan.specs.declared.records.Side.TheVariants.{Old, Fresh}
-use Rattle.conflict_plan.specs.Claims.{Claim, claims, claims_in, first_record, rival}
-use Rattle.conflict_plan.specs.Records.{noted, noted_all, or_nothing, shared}
+use Rattle.conflict_plan.specs.Claims.{Claim, claims, claims_in, rival}
+use Rattle.conflict_plan.specs.Records.{noted, noted_all, or_nothing}
 
 pub noted_append : (side : Side) (a b : List Claim) (before : Option Recorded) → noted_all side (a ++ b) before ≡ noted_all side b (noted_all side a before)
 noted_append side [] b before = refl

@@ -1,7 +1,6 @@
 -- Paths of the result whose parent isn't a directory.
-use Rattle.std.proofs.Common.{◌≡◌, ◌≢◌, ◌⊎◌, inl, inr, ⊎_elim, ℕ, Bool, true, false, cond, not, ◌&&◌, ◌||◌, List, [], ◌∷◌, map, Option, Some, None, is_some, refl, sym, ◌∙◌, ap, subst}
-use Rattle.std.proofs.lemmas.Bool.{cases_Bool}
-use Rattle.std.specs.FinMap.{FinMap, get, keys, contains_key-keys}
+use Rattle.std.proofs.Common.{◌≡◌, ◌⊎◌, inl, inr, ⊎_elim, ℕ, Bool, true, false, cond, not, ◌&&◌, ◌||◌, List, [], ◌∷◌, map, Option, Some, None, is_some, refl, sym, ◌∙◌, ap, subst}
+use Rattle.std.specs.FinMap.{get, keys, contains_key-keys}
 use Rattle.std.specs.List.{AllByRecursion, filter, list_any}
 use Rattle.std.specs.List.Sorted.{IsStrictlySortedBy}
 use Rattle.std.specs.declared.cmp.Ordering.{Ordering}
@@ -17,16 +16,14 @@ use Rattle.tree_disk.specs.Laws.{same_means, same_itself}
 use Rattle.tree_disk.specs.Rows.{is_dir_at}
 use Rattle.tree_disk.specs.Tree as disk
 use Rattle.tree_disk.specs.Tree.{Name, Tree, WellFormed, children, is_child, same_name}
-use Rattle.tree_scan.specs.Marks.{fingerprint, fingerprint_at, fingerprint_of_record, is_dir, is_nothing}
-use Rattle.conflict_plan.specs.declared.making.Fate.{Fate}
-use Rattle.conflict_plan.specs.declared.making.Fate.TheVariants.{Gone, Dir, Other}
+use Rattle.tree_scan.specs.Marks.{fingerprint, fingerprint_at, is_dir, is_nothing}
 use Rattle.conflict_plan.specs.declared.planned.Planned.{Planned}
 use Rattle.conflict_plan.specs.Making.{fate_at, fate_of, is_gone}
 use Rattle.conflict_plan.specs.Orphans.{first_remaining, has_way, is_dir_fate, least_orphan, left_below, lesser, orphan_by, wants_dir}
 use Rattle.conflict_plan.specs.Plan.{IsFirst, IsOrphan, mark_after, mark_of_want, planned_at, planned_mark}
 use Rattle.conflict_plan.proofs.Building.{AreSeenIn}
 use Rattle.conflict_plan.proofs.Order.{name_cmp, IsUpTo, child_behind, child_other, child_parent, less_other, not_behind, parent_child, placed, up_to_then}
-use Rattle.conflict_plan.proofs.Remaining.{ArePaths, RisePlanned, after_not_gone, and_both, and_first, and_second, fate_by, fate_planned, joined_child, not_false, not_true, or_both, or_left, or_right, planned_behind, planned_here, planned_other, planned_path, record_stands, remains_after, some_stands, wanted_stands}
+use Rattle.conflict_plan.proofs.Remaining.{RisePlanned, after_not_gone, and_both, and_first, and_second, fate_by, fate_planned, joined_child, not_false, not_true, or_both, or_left, or_right, planned_behind, planned_here, planned_other, planned_path, remains_after, some_stands, wanted_stands}
 
 -- ---- directories of the result
 

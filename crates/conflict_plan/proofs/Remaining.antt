@@ -5,7 +5,7 @@ use Rattle.std.specs.FinMap.{get, keys, contains_key-keys}
 use Rattle.std.specs.List.{filter, list_any}
 use Rattle.std.specs.declared.cmp.Ordering.TheVariants.{Less}
 use Rattle.cny_base.specs.Joins.{join_parent}
-use Rattle.cny_base.specs.Path.{is_path, join, last_name, parent, root}
+use Rattle.cny_base.specs.Path.{is_path, join, last_name, root}
 use Rattle.cny_base.specs.declared.node.Node.{Node}
 use Rattle.cny_base.specs.declared.node.Node.TheVariants as node
 use Rattle.file_stream.specs.declared.record.FileRec.{FileRec}
@@ -14,11 +14,10 @@ use Rattle.tree_disk.specs.Laws.{same_means, same_itself}
 use Rattle.tree_disk.specs.Tree.{Name, Tree, WellFormed, children, is_child, same_name}
 use Rattle.tree_scan.specs.Marks.{fingerprint, fingerprint_at, fingerprint_of_record, is_nothing}
 use Rattle.conflict_plan.specs.declared.making.Fate.{Fate}
-use Rattle.conflict_plan.specs.declared.making.Fate.TheVariants.{Gone, Dir, Other}
 use Rattle.conflict_plan.specs.declared.planned.Planned.{Planned}
 use Rattle.conflict_plan.specs.Making.{child_remains, fate_at, fate_of, has_made, is_gone, makes_in}
 use Rattle.conflict_plan.specs.Plan.{HasChild, IsAnswer, mark_after, mark_of_want, planned_at, planned_mark}
-use Rattle.conflict_plan.proofs.Order.{name_cmp, IsUpTo, child_behind, child_parent, joined_behind, less_other, more_other, not_behind, other_sym, same_sym, up_to_then}
+use Rattle.conflict_plan.proofs.Order.{name_cmp, IsUpTo, child_behind, child_parent, joined_behind, less_other, more_other, not_behind, up_to_then}
 
 -- ---- plans, by their paths
 

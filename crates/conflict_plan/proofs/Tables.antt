@@ -1,6 +1,5 @@
 -- What the table says with and without a name that remains below.
-use Rattle.std.proofs.Common.{◌≡◌, ◌⊎◌, inl, inr, ⊎_elim, ℕ, Bool, true, false, cond, not, ◌&&◌, ◌||◌, List, [], ◌∷◌, Option, Some, None, Result, Ok, Err, refl, sym, ◌∙◌, ap}
-use Rattle.std.proofs.lemmas.Bool.{cases_Bool}
+use Rattle.std.proofs.Common.{◌≡◌, Bool, true, false, cond, ◌&&◌, ◌||◌, List, ◌∷◌, Option, Some, None, Result, Ok, Err, refl, sym, ◌∙◌, ap}
 use Rattle.cny_base.specs.Reserved.{is_pinned}
 use Rattle.cny_base.specs.declared.options.Options.{Options}
 use Rattle.cny_base.specs.declared.refusal.Refusal.{Refusal}
@@ -20,7 +19,7 @@ use Rattle.conflict_plan.specs.Drafts.{draft_by, draft_of, drafted, is_left_dir,
 use Rattle.conflict_plan.specs.Making.{child_remains}
 use Rattle.conflict_plan.specs.Plan.{change_of, refusal_of}
 use Rattle.conflict_plan.specs.Settled.{with_settled}
-use Rattle.conflict_plan.specs.Table.{flags_of, gone_outcome, is_recorded_so, matches, outcome_by, path_outcome, recorded_outcome, unrecorded_outcome, otherwise_outcome}
+use Rattle.conflict_plan.specs.Table.{flags_of, is_recorded_so, matches, outcome_by, path_outcome, recorded_outcome, unrecorded_outcome, otherwise_outcome}
 
 -- ---- where nothing is to do
 
@@ -61,7 +60,7 @@ unrecorded_stays path was remains options = at (is_pinned path)
 
 -- ---- whether a name remains below
 
-dir_stands : (was : Mark) → marks.is_dir was ≡ true → is_nothing was ≡ false
+pub dir_stands : (was : Mark) → marks.is_dir was ≡ true → is_nothing was ≡ false
 dir_stands mark.Nothing is = absurd (cc is)
 dir_stands (mark.Dir mode) is = refl
 dir_stands (mark.File mode size name) is = refl
@@ -110,7 +109,7 @@ after_draft tree (Err why) plan = plan
 abbrev pub change_at : Options → Tree → Entry → List Planned → Option Planned
 change_at options tree e plan = change_of (path_outcome e.path e.old e.fresh (fingerprint_at tree e.path) (child_remains plan tree e.path) options) e.path (fingerprint_at tree e.path) e.fresh
 
-left_was_dir : (old fresh : Option FileRec) (was : Mark) → is_left_dir old fresh was ≡ true → marks.is_dir was ≡ true
+pub left_was_dir : (old fresh : Option FileRec) (was : Mark) → is_left_dir old fresh was ≡ true → marks.is_dir was ≡ true
 left_was_dir None None was left = absurd (cc left)
 left_was_dir None (Some fresh) was left = absurd (cc left)
 left_was_dir (Some old) (Some fresh) was left = absurd (cc left)

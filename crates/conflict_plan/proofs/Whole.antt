@@ -1,5 +1,5 @@
 -- The whole of planning, from what each part found.
-use Rattle.std.proofs.Common.{◌≡◌, ℕ, List, map, Option, Some, None, Ok, Err, IsTrue, refl, sym, ◌∙◌, ap, subst}
+use Rattle.std.proofs.Common.{◌≡◌, List, map, Some, None, Ok, Err, IsTrue, sym, ◌∙◌, ap, subst}
 use Rattle.std.specs.List.{All}
 use Rattle.std.specs.List.Sorted.{IsStrictlySortedBy}
 use Rattle.std.specs.Ordering.{nat_cmp}
@@ -16,12 +16,12 @@ use Rattle.conflict_plan.specs.declared.planned.Planned.{Planned}
 use Rattle.conflict_plan.specs.declared.records.Side.TheVariants as side
 use Rattle.conflict_plan.specs.Claims.{claims, owners_at}
 use Rattle.conflict_plan.specs.Drafts.{drafts_of}
-use Rattle.conflict_plan.specs.Entries.{entry_of, first_shared}
+use Rattle.conflict_plan.specs.Entries.{entry_of}
 use Rattle.conflict_plan.specs.Orphans.{least_orphan, IsSeenPlan}
 use Rattle.conflict_plan.specs.Plan.{conflict_at, IsFirstRefusal, IsPlan}
 use Rattle.conflict_plan.specs.Records.{noted_all}
 use Rattle.conflict_plan.specs.Settled.{settled, IsSeen}
-use Rattle.conflict_plan.proofs.Assembled.{AreEntries, AreFound, first_conflict, first_orphan, have_paths, is_plan, no_conflict, unshared}
+use Rattle.conflict_plan.proofs.Assembled.{AreEntries, AreFound, first_conflict, first_orphan, have_paths, is_plan, no_conflict}
 use Rattle.conflict_plan.proofs.Building.{built, drafts_passed, drafts_plan, drafts_refusal, plan_of}
 use Rattle.conflict_plan.proofs.Ending.{conflict_refuses}
 use Rattle.conflict_plan.proofs.Entered.{At, found_at, rising_keys}

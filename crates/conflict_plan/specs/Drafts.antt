@@ -1,5 +1,5 @@
 -- What becomes of each path, but that a directory which is recorded no more may still stay.
-use Rattle.std.specs.Prelude.{◌≡◌, ℕ, Bool, true, false, ◌&&◌, ◌||◌, if◌then◌else◌, List, [], ◌∷◌, Option, Some, None, Result, Ok, Err}
+use Rattle.std.specs.Prelude.{◌≡◌, Bool, false, ◌&&◌, ◌||◌, if◌then◌else◌, List, [], ◌∷◌, Option, Some, None, Result, Ok, Err}
 use Rattle.cny_base.specs.Reserved.{is_pinned}
 use Rattle.cny_base.specs.declared.options.Options.{Options}
 use Rattle.cny_base.specs.declared.refusal.Refusal.{Refusal}
@@ -8,13 +8,12 @@ use Rattle.cny_base.specs.declared.stop.Stop.{Stop}
 use Rattle.cny_base.specs.declared.stop.Stop.TheVariants.{Refused, Memory, Failed, Damaged, FarFailed, FarDamaged}
 use Rattle.file_stream.specs.declared.record.FileRec.{FileRec}
 use Rattle.file_stream.specs.Record.{is_dir}
-use Rattle.tree_disk.specs.Tree.{Name, Tree}
+use Rattle.tree_disk.specs.Tree.{Tree}
 use Rattle.tree_scan.specs.declared.mark.Mark.{Mark}
 use Rattle.tree_scan.specs.Marks as marks
 use Rattle.tree_scan.specs.Marks.{fingerprint_at}
 use Rattle.conflict_plan.specs.declared.drafting.Draft.{Draft}
 use Rattle.conflict_plan.specs.declared.entries.Entry.{Entry}
-use Rattle.conflict_plan.specs.declared.planned.Planned.{Planned}
 use Rattle.conflict_plan.specs.declared.table.Outcome.{Outcome}
 use Rattle.conflict_plan.specs.declared.table.Outcome.TheVariants.{Stays, Removed, Written, Unowned, Edited}
 use Rattle.conflict_plan.specs.Table.{path_outcome, is_recorded_so}

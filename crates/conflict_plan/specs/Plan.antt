@@ -1,5 +1,5 @@
 -- Plans: which paths a job changes, and why it is refused.
-use Rattle.std.specs.Prelude.{◌≡◌, ◌≢◌, ℕ, ◌≤◌, Bool, true, false, ◌==◌, ◌&&◌, if◌then◌else◌, IsTrue, List, [], ◌∷◌, Option, Some, None, Result, Ok, Err, All}
+use Rattle.std.specs.Prelude.{◌≡◌, ℕ, ◌≤◌, Bool, true, false, if◌then◌else◌, IsTrue, List, [], ◌∷◌, Option, Some, None, Result, Ok, Err}
 use Rattle.std.specs.Cmp.Lexicographic.{slice_cmp}
 use Rattle.std.specs.Ordering.{nat_cmp}
 use Rattle.std.specs.List.Sorted.{IsStrictlySortedBy}
@@ -102,17 +102,13 @@ pub record IsFirst (P : Name → Type 0) (path : Name) : Type 0 where
   pub holds : P path
   pub first : (q : Name) → slice_cmp nat_cmp q path ≡ Less → P q → ⊥
 
--- two troves of the new list have the path, which isn't a directory in both
-abbrev pub IsShared : List TroveParts → Name → Type 0
-IsShared fresh path = owners_at fresh path ≢ None
-
--- the table refuses at the path
-abbrev pub HasConflict : List TroveParts → List TroveParts → Options → Tree → Name → Type 0
-HasConflict old fresh options tree path = conflict_at old fresh options tree path ≢ None
+-- no two troves of the new list have a path that they can't share
+abbrev pub IsUnshared : List TroveParts → Type 0
+IsUnshared fresh = (path : Name) → owners_at fresh path ≡ None
 
 -- what a job plans that isn't refused
 pub record IsPlan (old fresh : List TroveParts) (options : Options) (tree : Tree) (plan : List Planned) : Type 0 where
-  pub unshared : (path : Name) → owners_at fresh path ≡ None
+  pub unshared : IsUnshared fresh
   pub no_conflict : (path : Name) → conflict_at old fresh options tree path ≡ None
   pub planned : ArePlanned old fresh options tree plan
   pub no_orphan : (path : Name) → IsOrphan (mark_after plan tree) path → ⊥
@@ -126,13 +122,13 @@ pub record IsFirstShared (fresh : List TroveParts) (path first second : List ℕ
 
 -- no path is shared, and at this first path the table refuses so
 pub record IsFirstConflict (old fresh : List TroveParts) (options : Options) (tree : Tree) (path : Name) (why : Refusal) : Type 0 where
-  pub unshared : (q : Name) → owners_at fresh q ≡ None
+  pub unshared : IsUnshared fresh
   pub refused : conflict_at old fresh options tree path ≡ Some why
   pub first_path : (q : Name) → slice_cmp nat_cmp q path ≡ Less → conflict_at old fresh options tree q ≡ None
 
 -- no path is shared, the table refuses nowhere, and this is the first path of the result whose parent isn't a directory
 pub record IsFirstOrphan (old fresh : List TroveParts) (options : Options) (tree : Tree) (path : Name) : Type 0 where
-  pub unshared : (q : Name) → owners_at fresh q ≡ None
+  pub unshared : IsUnshared fresh
   pub no_conflict : (q : Name) → conflict_at old fresh options tree q ≡ None
   pub plan : List Planned
   pub planned : ArePlanned old fresh options tree plan
@@ -164,19 +160,37 @@ pub record Plans {D : Type 0} (disk : DiskModel D) (good : Tree → List Planned
   pub same : IsTrue disk.tells → HasRead disk old new Unit
   pub ends : EndsSo disk.tells (good (disk.reads old)) (bad (disk.reads old)) result (disk.faults old) (disk.faults new)
 
--- On every disk, also on one that tells nothing: two troves that share a path are told exactly, and else only the three other
--- refusals come.
-abbrev pub MayRefuse : List TroveParts → Refusal → Type 0
-MayRefuse fresh (refusal.Owned path first second) = IsFirstShared fresh path first second
-MayRefuse fresh (refusal.Unowned path) = (q : Name) → owners_at fresh q ≡ None
-MayRefuse fresh (refusal.Edited path) = (q : Name) → owners_at fresh q ≡ None
-MayRefuse fresh (refusal.Parent path) = (q : Name) → owners_at fresh q ≡ None
-MayRefuse fresh _ = ⊥
+-- ---- on every disk, also on one that tells nothing
 
-abbrev pub StopsSo : List TroveParts → Stop → Type 0
-StopsSo fresh (Refused why) = MayRefuse fresh why
-StopsSo fresh Failed = Unit {0}
-StopsSo fresh Memory = Unit {0}
-StopsSo fresh (Damaged path) = ⊥
-StopsSo fresh FarFailed = ⊥
-StopsSo fresh (FarDamaged path) = ⊥
+-- the refusal of a shared path is that of the first one, and no other comes where a path is shared
+abbrev pub RefusesShared : List TroveParts → Refusal → Type 0
+RefusesShared fresh (refusal.Owned path first second) = IsFirstShared fresh path first second
+RefusesShared fresh _ = IsUnshared fresh
+
+-- Whether a path is shared is a matter of the new list alone: the first shared path is refused, and where an answer is another
+-- one, no path is shared. (Want of memory says nothing.)
+abbrev pub TellsShared : List TroveParts → Result (List Planned) Stop → Type 0
+TellsShared fresh (Ok plan) = IsUnshared fresh
+TellsShared fresh (Err (Refused why)) = RefusesShared fresh why
+TellsShared fresh (Err Failed) = IsUnshared fresh
+TellsShared fresh (Err Memory) = Unit {0}
+TellsShared fresh (Err (Damaged path)) = ⊥
+TellsShared fresh (Err FarFailed) = ⊥
+TellsShared fresh (Err (FarDamaged path)) = ⊥
+
+-- the refusals of planning
+abbrev pub IsPlanRefusal : Refusal → Type 0
+IsPlanRefusal (refusal.Owned path first second) = Unit {0}
+IsPlanRefusal (refusal.Unowned path) = Unit {0}
+IsPlanRefusal (refusal.Edited path) = Unit {0}
+IsPlanRefusal (refusal.Parent path) = Unit {0}
+IsPlanRefusal _ = ⊥
+
+-- the stops of planning
+abbrev pub IsPlanStop : Stop → Type 0
+IsPlanStop (Refused why) = IsPlanRefusal why
+IsPlanStop Failed = Unit {0}
+IsPlanStop Memory = Unit {0}
+IsPlanStop (Damaged path) = ⊥
+IsPlanStop FarFailed = ⊥
+IsPlanStop (FarDamaged path) = ⊥

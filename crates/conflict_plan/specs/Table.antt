@@ -1,5 +1,5 @@
 -- The conflict table: what becomes of a path. The first row that applies decides.
-use Rattle.std.specs.Prelude.{ℕ, Bool, true, false, ◌&&◌, ◌||◌, if◌then◌else◌, List, Option, Some, None}
+use Rattle.std.specs.Prelude.{ℕ, Bool, false, ◌&&◌, ◌||◌, if◌then◌else◌, List, Option, Some, None}
 use Rattle.cny_base.specs.Reserved.{is_pinned}
 use Rattle.cny_base.specs.declared.options.Options.{Options}
 use Rattle.file_stream.specs.declared.record.Flags.{Flags}

@@ -4,6 +4,7 @@
 
 mod drafting;
 mod entries;
+mod laws;
 mod making;
 mod orphans;
 mod planned;
@@ -12,6 +13,7 @@ mod records;
 mod settling;
 mod table;
 
+pub use laws::one_plan;
 pub use planned::{Planned, PlannedList};
 pub use planning::plan;
 pub use table::{Outcome, outcome_of};

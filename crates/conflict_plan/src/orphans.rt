@@ -1,11 +1,12 @@
 //! The first path of the result whose parent isn't a directory.
-ghost use Rattle.std.specs.Prelude.{◌≡◌, IsTrue, IfErr, IfOk, Ok, All};
+ghost use Rattle.std.specs.Prelude.{◌≡◌, false, IsTrue, IfErr, IfOk, Ok, Some, All};
+ghost use Rattle.cny_base.specs.Path.{parent};
 ghost use Rattle.tree_disk.specs.Disk.{NamesOf};
 ghost use Rattle.tree_disk.specs.Rows.{is_dir_at};
 ghost use Rattle.tree_disk.specs.Steps.{IsDiskStop, Tests};
 ghost use Rattle.tree_disk.specs.Tree.{children};
 ghost use Rattle.conflict_plan.specs.Orphans as spec;
-ghost use Rattle.conflict_plan.specs.Orphans.{first_remaining, has_way, orphan_by, least_orphan, IsSeenPlan};
+ghost use Rattle.conflict_plan.specs.Orphans.{first_remaining, has_way, is_dir_fate, orphan_by, least_orphan, IsSeenPlan};
 
 use crate::making::{Fate, Plan};
 use crate::planned::Planned;
@@ -15,22 +16,61 @@ use file_stream::FileRec;
 use std::alloc::Global;
 use tree_disk::{TreeDisk, steps};
 
-// Whether the parent of a path is a directory in the result. (That of `/` is `/` itself.)
-fn has_way<D: TreeDisk>(alloc: Global, disk: &mut D, plan: &Plan, path: &Path) -> Result<bool, Stop>
-    ensures tests { Tests D.disk (λ has. has)
-        (λ tree. Ok (has_way plan.now tree path.now))
+// Whether a directory is to stand there.
+fn is_dir(fate: Fate) -> bool
+    ensures { result ≡ is_dir_fate (Some fate) false }
+{
+    match fate {
+        Fate::Gone => false,
+        Fate::Dir => true,
+        Fate::Other => false,
+    }
+}
+
+// Whether the parent of a path is a directory, where it isn't planned: what stands at the path stands in one, and else it is
+// looked at.
+fn stands_in_dir<D: TreeDisk>(
+    alloc: Global,
+    disk: &mut D,
+    planned: &Planned,
+    above: &Path,
+) -> Result<bool, Stop>
+    requires seen { IsTrue D.disk.tells → IsSeenPlan (D.disk.reads disk.old) planned.now }
+    requires above { above.now ≡ parent planned.now.path }
+    ensures tests { Tests D.disk (λ dir. dir)
+        (λ tree. Ok (is_dir_at tree above.now))
         disk.old disk.new result }
     ensures stops { IfErr result IsDiskStop }
 {
-    let found = path.parent_path(alloc)?;
+    if !planned.was.is_nothing() {
+        return Ok(true);
+    }
+    let look = steps::look(alloc, disk, above)?;
+    Ok(look.is_dir())
+}
+
+// Whether the parent of a planned path is a directory in the result. (That of `/` is `/` itself.)
+fn has_way<D: TreeDisk>(
+    alloc: Global,
+    disk: &mut D,
+    plan: &Plan,
+    planned: &Planned,
+) -> Result<bool, Stop>
+    requires { IsTrue D.disk.tells → IsSeenPlan (D.disk.reads disk.old) planned.now }
+    ensures tests { Tests D.disk (λ has. has)
+        (λ tree. Ok (has_way plan.now tree planned.now.path))
+        disk.old disk.new result }
+    ensures stops { IfErr result IsDiskStop }
+{
+    let found = planned.path.parent_path(alloc)?;
     let Some(above) = found else {
         return Ok(true);
     };
     if let Some(fate) = plan.fate(&above) {
-        return Ok(fate == Fate::Dir);
+        return Ok(is_dir(fate));
     }
-    let look = steps::look(alloc, disk, &above)?;
-    Ok(look.is_dir())
+    let dir = stands_in_dir(alloc, disk, planned, &above)?;
+    Ok(dir)
 }
 
 // The path of the first of the names directly below a path that doesn't go.
@@ -120,7 +160,7 @@ fn orphan_by<D: TreeDisk>(
         disk.old disk.new result }
     ensures stops { IfErr result IsDiskStop }
 {
-    if planned.want.is_some() && !has_way(alloc, disk, plan, &planned.path)? {
+    if planned.want.is_some() && !has_way(alloc, disk, plan, planned)? {
         return Ok(Some(planned.path.copy()?));
     }
     left_below(alloc, disk, plan, planned)

@@ -1,7 +1,7 @@
 //! The plan of a job.
 ghost use Rattle.std.specs.Prelude.{◌≡◌, IfErr, IfOk};
 ghost use Rattle.cny_base.specs.declared.refusal.Refusal.TheVariants as refusal;
-ghost use Rattle.conflict_plan.specs.Plan.{IsPlan, IsFirstRefusal, Plans, StopsSo};
+ghost use Rattle.conflict_plan.specs.Plan.{IsPlan, IsFirstRefusal, IsPlanStop, Plans, TellsShared};
 
 use crate::drafting::drafts_of;
 use crate::entries::entries_of;
@@ -31,7 +31,8 @@ fn parent_missing(alloc: Global, path: &Path) -> Result<Refusal, OutOfMemory>
 /// - `Unowned` or `Edited`, for the first path at which the conflict table refuses;
 /// - `Parent`, for the first path of the result whose parent isn't a directory;
 ///
-/// in this order. `Failed` comes only where the disk's count of faults rose, and of the other stops want of memory alone.
+/// in this order. `Owned` depends on the new list alone, and comes exactly so on every disk. `Failed` comes only where the disk's
+/// count of faults rose, and of the other stops want of memory alone.
 pub fn plan<D: TreeDisk>(
     alloc: Global,
     disk: &mut D,
@@ -42,7 +43,8 @@ pub fn plan<D: TreeDisk>(
     ensures plans { Plans D.disk (IsPlan old.now fresh.now options.now) (IsFirstRefusal old.now fresh.now options.now)
         disk.old disk.new result }
     // On every disk, also where it tells nothing.
-    ensures stops { IfErr result (StopsSo fresh.now) }
+    ensures owned { TellsShared fresh.now result }
+    ensures stops { IfErr result IsPlanStop }
 {
     let records = records_of(alloc, old, fresh)?;
     let entries = entries_of(alloc, records)?;

@@ -1,6 +1,7 @@
 //! The calls.
 use crate::answers::{mark_text, plan_text, stop_text, word};
 use crate::nodes::{disk_of, record_of};
+use crate::quiet::Quiet;
 use crate::stop::Stop;
 use crate::troves::troves_of;
 use crate::words::{contents_at, mode_at, parts_of, path_at, text_at};
@@ -11,6 +12,7 @@ use tree_scan::{
     Finding, Findings, Found, Mark, Verified, are_same_marks, differing, mark_at, mark_file,
     matches,
 };
+use trove_stream::Trove;
 
 fn copied_mark(alloc: Global, found: &Mark) -> Result<String, Stop> {
     let copy = found.copy()?;
@@ -85,19 +87,65 @@ fn has_word(text: &str, wanted: &str) -> bool {
     false
 }
 
-// `plan OPTIONS NODES OLD NEW`; of the options, `fail` makes the first call of the disk fail, and other words say what is shown.
-fn planned(alloc: Global, parts: &[String]) -> Result<String, Stop> {
-    let words = text_at(parts, 1)?;
-    let options = Options {
+fn options_of(words: &str) -> Options {
+    Options {
         replace: has_word(words, "replace"),
         keep: has_word(words, "keep"),
-    };
-    let mut disk = disk_of(alloc, text_at(parts, 2)?, has_word(words, "fail"))?;
-    let old = troves_of(alloc, text_at(parts, 3)?)?;
-    let fresh = troves_of(alloc, text_at(parts, 4)?)?;
-    match plan(alloc, &mut disk, &old, &fresh, &options) {
+    }
+}
+
+fn plan_answer(
+    alloc: Global,
+    disk: &mut Quiet,
+    old: &[Trove],
+    fresh: &[Trove],
+    words: &str,
+) -> Result<String, Stop> {
+    match plan(alloc, disk, old, fresh, &options_of(words)) {
         Ok(list) => plan_text(alloc, list.get()),
         Err(stop) => stop_text(alloc, &stop),
+    }
+}
+
+// The plan that leads from these troves to those of a line.
+fn plan_from(
+    alloc: Global,
+    disk: &mut Quiet,
+    old: &[Trove],
+    parts: &[String],
+) -> Result<String, Stop> {
+    let words = text_at(parts, 1)?;
+    let fresh = troves_of(alloc, text_at(parts, 4)?)?;
+    plan_answer(alloc, disk, old, &fresh, words)
+}
+
+// The plan that leads from the old troves of a line to its new ones.
+fn plan_between(alloc: Global, disk: &mut Quiet, parts: &[String]) -> Result<String, Stop> {
+    let old = troves_of(alloc, text_at(parts, 3)?)?;
+    plan_from(alloc, disk, &old, parts)
+}
+
+// An answer, and behind a plan how often the disk was asked.
+fn with_calls(alloc: Global, text: String, disk: &Quiet) -> Result<String, Stop> {
+    if !text.starts_with("ok") {
+        return Ok(text);
+    }
+    let (looks, reads, lists) = (disk.looks, disk.reads, disk.lists);
+    let text = text.as_str();
+    Ok(format!(in alloc; "{text}\t{looks} looks, {reads} reads, {lists} lists")?)
+}
+
+// `plan OPTIONS NODES OLD NEW`; of the options, `fail` makes the first call of the disk fail, with `calls` they are counted, and
+// other words say what is shown.
+fn planned(alloc: Global, parts: &[String]) -> Result<String, Stop> {
+    let words = text_at(parts, 1)?;
+    let counted = has_word(words, "calls");
+    let mut disk = disk_of(alloc, text_at(parts, 2)?, has_word(words, "fail"))?;
+    let text = plan_between(alloc, &mut disk, parts)?;
+    if counted {
+        with_calls(alloc, text, &disk)
+    } else {
+        Ok(text)
     }
 }
 

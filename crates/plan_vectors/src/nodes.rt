@@ -59,11 +59,7 @@ pub fn disk_of(alloc: Global, text: &str, fails: bool) -> Result<Quiet, Stop> {
         numbers.push(1)?;
     }
     match MemoryTree::new(alloc, nodes_of(alloc, text)?, Fails::new(numbers)) {
-        Ok(tree) => Ok(Quiet {
-            tree,
-            faults: 0,
-            calls: 0,
-        }),
+        Ok(tree) => Ok(Quiet::new(tree)),
         Err(TreeFault::NotATree) => Err(Stop::Unreadable),
         Err(TreeFault::Memory) => Err(Stop::Memory),
     }

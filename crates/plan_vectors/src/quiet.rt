@@ -1,5 +1,5 @@
-//! A disk in memory that tells contracts nothing of its tree: what its nodes don't allow counts as a fault. It
-//! counts its calls.
+//! A disk in memory that tells contracts nothing of its tree: what its nodes don't allow counts as a fault. It counts the calls
+//! that read.
 ghost use Rattle.std.specs.Prelude.{◌≡◌, ◌≤◌, IfOk, IsErrOf, Ok};
 ghost use Rattle.cny_base.specs.Count.{Rose};
 ghost use Rattle.tree_disk.specs.declared.disk.DiskStop.TheVariants.{Failed, Memory, Refused};
@@ -10,15 +10,29 @@ use std::alloc::Global;
 use tree_disk::{DiskStop, Look, TreeDisk};
 use tree_memory::MemoryTree;
 
-/// The disk, how often a call of it failed or wasn't allowed, and how many were made.
+/// The disk, how often a call of it failed or wasn't allowed, and how many looks at paths, reads of files and lists of
+/// directories were made.
 #[derive(Drop)]
 pub struct Quiet {
     pub tree: MemoryTree,
     pub faults: u64,
-    pub calls: u64,
+    pub looks: u64,
+    pub reads: u64,
+    pub lists: u64,
 }
 
 impl Quiet {
+    /// The disk before its first call.
+    pub fn new(tree: MemoryTree) -> Self {
+        Quiet {
+            tree,
+            faults: 0,
+            looks: 0,
+            reads: 0,
+            lists: 0,
+        }
+    }
+
     // The answer of a call. It is never that the tree doesn't allow the call.
     fn told<T: Drop>(&mut self, answer: Result<T, DiskStop>) -> Result<T, DiskStop>
         ensures value { IfOk result (λ value. answer ≡ Ok value) }
@@ -27,7 +41,6 @@ impl Quiet {
         ensures failed { IsErrOf result Failed → Rose self.old.faults self.new.faults }
         ensures memory { IsErrOf result Memory → self.new.faults ≡ self.old.faults }
     {
-        self.calls = self.calls.saturating_add(1);
         match answer {
             Ok(value) => Ok(value),
             Err(DiskStop::Memory) => Err(DiskStop::Memory),
@@ -43,6 +56,7 @@ impl TreeDisk for Quiet {
     ghost disk = { untold (λ d. d.faults) };
 
     fn look(&mut self, alloc: Global, path: &Path) -> Result<Look, DiskStop> {
+        self.looks = self.looks.saturating_add(1);
         let answer = self.tree.look(alloc, path);
         self.told(answer)
     }
@@ -54,11 +68,13 @@ impl TreeDisk for Quiet {
         at: u64,
         buf: &mut [u8],
     ) -> Result<usize, DiskStop> {
+        self.reads = self.reads.saturating_add(1);
         let answer = self.tree.read_at(alloc, path, at, buf);
         self.told(answer)
     }
 
     fn list(&mut self, alloc: Global, path: &Path) -> Result<Names, DiskStop> {
+        self.lists = self.lists.saturating_add(1);
         let answer = self.tree.list(alloc, path);
         self.told(answer)
     }

@@ -1,7 +1,7 @@
 -- Differing places, counted piece by piece.
 use Rattle.std.specs.Prelude.{◌==◌}
 use Rattle.std.proofs.Common.{◌≡◌, Bool, true, false, cond, not, ℕ, zero, suc, ◌+◌, ◌-◌, min, ◌≤◌, List, [], ◌∷◌, ◌++◌, length, take, take-add, drop, refl, sym, ◌∙◌, ap, arith}
-use Rattle.std.proofs.lemmas.List.{length-take, length-drop, take_all}
+use Rattle.std.proofs.lemmas.List.{length-take, length-drop, take_all, take-take}
 use Rattle.std.proofs.lemmas.List.Sums.{sum_by-cons}
 use Rattle.cny_lanes.specs.Compare.{count_of_differing, differing}
 
@@ -57,6 +57,14 @@ differing_front (x ∷ a) (y ∷ b) zero is = absurd (omega arith)
 differing_front (x ∷ a) (y ∷ b) (suc n) is =
     step x a y (take n b) ∙ ap (λ (k : ℕ). cond (not (x == y)) 1 0 + k) (differing_front a b n (omega arith)) ∙ sym (step x a y b)
 
+-- behind the end of the first nothing is compared
+pub differing_past : (a b : List ℕ) (n : ℕ) → length a ≤ n → count_of_differing a (take n b) ≡ count_of_differing a b
+differing_past [] b n le = refl
+differing_past (x ∷ a) b zero le = absurd (omega arith)
+differing_past (x ∷ a) [] (suc n) le = refl
+differing_past (x ∷ a) (y ∷ b) (suc n) le =
+    step x a y (take n b) ∙ ap (λ (k : ℕ). cond (not (x == y)) 1 0 + k) (differing_past a b n (omega (arith, le))) ∙ sym (step x a y b)
+
 -- no more places than the second has
 pub few_differing : (a b : List ℕ) → count_of_differing a b ≤ length b
 few_differing [] b = omega arith
@@ -74,6 +82,17 @@ few_differing (x ∷ a) (y ∷ b) =
 -- the rest of some bytes, as a slice has it
 rest_is : (bytes : List ℕ) (at n : ℕ) → take n (take (length bytes - at) (drop at bytes)) ≡ take n (drop at bytes)
 rest_is bytes at n = ap (take n) (take_all (length bytes - at) (drop at bytes) (omega (arith, length-drop at bytes)))
+
+-- of a piece, as much as the file has there is enough
+pub piece_read : (file bytes : List ℕ) (at room read count : ℕ) → read ≡ min (length (take room (take (length bytes - at) (drop at bytes)))) (length file - at)
+    → count ≡ count_of_differing (drop at file) (take room (take (length bytes - at) (drop at bytes)))
+    → count ≡ count_of_differing (drop at file) (take read (take (length bytes - at) (drop at bytes)))
+piece_read file bytes at room read count is counted =
+    let rest = take (length bytes - at) (drop at bytes) in
+    let few : read ≤ room = omega (arith, is, length-take room rest) in
+    counted
+    ∙ sym (differing_front (drop at file) (take room rest) read (omega (arith, is, length-drop at file)))
+    ∙ ap (count_of_differing (drop at file)) (take-take read room rest few)
 
 -- one more piece
 pub counted_on : (file bytes : List ℕ) (at n count more : ℕ) → at ≤ length bytes → count ≡ count_of_differing file (take at bytes)

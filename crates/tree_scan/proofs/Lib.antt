@@ -1,4 +1,3 @@
 pub mod Buffers
 pub mod Counts
 pub mod Seen
-pub mod Following

@@ -2,3 +2,4 @@ pub mod Marks
 pub mod MarkLaws
 pub mod Looks
 pub mod Differing
+pub mod Following

@@ -1,5 +1,5 @@
 //! In how many bytes a file differs from a content.
-ghost use Rattle.std.specs.Prelude.{◌≡◌, ◌<◌, ◌≤◌, IfErr, IfOk, IsTrue, Ok, drop, length};
+ghost use Rattle.std.specs.Prelude.{◌≡◌, ◌<◌, ◌≤◌, ◌-◌, IfErr, IfOk, IsTrue, Ok, drop, length, min};
 ghost use Rattle.cny_lanes.specs.Compare.{count_of_differing};
 ghost use Rattle.tree_disk.specs.Rows.{bytes_at, is_file_at};
 ghost use Rattle.tree_disk.specs.Steps.{IsDiskStop, Tests};
@@ -11,28 +11,39 @@ use cny_lanes::count_different;
 use std::alloc::Global;
 use tree_disk::{TreeDisk, steps};
 
-// At how many of these places a file differs from some bytes, from a place on.
-fn piece_differing<D: TreeDisk>(
+// How many bytes of a piece were read, and how many of them differ.
+#[derive(Clone, Copy)]
+struct Compared {
+    read: usize,
+    differing: usize,
+}
+
+// Compares as many of these bytes with a file, from a place of it on, as the file has there.
+fn compare_piece<D: TreeDisk>(
     alloc: Global,
     disk: &mut D,
     path: &Path,
     at: u64,
     own: &[u8],
     buf: &mut [u8],
-) -> Result<usize, Stop>
+) -> Result<Compared, Stop>
     requires file { IsTrue D.disk.tells → IsTrue (is_file_at (D.disk.reads disk.old) path.now) }
     requires same { length buf.old ≡ length own.now }
-    ensures tests { Tests D.disk (λ count. count)
-        (λ tree. Ok (count_of_differing (drop at (bytes_at tree path.now)) own.now))
+    ensures tests { Tests D.disk (λ compared. compared.read)
+        (λ tree. Ok (min (length own.now) (length (bytes_at tree path.now) - at)))
         disk.old disk.new result }
-    ensures within { IfOk result (λ count. count ≤ length own.now) }
+    ensures differing { IsTrue D.disk.tells → IfOk result (λ compared.
+        compared.differing ≡ count_of_differing (drop at (bytes_at (D.disk.reads disk.old) path.now)) own.now) }
+    ensures few { IfOk result (λ compared. compared.differing ≤ compared.read) }
+    ensures most { IfOk result (λ compared. compared.read ≤ length own.now) }
     ensures stops { IfErr result IsDiskStop }
 {
-    let count = steps::read_at(alloc, disk, path, at, buf)?;
-    Ok(count_different(&buf[..count], &own[..count]))
+    let read = steps::read_at(alloc, disk, path, at, buf)?;
+    let differing = count_different(&buf[..read], &own[..read]);
+    Ok(Compared { read, differing })
 }
 
-// At how many places a file differs from these bytes, piece by piece.
+// At how many places a file differs from these bytes, piece by piece. Where the file is shorter, its end ends them.
 fn pieces_differing<D: TreeDisk>(
     alloc: Global,
     disk: &mut D,
@@ -53,10 +64,19 @@ fn pieces_differing<D: TreeDisk>(
     'pieces: while at < bytes.len() {
         let rest = &bytes[at..];
         let room = rest.len().min(buf.len());
-        let own = &rest[..room];
-        let more = piece_differing(alloc, disk, path, at as u64, own, &mut buf[..room])?;
-        count += more;
-        at += room;
+        let piece = compare_piece(
+            alloc,
+            disk,
+            path,
+            at as u64,
+            &rest[..room],
+            &mut buf[..room],
+        )?;
+        if piece.read == 0 {
+            return Ok(count);
+        }
+        count += piece.differing;
+        at += piece.read;
     }
     Ok(count)
 }

@@ -1,5 +1,5 @@
 // The bytes of files, read in pieces of bounded size.
-ghost use Rattle.std.specs.Prelude.{◌≡◌, ◌<◌, ◌++◌, List, ℕ, [], IfErr, IsTrue, OnOk, Ok, drop, length, min, take};
+ghost use Rattle.std.specs.Prelude.{◌≡◌, ◌<◌, ◌≤◌, ◌-◌, ◌++◌, List, ℕ, [], IfErr, IfOk, IsTrue, OnOk, Ok, drop, length, min, take};
 ghost use Rattle.sha1.specs.Sha1.{sha1, Holds};
 ghost use Rattle.tree_disk.specs.Rows.{bytes_at, is_file_at};
 ghost use Rattle.tree_disk.specs.Steps.{IsDiskStop, Tests};
@@ -30,7 +30,7 @@ pub fn piece_room(size: u64) -> usize
     room_for(size, PIECE).max(1)
 }
 
-// Gives a hasher the next piece of a file, as long as there is room and file.
+// Gives a hasher the next piece of a file, as long as there is room and file, and answers how long that is.
 fn hash_piece<D: TreeDisk>(
     alloc: Global,
     disk: &mut D,
@@ -38,19 +38,22 @@ fn hash_piece<D: TreeDisk>(
     path: &Path,
     at: u64,
     buf: &mut [u8],
-) -> Result<(), Stop>
+) -> Result<usize, Stop>
     requires { IsTrue D.disk.tells → IsTrue (is_file_at (D.disk.reads disk.old) path.now) }
-    ensures tests { Tests D.disk (λ done. done) (λ tree. Ok tt) disk.old disk.new result }
+    ensures tests { Tests D.disk (λ count. count)
+        (λ tree. Ok (min (length buf.old) (length (bytes_at tree path.now) - at)))
+        disk.old disk.new result }
+    ensures most { IfOk result (λ count. count ≤ length buf.old) }
     ensures given { IsTrue D.disk.tells → (bytes : List ℕ) → Holds hasher.old bytes
         → OnOk result (Holds hasher.new (bytes ++ take (length buf.old) (drop at (bytes_at (D.disk.reads disk.old) path.now)))) }
     ensures stops { IfErr result IsDiskStop }
 {
     let count = steps::read_at(alloc, disk, path, at, buf)?;
     hasher.update(&buf[..count]);
-    Ok(())
+    Ok(count)
 }
 
-// Gives a hasher the bytes of a file of this size, piece by piece.
+// Gives a hasher the bytes of a file of this size, piece by piece. Where the file is shorter, its end ends them.
 fn hash_pieces<D: TreeDisk>(
     alloc: Global,
     disk: &mut D,
@@ -70,8 +73,11 @@ fn hash_pieces<D: TreeDisk>(
     let mut at = 0;
     'pieces: while at < size {
         let room = room_for(size - at, buf.len());
-        hash_piece(alloc, disk, hasher, path, at, &mut buf[..room])?;
-        at += room as u64;
+        let count = hash_piece(alloc, disk, hasher, path, at, &mut buf[..room])?;
+        if count == 0 {
+            return Ok(());
+        }
+        at += count as u64;
     }
     Ok(())
 }

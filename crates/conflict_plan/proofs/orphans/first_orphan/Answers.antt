@@ -1,7 +1,7 @@
 use Rattle.std.proofs.Common.{refl, sym, ap, subst, ◌∙◌, arith, reverse, take}
 use Rattle.tree_disk.specs.StepLaws.{tests_answer, tests_value}
 use Rattle.conflict_plan.specs.Orphans.{least_orphan, lesser, IsSeenPlan}
-use Rattle.conflict_plan.proofs.Following.{tests_next}
+use Rattle.tree_scan.specs.Following.{tests_next}
 use Rattle.conflict_plan.proofs.Sighted.{least_more, seen_item}
 use Rattle.conflict_plan.proofs.orphans.first_orphan.Goals as goal
 

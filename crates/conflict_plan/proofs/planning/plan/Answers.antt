@@ -1,14 +1,14 @@
-use Rattle.std.proofs.Common.{◌≡◌, None, Some, Ok, Err, refl, sym, ap, subst, ◌∙◌}
+use Rattle.std.proofs.Common.{Ok, refl, sym, subst, ◌∙◌}
 use Rattle.std.specs.List.{All}
 use Rattle.tree_disk.specs.StepLaws.{tests_start, tests_value}
 use Rattle.tree_disk.specs.Steps.{Tests}
 use Rattle.conflict_plan.specs.Entries.{first_shared}
 use Rattle.conflict_plan.specs.Orphans.{IsSeenPlan}
-use Rattle.conflict_plan.specs.Plan.{IsFirstRefusal}
+use Rattle.conflict_plan.specs.Plan.{IsFirstRefusal, IsPlanRefusal, RefusesShared}
 use Rattle.conflict_plan.specs.Settled.{IsSeen}
 use Rattle.conflict_plan.proofs.Assembled.{first_owned, to_found, unshared}
-use Rattle.conflict_plan.proofs.Ending.{disk_passed, memory_passed, plans_found, plans_memory, plans_refused, plans_shared, plans_stop, shared_passed, table_passed}
-use Rattle.conflict_plan.proofs.Following.{tests_next}
+use Rattle.conflict_plan.proofs.Ending.{disk_passed, disk_told, memory_passed, memory_told, plans_found, plans_memory, plans_refused, plans_shared, plans_stop, shared_passed, shared_told, table_passed, table_told}
+use Rattle.tree_scan.specs.Following.{tests_next}
 use Rattle.conflict_plan.proofs.Whole.{all_drafts_seen, all_planned_seen, ends_conflict, ends_orphan, ends_plan, entries_are, found_are}
 use Rattle.conflict_plan.proofs.planning.plan.Goals as goal
 
@@ -17,8 +17,11 @@ returns-in_err-records-clause-plans g c =
     let start : Tests g.D.TreeDisk.disk (λ (u : Unit {0}). u) (λ tree. Ok tt) c.args.disk.now c.args.disk.now (Ok tt) = tests_start g.met.D.TreeDisk.laws c.args.disk.now tt (λ tells. refl) in
     plans_memory start c.from_residual.ensures.1
 
+pub returns-in_err-records-clause-owned : goal.returns-in_err-records-clause-owned
+returns-in_err-records-clause-owned g c = memory_told c.args.fresh.now c.from_residual.result c.from_residual.ensures.1
+
 pub returns-in_err-records-clause-stops : goal.returns-in_err-records-clause-stops
-returns-in_err-records-clause-stops g c = memory_passed c.args.fresh.now c.from_residual.result c.from_residual.ensures.1
+returns-in_err-records-clause-stops g c = memory_passed c.from_residual.result c.from_residual.ensures.1
 
 pub returns-in_err-entries-clause-plans : goal.returns-in_err-entries-clause-plans
 returns-in_err-entries-clause-plans g c =
@@ -31,7 +34,13 @@ pub returns-in_err-entries-clause-stops : goal.returns-in_err-entries-clause-sto
 returns-in_err-entries-clause-stops g c =
     let es = c.in_ok-records.records.entries in
     let found = found_are c.args.old.now c.args.fresh.now es c.in_err-entries.ensures.ordered c.in_ok-records.ensures in
-    shared_passed c.args.fresh.now (first_shared es) _ c.from_residual-in_err-entries.result c.from_residual-in_err-entries.ensures.1 c.in_err-entries.ensures.refused (first_owned found)
+    shared_passed {fresh = c.args.fresh.now} (first_shared es) _ c.from_residual-in_err-entries.result c.from_residual-in_err-entries.ensures.1 c.in_err-entries.ensures.refused (first_owned found)
+
+pub returns-in_err-entries-clause-owned : goal.returns-in_err-entries-clause-owned
+returns-in_err-entries-clause-owned g c =
+    let es = c.in_ok-records.records.entries in
+    let found = found_are c.args.old.now c.args.fresh.now es c.in_err-entries.ensures.ordered c.in_ok-records.ensures in
+    shared_told (first_shared es) _ c.from_residual-in_err-entries.result c.from_residual-in_err-entries.ensures.1 c.in_err-entries.ensures.refused (first_owned found)
 
 pub returns-in_err-drafts-clause-plans : goal.returns-in_err-drafts-clause-plans
 returns-in_err-drafts-clause-plans g c =
@@ -42,13 +51,16 @@ returns-in_err-drafts-clause-plans g c =
     plans_stop c.in_err-drafts.ensures.tests c.from_residual-in_err-drafts.ensures.1
     (λ tells why is. ends_conflict c.args.options.now (g.D.TreeDisk.disk.reads c.args.disk.now) made entries c.in_ok-entries.ensures.entries why free is)
 
-pub returns-in_err-drafts-clause-stops : goal.returns-in_err-drafts-clause-stops
-returns-in_err-drafts-clause-stops g c =
+pub returns-in_err-drafts-clause-owned : goal.returns-in_err-drafts-clause-owned
+returns-in_err-drafts-clause-owned g c =
     let made = c.in_ok-entries.entries.items in
     let es = c.in_ok-records.records.entries in
     let entries = entries_are c.args.old.now c.args.fresh.now es made c.in_ok-entries.ensures.ordered c.in_ok-entries.ensures.entries c.in_ok-entries.ensures.paths c.in_ok-records.ensures in
-    table_passed c.args.fresh.now _ c.from_residual-in_err-drafts.result c.from_residual-in_err-drafts.ensures.1 c.in_err-drafts.ensures.stops
+    table_told c.args.fresh.now _ c.from_residual-in_err-drafts.result c.from_residual-in_err-drafts.ensures.1 c.in_err-drafts.ensures.stops
     (unshared (to_found c.args.old.now c.args.fresh.now es entries) c.in_ok-entries.ensures.none)
+
+pub returns-in_err-drafts-clause-stops : goal.returns-in_err-drafts-clause-stops
+returns-in_err-drafts-clause-stops g c = table_passed _ c.from_residual-in_err-drafts.result c.from_residual-in_err-drafts.ensures.1 c.in_err-drafts.ensures.stops
 
 pub settle_all-requires : goal.settle_all-requires
 settle_all-requires g c tells =
@@ -64,8 +76,16 @@ pub returns-in_err-plan-clause-plans : goal.returns-in_err-plan-clause-plans
 returns-in_err-plan-clause-plans g c =
     plans_stop (tests_next g.met.D.TreeDisk.laws c.in_ok-drafts.ensures.tests c.in_err-plan.ensures.tests) c.from_residual-in_err-plan.ensures.1 (λ tells why is. absurd (cc is))
 
+pub returns-in_err-plan-clause-owned : goal.returns-in_err-plan-clause-owned
+returns-in_err-plan-clause-owned g c =
+    let made = c.in_ok-entries.entries.items in
+    let es = c.in_ok-records.records.entries in
+    let entries = entries_are c.args.old.now c.args.fresh.now es made c.in_ok-entries.ensures.ordered c.in_ok-entries.ensures.entries c.in_ok-entries.ensures.paths c.in_ok-records.ensures in
+    disk_told c.args.fresh.now _ c.from_residual-in_err-plan.result c.from_residual-in_err-plan.ensures.1 c.in_err-plan.ensures.stops
+    (unshared (to_found c.args.old.now c.args.fresh.now es entries) c.in_ok-entries.ensures.none)
+
 pub returns-in_err-plan-clause-stops : goal.returns-in_err-plan-clause-stops
-returns-in_err-plan-clause-stops g c = disk_passed c.args.fresh.now _ c.from_residual-in_err-plan.result c.from_residual-in_err-plan.ensures.1 c.in_err-plan.ensures.stops
+returns-in_err-plan-clause-stops g c = disk_passed _ c.from_residual-in_err-plan.result c.from_residual-in_err-plan.ensures.1 c.in_err-plan.ensures.stops
 
 pub first_orphan-requires : goal.first_orphan-requires
 first_orphan-requires g c tells =
@@ -82,16 +102,27 @@ returns-in_err-orphan-clause-plans g c =
     let run = tests_next g.met.D.TreeDisk.laws c.in_ok-drafts.ensures.tests c.in_ok-plan.ensures.tests in
     plans_stop (tests_next g.met.D.TreeDisk.laws run c.in_err-orphan.ensures.tests) c.from_residual-in_err-orphan.ensures.1 (λ tells why is. absurd (cc is))
 
+pub returns-in_err-orphan-clause-owned : goal.returns-in_err-orphan-clause-owned
+returns-in_err-orphan-clause-owned g c =
+    let made = c.in_ok-entries.entries.items in
+    let es = c.in_ok-records.records.entries in
+    let entries = entries_are c.args.old.now c.args.fresh.now es made c.in_ok-entries.ensures.ordered c.in_ok-entries.ensures.entries c.in_ok-entries.ensures.paths c.in_ok-records.ensures in
+    disk_told c.args.fresh.now _ c.from_residual-in_err-orphan.result c.from_residual-in_err-orphan.ensures.1 c.in_err-orphan.ensures.stops
+    (unshared (to_found c.args.old.now c.args.fresh.now es entries) c.in_ok-entries.ensures.none)
+
 pub returns-in_err-orphan-clause-stops : goal.returns-in_err-orphan-clause-stops
-returns-in_err-orphan-clause-stops g c = disk_passed c.args.fresh.now _ c.from_residual-in_err-orphan.result c.from_residual-in_err-orphan.ensures.1 c.in_err-orphan.ensures.stops
+returns-in_err-orphan-clause-stops g c = disk_passed _ c.from_residual-in_err-orphan.result c.from_residual-in_err-orphan.ensures.1 c.in_err-orphan.ensures.stops
 
 pub returns-in_err-parent_missing-in-Some-clause-plans : goal.returns-in_err-parent_missing-in-Some-clause-plans
 returns-in_err-parent_missing-in-Some-clause-plans g c =
     let run = tests_next g.met.D.TreeDisk.laws c.in_ok-drafts.ensures.tests c.in_ok-plan.ensures.tests in
     plans_memory (tests_next g.met.D.TreeDisk.laws run c.in_ok-orphan.ensures.tests) c.from_residual-in_err-parent_missing-in-Some.ensures.1
 
+pub returns-in_err-parent_missing-in-Some-clause-owned : goal.returns-in_err-parent_missing-in-Some-clause-owned
+returns-in_err-parent_missing-in-Some-clause-owned g c = memory_told c.args.fresh.now c.from_residual-in_err-parent_missing-in-Some.result c.from_residual-in_err-parent_missing-in-Some.ensures.1
+
 pub returns-in_err-parent_missing-in-Some-clause-stops : goal.returns-in_err-parent_missing-in-Some-clause-stops
-returns-in_err-parent_missing-in-Some-clause-stops g c = memory_passed c.args.fresh.now c.from_residual-in_err-parent_missing-in-Some.result c.from_residual-in_err-parent_missing-in-Some.ensures.1
+returns-in_err-parent_missing-in-Some-clause-stops g c = memory_passed c.from_residual-in_err-parent_missing-in-Some.result c.from_residual-in_err-parent_missing-in-Some.ensures.1
 
 pub returns-in_ok-parent_missing-in-Some-clause-plans : goal.returns-in_ok-parent_missing-in-Some-clause-plans
 returns-in_ok-parent_missing-in-Some-clause-plans g c =
@@ -107,12 +138,15 @@ returns-in_ok-parent_missing-in-Some-clause-plans g c =
     (ends_orphan c.args.options.now tree made entries c.in_ok-entries.ensures.entries c.in_ok-drafts.drafts.items c.in_ok-plan.plan c.in-Some.path (g.met.D.TreeDisk.laws.reads_well_formed c.args.disk.now) free
     (c.in_ok-drafts.ensures.tests.found tells) (tests_value settles tells) (sym (tests_value run tells) ∙ c.in-Some.is)))
 
-pub returns-in_ok-parent_missing-in-Some-clause-stops : goal.returns-in_ok-parent_missing-in-Some-clause-stops
-returns-in_ok-parent_missing-in-Some-clause-stops g c =
+pub returns-in_ok-parent_missing-in-Some-clause-owned : goal.returns-in_ok-parent_missing-in-Some-clause-owned
+returns-in_ok-parent_missing-in-Some-clause-owned g c =
     let made = c.in_ok-entries.entries.items in
     let es = c.in_ok-records.records.entries in
     let entries = entries_are c.args.old.now c.args.fresh.now es made c.in_ok-entries.ensures.ordered c.in_ok-entries.ensures.entries c.in_ok-entries.ensures.paths c.in_ok-records.ensures in
-    subst (Rattle.conflict_plan.specs.Plan.MayRefuse c.args.fresh.now) (sym c.in_ok-parent_missing-in-Some.ensures) (unshared (to_found c.args.old.now c.args.fresh.now es entries) c.in_ok-entries.ensures.none)
+    subst (RefusesShared c.args.fresh.now) (sym c.in_ok-parent_missing-in-Some.ensures) (unshared (to_found c.args.old.now c.args.fresh.now es entries) c.in_ok-entries.ensures.none)
+
+pub returns-in_ok-parent_missing-in-Some-clause-stops : goal.returns-in_ok-parent_missing-in-Some-clause-stops
+returns-in_ok-parent_missing-in-Some-clause-stops g c = subst IsPlanRefusal (sym c.in_ok-parent_missing-in-Some.ensures) tt
 
 pub returns-in-None-clause-plans : goal.returns-in-None-clause-plans
 returns-in-None-clause-plans g c =
@@ -127,3 +161,10 @@ returns-in-None-clause-plans g c =
     subst (Rattle.conflict_plan.specs.Plan.IsPlan c.args.old.now c.args.fresh.now c.args.options.now tree) (sym c.into_list.ensures)
     (ends_plan c.args.options.now tree made entries c.in_ok-entries.ensures.entries c.in_ok-drafts.drafts.items c.in_ok-plan.plan (g.met.D.TreeDisk.laws.reads_well_formed c.args.disk.now) free
     (c.in_ok-drafts.ensures.tests.found tells) (tests_value settles tells) (sym (tests_value run tells) ∙ c.in-None.is)))
+
+pub returns-in-None-clause-owned : goal.returns-in-None-clause-owned
+returns-in-None-clause-owned g c =
+    let made = c.in_ok-entries.entries.items in
+    let es = c.in_ok-records.records.entries in
+    let entries = entries_are c.args.old.now c.args.fresh.now es made c.in_ok-entries.ensures.ordered c.in_ok-entries.ensures.entries c.in_ok-entries.ensures.paths c.in_ok-records.ensures in
+    unshared (to_found c.args.old.now c.args.fresh.now es entries) c.in_ok-entries.ensures.none

@@ -1,4 +1,4 @@
-use Rattle.std.proofs.Common.{cond, None, Some, ap, sym, ◌∙◌}
+use Rattle.std.proofs.Common.{cond, None, Some, ap, ◌∙◌}
 use Rattle.std.specs.BTreeMap.{get}
 use Rattle.std.specs.Cmp.Lexicographic.{slice_cmp}
 use Rattle.std.specs.Ordering.{nat_cmp}

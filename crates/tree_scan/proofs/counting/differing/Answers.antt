@@ -1,12 +1,11 @@
-use Rattle.std.proofs.Common.{◌≡◌, ◌+◌, ◌-◌, ℕ, min, length, take, Ok, refl, sym, ap, ◌∙◌, arith}
+use Rattle.std.proofs.Common.{◌≡◌, ◌+◌, ◌-◌, ℕ, min, length, Ok, ap, ◌∙◌, arith}
 use Rattle.std.specs.Prelude.{unwrap_or}
 use Rattle.cny_lanes.specs.Compare.{count_of_differing}
 use Rattle.tree_disk.specs.Looks.{size_seen}
 use Rattle.tree_disk.specs.Rows.{bytes_at}
 use Rattle.tree_disk.specs.StepLaws.{tests_answer, tests_value}
-use Rattle.tree_disk.specs.Tree.{Tree}
 use Rattle.tree_scan.proofs.Counts.{differing_front}
-use Rattle.tree_scan.proofs.Following.{tests_next}
+use Rattle.tree_scan.specs.Following.{tests_next}
 use Rattle.tree_scan.proofs.Seen.{size_or_zero}
 use Rattle.tree_scan.proofs.counting.differing.Goals as goal
 

@@ -1,4 +1,4 @@
-use Rattle.std.proofs.Common.{◌≡◌, ◌-◌, ◌≤◌, IsTrue, Ok, take, length}
+use Rattle.std.proofs.Common.{◌≡◌, ◌-◌, ◌≤◌, ◌<◌, IsTrue, Ok, take, length}
 use Rattle.cny_lanes.specs.Compare.{count_of_differing}
 use Rattle.tree_disk.specs.Rows.{bytes_at}
 use Rattle.tree_disk.specs.Steps.{Tests}
@@ -10,6 +10,7 @@ invariant-pieces g l = let disk = g.D.TreeDisk.disk in record {
   counted : IsTrue disk.tells → l.count ≡ count_of_differing (bytes_at (disk.reads l.fn.disk) l.path) (take l.at l.bytes);
   few : l.count ≤ l.at;
   within : l.at ≤ length l.bytes;
+  room : 0 < length l.buf;
 }
 
 abbrev pub decreases-pieces : goal.decreases-pieces
