@@ -1,6 +1,6 @@
 #!/bin/sh
 # Prints how long it takes to add so many troves of a tenth as many names to a catalogue, to resolve as many specifications in it,
-# and to expand a group of a trove of each name.
+# to expand a group of a trove of each name, and to move that group onto another label as a shadow.
 # It builds a program for that in a folder of its own, which proves what isn't proved yet on this machine.
 # Usage: bench/catalogue.sh [COUNT...]
 set -eu
@@ -8,18 +8,20 @@ top=$(CDPATH='' cd "$(dirname "$0")/.." && pwd)
 work=$(mktemp -d)
 trap 'rm -rf "$work"' EXIT
 mkdir -p "$work/crates/catalogues/src"
-for crate in cny_base cny_stream cny_flavor cny_version cny_dep file_stream trove_id trove_items trove_stream repo_index trove_spec; do
+for crate in cny_base cny_stream cny_flavor cny_version cny_dep file_stream trove_id trove_items trove_stream repo_index trove_spec repo_shadow; do
     cp -r "$top/crates/$crate" "$work/crates/"
     grep "^$crate:" "$top/crates.txt" >>"$work/crates.txt"
 done
-echo 'catalogues may_abort=20: cny_base cny_flavor cny_version trove_id trove_stream repo_index trove_spec anyhow' >>"$work/crates.txt"
+echo 'catalogues may_abort=20: cny_base cny_flavor cny_version trove_id trove_stream repo_index trove_spec repo_shadow anyhow' >>"$work/crates.txt"
 cat >"$work/crates/catalogues/src/main.rt" <<'PROGRAM'
-//! Adds troves to a catalogue and resolves specifications in it, and prints how long each took.
+//! Adds troves to a catalogue, resolves specifications in it, expands a group and moves it onto a label, and prints how long each
+//! took.
 #![tactic(auto)]
 use cny_base::Copies;
 use cny_flavor::Flavor;
 use cny_version::Label;
 use repo_index::Catalogue;
+use repo_shadow::{Way, all_refer_within, moved};
 use std::alloc::Global;
 use std::env;
 use std::process::Abort;
@@ -66,6 +68,15 @@ fn expand_group<R: Abort + Alloc<A = Global>>(rt: &R, catalogue: &Catalogue) -> 
     troves.get().len()
 }
 
+// Moves the group onto another label as a shadow: how many troves that are.
+fn move_group<R: Abort + Alloc<A = Global>>(rt: &R, catalogue: &Catalogue) -> usize {
+    let id = read_id(rt.alloc(), "group-all=/conary.example.com@ex:devel/1.0-1-1").expect(rt, "an id");
+    let label = Label::read(rt.alloc(), "conary.example.com@ex:stable").expect(rt, "a label");
+    assert!(rt; all_refer_within(catalogue));
+    let troves = moved(rt.alloc(), catalogue, &id, &label, Way::Shadow).expect(rt, "shadows");
+    troves.get().len()
+}
+
 // Resolves the specification of this number.
 fn resolve_one<R: Abort + Alloc<A = Global>>(rt: &R, catalogue: &Catalogue, config: &Config, name: u32) {
     let text = format!(in rt.alloc(); "name{name}:runtime").expect(rt, "memory");
@@ -101,7 +112,10 @@ fn main(rt: HostRuntime) -> Result<(), anyhow::Error> {
     let start = Instant::now(&rt)?;
     let found = expand_group(&rt, &catalogue);
     let expanded = start.elapsed(&rt)?;
-    println!(rt; "{count} troves of {names} names: added in {} ms, as many specifications resolved in {} ms, a group expanded to {found} troves in {} ms", added.as_millis(), resolved.as_millis(), expanded.as_millis())?;
+    let start = Instant::now(&rt)?;
+    let shadows = move_group(&rt, &catalogue);
+    let shadowed = start.elapsed(&rt)?;
+    println!(rt; "{count} troves of {names} names: added in {} ms, as many specifications resolved in {} ms, a group expanded to {found} troves in {} ms and moved as {shadows} in {} ms", added.as_millis(), resolved.as_millis(), expanded.as_millis(), shadowed.as_millis())?;
     Ok(())
 }
 PROGRAM

@@ -9,12 +9,16 @@ empty at first: the list of all troves that were added, which each look-up searc
 tools/text_model.py; nothing is shared with the program that is tested.
 """
 import sys
+from functools import lru_cache
 from random import Random
 
 # So that a run leaves nothing behind in tools/.
 sys.dont_write_bytecode = True
 
-from text_model import Bad, flavor_of, flavor_text, id_of, id_text, label_of, label_text, name_kind, need, score_answer, version_of
+import text_model
+from text_model import Bad, branch_of, flavor_of, flavor_text, id_text, label_of, label_text, name_kind, need, score_answer, shadow_of
+
+id_of, version_of = lru_cache(maxsize=None)(text_model.id_of), lru_cache(maxsize=None)(text_model.version_of)
 
 LABEL = b"conary.example.com@ex:devel"
 OTHER = b"conary.example.com@ex:stable"
@@ -61,10 +65,12 @@ class Catalogue:
         return [b"ok", id_text(troves[-1][0]), b"%d" % len(troves[-1][1])] if troves else [b"none"]
 
     def find(self, text):
-        return self.answer([trove for trove in self.troves if trove[0] == id_of(text)])
+        parts = id_of(text)
+        return self.answer([trove for trove in self.troves if trove[0] == parts])
 
     def place_of(self, text):
-        places = [place for place, trove in enumerate(self.troves) if trove[0] == id_of(text)]
+        parts = id_of(text)
+        places = [place for place, trove in enumerate(self.troves) if trove[0] == parts]
         return [b"%d" % places[0]] if places else [b"none"]
 
     def by_name(self, name):
@@ -88,9 +94,6 @@ class Catalogue:
     def has_content(self, byte):
         return [b"yes" if any(int(byte) in trove[1] for trove in self.troves) else b"no"]
 
-    def index_thousand_names(self, troves, names):
-        return [b"ok", troves, troves]
-
     def chosen(self, name, system, holds):
         """Of the candidates, the last one gives the version, of which the best one is chosen; of several the first by text."""
 
@@ -107,16 +110,57 @@ class Catalogue:
         newest = [trove for trove in candidates if trove[0][1] == candidates[-1][0][1]]
         return min(newest, key=lambda trove: (-worth(trove), trove[0][2]))
 
-    def expand(self, roots):
-        """The ids of the troves that the roots reach in as many rounds as there are troves, each once, in order."""
+    def reached(self, roots):
+        """The troves that the roots reach in as many rounds as there are troves, each once, in the order of ids."""
         reached = set() if roots == b"-" else {id_of(one) for one in roots.split(b"; ")}
         for _ in self.troves:
-            reached |= {ref for trove in self.troves if trove[0] in reached for ref in trove[2]}
-        found = sorted(trove[0] for trove in self.troves if trove[0] in reached)
-        for before, after in zip(found, found[1:]):
-            if before[0] == after[0]:
-                return [b"exists " + id_text(after)]
-        return [b"ok"] + [id_text(one) for one in found]
+            more = reached | {ref for trove in self.troves if trove[0] in reached for ref in trove[2]}
+            if more == reached:
+                break
+            reached = more
+        return sorted(trove for trove in self.troves if trove[0] in reached)
+
+    @staticmethod
+    def of_one_name(troves):
+        """The refusal of the first trove whose name the one before it has."""
+        for before, after in zip(troves, troves[1:]):
+            if before[0][0] == after[0][0]:
+                return [b"exists " + id_text(after[0])]
+        return None
+
+    def expand(self, roots):
+        found = self.reached(roots)
+        return self.of_one_name(found) or [b"ok"] + [id_text(trove[0]) for trove in found]
+
+    def moved(self, root, label, way):
+        """What the root reaches, each version as a shadow on the label or as a branch onto it, and the references along."""
+        ids = {trove[0] for trove in self.troves}
+        if any(ref not in ids for trove in self.troves for ref in trove[2]):
+            return [b"refers outside"]
+        found = self.reached(root)
+        refusal = self.of_one_name(found)
+        if refusal:
+            return refusal
+        if any(version_of(trove[0][1], True).label == label for trove in found):
+            return [b"same label " + label]
+
+        def onto(parts):
+            version = version_of(parts[1], True)
+            return parts[0], (shadow_of if way == b"shadow" else branch_of)(version, label).text, parts[2]
+
+        fresh = {trove[0]: onto(trove[0]) for trove in found}
+        for parts in fresh.values():
+            if len(parts[1]) > 512:
+                return [b"too large: version %d" % len(parts[1])]
+        for parts in fresh.values():
+            if parts in ids:
+                return [b"exists " + id_text(parts)]
+
+        def answer(trove):
+            refs = [id_text(fresh.get(ref, ref)) for ref in trove[2]]
+            return b"|".join([id_text(fresh[trove[0]])] + [b"%d" % one for one in trove[1]] + refs)
+
+        return [b"ok"] + [answer(trove) for trove in found]
 
     def resolve(self, text, labels, flavor):
         name, place, own = spec_of(text)
@@ -245,11 +289,13 @@ def calls():
     yield b"add", b"foo:lib=" + on(LABEL, b"1.0-1-1"), b"-", b"-"
     yield b"add", b"foo:lib=" + on(LABEL, b"1.0-1-2"), b"99", b"-"
     yield from look_ups()
-    yield b"index_thousand_names", b"1000", b"100"
     yield from spec_calls()
     yield from config_calls()
     yield from resolve_calls()
     yield from expand_calls()
+    yield b"moved", b"absent=" + on(LABEL, b"1.0-1-1"), OTHER, b"shadow"
+    yield from moved_calls()
+    yield from index_thousand_names()
     yield from row_calls()
 
 
@@ -396,6 +442,148 @@ def random_expansions():
                 yield b"expand", b"; ".join(dice.sample(texts, count))
 
 
+def add_call(text, *refs):
+    """A component has one content, every other trove references alone."""
+    return b"add", text, b"97" if b":" in id_of(text)[0] else b"-", b"; ".join(sorted(refs, key=id_of)) or b"-"
+
+
+def long_label(size):
+    return b"h@n:" + b"t" * (size - 4)
+
+
+def moved_calls():
+    """What troves reach, as shadows on labels and as branches onto them, and each reason why it isn't moved."""
+    third = b"x.y@z:w"
+
+    def both(text, *labels):
+        for label in labels:
+            for way in (b"shadow", b"branch"):
+                yield b"moved", text, label, way
+
+    def named(name, version=on(LABEL, b"1.0-1-1"), flavor=b""):
+        return name + b"=" + version + flavor
+
+    # Packages with their components, one with a flavor; groups that share them, a group of groups, a ring.
+    yield b"new",
+    yield from both(named(b"absent"), OTHER)
+    parts = [b"one:devel", b"one:lib", b"one:runtime"]
+    for part in parts:
+        yield b"add", named(part), b"97 %d" % len(part), b"-"
+    yield add_call(named(b"one"), *map(named, parts))
+    yield add_call(named(b"two:lib", flavor=b"[ssl]"))
+    yield add_call(named(b"two", flavor=b"[ssl]"), named(b"two:lib", flavor=b"[ssl]"))
+    yield add_call(named(b"one:source", on(LABEL, b"1.0-1")))
+    yield add_call(named(b"group-base"), named(b"one"), named(b"two", flavor=b"[ssl]"))
+    yield add_call(named(b"group-tools"), named(b"one"), named(b"one:lib"), named(b"two:lib", flavor=b"[ssl]"))
+    yield add_call(named(b"group-both"), named(b"group-base"), named(b"group-tools"), named(b"one:source", on(LABEL, b"1.0-1")))
+    for place in range(3):
+        yield add_call(named(b"group-ring%d" % place), named(b"group-ring%d" % ((place + 1) % 3)), named(b"one"))
+    roots = [named(b"one:lib"), named(b"one"), named(b"two", flavor=b"[ssl]"), named(b"one:source", on(LABEL, b"1.0-1"))]
+    roots += [named(b"group-base"), named(b"group-tools"), named(b"group-both"), named(b"group-ring0"), named(b"group-ring2"), named(b"two")]
+    for root in roots:
+        yield from both(root, OTHER, third, LABEL, b"conary.example.com@ex:dev", b"conary.example.com@ex:devell")
+    # Other versions of one name, on the label and elsewhere.
+    yield add_call(named(b"one:lib", on(OTHER, b"1.0-1-1")))
+    yield add_call(named(b"one:lib", on(LABEL, b"1.0-2-1")))
+    yield add_call(named(b"group-old"), named(b"one"), named(b"one:lib", on(OTHER, b"1.0-1-1")))
+    yield add_call(named(b"group-new"), named(b"one"), named(b"one:lib", on(LABEL, b"1.0-2-1")))
+    for root in (named(b"group-old"), named(b"group-new")):
+        yield from both(root, OTHER, LABEL, third)
+    # Moved troves are committed and moved again: their ids exist, and go on from branch to branch.
+    for way, between in ((b"shadow", b"//"), (b"branch", b"/")):
+        end = b"/1.0-1-1"
+        first = (on(LABEL, b"1.0-1-1") if way == b"branch" else b"/" + LABEL) + between + OTHER + end
+        yield add_call(named(b"two:lib", first, b"[ssl]"))
+        yield from both(named(b"two", flavor=b"[ssl]"), OTHER)
+        yield from both(named(b"group-base"), OTHER)
+        yield add_call(named(b"two", first, b"[ssl]"), named(b"two:lib", first, b"[ssl]"))
+        yield from both(named(b"two", flavor=b"[ssl]"), OTHER, third)
+        yield from both(named(b"group-both"), OTHER, third)
+        yield from both(named(b"two", first, b"[ssl]"), OTHER, third, LABEL)
+        second = (first if way == b"branch" else first[: -len(end)]) + between + third + end
+        yield add_call(named(b"two:lib", second, b"[ssl]"))
+        yield add_call(named(b"two", second, b"[ssl]"), named(b"two:lib", second, b"[ssl]"))
+        yield from both(named(b"two", second, b"[ssl]"), OTHER, third, LABEL, long_label(255))
+        yield from both(named(b"two", first, b"[ssl]"), third)
+    # A source's shadow has a source count of its own; a branch of it keeps it.
+    shadow_of_source = b"/" + LABEL + b"//" + OTHER + b"/1.0-1.1"
+    yield add_call(named(b"one:source", shadow_of_source))
+    yield from both(named(b"one:source", shadow_of_source), third, LABEL, OTHER)
+    # At the limit of a version's text, and past it: the first that is too long, the label before, the existing id after.
+    yield b"new",
+    base = b"/" + long_label(245) + b"/1.0-1-1"
+    yield add_call(named(b"a:lib", base))
+    yield add_call(named(b"b:lib", on(LABEL, b"1.0-1-1")))
+    yield add_call(named(b"c:lib", b"/" + long_label(250) + b"/1.0-1-1"))
+    yield add_call(named(b"d:lib", on(OTHER, b"1.0-1-1")))
+    yield add_call(named(b"group-ab"), named(b"a:lib", base), named(b"b:lib"))
+    yield add_call(named(b"group-abc"), named(b"group-ab"), named(b"c:lib", b"/" + long_label(250) + b"/1.0-1-1"))
+    yield add_call(named(b"group-bc"), named(b"b:lib"), named(b"c:lib", b"/" + long_label(250) + b"/1.0-1-1"))
+    yield add_call(named(b"group-abcd"), named(b"group-abc"), named(b"d:lib", on(OTHER, b"1.0-1-1")))
+    limits = [long_label(size) for size in (244, 245, 249, 250, 251, 252, 255)]
+    for root in (named(b"a:lib", base), named(b"c:lib", b"/" + long_label(250) + b"/1.0-1-1"), named(b"group-ab"), named(b"group-abc"), named(b"group-bc"), named(b"group-abcd")):
+        yield from both(root, *limits)
+        yield from both(root, LABEL, OTHER)
+    for label in (long_label(240), long_label(255)):
+        for text in (b"/" + LABEL + b"//" + label + b"/1.0-1-1", on(LABEL, b"1.0-1-1") + b"/" + label + b"/1.0-1-1"):
+            yield add_call(named(b"b:lib", text))
+        for root in (named(b"b:lib"), named(b"group-ab"), named(b"group-abc"), named(b"group-bc"), named(b"group-abcd")):
+            yield from both(root, label, OTHER)
+    yield from random_moves()
+    # With a reference to nothing, if only of a trove that the root doesn't reach.
+    yield add_call(named(b"group-lost"), named(b"absent"))
+    yield from both(named(b"b:lib"), OTHER)
+
+
+def random_moves():
+    """Components on some labels and groups of them, of which some moved ids exist already."""
+    dice = Random(9)
+    labels = [b"a@b:c", b"d@e:f", b"x.y@z:w", b"a@b:d"]
+    for _ in range(12):
+        yield b"new",
+        texts = []
+        for place in range(dice.choice((3, 5, 8))):
+            label = dice.choice(labels[: dice.choice((1, 2, 4))])
+            version = dice.choice((on(label, b"1.0-%d-1" % dice.choice((1, 2))), b"/" + labels[0] + b"//" + label + b"/1.0-1-1", on(labels[0], b"1.0-1-1") + b"/" + label + b"/1.0-1-1"))
+            text = b"c%d:lib=" % place + version + dice.choice((b"", b"[ssl]"))
+            if text not in texts:
+                texts.append(text)
+                yield add_call(text)
+        for place in range(6):
+            text = b"group-%d=" % place + on(dice.choice(labels[:2]), b"1.0-1-1")
+            yield add_call(text, *dice.sample(texts, min(len(texts), dice.choice((1, 2, 3)))))
+            texts.append(text)
+        for text in dice.sample(texts, 3):
+            parts, label = id_of(text), dice.choice(labels[:3])
+            if b":" in parts[0]:
+                yield add_call(parts[0] + b"=" + dice.choice((shadow_of, branch_of))(version_of(parts[1], True), label).text)
+        for text in texts:
+            for label in labels:
+                for way in (b"shadow", b"branch"):
+                    yield b"moved", text, label, way
+
+
+def index_thousand_names():
+    """1,000 troves of 100 names, and each look-up of them, which the model answers by a search of the whole list."""
+    yield b"new",
+    ids = []
+    for number in range(1000):
+        label = LABEL if number // 100 % 3 else OTHER
+        ids.append(b"n%d:runtime=" % (number % 100) + on(label, b"1.%d-%d-%d" % (number // 500, number // 200 % 2 + 1, number // 200 + 1)) + (b"[ssl]" if number // 100 % 2 else b""))
+        yield b"add", ids[-1], b"-", b"-"
+    for text in ids:
+        yield b"find", text
+        yield b"place_of", text
+    for number in range(101):
+        name = b"n%d:runtime" % number
+        yield b"by_name", name
+        for label in (LABEL, OTHER):
+            for upstream in (b"1.0", b"1.1"):
+                yield b"latest", name, on(label, upstream + b"-1-1"), b"any"
+            for source in (b"1", b"2", b"3"):
+                yield b"latest", name, on(label, b"1.0-" + source + b"-1"), b"source"
+
+
 V1, V2 = on(LABEL, b"1.0-1-1"), on(LABEL, b"1.0-2-1")
 F1, F2 = b"foo:runtime=" + V1, b"foo:runtime=" + V2
 CONFIG = [b"# mine", b"root /", b"installLabelPath " + LABEL, b"flavor ~ssl, ~!krb is: x86(~i686, sse2)", b"[build]", b"flavor (("]
@@ -429,6 +617,19 @@ ROWS = {
         ((b"add", b"group-b=" + V1, b"-", b"group-a=" + V1 + b"; x:lib=" + V1), b"ok"),
         ((b"expand", b"group-b=" + V1), b"ok\tgroup-a=" + V1 + b"\tgroup-b=" + V1 + b"\tx:lib=" + V1),
         ((b"expand", b"group-b=" + V1 + b"; group-a=" + V1), b"ok\tgroup-a=" + V1 + b"\tgroup-b=" + V1 + b"\tx:lib=" + V1),
+    ],
+    "shadow_and_next_revision": [
+        ((b"add", b"foo:source=" + on(LABEL, b"1.0-1"), b"-", b"-"), b"ok"),
+        ((b"moved", b"foo:source=" + on(LABEL, b"1.0-1"), OTHER, b"shadow"), b"ok\tfoo:source=/" + LABEL + b"//" + OTHER + b"/1.0-1"),
+        ((b"add", b"foo:source=/" + LABEL + b"//" + OTHER + b"/1.0-1", b"-", b"-"), b"ok"),
+        ((b"moved", b"foo:source=" + on(LABEL, b"1.0-1"), OTHER, b"shadow"), b"exists foo:source=/" + LABEL + b"//" + OTHER + b"/1.0-1"),
+        ((b"latest", b"foo:source", b"/" + LABEL + b"//" + OTHER + b"/1.0-1", b"any"), b"ok\tfoo:source=/" + LABEL + b"//" + OTHER + b"/1.0-1\t0"),
+    ],
+    "same_label": [
+        ((b"add", F1, b"97", b"-"), b"ok"),
+        ((b"moved", F1, LABEL, b"shadow"), b"same label " + LABEL),
+        ((b"moved", F1, LABEL, b"branch"), b"same label " + LABEL),
+        ((b"moved", F1, OTHER, b"branch"), b"ok\t" + F1 + b"/" + OTHER + b"/1.0-1-1|97"),
     ],
     "two_versions_of_one_name": [
         ((b"add", F1, b"97", b"-"), b"ok"),
@@ -465,12 +666,12 @@ def methods_of(catalogue):
         b"copy": catalogue.copy,
         b"place_of": catalogue.place_of,
         b"expand": catalogue.expand,
+        b"moved": catalogue.moved,
         b"troves": catalogue.listed,
         b"find": catalogue.find,
         b"by_name": catalogue.by_name,
         b"latest": catalogue.latest,
         b"has_content": catalogue.has_content,
-        b"index_thousand_names": catalogue.index_thousand_names,
         b"spec": spec,
         b"config": config,
         b"resolve": catalogue.resolve,

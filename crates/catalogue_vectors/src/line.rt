@@ -57,14 +57,6 @@ pub fn text_at(arguments: &[String], place: usize) -> Result<&str, Stop> {
     }
 }
 
-/// The argument at a place, as a number.
-pub fn number_at(arguments: &[String], place: usize) -> Result<u64, Stop> {
-    match text_at(arguments, place)?.parse::<u64>() {
-        Ok(number) => Ok(number),
-        Err(_) => Err(Stop::Unreadable),
-    }
-}
-
 /// The name of a content that is twenty times the byte of this number.
 pub fn content_name(text: &str) -> Result<[u8; 20], Stop> {
     match text.parse::<u8>() {

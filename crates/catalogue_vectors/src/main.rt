@@ -4,6 +4,7 @@
 #![tactic(auto)]
 
 mod line;
+mod shadows;
 mod specs;
 mod troves;
 
@@ -30,7 +31,7 @@ fn look_up(
         "config" => specs::config(alloc, arguments),
         "resolve" => specs::resolved(alloc, catalogue, arguments),
         "expand" => specs::expanded(alloc, catalogue, arguments),
-        "index_thousand_names" => troves::index_thousand_names(alloc, arguments),
+        "moved" => shadows::moved_text(alloc, catalogue, arguments),
         _ => Err(Stop::Unreadable),
     }
 }

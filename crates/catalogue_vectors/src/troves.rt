@@ -1,5 +1,5 @@
 //! Troves of a line, and the catalogue's look-ups.
-use crate::line::{Stop, content_name, number_at, push_field, refused, text_at, word, yes_or_no};
+use crate::line::{Stop, content_name, push_field, refused, text_at, word, yes_or_no};
 use cny_base::{COMMITS_LIMIT, Copies, Mode, Name, OutOfMemory, Path};
 use cny_version::{Count, Version};
 use file_stream::{FileRec, Flags, Owner};
@@ -182,101 +182,4 @@ pub fn has_content(
 pub fn copy(alloc: Global, catalogue: &mut Catalogue) -> Result<String, Stop> {
     *catalogue = catalogue.copy()?;
     word(alloc, "ok")
-}
-
-// ---- many troves
-
-// The id of the trove of this number, of so many names.
-fn numbered_id(alloc: Global, number: u64, names: u64) -> Result<TroveId, Stop> {
-    if names == 0 {
-        return Err(Stop::Unreadable);
-    }
-    let text = format!(in alloc;
-        "n{}:runtime=/h@n:t/1.0-{}-1",
-        number % names,
-        number / names / 2 + 1
-    )?;
-    let flavor = if number / names % 2 == 0 { "" } else { "[ssl]" };
-    let text = format!(in alloc; "{}{flavor}", text.as_str())?;
-    Ok(read_id(alloc, text.as_str())?)
-}
-
-fn numbered_trove(alloc: Global, number: u64, names: u64) -> Result<Trove, Stop> {
-    let id = numbered_id(alloc, number, names)?;
-    let files = Files::new(Vec::new(alloc));
-    let refs = Refs::new(Vec::new(alloc));
-    let required = Deps::new(Vec::new(alloc));
-    let provided = Deps::new(Vec::new(alloc));
-    Ok(Trove::make(id, files, refs, required, provided)?)
-}
-
-// The place of the first trove of this id, or how many troves there are.
-fn searched(troves: &[Trove], id: &TroveId) -> usize {
-    let mut place = 0usize;
-    for trove in troves {
-        if *trove.id() == *id {
-            return place;
-        }
-        place = place.saturating_add(1);
-    }
-    place
-}
-
-// Whether the look-ups of this trove's id and name answer what the search of all troves does.
-fn is_found(catalogue: &Catalogue, place: usize, trove: &Trove) -> bool {
-    let id = trove.id();
-    let Some(found) = catalogue.find(id) else {
-        return false;
-    };
-    let same = *found.id() == *id && searched(catalogue.troves(), found.id()) == place;
-    let placed = catalogue.by_name(&id.name).contains(&place);
-    let alone = catalogue.place_of(id) == Some(place);
-    same && placed && alone
-}
-
-// Whether the last trove of that name is the one of the last place.
-fn is_latest(catalogue: &Catalogue, trove: &Trove) -> bool {
-    let id = trove.id();
-    let revision = id.version.revision();
-    let latest = catalogue.latest(&id.name, id.version.branch(), revision.upstream.get(), None);
-    let last = catalogue.by_name(&id.name).last();
-    match (latest, last) {
-        (Some(latest), Some(last)) => searched(catalogue.troves(), latest.id()) == *last,
-        _ => false,
-    }
-}
-
-// How many troves the look-ups find where a search of all troves does, and of how many the latest is the last one of its
-// name.
-fn counts(catalogue: &Catalogue) -> (usize, usize) {
-    let mut found = 0usize;
-    let mut latest = 0usize;
-    let mut place = 0usize;
-    for trove in catalogue.troves() {
-        if is_found(catalogue, place, trove) {
-            found = found.saturating_add(1);
-        }
-        if is_latest(catalogue, trove) {
-            latest = latest.saturating_add(1);
-        }
-        place = place.saturating_add(1);
-    }
-    (found, latest)
-}
-
-/// Adds so many troves of so many names to an empty catalogue, and compares each look-up with the search of all troves.
-pub fn index_thousand_names(alloc: Global, arguments: &[String]) -> Result<String, Stop> {
-    let troves = number_at(arguments, 0)?;
-    let names = number_at(arguments, 1)?;
-    let mut catalogue = Catalogue::new(alloc);
-    for number in 0..troves {
-        if catalogue
-            .add(alloc, numbered_trove(alloc, number, names)?)
-            .is_err()
-        {
-            return Err(Stop::Memory);
-        }
-    }
-    let (found, latest) = counts(&catalogue);
-    Ok(format!(in alloc; "ok\t{found}\t{latest}")?)
 }

@@ -10,3 +10,5 @@ pub mod ConfigLines
 pub mod Reaching
 pub mod InOrder
 pub mod Adding
+pub mod Meant
+pub mod OneConfig

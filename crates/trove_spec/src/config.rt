@@ -7,11 +7,12 @@ ghost use Rattle.cny_base.specs.declared.refusal.Refusal.TheVariants as refusal;
 ghost use Rattle.cny_version.specs.Label.{LabelParts};
 ghost use Rattle.trove_spec.specs.Config as spec;
 ghost use Rattle.trove_spec.specs.Config.{cleaned, has_key, is_word_there, IsTextOf, IsPathSetting, IsRelaxedSetting, IsFlavorSetting, IsSetting, IsConfigOf, IsBadConfigOrMemory, no_config, with_setting, lines_of, is_before_section, as_space, without_front, without_back, without_cr};
+ghost use Rattle.trove_spec.specs.declared.config.Config.{Config};
 ghost use Rattle.trove_spec.specs.declared.config.Setting.{Setting};
 
 use cny_base::{Copies, Fault, ListOf, OutOfMemory, Refusal, TextFault, text_of};
 use cny_flavor::Flavor;
-use cny_version::Label;
+use cny_version::{Label, distinct_texts};
 use std::alloc::{AllocError, Global};
 
 /// A list of labels.
@@ -82,6 +83,8 @@ impl Config {
     pub fn read(alloc: Global, bytes: &[u8]) -> Result<Self, Fault>
         requires { length bytes.now ≤ CONFIG_LIMIT }
         ensures value { IfOk result (IsConfigOf (lines_of bytes.now)) }
+        // They say no other configuration.
+        ensures only { IfOk result (λ config. (other : Config) → IsConfigOf (lines_of bytes.now) other → config ≡ other) }
         ensures fault { IfErr result (IsBadConfigOrMemory (lines_of bytes.now)) }
     {
         let pieces = pieces_of(alloc, bytes)?;
@@ -249,8 +252,11 @@ fn labels_of(alloc: Global, words: &[&str]) -> Result<Labels, TextFault>
 // What a line that begins with the key of the label path sets.
 fn path_setting(alloc: Global, value: &[u8]) -> Result<Setting, TextFault>
     ensures found { IfOk result (IsPathSetting (map as_space (without_front value.now))) }
+    ensures only { IfOk result (λ made. (setting : Setting) → IsPathSetting (map as_space (without_front value.now)) setting → made ≡ setting) }
     ensures bad { IsErrOf result TextFault.Bad → (setting : Setting) → IsPathSetting (map as_space (without_front value.now)) setting → ⊥ }
 {
+    // No two labels have one text.
+    distinct_texts();
     let bytes = spaced(alloc, value)?;
     let Some(text) = text_of(bytes.as_slice()) else {
         return Err(TextFault::Bad);
@@ -262,6 +268,7 @@ fn path_setting(alloc: Global, value: &[u8]) -> Result<Setting, TextFault>
 // The flavor with this relaxed text, as what a line sets.
 fn relaxed_setting(alloc: Global, text: &str) -> Result<Setting, TextFault>
     ensures found { IfOk result (IsRelaxedSetting text.now) }
+    ensures only { IfOk result (λ made. (setting : Setting) → IsRelaxedSetting text.now setting → made ≡ setting) }
     ensures bad { IsErrOf result TextFault.Bad → (setting : Setting) → IsRelaxedSetting text.now setting → ⊥ }
 {
     match Flavor::read(alloc, text) {
@@ -273,6 +280,7 @@ fn relaxed_setting(alloc: Global, text: &str) -> Result<Setting, TextFault>
 // What a line that begins with the key of the flavor sets.
 fn flavor_setting(alloc: Global, value: &[u8]) -> Result<Setting, TextFault>
     ensures found { IfOk result (IsFlavorSetting (map as_space (without_front value.now))) }
+    ensures only { IfOk result (λ made. (setting : Setting) → IsFlavorSetting (map as_space (without_front value.now)) setting → made ≡ setting) }
     ensures bad { IsErrOf result TextFault.Bad → (setting : Setting) → IsFlavorSetting (map as_space (without_front value.now)) setting → ⊥ }
 {
     let bytes = spaced(alloc, value)?;
@@ -285,6 +293,7 @@ fn flavor_setting(alloc: Global, value: &[u8]) -> Result<Setting, TextFault>
 // What a line sets, without its CR and without blanks at its ends.
 fn read_line(alloc: Global, line: &[u8]) -> Result<Setting, TextFault>
     ensures found { IfOk result (IsSetting line.now) }
+    ensures only { IfOk result (λ made. (setting : Setting) → IsSetting line.now setting → made ≡ setting) }
     ensures bad { IsErrOf result TextFault.Bad → (setting : Setting) → IsSetting line.now setting → ⊥ }
 {
     if let Some(value) = behind(b"installLabelPath", line) {
@@ -330,6 +339,7 @@ fn bad_line(place: usize) -> Fault
 fn config_of(alloc: Global, lines: &[&[u8]]) -> Result<Config, Fault>
     requires { length lines.now < 2 ^ 32 - 1 }
     ensures value { IfOk result (IsConfigOf (map (λ line. line.now) lines.now)) }
+    ensures only { IfOk result (λ config. (other : Config) → IsConfigOf (map (λ line. line.now) lines.now) other → config ≡ other) }
     ensures fault { IfErr result (IsBadConfigOrMemory (map (λ line. line.now) lines.now)) }
 {
     let mut config = Config::empty(alloc)?;

@@ -1,5 +1,5 @@
 //! Which troves some roots reach by references.
-ghost use Rattle.std.specs.Prelude.{◌≡◌, ◌<◌, None, List, length, map, OnOk, IfOk, IfErr};
+ghost use Rattle.std.specs.Prelude.{◌≡◌, ◌<◌, ◌++◌, ◌∷◌, [], None, List, length, map, OnOk, IfOk, IfErr};
 ghost use Rattle.std.specs.Option.{option_map};
 ghost use Rattle.trove_id.specs.declared.id.TroveId.{TroveId};
 ghost use Rattle.trove_stream.specs.declared.parts.TroveParts.{TroveParts};
@@ -67,6 +67,14 @@ fn places_reached(
     Ok(places)
 }
 
+// Adds a trove behind the others, once.
+fn add_trove<'a>(troves: &mut Vec<&'a Trove>, trove: &'a Trove) -> Result<(), OutOfMemory>
+    ensures once { OnOk result (map (λ trove. trove.now) troves.new.items ≡ map (λ trove. trove.now) troves.old.items ++ trove.now ∷ []) }
+{
+    troves.push(trove)?;
+    Ok(())
+}
+
 // The troves at these places.
 fn troves_at<'a>(
     alloc: Global,
@@ -78,7 +86,7 @@ fn troves_at<'a>(
     let mut troves = Vec::new(alloc);
     for place in places {
         if let Some(trove) = catalogue.trove_at(*place) {
-            troves.push(trove)?;
+            add_trove(&mut troves, trove)?;
         }
     }
     Ok(troves)

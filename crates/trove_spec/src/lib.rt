@@ -13,5 +13,5 @@ mod spec;
 
 pub use config::{Config, Labels};
 pub use expanding::{Troves, expand, one_expansion};
-pub use resolving::{best_of_newest, resolve};
+pub use resolving::{best_of_newest, meant_troves, resolve};
 pub use spec::{Place, Spec};

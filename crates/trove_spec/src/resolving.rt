@@ -4,6 +4,8 @@ ghost use Rattle.std.specs.List.{last_or};
 ghost use Rattle.std.specs.Option.{option_copied, option_map};
 ghost use Rattle.cny_flavor.specs.declared.parts.Parts.{Parts};
 ghost use Rattle.trove_stream.specs.declared.parts.TroveParts.{TroveParts};
+ghost use Rattle.trove_spec.specs.declared.config.Config.{Config};
+ghost use Rattle.trove_spec.specs.declared.spec.Spec.{Spec};
 ghost use Rattle.trove_spec.specs.Resolve.{chosen, chosen_of, has_version, is_better, first_chosen, resolution, system_flavor, lacks_label, IsUnresolved};
 
 use crate::candidates::{best_candidate, last_candidate};
@@ -127,4 +129,10 @@ pub fn best_of_newest()
     ensures best { (system : Parts) (candidates : List TroveParts) (t : TroveParts) → chosen_of system candidates ≡ Some t
         → All (λ other. has_version t.id.version other ≡ true → is_better system other t ≡ false) candidates }
     ensures none { (system : Parts) (candidates : List TroveParts) → chosen_of system candidates ≡ None → candidates ≡ [] }
+{}
+
+/// What a specification means is one of the troves, and has the name of the specification.
+pub fn meant_troves()
+    ensures among { (troves : List TroveParts) (spec : Spec) (config : Config) (t : TroveParts) → resolution troves spec config ≡ Some t → Contains troves t }
+    ensures name { (troves : List TroveParts) (spec : Spec) (config : Config) (t : TroveParts) → resolution troves spec config ≡ Some t → t.id.name ≡ spec.name }
 {}

@@ -8,7 +8,7 @@ use Rattle.repo_index.specs.PlacesLaws.{at-push}
 use Rattle.std.proofs.Common.{append-nil}
 use Rattle.trove_spec.proofs.ConfigLines.{map-push}
 use Rattle.trove_spec.proofs.InOrder.{now_of}
-use Rattle.trove_spec.proofs.expanding.troves_at.Goals.{in-Some+in_ok-push, in_default}
+use Rattle.trove_spec.proofs.expanding.troves_at.Goals.{in-Some+in_ok-add_trove, in_default}
 use Rattle.trove_spec.proofs.expanding.troves_at.Goals as goal
 
 pub loop-place-preserved : goal.loop-place-preserved
@@ -22,11 +22,10 @@ loop-place-preserved c =
     let longer : troves_at troves (take (i + 1) places) ≡ troves_at troves (take i places) ++ cons_option (slice_get troves here) [] =
     ap (troves_at troves) (take_more places i 0 within) ∙ at-push troves (take i places) here in
     elim c.match-trove_at.branch [
-      | in-Some+in_ok-push w ↦
+      | in-Some+in_ok-add_trove w ↦
           let x = w.in-Some.trove in
           ap (λ (v : Vec (Bor TroveParts) Global). map now_of v.items) w.troves-is
-          ∙ ap (map now_of) w.in_ok-push.ensures.items
-          ∙ map-push now_of old x
+          ∙ w.in_ok-add_trove.ensures.once
           ∙ ap (λ (l : List TroveParts). l ++ x.now ∷ []) c.loop-place.invariant
           ∙ ap (λ (o : Option TroveParts). troves_at troves (take i places) ++ cons_option o []) w.in-Some.ensures
           ∙ sym longer

@@ -1,0 +1,10 @@
+use Rattle.std.proofs.Common.{◌≡◌, All, map, take}
+use Rattle.trove_id.specs.Id.{IsTroveId}
+use Rattle.repo_shadow.specs.Moved.{moved_id}
+use Rattle.repo_shadow.proofs.moving.moved_refs.Given as goal
+
+abbrev pub invariant-loop-id : goal.invariant-loop-id
+invariant-loop-id l = record {
+  ids_are : l.made.items ≡ map (moved_id l.way l.label) (take l.id-index l.refs);
+  valid : All IsTroveId l.made.items;
+}
