@@ -1,0 +1,6 @@
+pub mod Provided
+pub mod Meeting
+pub mod Names
+pub mod Noted
+pub mod Putting
+pub mod Edited

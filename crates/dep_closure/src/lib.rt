@@ -1,0 +1,19 @@
+//! Dependency closure: whether each requirement of the troves of a list is met by what some trove of it provides, for a whole
+//! list and for a list that changes.
+//!
+//! Begin at `whole` (a whole list) and `changing` (a list that changes). Both stand on `providing` (when a trove satisfies a
+//! requirement). `changing` stands on `slots` (troves by their names, and edits of them), `index` (which troves name a
+//! dependency) and `staying` (whether edits keep a closed list closed).
+#![tactic(auto)]
+
+mod changing;
+mod index;
+mod laws;
+mod providing;
+mod slots;
+mod staying;
+mod whole;
+
+pub use changing::Closure;
+pub use laws::one_changed_list;
+pub use whole::closed;
