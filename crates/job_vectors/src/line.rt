@@ -1,0 +1,171 @@
+//! The arguments of a line, and its answer.
+use cny_base::{Copies, Fault, Name, OutOfMemory, TextFault};
+use cny_dep::Dep;
+use cny_report::refusal_text;
+use std::alloc::{AllocError, AllocFailed, Global};
+use trove_id::{TroveId, id_text, read_id};
+use trove_stream::{Deps, Files, Refs, Trove};
+
+/// Why a line has no answer.
+#[derive(Debug, Drop)]
+pub enum Stop {
+    /// It names no call, or its arguments aren't what the call takes.
+    Unreadable,
+    /// No memory was left.
+    Memory,
+}
+
+impl From<OutOfMemory> for Stop {
+    fn from(_: OutOfMemory) -> Self {
+        Stop::Memory
+    }
+}
+
+impl From<AllocError> for Stop {
+    fn from(_: AllocError) -> Self {
+        Stop::Memory
+    }
+}
+
+impl<T: Drop> From<AllocFailed<T>> for Stop {
+    fn from(_: AllocFailed<T>) -> Self {
+        Stop::Memory
+    }
+}
+
+// What a text has to be, as an argument of a call that takes only such.
+impl From<TextFault> for Stop {
+    fn from(fault: TextFault) -> Self {
+        match fault {
+            TextFault::Bad => Stop::Unreadable,
+            TextFault::Memory => Stop::Memory,
+        }
+    }
+}
+
+/// The arguments behind a call, with a tab between two.
+pub fn arguments_of(alloc: Global, text: &str) -> Result<Vec<String>, Stop> {
+    let mut arguments = Vec::new(alloc);
+    for field in text.split('\t') {
+        arguments.push(String::from_str(alloc, field)?)?;
+    }
+    Ok(arguments)
+}
+
+/// The argument at a place.
+pub fn text_at(arguments: &[String], place: usize) -> Result<&str, Stop> {
+    match arguments.get(place) {
+        Some(text) => Ok(text.as_str()),
+        None => Err(Stop::Unreadable),
+    }
+}
+
+// The parts of a text with this between two; none for a hyphen.
+fn parts_of(alloc: Global, text: &str, between: &str) -> Result<Vec<String>, Stop> {
+    let mut parts = Vec::new(alloc);
+    if text != "-" {
+        for part in text.split(between) {
+            parts.push(String::from_str(alloc, part)?)?;
+        }
+    }
+    Ok(parts)
+}
+
+/// The names of an argument, with a space between two; none for a hyphen.
+pub fn names_of(alloc: Global, text: &str) -> Result<Vec<Name>, Stop> {
+    let mut names = Vec::new(alloc);
+    for part in &parts_of(alloc, text, " ")? {
+        names.push(Name::read(alloc, part.as_str())?)?;
+    }
+    Ok(names)
+}
+
+// The ids of a text, with a semicolon and a space between two; none for a hyphen.
+fn refs_of(alloc: Global, text: &str) -> Result<Refs, Stop> {
+    let mut ids = Vec::new(alloc);
+    for part in &parts_of(alloc, text, "; ")? {
+        ids.push(read_id(alloc, part.as_str())?)?;
+    }
+    Ok(Refs::new(ids))
+}
+
+// The dependencies of a text, with a semicolon and a space between two; none for a hyphen.
+fn deps_of(alloc: Global, text: &str) -> Result<Deps, Stop> {
+    let mut deps = Vec::new(alloc);
+    for part in &parts_of(alloc, text, "; ")? {
+        deps.push(Dep::read(alloc, part.as_str())?)?;
+    }
+    Ok(Deps::new(deps))
+}
+
+// A trove of an id, with what it refers to, requires and provides.
+fn trove_with(
+    alloc: Global,
+    id: TroveId,
+    refs: Refs,
+    required: Deps,
+    provided: Deps,
+) -> Result<Trove, Stop> {
+    let files = Files::new(Vec::new(alloc));
+    Ok(Trove::make(id, files, refs, required, provided)?)
+}
+
+// A trove of the text of its id, its references, what it requires and what it provides, with a bar between two.
+fn trove_of(alloc: Global, text: &str) -> Result<Trove, Stop> {
+    let parts = parts_of(alloc, text, "|")?;
+    let id = read_id(alloc, text_at(parts.as_slice(), 0)?)?;
+    let refs = refs_of(alloc, text_at(parts.as_slice(), 1)?)?;
+    let required = deps_of(alloc, text_at(parts.as_slice(), 2)?)?;
+    let provided = deps_of(alloc, text_at(parts.as_slice(), 3)?)?;
+    trove_with(alloc, id, refs, required, provided)
+}
+
+/// The troves of an argument, with an ampersand between two, which has a space on each side; none for a hyphen.
+pub fn troves_of(alloc: Global, text: &str) -> Result<Vec<Trove>, Stop> {
+    let mut troves = Vec::new(alloc);
+    for part in &parts_of(alloc, text, " & ")? {
+        troves.push(trove_of(alloc, part.as_str())?)?;
+    }
+    Ok(troves)
+}
+
+/// An answer of one word.
+pub fn word(alloc: Global, word: &str) -> Result<String, Stop> {
+    Ok(String::from_str(alloc, word)?)
+}
+
+/// Appends a field behind a tab.
+pub fn push_field(line: &mut String, field: &str) -> Result<(), OutOfMemory> {
+    line.push('\t')?;
+    line.push_str(field)?;
+    Ok(())
+}
+
+// The id of a trove, and how many references, requirements and provides it has.
+fn trove_text(alloc: Global, trove: &Trove) -> Result<String, Stop> {
+    let id = id_text(alloc, trove.id())?;
+    let refs = trove.refs().len();
+    let required = trove.requires_().len();
+    let provided = trove.provides().len();
+    Ok(format!(in alloc; "{} {refs} {required} {provided}", id.get())?)
+}
+
+/// `ok` and a field for each trove.
+pub fn troves_text(alloc: Global, troves: &[Trove]) -> Result<String, Stop> {
+    let mut line = word(alloc, "ok")?;
+    for trove in troves {
+        push_field(&mut line, trove_text(alloc, trove)?.as_str())?;
+    }
+    Ok(line)
+}
+
+/// The answer of a call that refuses: the text of the refusal.
+pub fn refused(alloc: Global, fault: &Fault) -> Result<String, Stop> {
+    match fault {
+        Fault::Memory => Err(Stop::Memory),
+        Fault::Refused(refusal) => {
+            let text = refusal_text(alloc, &refusal.copy()?)?;
+            word(alloc, text.get())
+        }
+    }
+}

@@ -1,0 +1,74 @@
+//! Calls on installed lists.
+use crate::line::{Stop, names_of, push_field, refused, text_at, troves_of, troves_text, word};
+use cny_base::Fault;
+use dep_closure::closed;
+use installed_list::Installed;
+use std::alloc::Global;
+use trove_id::id_text;
+use update_job as job;
+use update_job::Change;
+
+// The installed list of an argument.
+fn installed_of(alloc: Global, text: &str) -> Result<Installed, Stop> {
+    Installed::new(troves_of(alloc, text)?).ok_or(Stop::Unreadable)
+}
+
+/// `updated` of an installed list and new troves.
+pub fn updated(alloc: Global, arguments: &[String]) -> Result<String, Stop> {
+    let installed = installed_of(alloc, text_at(arguments, 0)?)?;
+    let come = troves_of(alloc, text_at(arguments, 1)?)?;
+    match job::updated(alloc, &installed, come.as_slice()) {
+        Ok(list) => troves_text(alloc, list.troves()),
+        Err(fault) => refused(alloc, &fault),
+    }
+}
+
+/// `erased` of an installed list and names.
+pub fn erased(alloc: Global, arguments: &[String]) -> Result<String, Stop> {
+    let installed = installed_of(alloc, text_at(arguments, 0)?)?;
+    let names = names_of(alloc, text_at(arguments, 1)?)?;
+    match job::erased(alloc, &installed, names.as_slice()) {
+        Ok(list) => troves_text(alloc, list.troves()),
+        Err(fault) => refused(alloc, &fault),
+    }
+}
+
+// The word of a change and the text of its id.
+fn change_text(alloc: Global, change: &Change) -> Result<String, Stop> {
+    let (kind, id) = match change {
+        Change::Installed(id) => ("installed", id),
+        Change::Updated(id) => ("updated", id),
+        Change::Erased(id) => ("erased", id),
+    };
+    let id = id_text(alloc, id)?;
+    Ok(format!(in alloc; "{kind} {}", id.get())?)
+}
+
+/// `changed` of two installed lists.
+pub fn changed(alloc: Global, arguments: &[String]) -> Result<String, Stop> {
+    let before = installed_of(alloc, text_at(arguments, 0)?)?;
+    let after = installed_of(alloc, text_at(arguments, 1)?)?;
+    let mut line = word(alloc, "ok")?;
+    for change in job::changed(alloc, &before, &after)?.get() {
+        push_field(&mut line, change_text(alloc, change)?.as_str())?;
+    }
+    Ok(line)
+}
+
+// Tests the list that is left without these names.
+fn close_without(alloc: Global, arguments: &[String]) -> Result<Result<(), Fault>, Stop> {
+    let installed = installed_of(alloc, text_at(arguments, 0)?)?;
+    let names = names_of(alloc, text_at(arguments, 1)?)?;
+    match job::erased(alloc, &installed, names.as_slice()) {
+        Ok(list) => Ok(closed(alloc, list.troves())),
+        Err(fault) => Ok(Err(fault)),
+    }
+}
+
+/// `closed` of the list that `erased` leaves of an installed list and names.
+pub fn closed_without(alloc: Global, arguments: &[String]) -> Result<String, Stop> {
+    match close_without(alloc, arguments)? {
+        Ok(()) => word(alloc, "ok"),
+        Err(fault) => refused(alloc, &fault),
+    }
+}

@@ -1,0 +1,46 @@
+-- What goes when some troves of an installed list are taken away. A trove is told by its place in the list.
+use Rattle.std.specs.Prelude.{◌≡◌, ℕ, List, length, slice_get, Some, Contains}
+use Rattle.installed_list.specs.Installed.{IsPlaceOf}
+use Rattle.trove_id.specs.declared.id.TroveId.{TroveId}
+use Rattle.trove_stream.specs.declared.parts.TroveParts.{TroveParts}
+use Rattle.update_job.specs.Reach.{IsReachedIn}
+
+-- a trove of the list stands there
+abbrev pub IsPlace : List TroveParts → ℕ → Type 0
+IsPlace list place = (t : TroveParts) × (slice_get list place ≡ Some t)
+
+-- the trove at the first place has a reference with the name of the trove at the second, whatever its version
+pub record Leads (list : List TroveParts) (from to : ℕ) : Type 0 where
+  pub trove : TroveParts
+  pub there : slice_get list from ≡ Some trove
+  pub id : TroveId
+  pub refers : Contains trove.refs id
+  pub named : IsPlaceOf id.name list to
+
+-- the same, where the second place isn't barred
+pub record LeadsPast (list : List TroveParts) (IsBarred : ℕ → Type 0) (from to : ℕ) : Type 0 where
+  pub leads : Leads list from to
+  pub free : IsBarred to → ⊥
+
+-- the roots and what they reach by references, in at most as many steps as the list has troves
+abbrev pub IsReached : List TroveParts → (ℕ → Type 0) → ℕ → Type 0
+IsReached list IsRoot place = IsReachedIn (Leads list) IsRoot (length list) place
+
+-- a trove that the roots don't reach
+pub record IsOutside (list : List TroveParts) (IsRoot : ℕ → Type 0) (place : ℕ) : Type 0 where
+  pub stands : IsPlace list place
+  pub outside : IsReached list IsRoot place → ⊥
+
+-- those and what they reach without entering a root
+abbrev pub IsKept : List TroveParts → (ℕ → Type 0) → ℕ → Type 0
+IsKept list IsRoot place = IsReachedIn (LeadsPast list IsRoot) (IsOutside list IsRoot) (length list) place
+
+-- what the roots reach and nothing else keeps
+pub record IsGone (list : List TroveParts) (IsRoot : ℕ → Type 0) (place : ℕ) : Type 0 where
+  pub reached : IsReached list IsRoot place
+  pub loose : IsKept list IsRoot place → ⊥
+
+-- a trove that doesn't go
+pub record IsLeft (list : List TroveParts) (IsRoot : ℕ → Type 0) (place : ℕ) : Type 0 where
+  pub stands : IsPlace list place
+  pub stays : IsGone list IsRoot place → ⊥

@@ -1,0 +1,326 @@
+#!/usr/bin/env python3
+"""Makes the vectors of installed lists: calls, and what they have to answer.
+
+    tools/job_vectors.py stdin   >crates/job_vectors/stdin     a call and its arguments in each line
+    tools/job_vectors.py stdout  >crates/job_vectors/stdout    what each has to answer
+
+The answers are made from the rules alone: what goes is found by rounds over the whole list.
+"""
+import random
+import sys
+
+sys.dont_write_bytecode = True
+
+SEED = 20261128
+
+
+class Refused(Exception):
+    """A call refuses; the text of the refusal."""
+
+
+class Trove:
+    """The parts of a trove: the name and the rest of its id, the ids it refers to, what it requires and provides."""
+
+    def __init__(self, name, revision="1.0-1-1", flavor="", refs=(), requires=(), provides=()):
+        self.name, self.revision, self.flavor = name, revision, flavor
+        self.refs = tuple(sorted(set(refs), key=lambda one: (one.name, one.version, one.flavor)))
+        self.requires, self.provides = tuple(sorted(set(requires))), tuple(sorted(set(provides)))
+
+    @property
+    def version(self):
+        return f"/conary.example.com@ex:devel/{self.revision}"
+
+    @property
+    def id(self):
+        return f"{self.name}={self.version}" + (f"[{self.flavor}]" if self.flavor else "")
+
+    def parts(self):
+        return self.id, tuple(one.id for one in self.refs), self.requires, self.provides
+
+    def written(self):
+        lists = ("; ".join(part) or "-" for part in self.parts()[1:])
+        return "|".join([self.id, *lists])
+
+    def shown(self):
+        return f"{self.id} {len(self.refs)} {len(self.requires)} {len(self.provides)}"
+
+
+def by_name(troves):
+    return sorted(troves, key=lambda one: one.name)
+
+
+# ---- lists
+
+
+def reached(installed, roots, entered):
+    """The names that the roots reach by references of installed troves, by rounds; a name is entered where the test says so."""
+    names = {one.name for one in installed}
+    found = set(roots)
+    for _ in installed:
+        found |= {ref.name for one in installed if one.name in found for ref in one.refs if ref.name in names and entered(ref.name)}
+    return found
+
+
+def gone(installed, roots):
+    """The names that go with these."""
+    names = {one.name for one in installed}
+    all_reached = reached(installed, roots, lambda name: True)
+    kept = reached(installed, names - all_reached, lambda name: name not in roots)
+    return all_reached - kept
+
+
+def erased(installed, names):
+    there = {one.name for one in installed}
+    for name in names:
+        if name not in there:
+            raise Refused(f"not installed {name}")
+    away = gone(installed, set(names))
+    return [one for one in installed if one.name not in away]
+
+
+def updated(installed, come):
+    first = {}
+    for one in come:
+        if one.name in first and first[one.name].parts() != one.parts():
+            raise Refused(f"exists {one.id}")
+        first.setdefault(one.name, one)
+    there = {one.name for one in installed}
+    away = gone(installed, set(first) & there)
+    return by_name([one for one in installed if one.name not in away and one.name not in first] + list(first.values()))
+
+
+def changed(before, after):
+    """A word and an id for each name whose trove isn't the same in both lists."""
+    was, is_ = ({one.name: one for one in troves} for troves in (before, after))
+    for name in sorted(was.keys() | is_.keys()):
+        if name not in was:
+            yield f"installed {is_[name].id}"
+        elif name not in is_:
+            yield f"erased {was[name].id}"
+        elif was[name].parts() != is_[name].parts():
+            yield f"updated {is_[name].id}"
+
+
+# ---- closure
+
+
+def split(text):
+    """The class, the name and the flags of a dependency."""
+    kind, rest = text.split(": ", 1)
+    name, _, flags = rest.partition("(")
+    return kind, name, set(flags.rstrip(")").split())
+
+
+def meets(provide, require):
+    one, other = split(provide), split(require)
+    return one[:2] == other[:2] and other[2] <= one[2]
+
+
+def provides(one):
+    return [f"trove: {one.name}", *one.provides]
+
+
+def closed(troves):
+    offers = {}
+    for one in troves:
+        for text in provides(one):
+            offers.setdefault(split(text)[:2], []).append(text)
+    for one in troves:
+        for require in one.requires:
+            if not any(meets(text, require) for text in offers.get(split(require)[:2], [])):
+                raise Refused(f"unmet {one.name} {require}")
+
+
+# ---- lines
+
+
+def listed(troves):
+    return " & ".join(one.written() for one in troves) or "-"
+
+
+def answer(call):
+    try:
+        return "\t".join(call())
+    except Refused as refused:
+        return str(refused)
+
+
+def of_lists(result):
+    return ["ok", *(one.shown() for one in result)]
+
+
+def update(installed, come):
+    installed = by_name(installed)
+    return f"updated\t{listed(installed)}\t{listed(come)}", answer(lambda: of_lists(updated(installed, come)))
+
+
+def erase(installed, names):
+    installed = by_name(installed)
+    return f"erased\t{listed(installed)}\t{' '.join(names) or '-'}", answer(lambda: of_lists(erased(installed, names)))
+
+
+def compare(before, after):
+    before, after = by_name(before), by_name(after)
+    return f"changed\t{listed(before)}\t{listed(after)}", "\t".join(["ok", *changed(before, after)])
+
+
+def close_without(installed, names):
+    installed = by_name(installed)
+
+    def call():
+        closed(erased(installed, names))
+        return ["ok"]
+
+    return f"closed_without\t{listed(installed)}\t{' '.join(names) or '-'}", answer(call)
+
+
+def group(name, *refs, revision="1.0-1-1"):
+    return Trove(f"group-{name}", revision, refs=refs)
+
+
+def component(name, *requires, gives=(), revision="1.0-1-1", flavor=""):
+    return Trove(name, revision, flavor, (), requires, gives)
+
+
+# ---- worked cases
+
+LIB = component("x:lib")
+SHARED = [group("a", LIB), group("b", LIB), LIB]
+
+
+def worked():
+    """Lines whose answers are written by hand."""
+    at = "=/conary.example.com@ex:devel/"
+    yield erase(SHARED, ["group-a"]), f"ok\tgroup-b{at}1.0-1-1 1 0 0\tx:lib{at}1.0-1-1 0 0 0"
+    yield update(SHARED, [group("a", revision="1.0-2-1")]), f"ok\tgroup-a{at}1.0-2-1 0 0 0\tgroup-b{at}1.0-1-1 1 0 0\tx:lib{at}1.0-1-1 0 0 0"
+    yield erase(SHARED, ["group-a", "group-b"]), "ok"
+    yield erase(SHARED, ["x:lib"]), f"ok\tgroup-a{at}1.0-1-1 1 0 0\tgroup-b{at}1.0-1-1 1 0 0"
+    yield erase(SHARED, ["x:lib", "y:lib", "z:lib"]), "not installed y:lib"
+    yield erase(SHARED, []), f"ok\tgroup-a{at}1.0-1-1 1 0 0\tgroup-b{at}1.0-1-1 1 0 0\tx:lib{at}1.0-1-1 0 0 0"
+    newer = component("x:lib", revision="1.0-2-1")
+    yield update(SHARED, [newer, LIB]), f"exists x:lib{at}1.0-1-1"
+    yield update([], [LIB, LIB]), f"ok\tx:lib{at}1.0-1-1 0 0 0"
+    yield update([], [LIB, component("x:lib", "trove: x:lib")]), f"exists x:lib{at}1.0-1-1"
+    yield compare(SHARED, SHARED), "ok"
+    yield compare([], [LIB]), f"ok\tinstalled x:lib{at}1.0-1-1"
+    yield compare([LIB], []), f"ok\terased x:lib{at}1.0-1-1"
+    yield compare([LIB], [newer]), f"ok\tupdated x:lib{at}1.0-2-1"
+    yield compare([LIB], [component("x:lib", gives=["soname: x.so"])]), f"ok\tupdated x:lib{at}1.0-1-1"
+    needs = component("foo:runtime", "trove: foo:lib")
+    foo = component("foo:lib")
+    yield close_without([foo, needs], []), "ok"
+    yield close_without([foo, needs], ["foo:lib"]), "unmet foo:runtime trove: foo:lib"
+    yield close_without([foo, needs], ["foo:runtime"]), "ok"
+    yield close_without([foo, needs], ["foo:doc"]), "not installed foo:doc"
+
+
+def list_cases():
+    """Loops, chains, references to other versions, and roots that others refer to."""
+    a, b, c = (component(f"{name}:lib") for name in "abc")
+    old = component("a:lib", revision="0.9-1-1")
+    inner = group("in", b, c)
+    outer = group("out", a, inner)
+    yield erase([outer, inner, a, b, c], ["group-out"])
+    yield erase([outer, inner, a, b, c], ["group-in"])
+    yield erase([outer, inner, a, b, c, group("more", c)], ["group-out"])
+    yield erase([outer, inner, a, b, c, group("more", inner)], ["group-out"])
+    yield erase([group("old", old), group("new", a), a], ["group-new"])
+    yield erase([group("old", old), group("new", a), a], ["group-old"])
+    one = Trove("group-one")
+    two = Trove("group-two", refs=[one, a])
+    one = Trove("group-one", refs=[two])
+    yield erase([one, two, a], ["group-one"])
+    yield erase([one, two, a], ["group-two"])
+    yield erase([one, two, a, group("more", two)], ["group-one"])
+    yield erase([one, two, a], ["group-one", "group-one"])
+    yield update([outer, inner, a, b, c], [group("out", revision="1.0-2-1")])
+    yield update([outer, inner, a, b, c], [group("out", inner, revision="1.0-2-1")])
+    yield update([outer, inner, a, b, c], [outer, a])
+    yield update([outer, inner, a, b, c], [component("d:lib")])
+    yield update([], [])
+    yield update([outer, inner, a, b, c], [])
+    yield update([one, two, a], [component("a:lib", revision="2.0-1-1"), one])
+    yield update([a], [component("a:lib", gives=["soname: a.so"])])
+    yield update([], [b, a, c, component("b:lib", revision="2.0-1-1"), old])
+    yield update([], [b, b, a, a, component("b:lib", flavor="ssl"), old])
+    yield erase([a], ["b:lib"])
+    yield erase([], ["b:lib", "a:lib"])
+    yield erase([a, b], ["a:lib", "c:lib", "b:lib", "d:lib"])
+    package = Trove("p", refs=[component("p:lib"), component("p:doc")])
+    yield erase([package, component("p:lib"), component("p:doc")], ["p"])
+    yield erase([package, component("p:lib"), component("p:doc"), group("g", component("p:lib"))], ["p"])
+
+
+def random_list(dice, count):
+    """Groups with references to each other, to components that are there and to some that aren't."""
+    parts = [component(f"c{number}:lib", revision=f"1.{dice.randrange(3)}-1-1") for number in range(count)]
+    groups = [f"{number}" for number in range(dice.randrange(1, count + 1))]
+    picked = []
+    for number in groups:
+        refs = dice.sample(parts, dice.randrange(0, min(4, count) + 1))
+        refs += [group(other) for other in dice.sample(groups, dice.randrange(0, min(2, len(groups)) + 1)) if other != number]
+        picked.append(Trove(f"group-{number}", refs=[one for one in refs]))
+    there = dice.sample(parts, dice.randrange(0, count + 1))
+    return by_name(there + dice.sample(picked, dice.randrange(1, len(picked) + 1)))
+
+
+def random_lists():
+    dice = random.Random(SEED)
+    for _ in range(260):
+        installed = random_list(dice, dice.randrange(2, 9))
+        names = [one.name for one in installed]
+        yield erase(installed, dice.sample(names, dice.randrange(1, min(3, len(names)) + 1)))
+        yield update(installed, dice.sample(random_list(dice, 5), 1))
+    for _ in range(60):
+        installed = random_list(dice, 6)
+        come = random_list(dice, 6) + random_list(dice, 6)
+        dice.shuffle(come)
+        yield update(installed, come[:6])
+        yield erase(installed, dice.sample([one.name for one in installed] + ["absent:lib", "none"], 2))
+
+
+def list_changes():
+    """Lists that differ by names, versions, flavors, or in what their troves hold alone."""
+    a, b = component("a:lib"), component("b:lib", flavor="ssl")
+    yield compare([a, b], [component("a:lib", "soname: x.so"), component("b:lib")])
+    yield compare([group("a", a), a], [group("a", b), a])
+    yield compare([group("a", a), a], [b])
+    yield compare([a, component("c:lib")], [b, component("d:lib")])
+    dice = random.Random(SEED + 2)
+    for _ in range(100):
+        one, other = random_list(dice, 6), random_list(dice, 6)
+        yield compare(one, other)
+        yield compare(one, [dice.choice([mine, component(mine.name, revision=mine.revision, gives=["soname: z.so"]) if mine.name.endswith(":lib") else mine]) for mine in one])
+
+
+def random_requirements():
+    """Lists that an erasure may leave without what some of their troves require."""
+    dice = random.Random(SEED + 1)
+    for _ in range(120):
+        count = dice.randrange(2, 8)
+        troves = [
+            component(f"c{number}:lib", *{f"trove: c{dice.randrange(count)}:lib" for _ in range(dice.randrange(3))}, gives=[f"soname: s{number}.so"])
+            for number in range(count)
+        ]
+        troves += [group("a", *dice.sample(troves, dice.randrange(count))), group("b", *dice.sample(troves, dice.randrange(count)))]
+        yield close_without(troves, dice.sample([one.name for one in troves], dice.randrange(1, 3)))
+
+
+def cases():
+    for line, wanted in worked():
+        if line[1] != wanted:
+            sys.exit(f"{line!r} and not {wanted!r}")
+        yield line
+    for topic in (list_cases, random_lists, list_changes, random_requirements):
+        yield from topic()
+
+
+def main():
+    if sys.argv[1:] not in (["stdin"], ["stdout"]):
+        sys.exit(__doc__)
+    for call, wanted in cases():
+        print(wanted if sys.argv[1] == "stdout" else call)
+
+
+if __name__ == "__main__":
+    main()
