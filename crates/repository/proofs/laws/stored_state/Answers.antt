@@ -1,0 +1,11 @@
+use Rattle.repository.proofs.Stored.{no_damaged_commit, same_content, no_damaged_content}
+use Rattle.repository.proofs.laws.stored_state.Goals as goal
+
+pub returns-clause-commits : goal.returns-clause-commits
+returns-clause-commits c = no_damaged_commit c.one_repository.ensures.damaged
+
+pub returns-clause-content : goal.returns-clause-content
+returns-clause-content c = same_content
+
+pub returns-clause-contents : goal.returns-clause-contents
+returns-clause-contents c = no_damaged_content

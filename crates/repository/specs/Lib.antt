@@ -1,0 +1,4 @@
+pub mod Looks
+pub mod Seen
+pub mod Loading
+pub mod Contents
