@@ -1,0 +1,7 @@
+mod Texts
+mod Handing
+mod Found
+mod Numbers
+mod Written
+mod Apart
+mod Holding

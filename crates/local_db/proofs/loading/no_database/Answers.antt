@@ -1,0 +1,11 @@
+use Rattle.std.proofs.Common.{[], subst, sym}
+use Rattle.installed_list.specs.Installed.{IsRising}
+use Rattle.std.specs.List.Sorted.{IsStrictlySortedBy}
+use Rattle.local_db.proofs.loading.no_database.Goals as goal
+
+none_rise : IsRising []
+unfolding IsStrictlySortedBy
+none_rise = tt
+
+pub of_rising-requires : goal.of_rising-requires
+of_rising-requires c = subst IsRising (sym c.new.ensures.items) none_rise

@@ -1,0 +1,12 @@
+-- What a database file says.
+use Rattle.std.specs.Prelude.{◌≡◌, List, ℕ}
+use Rattle.system_state.specs.declared.format.Format.{Format}
+use Rattle.system_state.specs.Formats.{database_bytes}
+use Rattle.system_state.specs.Stores.{IsDatabase}
+use Rattle.local_db.specs.declared.db.Db.{Db}
+
+-- the bytes are those of this database, in one of the formats
+pub record IsDatabaseFile (db : Db) (bytes : List ℕ) : Type 0 where
+  pub format : Format
+  pub database : IsDatabase format db.installed db.oldest db.newest
+  pub text : bytes ≡ database_bytes format db.installed db.oldest db.newest

@@ -1,0 +1,5 @@
+pub mod Database
+pub mod Reading
+pub mod Sharing
+pub mod Loading
+pub mod Writing

@@ -1,0 +1,22 @@
+//! What a database tells.
+use cny_base::{Copies, OutOfMemory};
+use installed_list::Installed;
+
+/// What the database of a root tells: the installed troves, and the numbers of the oldest and of the newest job of its stack.
+/// Where there is no job both are 0.
+#[derive(Debug, Drop)]
+pub struct Db {
+    pub installed: Installed,
+    pub oldest: u32,
+    pub newest: u32,
+}
+
+impl Copies for Db {
+    fn copy(&self) -> Result<Self, OutOfMemory> {
+        Ok(Db {
+            installed: self.installed.copy()?,
+            oldest: self.oldest,
+            newest: self.newest,
+        })
+    }
+}

@@ -1,0 +1,94 @@
+//! The calls.
+use crate::stop::Stop;
+use crate::trees::disk_of;
+use cny_base::{Bytes, Copies, Fault, Stop as DiskEnd, TextFault};
+use local_db::{Db, decode, encode, load};
+use sha1::Sha1;
+use std::alloc::Global;
+use trove_id::id_text;
+
+fn word(alloc: Global, word: &str) -> Result<String, Stop> {
+    Ok(String::from_str(alloc, word)?)
+}
+
+// The bytes of the database in format 2.
+fn written(alloc: Global, db: &Db) -> Result<Bytes, Stop> {
+    match encode(alloc, db) {
+        Ok(bytes) => Ok(bytes),
+        Err(Fault::Memory) => Err(Stop::Memory),
+        Err(Fault::Refused(_)) => Err(Stop::Unreadable),
+    }
+}
+
+// Appends the ids of the troves, a space before each.
+fn push_troves(alloc: Global, line: &mut String, db: &Db) -> Result<(), Stop> {
+    for trove in db.installed.troves() {
+        let id = id_text(alloc, trove.id())?;
+        line.push_str(" ")?;
+        line.push_str(id.get())?;
+    }
+    Ok(())
+}
+
+// The numbers, the length and the SHA-1 of the bytes in format 2 of a copy, and the ids of the troves.
+fn db_text(alloc: Global, db: &Db) -> Result<String, Stop> {
+    let copy = db.copy()?;
+    let bytes = written(alloc, &copy)?;
+    let len = bytes.get().len();
+    let name = Sha1::digest(bytes.get());
+    let digits = hex::encode(alloc, name.as_slice())?;
+    let mut line = format!(in alloc; "{} {} {len} {digits}", copy.oldest, copy.newest)?;
+    push_troves(alloc, &mut line, &copy)?;
+    Ok(line)
+}
+
+/// The bytes that hexadecimal digits write; none for a hyphen.
+pub fn bytes_of(alloc: Global, text: &str) -> Result<Vec<u8>, Stop> {
+    if text == "-" {
+        return Ok(Vec::new(alloc));
+    }
+    match hex::decode(alloc, text) {
+        Ok(bytes) => Ok(bytes),
+        Err(_) => Err(Stop::Unreadable),
+    }
+}
+
+// `decode BYTES`.
+fn decoded(alloc: Global, text: &str) -> Result<String, Stop> {
+    let bytes = bytes_of(alloc, text)?;
+    match decode(alloc, bytes.as_slice()) {
+        Ok(db) => db_text(alloc, &db),
+        Err(TextFault::Bad) => word(alloc, "bad"),
+        Err(TextFault::Memory) => Err(Stop::Memory),
+    }
+}
+
+// `encode BYTES`: the bytes in format 2 of the database that these bytes are.
+fn encoded(alloc: Global, text: &str) -> Result<String, Stop> {
+    let bytes = bytes_of(alloc, text)?;
+    let db = decode(alloc, bytes.as_slice())?;
+    let again = written(alloc, &db)?;
+    Ok(hex::encode(alloc, again.get())?)
+}
+
+// `load NODE`: the database of a root where this stands at its name.
+fn loaded(alloc: Global, text: &str) -> Result<String, Stop> {
+    let mut disk = disk_of(alloc, text)?;
+    match load(alloc, &mut disk) {
+        Ok(db) => db_text(alloc, &db),
+        Err(DiskEnd::Damaged { path }) => Ok(format!(in alloc; "damaged {}", path.text())?),
+        Err(DiskEnd::Failed) => word(alloc, "failed"),
+        Err(DiskEnd::Memory) => Err(Stop::Memory),
+        Err(_) => Err(Stop::Unreadable),
+    }
+}
+
+/// The answer to a line.
+pub fn answer_to(alloc: Global, line: &str) -> Result<String, Stop> {
+    match line.split_once(' ') {
+        Some(("decode", rest)) => decoded(alloc, rest),
+        Some(("encode", rest)) => encoded(alloc, rest),
+        Some(("load", rest)) => loaded(alloc, rest),
+        _ => Err(Stop::Unreadable),
+    }
+}
