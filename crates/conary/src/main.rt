@@ -1,17 +1,22 @@
-//! The program: hands its words, the standard streams and two trees in memory to `run`.
+//! The program: hands its words, the standard streams and two disks to `run`.
 #![tactic(auto)]
 
-use cny_base::{Fails, Mode, Node, OutOfMemory, Path};
+use cny_base::{Fails, Mode, Node, OutOfMemory, Path, Text};
 use cny_flow::{StdSink, StdSource};
 use conary_cli::run;
 use std::alloc::Global;
 use std::env;
 use std::io::ErrorKind;
 use std::process::ExitCode;
+use tree_disk::TreeDisk;
+use tree_host::HostTree;
 use tree_memory::{MemoryTree, Nodes};
 
 // The status where there is no memory for the words or the trees.
 const OUT_OF_MEMORY: u8 = 7;
+
+// Before the names of the directories of the root and the repository.
+const DISK_OPTION: &str = "--disk";
 
 fn main(rt: HostRuntime) -> ExitCode {
     ExitCode::from(start(&rt).unwrap_or(OUT_OF_MEMORY))
@@ -19,22 +24,55 @@ fn main(rt: HostRuntime) -> ExitCode {
 
 // Runs the words of the command line.
 fn start(rt: &HostRuntime) -> Result<u8, OutOfMemory> {
-    let alloc = rt.alloc();
     let words = words_of(rt)?;
+    match words.as_slice() {
+        [option, root, repo, rest @ ..] if option.as_str() == DISK_OPTION => {
+            run_on_host(rt, rest, root.as_str(), repo.as_str())
+        }
+        all => run_in_memory(rt, all),
+    }
+}
+
+// Runs words over two directories of the host.
+fn run_on_host(
+    rt: &HostRuntime,
+    words: &[String],
+    root: &str,
+    repo: &str,
+) -> Result<u8, OutOfMemory> {
+    let alloc = rt.alloc();
+    let mut repo = HostTree::new(alloc, rt, Text::new(alloc, repo)?);
+    let mut root = HostTree::new(alloc, rt, Text::new(alloc, root)?);
+    Ok(run_over(rt, words, &mut repo, &mut root))
+}
+
+// Runs words over two trees in memory, which are gone when the program ends.
+fn run_in_memory(rt: &HostRuntime, words: &[String]) -> Result<u8, OutOfMemory> {
+    let alloc = rt.alloc();
     let mut repo = new_tree(alloc, &["/"])?;
     let mut root = new_tree(alloc, &["/", "/var", "/var/lib"])?;
+    Ok(run_over(rt, words, &mut repo, &mut root))
+}
+
+// Runs words over two disks and the standard streams.
+fn run_over<P: TreeDisk, T: TreeDisk>(
+    rt: &HostRuntime,
+    words: &[String],
+    repo: &mut P,
+    root: &mut T,
+) -> u8 {
     let mut input = StdSource::new(rt.stdin());
     let mut out = StdSink::new(rt.stdout());
     let mut err = StdSink::new(rt.stderr());
-    Ok(run(
-        alloc,
-        words.as_slice(),
+    run(
+        rt.alloc(),
+        words,
         &mut input,
         &mut out,
         &mut err,
-        &mut repo,
-        &mut root,
-    ))
+        repo,
+        root,
+    )
 }
 
 // The words after the program's name. Words that aren't text are none, which is a usage error.

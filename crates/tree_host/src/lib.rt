@@ -1,0 +1,15 @@
+//! A directory of the host as a disk. It tells nothing of what it holds, follows no link, and counts each error as a fault.
+//!
+//! The calls of std that are trusted stand in `host.rt` alone.
+#![tactic(auto)]
+
+mod changes;
+mod host;
+mod listing;
+mod stop;
+#[cfg(test)]
+mod tests;
+mod touched;
+mod tree;
+
+pub use tree::HostTree;
