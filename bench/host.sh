@@ -44,8 +44,6 @@ time_of() {
 }
 
 untar() {
-    rm -rf "$work/untarred"
-    mkdir "$work/untarred"
     tar -xf "$work/files.tar" -C "$work/untarred"
     sync
 }
@@ -64,6 +62,8 @@ for count in "$@"; do
     new_disks
     installed=$(time_of install_on_disks)
     tar -cf "$work/files.tar" -C "$work/root" srv
+    rm -rf "$work/untarred"
+    mkdir "$work/untarred"
     sync
     untarred=$(time_of untar)
     ratio=$(awk -v a="$installed" -v b="$untarred" 'BEGIN { printf "%.1f", a / (b > 0 ? b : 1) }')

@@ -1,7 +1,7 @@
 """Kills installations into a directory of the host at random moments (see kill_host.sh).
 
-Each round begins with a root in which files, links and directories stand that the manifest also has. The program is killed by
-SIGKILL after a random part of the time that a whole run takes. What then stands outside the private directory must be, at each
+Each round begins with a root in which one directory of the manifest stands, `/srv`, with a file and a link of somebody else in it.
+The program is killed by SIGKILL after a random part of the time that a whole run takes. What then stands outside the private directory must be, at each
 path, what stood before or what the manifest wants; then the program is run once more, with an input that changes nothing, so that
 it only recovers, and the whole tree must be the one before or the one after; then the installation is run again to its end.
 """

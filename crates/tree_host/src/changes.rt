@@ -122,7 +122,9 @@ impl<R: Files> Host<'_, R> {
         let old = self.leaf_place(alloc, from, false)?;
         let new = self.leaf_place(alloc, to, true)?;
         fs::rename(self.rt, old.as_str(), new.as_str())?;
-        self.end_rename(alloc, from, old.as_str())
+        // Something has changed by now, so whatever ends the call is a failure.
+        let ended = self.end_rename(alloc, from, old.as_str());
+        ended.map_err(|_| HostStop::Failed)
     }
 
     // Of two names of one file the host lets both stand.

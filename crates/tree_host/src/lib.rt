@@ -1,6 +1,6 @@
 //! A directory of the host as a disk. It tells nothing of what it holds, follows no link, and counts each error as a fault.
 //!
-//! The calls of std that are trusted stand in `host.rt` alone.
+//! The calls of std that are trusted stand in `host.rt`, `changes.rt` and `listing.rt` alone.
 #![tactic(auto)]
 
 mod changes;

@@ -25,15 +25,31 @@ impl Touched {
 
     /// Adds a path and all above it.
     pub(crate) fn note(&mut self, alloc: Global, path: &Path) -> Result<(), OutOfMemory> {
+        if self.paths.contains(path) {
+            return Ok(());
+        }
+        for path in self.missing(alloc, path)?.into_iter().rev() {
+            self.paths.insert(path)?;
+        }
+        Ok(())
+    }
+
+    // The path and those above it up to the first that is there, with which all above it are: so they are added from the
+    // highest down.
+    fn missing(&self, alloc: Global, path: &Path) -> Result<Vec<Path>, OutOfMemory> {
+        let mut missing = Vec::new(alloc);
         let mut next = Some(path.copy()?);
         for _ in 0..MOST_NAMES {
             let Some(path) = next else {
                 break;
             };
+            if self.paths.contains(&path) {
+                break;
+            }
             next = path.parent_path(alloc)?;
-            self.paths.insert(path)?;
+            missing.push(path)?;
         }
-        Ok(())
+        Ok(missing)
     }
 
     /// Syncs each of the paths, and begins anew where all are kept.
