@@ -1,5 +1,5 @@
 -- What a changing call does, where it is done and where it fails.
-use Rattle.std.proofs.Common.{◌≡◌, inl, ⊎_elim, ℕ, zero, suc, ◌≤◌, ◌/◌, Bool, true, false, cond, ◌||◌, ◌&&◌, not, List, [], ◌∷◌, length, take, refl, sym, ◌∙◌, ap, subst, arith, Result, Ok, Err, IfOk}
+use Rattle.std.proofs.Common.{◌≡◌, inl, ⊎_elim, ℕ, zero, suc, ◌≤◌, ◌/◌, Bool, true, false, cond, ◌||◌, ◌&&◌, List, [], ◌∷◌, length, take, refl, sym, ◌∙◌, ap, subst, arith, Result, Ok, Err, IfOk}
 use Rattle.std.specs.FinMap.{get}
 use Rattle.std.specs.List.{list_all}
 use Rattle.cny_base.specs.Count.{next}
@@ -9,14 +9,13 @@ use Rattle.tree_disk.specs.Disk.{HasSynced}
 use Rattle.tree_disk.specs.Rows.{with_append}
 use Rattle.tree_disk.specs.Allowed.{part_well_formed}
 use Rattle.tree_disk.specs.declared.disk.DiskStop.TheVariants.{Failed}
-use Rattle.tree_memory.specs.declared.attempt.Attempt.{Attempt}
 use Rattle.tree_memory.specs.declared.change.Change.{Change}
 use Rattle.tree_memory.specs.declared.change.Change.TheVariants.{Append, Put, SetMode, Rename, Touch, TouchBoth, Sync, Edit}
 use Rattle.tree_memory.specs.declared.memory.MemoryTree.{MemoryTree}
-use Rattle.tree_memory.specs.State.{State, tree_after, names_of, settles, failed_change, first_half}
+use Rattle.tree_memory.specs.State.{State, allows, tree_after, names_of, settles, failed_change, first_half}
 use Rattle.tree_memory.specs.Replay.{outside}
 use Rattle.tree_memory.specs.Memory.{memory_disk, state, faults_of, fails_next, does_part}
-use Rattle.tree_memory.specs.Calls.{IsAttempt, IsDone, CountsCall}
+use Rattle.tree_memory.specs.Calls.{IsCall, IsDone, CountsCall}
 use Rattle.tree_disk.specs.Moments.{shows_step}
 use Rattle.tree_memory.proofs.Moves.{OneMore, in_one_step, reads_pushed, unsynced_pushed, state_pushed, elapsed}
 
@@ -59,39 +58,25 @@ half_bytes (suc n) (b ∷ bytes) all = both (is_byte b) (list_all is_byte bytes)
     both true y z next h = next h
     both false y z next h = h
 
-append_keeps : (p : Name) (bytes : List ℕ) (part : Bool) (t : Tree) → WellFormed t → (part ≡ true → WellFormed (tree_after (Append p bytes) t))
-    → WellFormed (tree_after (cond part (Append p (first_half bytes)) (Touch p)) t)
-append_keeps p bytes true t well after = part_well_formed t p bytes (first_half bytes) well (half_bytes (length bytes / 2) bytes) (after refl)
-append_keeps p bytes false t well after = well
-
-pub failed_keeps : (change : Change) (part : Bool) (t : Tree) → settles change ≡ false → WellFormed t → (part ≡ true → WellFormed (tree_after change t)) → WellFormed (tree_after (failed_change change part) t)
-failed_keeps (Append p bytes) part t h well after = append_keeps p bytes part t well after
-failed_keeps (Put p o) part t h well after = well
-failed_keeps (SetMode p mode) part t h well after = well
-failed_keeps (Rename from to) part t h well after = well
-failed_keeps (Touch p) part t h well after = well
-failed_keeps (TouchBoth from to) part t h well after = well
-failed_keeps Sync part t h well after = well
-failed_keeps (Edit p o) part t h well after = absurd (cc h)
-
-pub part_allowed : (can stopped : Bool) → (can && not stopped) ≡ true → can ≡ true
-part_allowed true stopped h = refl
-part_allowed false stopped h = absurd (cc h)
-
--- ---- attempts
-
--- the attempt that was made
-pub attempted : (r : Result Attempt OutOfMemory) (a : Attempt) (P : Attempt → Type 0) → r ≡ Ok a → IfOk r P → P a
-attempted r a P is holds = subst (λ (x : Result Attempt OutOfMemory). IfOk x P) is holds
+-- the first half of an append leaves a tree where the whole does
+pub half_keeps : (t : Tree) (p : Name) (bytes half : List ℕ) → half ≡ first_half bytes → WellFormed t → WellFormed (with_append t p bytes) → WellFormed (with_append t p half)
+half_keeps t p bytes half is well whole =
+    subst (λ (b : List ℕ). WellFormed (with_append t p b)) (sym is) (part_well_formed t p bytes (first_half bytes) well (half_bytes (length bytes / 2) bytes) whole)
 
 -- ---- the call
 
+-- the change that was made for it
+pub asked : (r : Result Change OutOfMemory) (change : Change) (P : Change → Type 0) → r ≡ Ok change → IfOk r P → P change
+asked r change P is holds = subst (λ (x : Result Change OutOfMemory). IfOk x P) is holds
+
+can_of : (old : MemoryTree) (wanted change : Change) → IsCall wanted change → allows wanted (state old).reads ≡ allows change (state old).reads
+can_of old wanted change call = ap (λ c. allows c (state old).reads) (sym call.is)
+
 module _ {old new : MemoryTree} (counts : CountsCall old new) where
-  pub done : (kept change : Change) (allowed can : Bool) (a : Attempt) → a.change ≡ kept → a.allowed ≡ allowed → IsAttempt old change can a → OneMore old new kept → allowed ≡ true → fails_next old ≡ false → faults_of new ≡ faults_of old
-      → IsDone change can old new (Ok tt)
-  done kept change allowed can a is_kept is_allowed attempt more goes fails_not faults =
-      let same : kept ≡ change = sym is_kept ∙ attempt.is_change in
-      let one : OneMore old new change = subst (OneMore old new) same more in
+  pub done : (change wanted : Change) → IsCall wanted change → OneMore old new change → allows change (state old).reads ≡ true → fails_next old ≡ false → faults_of new ≡ faults_of old
+      → IsDone wanted (allows wanted (state old).reads) old new (Ok tt)
+  done change wanted call more goes fails_not faults =
+      let one : OneMore old new wanted = subst (OneMore old new) call.is more in
       record {
         cause = record {
           later = omega (arith, faults);
@@ -100,13 +85,13 @@ module _ {old new : MemoryTree} (counts : CountsCall old new) where
           no_fault = ⊎_elim (λ e. absurd (cc e)) (λ e. absurd (cc e));
         };
         told = record {
-          done = (sym attempt.is_allowed ∙ is_allowed ∙ goes, reads_pushed one);
-          outside = λ p other. ap (λ t. get t p) (reads_pushed one) ∙ outside change (state old).reads p other;
-          touches = unsynced_pushed one attempt.settles_not;
+          done = (can_of old wanted change call ∙ goes, reads_pushed one);
+          outside = λ p other. ap (λ t. get t p) (reads_pushed one) ∙ outside wanted (state old).reads p other;
+          touches = unsynced_pushed one (ap settles (sym call.is) ∙ call.settles_not);
           touches_failed = λ e. absurd (cc e);
           unchanged = ⊎_elim (λ e. absurd (cc e)) (λ e. absurd (cc e));
           one_step = in_one_step one;
-          visible = shows_step (in_one_step one) (λ p other. refl) (λ p other. ap (λ t. get t p) (reads_pushed one) ∙ outside change (state old).reads p other);
+          visible = shows_step (in_one_step one) (λ p other. refl) (λ p other. ap (λ t. get t p) (reads_pushed one) ∙ outside wanted (state old).reads p other);
           time = elapsed one;
         };
         counted = record {
@@ -120,12 +105,15 @@ module _ {old new : MemoryTree} (counts : CountsCall old new) where
         left = λ e. absurd (cc e);
       }
 
-  pub failed : (kept change : Change) (can : Bool) (a : Attempt) → IsAttempt old change can a → kept ≡ failed_change a.change (does_part old a.allowed) → OneMore old new kept → fails_next old ≡ true
-      → faults_of new ≡ next (faults_of old) → faults_of old ≤ next (faults_of old) → IsDone change can old new (Err Failed)
-  failed kept change can a attempt is_kept more fails faults later =
-      let same : kept ≡ failed_change change (does_part old can) = is_kept ∙ (λ i. failed_change (attempt.is_change i) (does_part old (attempt.is_allowed i))) in
-      let one : OneMore old new (failed_change change (does_part old can)) = subst (OneMore old new) same more in
-      let names = failed_names change (does_part old can) in
+  pub failed : (kept change wanted : Change) → IsCall wanted change → kept ≡ failed_change change (does_part old (allows change (state old).reads)) → OneMore old new kept → fails_next old ≡ true
+      → faults_of new ≡ next (faults_of old) → faults_of old ≤ next (faults_of old) → IsDone wanted (allows wanted (state old).reads) old new (Err Failed)
+  failed kept change wanted call is_kept more fails faults later =
+      let t = (state old).reads in
+      let part = does_part old (allows wanted t) in
+      let same : kept ≡ failed_change wanted (does_part old (allows wanted t)) = is_kept ∙ ap (λ c. failed_change c (does_part old (allows c t))) call.is in
+      let one : OneMore old new (failed_change wanted (does_part old (allows wanted t))) = subst (OneMore old new) same more in
+      let names = failed_names wanted (does_part old (allows wanted t)) in
+      let settles_not : settles wanted ≡ false = ap settles (sym call.is) ∙ call.settles_not in
       record {
         cause = record {
           later = omega (arith, faults, later);
@@ -135,13 +123,13 @@ module _ {old new : MemoryTree} (counts : CountsCall old new) where
         };
         told = record {
           done = tt;
-          outside = λ p other. ap (λ t. get t p) (reads_pushed one) ∙ outside (failed_change change (does_part old can)) (state old).reads p (ap (λ f. f p) names ∙ other);
+          outside = λ p other. ap (λ u. get u p) (reads_pushed one) ∙ outside (failed_change wanted part) t p (ap (λ f. f p) names ∙ other);
           touches = tt;
-          touches_failed = λ e p. unsynced_pushed one (failed_settles change (does_part old can) attempt.settles_not) p ∙ ap (λ f. (state old).unsynced p || f p) names;
+          touches_failed = λ e p. unsynced_pushed one (failed_settles wanted part settles_not) p ∙ ap (λ f. (state old).unsynced p || f p) names;
           unchanged = ⊎_elim (λ e. absurd (cc e)) (λ e. absurd (cc e));
           one_step = tt;
           visible = shows_step (in_one_step one) (λ p other. refl)
-              (λ p other. ap (λ t. get t p) (reads_pushed one) ∙ outside (failed_change change (does_part old can)) (state old).reads p (ap (λ f. f p) names ∙ other));
+              (λ p other. ap (λ u. get u p) (reads_pushed one) ∙ outside (failed_change wanted part) t p (ap (λ f. f p) names ∙ other));
           time = elapsed one;
         };
         counted = record {

@@ -1,10 +1,8 @@
 -- What a changing call does.
-use Rattle.std.specs.Prelude.{◌≡◌, ◌≤◌, Bool, true, false, IsTrue, Result, IsErrOf}
+use Rattle.std.specs.Prelude.{◌≡◌, ◌≤◌, Bool, true, false, Result, IsErrOf}
 use Rattle.tree_disk.specs.declared.disk.DiskStop.{DiskStop}
 use Rattle.tree_disk.specs.declared.disk.DiskStop.TheVariants.{Failed}
-use Rattle.tree_disk.specs.Tree.{WellFormed}
 use Rattle.tree_disk.specs.Disk.{HasCause, HasChanged}
-use Rattle.tree_memory.specs.declared.attempt.Attempt.{Attempt}
 use Rattle.tree_memory.specs.declared.change.Change.{Change}
 use Rattle.tree_memory.specs.declared.memory.MemoryTree.{MemoryTree}
 use Rattle.tree_memory.specs.State.{tree_after, names_of, settles, failed_change}
@@ -12,14 +10,12 @@ use Rattle.cny_base.specs.Count.{next}
 use Rattle.tree_memory.specs.Counts.{one_less}
 use Rattle.tree_memory.specs.Memory.{memory_disk, state, calls_of, stop_of, fails_of, faults_of, fails_next, does_part, IsCounted}
 
--- an attempt at this change, which is no sync or edit and leaves a tree where it is allowed
-pub record IsAttempt (d : MemoryTree) (change : Change) (can : Bool) (attempt : Attempt) : Type 0 where
-  pub is_change : attempt.change ≡ change
-  pub is_allowed : attempt.allowed ≡ can
+-- the change of a call, which is no sync or edit
+pub record IsCall (wanted change : Change) : Type 0 where
+  pub is : change ≡ wanted
   pub settles_not : settles change ≡ false
-  pub keeps : IsTrue can → WellFormed (tree_after change (state d).reads)
 
--- what the attempt did
+-- what the call did
 pub record IsDone (change : Change) (can : Bool) (old new : MemoryTree) (result : Result Unit DiskStop) : Type 0 where
   pub cause : HasCause memory_disk can old new result
   pub told : HasChanged memory_disk (names_of change) can (tree_after change (state old).reads) old new result

@@ -1,9 +1,9 @@
 -- The states of a disk, and what each change makes of them.
-use Rattle.std.specs.Prelude.{◌/◌, ℕ, Bool, true, false, ◌||◌, List, [], ◌∷◌, length, take, cond}
+use Rattle.std.specs.Prelude.{◌/◌, ℕ, Bool, true, false, ◌||◌, List, [], ◌∷◌, Some, None, length, take, cond}
 use Rattle.std.specs.FinMap.{from_entries}
 use Rattle.cny_base.specs.declared.node.Node.{Node}
 use Rattle.tree_disk.specs.Tree.{Name, Tree, put}
-use Rattle.tree_disk.specs.Rows.{with_append, with_mode, with_rename}
+use Rattle.tree_disk.specs.Rows.{can_append, can_make, can_remove, can_rename, can_set_mode, with_append, with_mode, with_rename}
 use Rattle.tree_disk.specs.Disk.{one_name, two_names}
 use Rattle.tree_memory.specs.declared.change.Change.{Change}
 use Rattle.tree_memory.specs.declared.change.Change.TheVariants.{Append, Put, SetMode, Rename, Touch, TouchBoth, Sync, Edit}
@@ -28,6 +28,15 @@ tree_after (Touch p) t = t
 tree_after (TouchBoth from to) t = t
 tree_after Sync t = t
 tree_after (Edit p node) t = put t p node
+
+-- whether a call may make this change: what isn't the change of a call it may not
+abbrev pub allows : Change → Tree → Bool
+allows (Append p bytes) t = can_append t p
+allows (Put p None) t = can_remove t p
+allows (Put p (Some node)) t = can_make t p
+allows (SetMode p mode) t = can_set_mode t p
+allows (Rename from to) t = can_rename t from to
+allows _ t = false
 
 -- the names of a change
 abbrev pub names_of : Change → Name → Bool

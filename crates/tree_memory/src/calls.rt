@@ -1,44 +1,41 @@
 // The calls of a disk, on a tree in memory.
-ghost use Rattle.std.specs.Prelude.{◌≡◌, ◌↔◌, ◌≤◌, Bool, true, false, List, [], length, IfOk, OnOk, OnErr, IsErrOf, IsTrue, if◌then◌else◌};
-ghost use Rattle.cny_base.specs.Count.{next};
+ghost use Rattle.std.specs.Prelude.{◌≡◌, ◌↔◌, ◌≤◌, Bool, true, false, length, IfOk, IsErrOf, IsTrue, if◌then◌else◌};
 ghost use Rattle.cny_base.specs.declared.node.Node.TheVariants.{Dir, Link};
 ghost use Rattle.tree_disk.specs.declared.disk.DiskStop.TheVariants.{Failed};
-ghost use Rattle.tree_disk.specs.Tree.{WellFormed, children};
+ghost use Rattle.tree_disk.specs.Tree.{children};
 ghost use Rattle.tree_disk.specs.Rows.{is_file_at, is_dir_at, can_append, can_make, can_set_mode, can_remove, can_rename, with_append, with_node, with_mode, without, with_rename, ReadsFrom, look_of};
 ghost use Rattle.tree_disk.specs.Disk.{HasCause, Reads, Changes, Syncs, one_name, two_names, NamesOf};
 ghost use Rattle.tree_memory.specs.declared.change.Change.{Change};
-ghost use Rattle.tree_memory.specs.State.{settles, tree_after, first_half, failed_change};
+ghost use Rattle.tree_memory.specs.State.{allows, first_half, settles};
 ghost use Rattle.tree_memory.specs.Memory.{memory_disk, memory_laws, state, fails_next, does_part, IsCounted};
-ghost use Rattle.tree_memory.specs.Calls.{IsAttempt, IsDone, GoesOn, IsFailure};
+ghost use Rattle.tree_memory.specs.Calls.{IsCall, IsDone, GoesOn, IsFailure};
 
-use crate::attempt::Attempt;
 use crate::change::Change;
 use crate::memory::MemoryTree;
 use cny_base::{Mode, Names, OutOfMemory, Path, Target};
 use std::alloc::Global;
 use tree_disk::{DiskStop, Look, TreeDisk};
 
-// Makes a changing call. It counts also where no memory was left to make the attempt.
+// Makes a changing call. It counts also where no memory was left for its change.
 fn perform(
     tree: &mut MemoryTree,
     alloc: Global,
-    attempt: Result<Attempt, OutOfMemory>,
+    change: Result<Change, OutOfMemory>,
 ) -> Result<(), DiskStop>
-    requires { IfOk attempt (λ a. IsAttempt tree.old a.change a.allowed a) }
-    ensures { (change : Change) (can : Bool) → IfOk attempt (IsAttempt tree.old change can) → IsDone change can tree.old tree.new result }
+    requires { IfOk change (λ c. settles c ≡ false) }
+    ensures { (wanted : Change) → IfOk change (IsCall wanted) → IsDone wanted (allows wanted (state tree.old).reads) tree.old tree.new result }
 {
     let turn = tree.turns.turn();
-    let Attempt { change, allowed } = attempt?;
+    let change = change?;
     if turn.fails {
-        let change = change.failed(alloc, turn.does_part(allowed))?;
+        let change = change.failed(alloc, &tree.nodes, turn.stopped)?;
         tree.record(alloc, change)?;
         tree.turns.schedule.count_fault();
         return Err(DiskStop::Failed);
     }
-    if !allowed {
+    if !tree.try_record(alloc, change)? {
         return Err(DiskStop::Refused);
     }
-    tree.record(alloc, change)?;
     Ok(())
 }
 
@@ -134,8 +131,8 @@ impl TreeDisk for MemoryTree {
         ensures left { IsErrOf result Failed → (state self.new).reads
             ≡ (if does_part self.old (can_append (state self.old).reads path.now) then with_append (state self.old).reads path.now (first_half bytes.now) else (state self.old).reads) }
     {
-        let attempt = self.attempt_append(alloc, path, bytes);
-        perform(self, alloc, attempt)
+        let change = Change::append(alloc, path, bytes);
+        perform(self, alloc, change)
     }
 
     fn make_dir(&mut self, alloc: Global, path: &Path, mode: Mode) -> Result<(), DiskStop>
@@ -145,8 +142,8 @@ impl TreeDisk for MemoryTree {
         ensures counted { IsCounted self.old self.new result }
         ensures left { IsErrOf result Failed → (state self.new).reads ≡ (state self.old).reads }
     {
-        let attempt = self.attempt_make_dir(path, mode);
-        perform(self, alloc, attempt)
+        let change = Change::make_dir(path, mode);
+        perform(self, alloc, change)
     }
 
     fn make_link(&mut self, alloc: Global, path: &Path, target: &Target) -> Result<(), DiskStop>
@@ -156,8 +153,8 @@ impl TreeDisk for MemoryTree {
         ensures counted { IsCounted self.old self.new result }
         ensures left { IsErrOf result Failed → (state self.new).reads ≡ (state self.old).reads }
     {
-        let attempt = self.attempt_make_link(path, target);
-        perform(self, alloc, attempt)
+        let change = Change::make_link(path, target);
+        perform(self, alloc, change)
     }
 
     fn set_mode(&mut self, alloc: Global, path: &Path, mode: Mode) -> Result<(), DiskStop>
@@ -167,8 +164,8 @@ impl TreeDisk for MemoryTree {
         ensures counted { IsCounted self.old self.new result }
         ensures left { IsErrOf result Failed → (state self.new).reads ≡ (state self.old).reads }
     {
-        let attempt = self.attempt_set_mode(path, mode);
-        perform(self, alloc, attempt)
+        let change = Change::set_mode(path, mode);
+        perform(self, alloc, change)
     }
 
     fn remove(&mut self, alloc: Global, path: &Path) -> Result<(), DiskStop>
@@ -178,8 +175,8 @@ impl TreeDisk for MemoryTree {
         ensures counted { IsCounted self.old self.new result }
         ensures left { IsErrOf result Failed → (state self.new).reads ≡ (state self.old).reads }
     {
-        let attempt = self.attempt_remove(alloc, path);
-        perform(self, alloc, attempt)
+        let change = Change::remove(path);
+        perform(self, alloc, change)
     }
 
     fn rename(&mut self, alloc: Global, from: &Path, to: &Path) -> Result<(), DiskStop>
@@ -189,8 +186,8 @@ impl TreeDisk for MemoryTree {
         ensures counted { IsCounted self.old self.new result }
         ensures left { IsErrOf result Failed → (state self.new).reads ≡ (state self.old).reads }
     {
-        let attempt = self.attempt_rename(from, to);
-        perform(self, alloc, attempt)
+        let change = Change::rename(from, to);
+        perform(self, alloc, change)
     }
 
     fn sync(&mut self, alloc: Global) -> Result<(), DiskStop>

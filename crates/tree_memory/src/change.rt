@@ -1,6 +1,8 @@
 // What changed a tree in memory, one change for each call and edit.
-use cny_base::{Bytes, Mode, Node, OutOfMemory, Path};
+use cny_base::{Bytes, Copies, Mode, Node, OutOfMemory, Path, Target};
 use std::alloc::Global;
+use tree_disk::byte_ranges;
+use tree_nodes::NodeMap;
 
 /// One change. The disk keeps them all, since it tells what a crash at a moment that has passed may have left.
 #[derive(Drop)]
@@ -21,19 +23,81 @@ pub(crate) enum Change {
 }
 
 impl Change {
-    ghost use Rattle.std.specs.Prelude.{◌≡◌, IfOk};
-    ghost use Rattle.tree_memory.specs.State.{failed_change};
+    ghost use Rattle.std.specs.Prelude.{◌≡◌, ◌&&◌, false, not, IfOk, Some, None};
+    ghost use Rattle.cny_base.specs.declared.node.Node.TheVariants.{Dir, Link};
+    ghost use Rattle.tree_memory.specs.declared.change.Change.TheVariants.{Append, Put, SetMode, Rename};
+    ghost use Rattle.tree_disk.specs.Tree.{WellFormed};
+    ghost use Rattle.tree_memory.specs.State.{allows, failed_change, settles, tree_after};
+    ghost use Rattle.tree_memory.specs.Calls.{IsCall};
 
-    /// What a failed call does in its place: a part of an append, or nothing.
-    pub(crate) fn failed(self, alloc: Global, part: bool) -> Result<Change, OutOfMemory>
-        ensures { IfOk result (λ failed. failed ≡ failed_change self part) }
+    pub(crate) fn append(alloc: Global, path: &Path, bytes: &[u8]) -> Result<Change, OutOfMemory>
+        ensures { IfOk result (IsCall (Append path.now bytes.now)) }
+    {
+        let path = path.copy()?;
+        let bytes = Bytes::new(alloc, bytes)?;
+        Ok(Change::Append { path, bytes })
+    }
+
+    pub(crate) fn make_dir(path: &Path, mode: Mode) -> Result<Change, OutOfMemory>
+        ensures { IfOk result (IsCall (Put path.now (Some (Dir mode)))) }
+    {
+        let path = path.copy()?;
+        let node = Some(Node::Dir { mode });
+        Ok(Change::Put { path, node })
+    }
+
+    pub(crate) fn make_link(path: &Path, target: &Target) -> Result<Change, OutOfMemory>
+        ensures { IfOk result (IsCall (Put path.now (Some (Link target.now)))) }
+    {
+        let path = path.copy()?;
+        let target = target.copy()?;
+        let node = Some(Node::Link { target });
+        Ok(Change::Put { path, node })
+    }
+
+    pub(crate) fn set_mode(path: &Path, mode: Mode) -> Result<Change, OutOfMemory>
+        ensures { IfOk result (IsCall (SetMode path.now mode)) }
+    {
+        let path = path.copy()?;
+        Ok(Change::SetMode { path, mode })
+    }
+
+    pub(crate) fn remove(path: &Path) -> Result<Change, OutOfMemory>
+        ensures { IfOk result (IsCall (Put path.now None)) }
+    {
+        let path = path.copy()?;
+        Ok(Change::Put { path, node: None })
+    }
+
+    pub(crate) fn rename(from: &Path, to: &Path) -> Result<Change, OutOfMemory>
+        ensures { IfOk result (IsCall (Rename from.now to.now)) }
+    {
+        let from = from.copy()?;
+        let to = to.copy()?;
+        Ok(Change::Rename { from, to })
+    }
+
+    /// What a call does in its place that fails on these nodes: of an append that they allow, the first half, where no
+    /// stop has come, and else nothing.
+    pub(crate) fn failed(
+        self,
+        alloc: Global,
+        nodes: &NodeMap,
+        stopped: bool,
+    ) -> Result<Change, OutOfMemory>
+        requires call { settles self ≡ false }
+        requires tree { WellFormed nodes.now }
+        ensures value { IfOk result (λ failed. failed ≡ failed_change self (allows self nodes.now && not stopped)) }
+        ensures keeps { IfOk result (λ failed. WellFormed (tree_after failed nodes.now)) }
     {
         match self {
             Change::Append { path, bytes } => {
-                if !part {
+                let bytes = bytes.get();
+                byte_ranges(bytes);
+                let allowed = nodes.can_append(&path);
+                if stopped || !allowed {
                     return Ok(Change::Touch { path });
                 }
-                let bytes = bytes.get();
                 let bytes = Bytes::new(alloc, &bytes[..bytes.len() / 2])?;
                 Ok(Change::Append { path, bytes })
             }

@@ -1,7 +1,6 @@
 //! A disk in memory, which tells its tree and all that a crash may leave of it.
 #![tactic(auto)]
 
-mod attempt;
 mod calls;
 mod change;
 mod crash;

@@ -1,15 +1,18 @@
 // A tree in memory.
-ghost use Rattle.std.specs.Prelude.{◌≡◌, ◌++◌, ◌∷◌, [], IfOk, OnOk, OnErr};
-ghost use Rattle.tree_disk.specs.Tree.{WellFormed};
+ghost use Rattle.std.specs.Prelude.{◌≡◌, ◌++◌, ◌∷◌, [], false, IsTrue, IfOk, OnOk, OnErr};
+ghost use Rattle.tree_disk.specs.Rows.{can_remove, without};
+ghost use Rattle.tree_disk.specs.Tree.{WellFormed, put};
+ghost use Rattle.tree_nodes.specs.Attempts.{IsTried};
 ghost use Rattle.tree_nodes.specs.Codes.{WellFormed-prop, tree_set};
-ghost use Rattle.tree_memory.specs.declared.change.Change.TheVariants.{Sync};
-ghost use Rattle.tree_memory.specs.State.{state_of, tree_after};
+ghost use Rattle.tree_memory.specs.declared.change.Change.TheVariants.{Put, Sync};
+ghost use Rattle.tree_memory.specs.State.{allows, state_of, tree_after};
 
 use crate::change::Change;
 use crate::crash;
 use crate::turns::Turns;
 use cny_base::{Copies, Fails, Node, OutOfMemory, Path};
 use std::alloc::Global;
+use tree_disk::node_ranges;
 use tree_nodes::{NodeMap, Nodes};
 
 /// A disk in memory.
@@ -50,7 +53,77 @@ pub(crate) fn apply(alloc: Global, nodes: &mut NodeMap, change: &Change) -> Resu
     }
 }
 
+// Makes a directory or a link, or takes away what stands, where that is allowed, and answers whether it is.
+fn try_put(
+    alloc: Global,
+    nodes: &mut NodeMap,
+    path: &Path,
+    node: &Option<Node>,
+) -> Result<bool, OutOfMemory>
+    requires tree { WellFormed nodes.old }
+    ensures ok { IfOk result (IsTried (allows (Put path.now node.now) nodes.old) (put nodes.old path.now node.now) nodes.old nodes.new) }
+    ensures err { OnErr result (nodes.new ≡ nodes.old) }
+    ensures keeps { WellFormed nodes.new }
+{
+    let Some(node) = node else {
+        return try_take(alloc, nodes, path);
+    };
+    node_ranges(node);
+    if !nodes.can_make(path) {
+        return Ok(false);
+    }
+    nodes.put(alloc, path.text(), node.copy()?)?;
+    Ok(true)
+}
+
+// Takes away what stands where that is allowed, and answers whether it is.
+fn try_take(alloc: Global, nodes: &mut NodeMap, path: &Path) -> Result<bool, OutOfMemory>
+    requires tree { WellFormed nodes.old }
+    ensures ok { IfOk result (IsTried (can_remove nodes.old path.now) (without nodes.old path.now) nodes.old nodes.new) }
+    ensures err { OnErr result (nodes.new ≡ nodes.old) }
+    ensures keeps { WellFormed nodes.new }
+{
+    if !nodes.can_remove(alloc, path)? {
+        return Ok(false);
+    }
+    let _ = nodes.take(path.text());
+    Ok(true)
+}
+
+// Does the change of a call where that is allowed, and answers whether it is.
+fn try_apply(alloc: Global, nodes: &mut NodeMap, change: &Change) -> Result<bool, OutOfMemory>
+    requires { WellFormed nodes.old }
+    ensures ok { IfOk result (IsTried (allows change.now nodes.old) (tree_after change.now nodes.old) nodes.old nodes.new) }
+    ensures err { OnErr result (nodes.new ≡ nodes.old) }
+    ensures keeps { WellFormed nodes.new }
+{
+    match change {
+        Change::Append { path, bytes } => nodes.try_append(alloc, path, bytes.get()),
+        Change::Put { path, node } => try_put(alloc, nodes, path, node),
+        Change::SetMode { path, mode } => Ok(nodes.try_set_mode(path, *mode)),
+        Change::Rename { from, to } => nodes.try_rename(alloc, from, to),
+        _ => Ok(false),
+    }
+}
+
 impl MemoryTree {
+    // Does the change of a call and keeps it, where it is allowed, and answers whether it is.
+    pub(crate) fn try_record(&mut self, alloc: Global, change: Change) -> Result<bool, OutOfMemory>
+        ensures value { IfOk result (λ done. done ≡ allows change (state_of self.old.first self.old.changes.items).reads) }
+        ensures done { IfOk result (λ done. IsTrue done → self.new.changes.items ≡ self.old.changes.items ++ change ∷ []) }
+        ensures refused { IfOk result (λ done. done ≡ false → self.new.changes.items ≡ self.old.changes.items) }
+        ensures err { OnErr result (self.new.changes.items ≡ self.old.changes.items) }
+        ensures first { self.new.first ≡ self.old.first }
+        ensures turns { self.new.turns ≡ self.old.turns }
+    {
+        self.changes.reserve(1)?;
+        if !try_apply(alloc, &mut self.nodes, &change)? {
+            return Ok(false);
+        }
+        self.changes.push(change)?;
+        Ok(true)
+    }
+
     // Does a change and keeps it.
     pub(crate) fn record(&mut self, alloc: Global, change: Change) -> Result<(), OutOfMemory>
         requires { WellFormed (tree_after change (state_of self.old.first self.old.changes.items).reads) }
@@ -101,7 +174,6 @@ impl MemoryTree {
     ghost use Rattle.std.specs.FinMap.{get, from_entries};
     ghost use Rattle.std.specs.Option.{option_copied};
     ghost use Rattle.tree_nodes.specs.Start.{IsTree};
-    ghost use Rattle.tree_disk.specs.Tree.{put};
     ghost use Rattle.tree_disk.specs.Disk.{Elapses};
     ghost use Rattle.tree_memory.specs.Memory.{state, memory_disk, calls_of, fails_of, faults_of, stop_of, Begins, IsEdited, IsSame};
 

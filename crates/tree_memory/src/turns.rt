@@ -1,5 +1,5 @@
 // Which calls of a disk in memory fail.
-ghost use Rattle.std.specs.Prelude.{◌≡◌, ◌&&◌, ◌||◌, not, None};
+ghost use Rattle.std.specs.Prelude.{◌≡◌, ◌||◌, None};
 ghost use Rattle.cny_base.specs.Count.{next};
 ghost use Rattle.cny_base.specs.Schedule.{is_listed};
 ghost use Rattle.tree_memory.specs.Counts.{is_stopped, one_less};
@@ -21,15 +21,6 @@ pub(crate) struct Turn {
     pub(crate) fails: bool,
     /// The stop has come.
     pub(crate) stopped: bool,
-}
-
-impl Turn {
-    /// Whether a failed call does a part of its work, where it is allowed.
-    pub(crate) fn does_part(self, allowed: bool) -> bool
-        ensures { result ≡ (allowed && not self.stopped) }
-    {
-        allowed && !self.stopped
-    }
 }
 
 impl Turns {

@@ -7,3 +7,4 @@ pub mod Starts
 pub mod Held
 pub mod CrashImage
 pub mod Left
+pub mod Tried

@@ -10,7 +10,7 @@ use Rattle.tree_disk.specs.Rows.{with_rename}
 clash : {A : Type 0} (b : Bool) → b ≡ true → b ≡ false → A
 clash b good bad = absurd (cc (good, bad))
 
-turn_same : (p q : Name) → same_name p q ≡ false → same_name q p ≡ false
+pub turn_same : (p q : Name) → same_name p q ≡ false → same_name q p ≡ false
 turn_same p q h = ⊎_elim (λ e. clash (same_name p q) (ap (λ (n : Name). same_name p n) (same_means q p e) ∙ same_itself p) h) (λ e. e) (cases_Bool (same_name q p))
 
 -- the last put at a name counts

@@ -153,7 +153,7 @@ pub mode_none : (t : Tree) (p : Name) (mode : ℕ) → get t p ≡ None → with
 mode_none t p mode none = ap (λ o. put t p (of_mode o mode)) none ∙ put_same t p None none
 
 -- ---- an append: a new file is put, and grows again from what stood there
-stood_at : (p : Name) (k : String Global) (found : Option Node) (old : List (String Global × Node)) → string_bytes k ≡ p → lookup (at_name (string_bytes k)) old ≡ found → get (tree_of old) p ≡ found
+pub stood_at : (p : Name) (k : String Global) (found : Option Node) (old : List (String Global × Node)) → string_bytes k ≡ p → lookup (at_name (string_bytes k)) old ≡ found → get (tree_of old) p ≡ found
 stood_at p k found old spells is = ap (get (tree_of old)) (sym spells) ∙ get_at (string_bytes k) found old is
 
 pub stands_put : (p : Name) (k : String Global) (file : Node) (old mid : List (String Global × Node)) → string_bytes k ≡ p → mid ≡ insert_entry string_cmp old k file → is_some (get (tree_of mid) p) ≡ true

@@ -4,3 +4,4 @@ pub mod Start
 pub mod Below
 pub mod Edit
 pub mod Crash
+pub mod Attempts

@@ -1,14 +1,14 @@
 // In which trees each changing call is allowed.
-ghost use Rattle.std.specs.Prelude.{◌≡◌, ◌≤◌, ◌||◌, ℕ, List, IsTrue, IfOk, Some, is_some, not, true, false};
+ghost use Rattle.std.specs.Prelude.{◌≡◌, ◌||◌, ℕ, List, IsTrue, IfOk, is_some, not, false};
 ghost use Rattle.std.specs.Option.{option_copied};
 ghost use Rattle.std.specs.FinMap.{get};
 ghost use Rattle.std.specs.List.{list_all};
 ghost use Rattle.cny_base.specs.declared.node.Node.{Node};
-ghost use Rattle.cny_base.specs.Path.{is_path, root};
+ghost use Rattle.cny_base.specs.Path.{is_path};
 ghost use Rattle.tree_disk.specs.Tree as names;
-ghost use Rattle.tree_disk.specs.Tree.{WellFormed, put, is_byte, is_dir, is_file, is_link, is_node, may_stand};
+ghost use Rattle.tree_disk.specs.Tree.{WellFormed, put, is_byte, is_file, is_link, is_node, may_stand};
 ghost use Rattle.tree_disk.specs.Rows as rows;
-ghost use Rattle.tree_disk.specs.Rows.{with_append, with_node, with_mode, with_rename, without};
+ghost use Rattle.tree_disk.specs.Rows.{with_append, with_node, without};
 ghost use Rattle.tree_nodes.specs.Edit.{can_edit};
 
 use crate::map::NodeMap;
@@ -36,27 +36,6 @@ fn may_grow(node: Option<&Node>) -> bool
     ensures { result ≡ (not (is_some (option_copied node.entry)) || is_file (option_copied node.entry)) }
 {
     matches!(node, None | Some(Node::File { .. }))
-}
-
-// A directory or a file.
-fn has_mode(node: Option<&Node>) -> bool
-    ensures { result ≡ (is_dir (option_copied node.entry) || is_file (option_copied node.entry)) }
-{
-    matches!(node, Some(Node::Dir { .. } | Node::File { .. }))
-}
-
-// A file or a link.
-fn may_move(node: Option<&Node>) -> bool
-    ensures { result ≡ (is_file (option_copied node.entry) || is_link (option_copied node.entry)) }
-{
-    matches!(node, Some(Node::File { .. } | Node::Link { .. }))
-}
-
-// Nothing, a file or a link.
-fn may_be_replaced(node: Option<&Node>) -> bool
-    ensures { result ≡ (not (is_some (option_copied node.entry)) || (is_file (option_copied node.entry) || is_link (option_copied node.entry))) }
-{
-    matches!(node, None | Some(Node::File { .. } | Node::Link { .. }))
 }
 
 impl NodeMap {
@@ -101,22 +80,6 @@ impl NodeMap {
         dir && empty
     }
 
-    fn allows_set_mode(&self, path: &str) -> bool
-        ensures { result ≡ rows.can_set_mode self.now path.now }
-    {
-        has_mode(self.node(path))
-    }
-
-    fn allows_rename(&self, from: &str, to: &str) -> bool
-        ensures { result ≡ rows.can_rename self.now from.now to.now }
-    {
-        let same = same_name(from, to);
-        let moves = may_move(self.node(from));
-        let dir = self.is_dir_at(parent_of(to));
-        let free = may_be_replaced(self.node(to));
-        !same && moves && dir && free
-    }
-
     /// Whether an append is allowed; it then leaves a tree.
     pub fn can_append(&self, path: &Path) -> bool
         requires { WellFormed self.now }
@@ -133,24 +96,6 @@ impl NodeMap {
         ensures keeps { IsTrue result → (node : Node) → IsTrue (is_node node) → WellFormed (with_node self.now path.now node) }
     {
         self.allows_make(path.text())
-    }
-
-    /// Whether a mode may be set; it then leaves a tree.
-    pub fn can_set_mode(&self, path: &Path) -> bool
-        requires { WellFormed self.now }
-        ensures value { result ≡ rows.can_set_mode self.now path.now }
-        ensures keeps { IsTrue result → (mode : ℕ) → mode ≤ 4095 → WellFormed (with_mode self.now path.now mode) }
-    {
-        self.allows_set_mode(path.text())
-    }
-
-    /// Whether a rename is allowed; it then leaves a tree.
-    pub fn can_rename(&self, from: &Path, to: &Path) -> bool
-        requires { WellFormed self.now }
-        ensures value { result ≡ rows.can_rename self.now from.now to.now }
-        ensures keeps { IsTrue result → WellFormed (with_rename self.now from.now to.now) }
-    {
-        self.allows_rename(from.text(), to.text())
     }
 
     fn allows_remove(&self, alloc: Global, path: &Path) -> Result<bool, OutOfMemory>

@@ -1,11 +1,10 @@
 // What the changing calls of a disk do to the nodes. Without memory each of them does nothing.
-ghost use Rattle.std.specs.Prelude.{◌≡◌, OnOk, OnErr, IfOk, Some, None, is_some, true, false};
-ghost use Rattle.std.specs.Option.{option_copied};
+ghost use Rattle.std.specs.Prelude.{◌≡◌, ◌||◌, OnOk, OnErr, IfOk, Some, None, is_some, true, false};
 ghost use Rattle.std.specs.FinMap.{get};
-ghost use Rattle.tree_disk.specs.Tree.{Name, put};
+ghost use Rattle.tree_disk.specs.Tree.{Name, is_dir, is_file, put};
 ghost use Rattle.tree_disk.specs.Tree as names;
 ghost use Rattle.tree_nodes.specs.Stored.{tree_of};
-ghost use Rattle.tree_disk.specs.Rows.{grown, of_mode, with_append, with_mode, with_rename};
+ghost use Rattle.tree_disk.specs.Rows.{can_set_mode, grown, of_mode, with_append, with_mode, with_rename};
 
 use crate::map::NodeMap;
 use cny_base::{Bytes, Mode, Node, OutOfMemory, Path};
@@ -13,7 +12,7 @@ use std::alloc::Global;
 use std::collections::BTreeMap;
 
 // A file of mode 0600.
-fn new_file(alloc: Global, bytes: &[u8]) -> Result<Node, OutOfMemory>
+pub(crate) fn new_file(alloc: Global, bytes: &[u8]) -> Result<Node, OutOfMemory>
     ensures { IfOk result (λ node. node ≡ grown None bytes.now) }
 {
     let bytes = Bytes::new(alloc, bytes)?;
@@ -35,23 +34,32 @@ fn grow(alloc: Global, node: &mut Node, more: &[u8]) -> Result<(), OutOfMemory>
     }
 }
 
-// Another mode for a directory or a file.
-fn change_mode(node: &mut Node, mode: Mode)
-    ensures { Some node.new ≡ of_mode (Some node.old) mode }
+// Another mode for a directory or a file; answers whether it is one.
+fn change_mode(node: &mut Node, mode: Mode) -> bool
+    ensures value { result ≡ (is_dir (Some node.old) || is_file (Some node.old)) }
+    ensures node { Some node.new ≡ of_mode (Some node.old) mode }
 {
     match node {
-        Node::Dir { mode: old } => *old = mode,
-        Node::File { mode: old, .. } => *old = mode,
-        Node::Link { .. } => {}
+        Node::Dir { mode: old } => {
+            *old = mode;
+            true
+        }
+        Node::File { mode: old, .. } => {
+            *old = mode;
+            true
+        }
+        Node::Link { .. } => false,
     }
 }
 
-// Sets the mode of the directory or file at a path.
-fn set_mode_at(nodes: &mut BTreeMap<String, Node>, path: &str, mode: Mode)
-    ensures { tree_of nodes.new.entries ≡ with_mode (tree_of nodes.old.entries) path.now mode }
+// Sets the mode of the directory or file at a path; answers whether one stands there.
+pub(crate) fn set_mode_at(nodes: &mut BTreeMap<String, Node>, path: &str, mode: Mode) -> bool
+    ensures value { result ≡ can_set_mode (tree_of nodes.old.entries) path.now }
+    ensures node { tree_of nodes.new.entries ≡ with_mode (tree_of nodes.old.entries) path.now mode }
 {
-    if let Some(node) = nodes.get_mut(path) {
-        change_mode(node, mode);
+    match nodes.get_mut(path) {
+        Some(node) => change_mode(node, mode),
+        None => false,
     }
 }
 
@@ -62,7 +70,7 @@ fn overwrite(place: &mut Node, node: Node)
 }
 
 // Puts a node in the place of the one at a path.
-fn replace_at(nodes: &mut BTreeMap<String, Node>, path: &str, node: Node)
+pub(crate) fn replace_at(nodes: &mut BTreeMap<String, Node>, path: &str, node: Node)
     requires { is_some (get (tree_of nodes.old.entries) path.now) ≡ true }
     ensures { tree_of nodes.new.entries ≡ put (tree_of nodes.old.entries) path.now (Some node) }
 {
@@ -72,7 +80,7 @@ fn replace_at(nodes: &mut BTreeMap<String, Node>, path: &str, node: Node)
 }
 
 // Puts a node with more bytes in the place of the one at a path, or as it is where no memory is left.
-fn put_grown(
+pub(crate) fn put_grown(
     alloc: Global,
     nodes: &mut BTreeMap<String, Node>,
     path: &str,
@@ -134,7 +142,7 @@ impl NodeMap {
     pub fn set_mode(&mut self, path: &Path, mode: Mode)
         ensures { self.new ≡ with_mode self.old path.now mode }
     {
-        set_mode_at(&mut self.nodes, path.text(), mode);
+        let _ = set_mode_at(&mut self.nodes, path.text(), mode);
     }
 
     /// Moves what stands at a path to another; the node itself isn't copied.

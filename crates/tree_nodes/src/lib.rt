@@ -1,6 +1,7 @@
 //! The nodes of a file tree in an ordered map: what stands where, which calls of a disk are allowed, and what they do.
 #![tactic(auto)]
 
+mod attempts;
 mod below;
 mod conditions;
 mod copies;

@@ -8,4 +8,4 @@ pub returns-clause-left : goal.returns-clause-left
 returns-clause-left c failed =
     let can = can_append (state c.args.self.now).reads c.args.path.now in
     append_left c.args.self.now c.perform.new.tree c.args.path.now c.args.bytes.now (does_part c.args.self.now can)
-    ((c.perform.ensures (Append c.args.path.now c.args.bytes.now) can c.attempt_append-attempt.ensures).left failed)
+    ((c.perform.ensures (Append c.args.path.now c.args.bytes.now) c.append-change.ensures).left failed)
