@@ -496,6 +496,10 @@ def mark_lines():
         yield f'matches\t{t + " /p" if t else "-"}\t{rec} /p', 'yes' if same else 'no'
     for one, other in itertools.product(recs, recs):
         yield f'same\t{one} /p\t{other} /q', 'yes' if as_mark(one) == as_mark(other) else 'no'
+    for one, other in itertools.product(stand, stand):
+        nodes = ';'.join(f'{text} {path}' for text, path in ((one, '/p'), (other, '/q')) if text)
+        same = one == other if None in (one, other) else as_mark(one) == as_mark(other)
+        yield f'alike\t{nodes or "-"}\t/p\t/q', 'yes' if same else 'no'
     yield 'verified\t/a/b', '/a/b 1'
 
 

@@ -5,7 +5,7 @@ use crate::quiet::Quiet;
 use crate::stop::Stop;
 use crate::troves::troves_of;
 use crate::words::{contents_at, mode_at, parts_of, path_at, text_at};
-use cny_base::{Copies, Options, Stop as DiskEnd};
+use cny_base::{Copies, Options, Path, Stop as DiskEnd};
 use conflict_plan::plan;
 use std::alloc::Global;
 use tree_scan::{
@@ -63,6 +63,26 @@ fn same(alloc: Global, parts: &[String]) -> Result<String, Stop> {
     let one = record_of(alloc, text_at(parts, 1)?)?;
     let other = record_of(alloc, text_at(parts, 2)?)?;
     yes_or_no(alloc, Ok(are_same_marks(&one.rec, &other.rec)))
+}
+
+fn have_same_marks(
+    alloc: Global,
+    disk: &mut Quiet,
+    one: &Path,
+    other: &Path,
+) -> Result<bool, DiskEnd> {
+    let mark = mark_at(alloc, disk, one)?;
+    let other_mark = mark_at(alloc, disk, other)?;
+    Ok(mark.is_same(&other_mark))
+}
+
+// `alike NODES PATH PATH`: whether what stands at both paths has one fingerprint.
+fn alike(alloc: Global, parts: &[String]) -> Result<String, Stop> {
+    let mut disk = disk_of(alloc, text_at(parts, 1)?, false)?;
+    let one = path_at(alloc, parts, 2)?;
+    let other = path_at(alloc, parts, 3)?;
+    let answer = have_same_marks(alloc, &mut disk, &one, &other);
+    yes_or_no(alloc, answer)
 }
 
 // `differing NODES PATH CONTENTS`.
@@ -170,6 +190,7 @@ pub fn answer_to(alloc: Global, line: &str) -> Result<String, Stop> {
         "mark_file" => mark_of_file(alloc, &parts),
         "matches" => matches_record(alloc, &parts),
         "same" => same(alloc, &parts),
+        "alike" => alike(alloc, &parts),
         "differing" => differing_bytes(alloc, &parts),
         "plan" => planned(alloc, &parts),
         "verified" => verified(alloc, &parts),
