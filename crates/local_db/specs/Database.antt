@@ -10,3 +10,9 @@ pub record IsDatabaseFile (db : Db) (bytes : List ℕ) : Type 0 where
   pub format : Format
   pub database : IsDatabase format db.installed db.oldest db.newest
   pub text : bytes ≡ database_bytes format db.installed db.oldest db.newest
+
+-- What every loaded database is, that of an empty file's place too: its list and numbers are those that a file of one of the
+-- formats can tell.
+pub record IsDb (db : Db) : Type 0 where
+  pub format : Format
+  pub database : IsDatabase format db.installed db.oldest db.newest

@@ -6,7 +6,7 @@ ghost use Rattle.tree_disk.specs.Disk.{Reads};
 ghost use Rattle.tree_disk.specs.Rows.{bytes_at, is_file_at};
 ghost use Rattle.tree_disk.specs.Steps.{IsDiskStop, Tests};
 ghost use Rattle.local_db.specs.declared.db.Db.{Db};
-ghost use Rattle.local_db.specs.Database.{IsDatabaseFile};
+ghost use Rattle.local_db.specs.Database.{IsDatabaseFile, IsDb};
 ghost use Rattle.local_db.specs.Loading.{HoldsDb, IsLoadStop, IsTextStop, file_found, found_of, no_file_found};
 
 use crate::db::Db;
@@ -68,7 +68,8 @@ fn read_found<D: TreeDisk>(alloc: Global, disk: &mut D, path: &Path) -> Result<F
 
 // The database of a root that has none.
 fn no_database(alloc: Global) -> Db
-    ensures { result ≡ record { installed = []; oldest = 0; newest = 0 } }
+    ensures value { result ≡ record { installed = []; oldest = 0; newest = 0 } }
+    ensures rules { IsDb result }
 {
     Db {
         installed: Installed::of_rising(Vec::new(alloc)),
@@ -96,6 +97,8 @@ fn decoded(alloc: Global, path: Path, bytes: &[u8]) -> Result<Db, Stop>
 /// `Failed` comes only where the disk's count of faults rose, and of the other stops want of memory alone.
 pub fn load<D: TreeDisk>(alloc: Global, disk: &mut D) -> Result<Db, Stop>
     ensures value { Reads D.disk disk.old disk.new (IfOk result (HoldsDb (D.disk.reads disk.old))) }
+    // Also where the disk tells no tree: the troves, their names, their paths and the numbers keep the rules of a database.
+    ensures rules { IfOk result IsDb }
     // The tree holds no other database.
     ensures only { IsTrue D.disk.tells → IfOk result (λ loaded. (db : Db) → HoldsDb (D.disk.reads disk.old) db → loaded ≡ db) }
     ensures stops { IfErr result (IsLoadStop D.disk.tells (D.disk.reads disk.old) (Rose (D.disk.faults disk.old) (D.disk.faults disk.new))) }
