@@ -1,11 +1,20 @@
-//! What commands write: refusals, change sets and lists of troves as texts.
+//! What commands write as texts: refusals, change sets, troves and lists of them, and what jobs, rollbacks and verifications
+//! did or found.
 #![tactic(auto)]
 
 mod changes;
 mod digits;
+mod jobs;
+mod note;
+mod records;
 mod refusals;
 mod troves;
+mod verified;
 
 pub use changes::change_text;
+pub use jobs::{changes_text, rolled_back_text, undos_text};
+pub use note::{Note, Notes};
+pub use records::trove_text;
 pub use refusals::refusal_text;
-pub use troves::troves_text;
+pub use troves::{committed_text, named_text, troves_text};
+pub use verified::verified_text;

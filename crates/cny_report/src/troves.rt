@@ -1,19 +1,41 @@
 //! Lists of troves as texts.
 ghost use Rattle.std.specs.Prelude.{◌≡◌, ◌++◌, IfOk, OnOk, string_bytes};
-ghost use Rattle.cny_report.specs.Troves.{id_line, troves_text};
+ghost use Rattle.cny_report.specs.Troves as spec;
+ghost use Rattle.cny_report.specs.Troves.{id_line, troves_text, named_text, told_id, committed_text};
 
-use cny_base::{OutOfMemory, Text};
+use cny_base::{Name, OutOfMemory, Text};
 use std::alloc::Global;
 use trove_id::{TroveId, id_text};
 use trove_stream::Trove;
 
-fn push_id_line(alloc: Global, out: &mut String, id: &TroveId) -> Result<(), OutOfMemory>
+/// Appends the line of an id.
+pub(crate) fn push_id_line(alloc: Global, out: &mut String, id: &TroveId) -> Result<(), OutOfMemory>
     ensures { OnOk result (string_bytes out.new ≡ string_bytes out.old ++ id_line id.now) }
 {
     let text = id_text(alloc, id)?;
     out.push_str(text.get())?;
     out.push('\n')?;
     Ok(())
+}
+
+/// Appends a word, which ends in a space, and the line of an id.
+pub(crate) fn push_told(
+    alloc: Global,
+    out: &mut String,
+    word: &str,
+    id: &TroveId,
+) -> Result<(), OutOfMemory>
+    ensures { OnOk result (string_bytes out.new ≡ string_bytes out.old ++ told_id word.now id.now) }
+{
+    out.push_str(word)?;
+    push_id_line(alloc, out, id)
+}
+
+/// What is written where nothing changes.
+pub(crate) fn nothing_changes(alloc: Global) -> Result<Text, OutOfMemory>
+    ensures { IfOk result (λ text. text ≡ spec.nothing_changes) }
+{
+    Text::new(alloc, "nothing changes\n")
 }
 
 /// A line for each trove, in the order given: the text of its id, and a line feed.
@@ -23,6 +45,33 @@ pub fn troves_text(alloc: Global, troves: &[Trove]) -> Result<Text, OutOfMemory>
     let mut text = String::new(alloc);
     for trove in troves {
         push_id_line(alloc, &mut text, trove.id())?;
+    }
+    Ok(Text::from_string(text))
+}
+
+/// The same of the troves of this name alone.
+pub fn named_text(alloc: Global, name: &Name, troves: &[Trove]) -> Result<Text, OutOfMemory>
+    ensures value { IfOk result (λ text. text ≡ named_text name.now troves.now) }
+{
+    let mut text = String::new(alloc);
+    for trove in troves {
+        if trove.id().name == *name {
+            push_id_line(alloc, &mut text, trove.id())?;
+        }
+    }
+    Ok(Text::from_string(text))
+}
+
+/// A line `committed T` for each id, in the order given, or `nothing changes` where there is none.
+pub fn committed_text(alloc: Global, ids: &[TroveId]) -> Result<Text, OutOfMemory>
+    ensures value { IfOk result (λ text. text ≡ committed_text ids.now) }
+{
+    if ids.is_empty() {
+        return nothing_changes(alloc);
+    }
+    let mut text = String::new(alloc);
+    for id in ids {
+        push_told(alloc, &mut text, "committed ", id)?;
     }
     Ok(Text::from_string(text))
 }

@@ -25,6 +25,16 @@ pub enum Change {
     Erased(TroveId),
 }
 
+impl Copies for Change {
+    fn copy(&self) -> Result<Self, OutOfMemory> {
+        Ok(match self {
+            Change::Installed(id) => Change::Installed(id.copy()?),
+            Change::Updated(id) => Change::Updated(id.copy()?),
+            Change::Erased(id) => Change::Erased(id.copy()?),
+        })
+    }
+}
+
 /// A list of changes.
 pub type Changes = ListOf<Change>;
 
