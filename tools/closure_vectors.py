@@ -160,6 +160,38 @@ def worked(lines):
     lines.closed(lines.list)
 
 
+def hubs(lines):
+    """Troves that many others require: providers that are replaced, that others stand in for, and that go."""
+    hub = lambda flags, revision=1: Trove("hub:lib", provides=["soname: hub.so" + flags], revision=revision)
+    users = [Trove("u%02d:runtime" % n, ["soname: hub.so" + ["", "(A)", "(A B)"][n % 3], "trove: hub:lib"]) for n in range(30)]
+    lines.of([hub("(A B)")] + users)
+    # as much, more, and less: the first in name order of those that require what is missing
+    lines.change(["hub:lib"], [hub("(A B)", 2)])
+    lines.change(["hub:lib"], [hub("(A B C)", 3)])
+    lines.change([], [hub("(A)", 4)])
+    lines.change([], [hub("(B)", 5)])
+    lines.change([], [hub("", 6)])
+    lines.change([], [Trove("hub:lib", provides=["python: hub.so(A B)"], revision=7)])
+    lines.change(["hub:lib"], [])
+    # another that stands provides as much, or comes with it; what a trove provides by its name goes all the same
+    lines.change([], [Trove("spare:lib", provides=["soname: hub.so(A B)"])])
+    lines.change([], [Trove("hub:lib", revision=8)])
+    lines.change(["hub:lib"], [])
+    lines.change(["hub:lib"], [Trove("other:lib", provides=["trove: hub:lib"])])
+    lines.change(["spare:lib"], [])
+    lines.change(["spare:lib"], [Trove("late:lib", provides=["soname: hub.so(A)"]), Trove("more:lib", provides=["soname: hub.so(B)"])])
+    lines.change(["spare:lib"], [Trove("late:lib", provides=["soname: hub.so(A)"]), Trove("more:lib", provides=["soname: hub.so(A B)"])])
+    # the first is a trove that comes before those that lose something, between them, or behind them
+    for name in ["a:lib", "u01:runtime", "u05:runtime", "zz:lib"]:
+        lines.change(["more:lib"], [Trove(name, ["abi: none"])])
+        lines.change(["more:lib"], [Trove(name, ["soname: hub.so"])])
+        lines.change(["other:lib", "more:lib", "late:lib"], [Trove(name, ["abi: none"])])
+    # troves that require something go with what they require
+    lines.change(["more:lib"] + [user.name for user in users if "soname: hub.so(A B)" in user.requires], [])
+    lines.change(["late:lib"] + [user.name for user in users if user.requires[0] != "soname: hub.so"], [])
+    lines.closed(lines.list)
+
+
 def random_trove(random, number, revision):
     kinds = ["trove: t%02d:lib", "soname: lib%02d.so", "python: m%02d", "file: /lib/%02d"]
     requires = []
@@ -190,10 +222,32 @@ def closure_of_changes(lines):
     assert 40 < refused < 160, refused
 
 
+def changes_of_few_names(lines):
+    """Changes where many troves provide and require the same few names, with other flags."""
+    random = Random(41)
+    flags = ["", "(a)", "(b)", "(a b)", "(a b c)"]
+    refused = 0
+    lines.of([Trove("p%d:lib" % n, provides=["soname: s%d.so(a b c)" % (n % 3)]) for n in range(6)])
+    for turn in range(300):
+        names = [trove.name for trove in lines.list]
+        come = []
+        for number in random.sample(range(18), random.choice([0, 1, 1, 2, 3])):
+            provides = ["soname: s%d.so%s" % (one, random.choice(flags[2:])) for one in random.sample(range(3), random.choice([0, 1, 1, 2]))]
+            requires = ["soname: s%d.so%s" % (random.randrange(3), random.choice(flags)) for _ in range(random.choice([0, 1, 2]))]
+            come.append(Trove("p%d:lib" % number, requires if number > 4 else [], provides, turn + 2))
+        gone = random.sample(names, min(len(names), random.choice([0, 0, 1, 1, 2, 3])))
+        lines.change(sorted(gone), come)
+        refused += lines.answers[-1] != "ok"
+    assert 40 < refused < 260, refused
+    lines.closed(lines.list)
+
+
 def main():
     lines = Lines()
     worked(lines)
+    hubs(lines)
     closure_of_changes(lines)
+    changes_of_few_names(lines)
     rows = {"stdin": lines.calls, "stdout": lines.answers}
     if len(sys.argv) != 2 or sys.argv[1] not in rows:
         sys.exit(__doc__)

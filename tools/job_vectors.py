@@ -4,12 +4,17 @@
     tools/job_vectors.py stdin   >crates/job_vectors/stdin     a call and its arguments in each line
     tools/job_vectors.py stdout  >crates/job_vectors/stdout    what each has to answer
 
-The answers are made from the rules alone: what goes is found by rounds over the whole list.
+The answers are made from the rules alone: what goes is found by rounds over the whole list. The streams of troves, of which a
+line of the answers has the SHA-1, come from tools/stream_model.py, which shares nothing with the program either.
 """
+import hashlib
 import random
 import sys
 
 sys.dont_write_bytecode = True
+
+import stream_model
+from stream_model import Owner, directory, id_of_text, link, record_bytes, regular
 
 SEED = 20261128
 
@@ -19,12 +24,13 @@ class Refused(Exception):
 
 
 class Trove:
-    """The parts of a trove: the name and the rest of its id, the ids it refers to, what it requires and provides."""
+    """The parts of a trove: the name and the rest of its id, the ids it refers to, what it requires and provides, its files."""
 
-    def __init__(self, name, revision="1.0-1-1", flavor="", refs=(), requires=(), provides=()):
+    def __init__(self, name, revision="1.0-1-1", flavor="", refs=(), requires=(), provides=(), files=()):
         self.name, self.revision, self.flavor = name, revision, flavor
         self.refs = tuple(sorted(set(refs), key=lambda one: (one.name, one.version, one.flavor)))
         self.requires, self.provides = tuple(sorted(set(requires))), tuple(sorted(set(provides)))
+        self.files = tuple(sorted(dict(files).items()))
 
     @property
     def version(self):
@@ -35,14 +41,21 @@ class Trove:
         return f"{self.name}={self.version}" + (f"[{self.flavor}]" if self.flavor else "")
 
     def parts(self):
-        return self.id, tuple(one.id for one in self.refs), self.requires, self.provides
+        return self.id, tuple(one.id for one in self.refs), self.requires, self.provides, self.files
 
     def written(self):
-        lists = ("; ".join(part) or "-" for part in self.parts()[1:])
+        files = [f"{path} {record_bytes(record, True).hex()}" for path, record in self.files]
+        lists = ("; ".join(part) or "-" for part in [*self.parts()[1:4], files])
         return "|".join([self.id, *lists])
 
+    def stream(self):
+        refs = [id_of_text(one.id.encode()) for one in self.refs]
+        requires, provides = ([text.encode() for text in part] for part in (self.requires, self.provides))
+        files = [(path.encode(), record) for path, record in self.files]
+        return stream_model.trove_bytes(stream_model.Trove(id_of_text(self.id.encode()), files, refs, requires, provides), True)
+
     def shown(self):
-        return f"{self.id} {len(self.refs)} {len(self.requires)} {len(self.provides)}"
+        return f"{self.id} {hashlib.sha1(self.stream()).hexdigest()}"
 
 
 def by_name(troves):
@@ -178,28 +191,47 @@ def group(name, *refs, revision="1.0-1-1"):
     return Trove(f"group-{name}", revision, refs=refs)
 
 
-def component(name, *requires, gives=(), revision="1.0-1-1", flavor=""):
-    return Trove(name, revision, flavor, (), requires, gives)
+def component(name, *requires, gives=(), revision="1.0-1-1", flavor="", files=()):
+    return Trove(name, revision, flavor, (), requires, gives, files)
 
 
 # ---- worked cases
 
 LIB = component("x:lib")
-SHARED = [group("a", LIB), group("b", LIB), LIB]
+GROUP_A, GROUP_B = group("a", LIB), group("b", LIB)
+SHARED = [GROUP_A, GROUP_B, LIB]
+
+# The stream of `x:lib` with the directory `/usr`, written by hand.
+BY_HAND = bytes.fromhex(
+    "01 00000005 783a6c6962"
+    "02 00000024 2f636f6e6172792e6578616d706c652e636f6d4065783a646576656c2f312e302d312d31"
+    "03 00000000"
+    "04 00000017 0004 2f757372 02 64 00 01ed 0004 726f6f74 0004 726f6f74"
+)
+
+
+def holds(*troves):
+    """The answer of a list of just these troves."""
+    return "\t".join(of_lists(troves))
 
 
 def worked():
-    """Lines whose answers are written by hand."""
+    """Lines whose answers are named by hand."""
     at = "=/conary.example.com@ex:devel/"
-    yield erase(SHARED, ["group-a"]), f"ok\tgroup-b{at}1.0-1-1 1 0 0\tx:lib{at}1.0-1-1 0 0 0"
-    yield update(SHARED, [group("a", revision="1.0-2-1")]), f"ok\tgroup-a{at}1.0-2-1 0 0 0\tgroup-b{at}1.0-1-1 1 0 0\tx:lib{at}1.0-1-1 0 0 0"
+    with_dir = component("x:lib", files={"/usr": directory(0o755)})
+    yield update([], [with_dir]), f"ok\tx:lib{at}1.0-1-1 {hashlib.sha1(BY_HAND).hexdigest()}"
+    yield erase(SHARED, ["group-a"]), holds(GROUP_B, LIB)
+    newer = group("a", revision="1.0-2-1")
+    yield update(SHARED, [newer]), holds(newer, GROUP_B, LIB)
     yield erase(SHARED, ["group-a", "group-b"]), "ok"
-    yield erase(SHARED, ["x:lib"]), f"ok\tgroup-a{at}1.0-1-1 1 0 0\tgroup-b{at}1.0-1-1 1 0 0"
+    yield erase(SHARED, ["x:lib"]), holds(GROUP_A, GROUP_B)
     yield erase(SHARED, ["x:lib", "y:lib", "z:lib"]), "not installed y:lib"
-    yield erase(SHARED, []), f"ok\tgroup-a{at}1.0-1-1 1 0 0\tgroup-b{at}1.0-1-1 1 0 0\tx:lib{at}1.0-1-1 0 0 0"
+    yield erase(SHARED, []), holds(*SHARED)
     newer = component("x:lib", revision="1.0-2-1")
     yield update(SHARED, [newer, LIB]), f"exists x:lib{at}1.0-1-1"
-    yield update([], [LIB, LIB]), f"ok\tx:lib{at}1.0-1-1 0 0 0"
+    yield update([], [LIB, LIB]), holds(LIB)
+    yield update([], [LIB, with_dir]), f"exists x:lib{at}1.0-1-1"
+    yield compare([LIB], [with_dir]), f"ok\tupdated x:lib{at}1.0-1-1"
     yield update([], [LIB, component("x:lib", "trove: x:lib")]), f"exists x:lib{at}1.0-1-1"
     yield compare(SHARED, SHARED), "ok"
     yield compare([], [LIB]), f"ok\tinstalled x:lib{at}1.0-1-1"
@@ -293,6 +325,22 @@ def list_changes():
         yield compare(one, [dice.choice([mine, component(mine.name, revision=mine.revision, gives=["soname: z.so"]) if mine.name.endswith(":lib") else mine]) for mine in one])
 
 
+def file_cases():
+    """Troves of one id that differ in one file alone: by its path, kind, mode, flags, size, content, owner or target."""
+    web, one, other = Owner(b"web", b"www"), hashlib.sha1(b"one").digest(), hashlib.sha1(b"two").digest()
+    records = [directory(0o755), directory(0o750), directory(0o755, web), link(b"a"), link(b"b"), regular(0o644, 0, 3, one)]
+    records += [regular(0o600, 0, 3, one), regular(0o644, 0, 2, one), regular(0o644, 0, 3, other)]
+    records += [regular(0o644, flags, 3, one) for flags in range(1, 8)]
+    records += [regular(0o644, 0, 3, one, Owner(*words)) for words in ((b"web", b"root"), (b"root", b"web"), (b"root", b"www"))]
+    lists = [{}, {"/usr": directory(0o755)}, {"/b": records[5]}, {"/a": records[5], "/b": records[5]}]
+    troves = [component("a:lib", files=files) for files in lists + [{"/a": record} for record in records]]
+    for mine in troves:
+        yield update([mine, component("b:lib")], [component("b:lib", revision="2.0-1-1")])
+        yield update([], [mine, troves[2]])
+        for theirs in troves:
+            yield compare([mine], [theirs])
+
+
 def random_requirements():
     """Lists that an erasure may leave without what some of their troves require."""
     dice = random.Random(SEED + 1)
@@ -311,7 +359,7 @@ def cases():
         if line[1] != wanted:
             sys.exit(f"{line!r} and not {wanted!r}")
         yield line
-    for topic in (list_cases, random_lists, list_changes, random_requirements):
+    for topic in (list_cases, random_lists, list_changes, file_cases, random_requirements):
         yield from topic()
 
 

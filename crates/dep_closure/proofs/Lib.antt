@@ -1,5 +1,6 @@
 pub mod Provided
 pub mod Meeting
+pub mod Bounds
 pub mod Names
 pub mod Noted
 pub mod Putting

@@ -37,7 +37,7 @@ bytes_mean x y h = (bytes_decides x y).0 h
 pub bytes_itself : (x : List ℕ) → bytes_eq x x ≡ true
 bytes_itself x = (bytes_decides x x).1 refl
 
-not_less_itself : (x : List ℕ) → slice_cmp nat_cmp x x ≡ Less → ⊥
+pub not_less_itself : (x : List ℕ) → slice_cmp nat_cmp x x ≡ Less → ⊥
 not_less_itself x less = let own : slice_cmp nat_cmp x x ≡ Equal = tied_itself nat_list_cmp_total x in absurd (cc (own, less))
 
 -- ---- one trove of a name

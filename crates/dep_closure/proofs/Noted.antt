@@ -57,7 +57,7 @@ pub record NotedSoFar {Y : Type 0} (old new : BTreeMap (String Y) (BTreeSet (Lis
   pub noted : IsNoted new name deps
   pub kept : (dep other : List ℕ) → IsTrue (notes old dep other) → IsTrue (notes new dep other)
 
-still_noted : {Y : Type 0} (old new : BTreeMap (String Y) (BTreeSet (List ℕ))) → ((dep other : List ℕ) → IsTrue (notes old dep other) → IsTrue (notes new dep other))
+pub still_noted : {Y : Type 0} (old new : BTreeMap (String Y) (BTreeSet (List ℕ))) → ((dep other : List ℕ) → IsTrue (notes old dep other) → IsTrue (notes new dep other))
     → (name : List ℕ) (deps : List Dependency) → IsNoted old name deps → IsNoted new name deps
 still_noted old new kept name deps noted = All-weaker (λ (d : Dependency). IsTrue (notes old d.name name)) (λ (d : Dependency). IsTrue (notes new d.name name)) (λ d h. kept d.name name h) deps noted
 
@@ -70,17 +70,26 @@ noted_more first old new name deps i dep within is so_far kept own = record {
   kept = λ d other h. kept d other (so_far.kept d other h);
 }
 
--- these troves were noted so far
-pub record AllNotedSoFar {Y : Type 0} (old new : BTreeMap (String Y) (BTreeSet (List ℕ))) (list : List TroveParts) : Type 0 where
-  pub noted : All (λ (t : TroveParts). IsNoted new t.id.name t.requires_) list
+-- these troves were noted so far, each for some dependencies of its own
+pub record AllNotedSoFar {Y : Type 0} (deps : TroveParts → List Dependency) (old new : BTreeMap (String Y) (BTreeSet (List ℕ))) (list : List TroveParts) : Type 0 where
+  pub noted : All (λ (t : TroveParts). IsNoted new t.id.name (deps t)) list
   pub kept : (dep other : List ℕ) → IsTrue (notes old dep other) → IsTrue (notes new dep other)
 
-pub all_noted_more : {Y : Type 0} (first old new : BTreeMap (String Y) (BTreeSet (List ℕ))) (list : List TroveParts) (i : ℕ) (t : TroveParts) → i < length list → t ≡ get_or list i t
-    → AllNotedSoFar first old (take i list) → ((dep other : List ℕ) → IsTrue (notes old dep other) → IsTrue (notes new dep other)) → IsNoted new t.id.name t.requires_
-    → AllNotedSoFar first new (take (i + 1) list)
-all_noted_more first old new list i t within is so_far kept own = record {
-  noted = All-more (λ (u : TroveParts). IsNoted new u.id.name u.requires_) list i t within
-      (All-weaker (λ (u : TroveParts). IsNoted old u.id.name u.requires_) (λ (u : TroveParts). IsNoted new u.id.name u.requires_) (λ u h. still_noted old new kept u.id.name u.requires_ h) (take i list) so_far.noted)
-      (subst (λ (u : TroveParts). IsNoted new u.id.name u.requires_) is own);
+pub all_noted_more : {Y : Type 0} (deps : TroveParts → List Dependency) (first old new : BTreeMap (String Y) (BTreeSet (List ℕ))) (list : List TroveParts) (i : ℕ) (t : TroveParts) → i < length list → t ≡ get_or list i t
+    → AllNotedSoFar deps first old (take i list) → ((dep other : List ℕ) → IsTrue (notes old dep other) → IsTrue (notes new dep other)) → IsNoted new t.id.name (deps t)
+    → AllNotedSoFar deps first new (take (i + 1) list)
+all_noted_more deps first old new list i t within is so_far kept own = record {
+  noted = All-more (λ (u : TroveParts). IsNoted new u.id.name (deps u)) list i t within
+      (All-weaker (λ (u : TroveParts). IsNoted old u.id.name (deps u)) (λ (u : TroveParts). IsNoted new u.id.name (deps u)) (λ u h. still_noted old new kept u.id.name (deps u) h) (take i list) so_far.noted)
+      (subst (λ (u : TroveParts). IsNoted new u.id.name (deps u)) is own);
   kept = λ d other h. kept d other (so_far.kept d other h);
 }
+
+-- ---- what an index says
+
+pub noted_in : {Y : Type 0} (index : BTreeMap (String Y) (BTreeSet (List ℕ))) (dep name : List ℕ) (names : BTreeSet (List ℕ)) → get_by_text index dep ≡ Some names
+    → IsTrue (notes index dep name) → IsTrue (contains (slice_cmp nat_cmp) names name)
+noted_in index dep name names there noted = sym (ap (λ (o : Option (BTreeSet (List ℕ))). is_in o name) there) ∙ noted
+
+pub noted_nowhere : {Y : Type 0} (index : BTreeMap (String Y) (BTreeSet (List ℕ))) (dep name : List ℕ) → get_by_text index dep ≡ None → IsTrue (notes index dep name) → ⊥
+noted_nowhere index dep name there noted = absurd (true≢false (sym noted ∙ ap (λ (o : Option (BTreeSet (List ℕ))). is_in o name) there))

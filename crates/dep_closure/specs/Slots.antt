@@ -1,5 +1,5 @@
--- Troves by their names, with an index of those that require something of a name.
-use Rattle.std.specs.Prelude.{◌≡◌, ◌⊎◌, ℕ, Bool, false, IsTrue, IsSome, List, All, Contains, Option, Some, None, String}
+-- Troves by their names, with indices of those that provide and of those that require something of a name.
+use Rattle.std.specs.Prelude.{◌≡◌, ◌⊎◌, ℕ, Bool, false, IsTrue, IsSome, List, All, Option, Some, None, String, slice_get, take}
 use Rattle.std.specs.BTreeMap.{BTreeMap, get, get_by_text, keys, IsOrdered}
 use Rattle.std.specs.BTreeSet as set
 use Rattle.std.specs.BTreeSet.{BTreeSet}
@@ -7,9 +7,13 @@ use Rattle.std.specs.Cmp.Lexicographic.{slice_cmp}
 use Rattle.std.specs.List.{flat_map}
 use Rattle.std.specs.Option.{option_to_list, option_map_or}
 use Rattle.std.specs.Ordering.{nat_cmp}
-use Rattle.cny_dep.specs.Dep.{Dependency}
+use Rattle.std.specs.declared.cmp.Ordering.TheVariants.{Less}
+use Rattle.cny_base.specs.declared.refusal.Fault.{Fault}
+use Rattle.cny_base.specs.declared.refusal.Fault.TheVariants.{Refused, Memory}
+use Rattle.cny_base.specs.declared.refusal.Refusal.TheVariants.{Unmet}
+use Rattle.cny_dep.specs.Dep.{Dependency, dep_text}
 use Rattle.trove_stream.specs.declared.parts.TroveParts.{TroveParts}
-use Rattle.dep_closure.specs.Closed.{provides_of, IsSatisfiedBy, IsClosed}
+use Rattle.dep_closure.specs.Closed.{provides_of, IsSatisfiedBy, IsClosed, IsUnmetOrMemory}
 
 -- by name: a trove, or a place for one
 abbrev pub Slots : Type 0
@@ -61,7 +65,28 @@ IsServed troves name = (t : TroveParts) → troves name ≡ Some t → All (IsMe
 abbrev pub IsClosedBy : (List ℕ → Option TroveParts) → Type 0
 IsClosedBy troves = (name : List ℕ) → IsServed troves name
 
--- ---- the index
+-- the trove of this name, if there is one, provides nothing that satisfies the requirement
+abbrev pub IsNoProvider : (List ℕ → Option TroveParts) → Dependency → List ℕ → Type 0
+IsNoProvider troves require name = (t : TroveParts) → troves name ≡ Some t → IsSatisfiedBy (provides_of t) require → ⊥
+
+-- the first of these requirements that the troves don't meet
+pub record IsFirstOfBy (troves : List ℕ → Option TroveParts) (required : List Dependency) (require : Dependency) : Type 0 where
+  pub number : ℕ
+  pub there : slice_get required number ≡ Some require
+  pub met : All (IsMetBy troves) (take number required)
+  pub unmet : IsMetBy troves require → ⊥
+
+-- the trove of this name, and its first requirement that isn't met
+pub record IsFirstAt (troves : List ℕ → Option TroveParts) (name : List ℕ) (trove : TroveParts) (require : Dependency) : Type 0 where
+  pub there : troves name ≡ Some trove
+  pub first : IsFirstOfBy troves trove.requires_ require
+
+-- the refusal of the first requirement of the trove of this name that isn't met, or want of memory
+abbrev pub IsUnmetAt : (List ℕ → Option TroveParts) → List ℕ → Fault → Type 0
+IsUnmetAt troves name (Refused refusal) = (trove : TroveParts) × (require : Dependency) × IsFirstAt troves name trove require × (refusal ≡ Unmet trove.id.name (dep_text require))
+IsUnmetAt troves name Memory = Unit {0}
+
+-- ---- the indices
 
 -- whether the trove of the second name stands beside the first name, which is that of a dependency
 abbrev pub notes : {Y : Type 0} → BTreeMap (String Y) (BTreeSet (List ℕ)) → List ℕ → List ℕ → Bool
@@ -71,22 +96,61 @@ notes index dep name = option_map_or (λ (names : BTreeSet (List ℕ)). set.cont
 abbrev pub IsNoted : {Y : Type 0} → BTreeMap (String Y) (BTreeSet (List ℕ)) → List ℕ → List Dependency → Type 0
 IsNoted index name deps = All (λ dep. IsTrue (notes index dep.name name)) deps
 
--- Each trove has the name under which it stands, and is noted for what it requires. Only closed troves are known to be closed.
-pub record IsKept {Y : Type 0} (slots : Slots) (requirers : BTreeMap (String Y) (BTreeSet (List ℕ))) (known : Bool) : Type 0 where
+-- each trove has the name under which it stands, and is noted for what it provides
+pub record AreNoted {Y : Type 0} (troves : List ℕ → Option TroveParts) (providers : BTreeMap (String Y) (BTreeSet (List ℕ))) : Type 0 where
+  pub named : (name : List ℕ) (t : TroveParts) → troves name ≡ Some t → t.id.name ≡ name
+  pub noted : (name : List ℕ) (t : TroveParts) → troves name ≡ Some t → IsNoted providers name (provides_of t)
+
+-- The same, and each is noted for what it requires. Only closed troves are known to be closed.
+pub record IsKept {Y : Type 0} (slots : Slots) (requirers providers : BTreeMap (String Y) (BTreeSet (List ℕ))) (known : Bool) : Type 0 where
   pub ordered : IsOrdered (slice_cmp nat_cmp) slots
-  pub named : (name : List ℕ) (t : TroveParts) → held slots name ≡ Some t → t.id.name ≡ name
+  pub provided : AreNoted (held slots) providers
   pub noted : (name : List ℕ) (t : TroveParts) → held slots name ≡ Some t → IsNoted requirers name t.requires_
   pub closed : IsTrue known → IsClosedBy (held slots)
 
--- ---- edits that keep a closed list closed
+-- ---- edits of a closed list
 
--- the trove that the edit brings has its requirements met, and so has each that may require what the edit takes away
-pub record IsHarmless {Y : Type 0} (slots edits : Slots) (requirers : BTreeMap (String Y) (BTreeSet (List ℕ))) (name : List ℕ) : Type 0 where
-  pub comes : IsServed (held_after slots edits) name
-  pub goes : (t : TroveParts) → held slots name ≡ Some t → (provide : Dependency) → Contains (provides_of t) provide
-      → (other : List ℕ) → IsTrue (notes requirers provide.name other) → IsServed (held_after slots edits) other
+-- the name comes before the bound, if there is one
+abbrev pub IsBefore : Option (List ℕ) → List ℕ → Type 0
+IsBefore None name = Unit {0}
+IsBefore (Some bound) name = slice_cmp nat_cmp name bound ≡ Less
+
+-- the trove of this name, if there is one and it comes before the bound, has its requirements met
+abbrev pub IsServedBefore : (List ℕ → Option TroveParts) → Option (List ℕ) → List ℕ → Type 0
+IsServedBefore troves bound name = IsBefore bound name → IsServed troves name
+
+-- a bound is the name of a trove with a requirement that isn't met
+abbrev pub IsUnserved : (List ℕ → Option TroveParts) → Option (List ℕ) → Type 0
+IsUnserved troves None = Unit {0}
+IsUnserved troves (Some name) = IsServed troves name → ⊥
+
+-- a bound is as low as another one, and the name of such a trove if the other one is
+pub record IsLowered (troves : List ℕ → Option TroveParts) (old new : Option (List ℕ)) : Type 0 where
+  pub lower : (name : List ℕ) → IsBefore new name → IsBefore old name
+  pub unserved : IsUnserved troves old → IsUnserved troves new
+
+-- The provide is as good as there still: what satisfies it satisfies all that it does. Or each trove before the bound that may
+-- require something of its name has its requirements met.
+abbrev pub IsNoLoss : {Y : Type 0} → (List ℕ → Option TroveParts) → BTreeMap (String Y) (BTreeSet (List ℕ)) → Option (List ℕ) → Dependency → Type 0
+IsNoLoss troves requirers bound provide = IsMetBy troves provide ⊎ ((name : List ℕ) → IsTrue (notes requirers provide.name name) → IsServedBefore troves bound name)
+
+-- before the bound the trove that the edit brings has its requirements met, and what the edit takes away is no loss
+pub record IsHarmless {Y : Type 0} (before after : List ℕ → Option TroveParts) (requirers : BTreeMap (String Y) (BTreeSet (List ℕ))) (bound : Option (List ℕ)) (name : List ℕ) : Type 0 where
+  pub comes : IsServedBefore after bound name
+  pub goes : (t : TroveParts) → before name ≡ Some t → All (IsNoLoss after requirers bound) (provides_of t)
+
+-- each edit is harmless before the bound
+abbrev pub AreHarmless : {Y : Type 0} → Slots → Slots → BTreeMap (String Y) (BTreeSet (List ℕ)) → Option (List ℕ) → Type 0
+AreHarmless slots edits requirers bound = (name : List ℕ) → IsSome (slot edits name) → IsHarmless (held slots) (held_after slots edits) requirers bound name
 
 -- The list that the edits make is closed; or the troves are said to be closed, and each edit is harmless.
 abbrev pub IsPassed : {Y : Type 0} → Slots → Slots → BTreeMap (String Y) (BTreeSet (List ℕ)) → Bool → Type 0
-IsPassed slots edits requirers known = IsClosed (listed (held_after slots edits) (keys slots))
-    ⊎ (IsTrue known × ((name : List ℕ) → IsSome (slot edits name) → IsHarmless slots edits requirers name))
+IsPassed slots edits requirers known = IsClosed (listed (held_after slots edits) (keys slots)) ⊎ (IsTrue known × AreHarmless slots edits requirers None)
+
+-- a fault of the trove of some name, and each edit is harmless before that name
+abbrev pub IsFirstFault : {Y : Type 0} → Slots → Slots → BTreeMap (String Y) (BTreeSet (List ℕ)) → Fault → Type 0
+IsFirstFault slots edits requirers fault = (name : List ℕ) × IsUnmetAt (held_after slots edits) name fault × AreHarmless slots edits requirers (Some name)
+
+-- The fault is that of the list that the edits make; or the troves are said to be closed, and the fault is that of the first.
+abbrev pub IsFaulty : {Y : Type 0} → Slots → Slots → BTreeMap (String Y) (BTreeSet (List ℕ)) → Bool → Fault → Type 0
+IsFaulty slots edits requirers known fault = IsUnmetOrMemory (listed (held_after slots edits) (keys slots)) fault ⊎ (IsTrue known × IsFirstFault slots edits requirers fault)

@@ -1,19 +1,18 @@
 //! A list of troves that changes, with the indices that tell what a change can break.
 ghost use Rattle.std.specs.Prelude.{◌≡◌, ℕ, List, Some, None, if◌then◌else◌, IsTrue, IsSome, All, IfOk, IfErr, OnOk, OnErr};
-ghost use Rattle.std.specs.BTreeMap.{keys, IsOrdered};
+ghost use Rattle.std.specs.BTreeMap.{IsOrdered};
 ghost use Rattle.std.specs.Cmp.Lexicographic.{slice_cmp};
 ghost use Rattle.std.specs.List.{list_any};
 ghost use Rattle.std.specs.Ordering.{nat_cmp};
 ghost use Rattle.std.specs.Str.{bytes_eq};
 ghost use Rattle.installed_list.specs.Installed.{IsRising, trove_of};
-ghost use Rattle.dep_closure.specs.Closed.{IsClosed, IsUnmetOrMemory};
+ghost use Rattle.dep_closure.specs.Closed.{IsClosed, provides_of};
 ghost use Rattle.dep_closure.specs.Changed.{IsChanged, RefusesChange};
-ghost use Rattle.dep_closure.specs.Slots as spec;
-ghost use Rattle.dep_closure.specs.Slots.{slot, put_slot, held, held_after, notes, IsNoted, IsPassed};
+ghost use Rattle.dep_closure.specs.Slots.{slot, put_slot, held, held_after, notes, IsNoted, AreNoted, IsPassed, IsFaulty};
 
 use crate::index::{Index, note_providers, note_requirers};
 use crate::slots::{Slots, commit, edits_of, listed, make_slots, put_troves};
-use crate::staying::are_harmless;
+use crate::staying::test_edits;
 use crate::whole::closed;
 use cny_base::{Fault, Name, OutOfMemory};
 use std::alloc::Global;
@@ -22,7 +21,7 @@ use std::marker::Model;
 use trove_stream::Trove;
 
 /// A list of troves, one of a name, in name order. Whether a change of it keeps it closed is decided from what the change brings
-/// and what it takes away; the whole list is tested where it wasn't closed before, or where a requirement isn't met.
+/// and what it takes away; the whole list is tested where it wasn't closed before.
 pub struct Closure {
     slots: Slots,
     requirers: Index,
@@ -40,7 +39,7 @@ impl Model for Closure {
 
     ghost view = { λ a. all_held a.slots };
 
-    ghost invariant = { λ a. IsKept a.slots a.requirers a.closed };
+    ghost invariant = { λ a. IsKept a.slots a.requirers a.providers a.closed };
 }
 
 // Written by hand, so that to let a value go is a single call wherever a function ends early.
@@ -69,8 +68,10 @@ fn prepare(
     ensures edits { IfOk result (λ edits. (name : List ℕ) → slot edits name
         ≡ put_slot (trove_of name come.now) (if list_any (bytes_eq name) gone.now then Some None else None)) }
     ensures made { IfOk result (λ edits. (name : List ℕ) → IsSome (slot edits name) → IsSome (slot slots.new name)) }
-    ensures noted { OnOk result (All (λ t. IsNoted requirers.new t.id.name t.requires_) come.now) }
-    ensures kept { (dep name : List ℕ) → IsTrue (notes requirers.old dep name) → IsTrue (notes requirers.new dep name) }
+    ensures requirers { OnOk result (All (λ t. IsNoted requirers.new t.id.name t.requires_) come.now) }
+    ensures providers { OnOk result (All (λ t. IsNoted providers.new t.id.name (provides_of t)) come.now) }
+    ensures requirers_kept { (dep name : List ℕ) → IsTrue (notes requirers.old dep name) → IsTrue (notes requirers.new dep name) }
+    ensures providers_kept { (dep name : List ℕ) → IsTrue (notes providers.old dep name) → IsTrue (notes providers.new dep name) }
     ensures same { (name : List ℕ) → held slots.new name ≡ held slots.old name }
     ensures ordered { IsOrdered (slice_cmp nat_cmp) slots.new }
 {
@@ -90,13 +91,12 @@ fn test(
     requirers: &Index,
     is_closed: bool,
 ) -> Result<(), Fault>
+    requires { AreNoted (held_after slots.now edits.now) providers.now }
     ensures ok { OnOk result (IsPassed slots.now edits.now requirers.now is_closed) }
-    ensures fault { IfErr result (IsUnmetOrMemory (spec.listed (held_after slots.now edits.now) (keys slots.now))) }
+    ensures fault { IfErr result (IsFaulty slots.now edits.now requirers.now is_closed) }
 {
     if is_closed {
-        if are_harmless(slots, edits, providers, requirers) {
-            return Ok(());
-        }
+        return test_edits(alloc, slots, edits, providers, requirers);
     }
     let list = listed(alloc, slots, edits)?;
     closed(alloc, list.as_slice())

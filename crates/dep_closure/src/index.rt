@@ -4,6 +4,7 @@ ghost use Rattle.std.specs.BTreeMap.{get_by_text};
 ghost use Rattle.std.specs.BTreeSet.{contains};
 ghost use Rattle.std.specs.Cmp.Lexicographic.{slice_cmp};
 ghost use Rattle.std.specs.Ordering.{nat_cmp};
+ghost use Rattle.dep_closure.specs.Closed.{provides_of};
 ghost use Rattle.dep_closure.specs.Slots.{notes, IsNoted};
 
 use cny_base::{Copies, Name, OutOfMemory};
@@ -87,16 +88,28 @@ pub(crate) fn note_requirers(
     Ok(())
 }
 
+// Notes a trove beside the names of what it provides, its own one too.
+fn note_provider(alloc: Global, index: &mut Index, trove: &Trove) -> Result<(), OutOfMemory>
+    ensures noted { OnOk result (IsNoted index.new trove.now.id.name (provides_of trove.now)) }
+    ensures kept { (dep name : List ℕ) → IsTrue (notes index.old dep name) → IsTrue (notes index.new dep name) }
+{
+    let name = &trove.id().name;
+    note(alloc, index, name.text(), name)?;
+    note_deps(alloc, index, trove.provides(), name)?;
+    Ok(())
+}
+
 /// Notes each trove beside the names of what it provides.
 pub(crate) fn note_providers(
     alloc: Global,
     index: &mut Index,
     list: &[Trove],
-) -> Result<(), OutOfMemory> {
+) -> Result<(), OutOfMemory>
+    ensures noted { OnOk result (All (λ t. IsNoted index.new t.id.name (provides_of t)) list.now) }
+    ensures kept { (dep name : List ℕ) → IsTrue (notes index.old dep name) → IsTrue (notes index.new dep name) }
+{
     for trove in list {
-        let name = &trove.id().name;
-        note(alloc, index, name.text(), name)?;
-        note_deps(alloc, index, trove.provides(), name)?;
+        note_provider(alloc, index, trove)?;
     }
     Ok(())
 }

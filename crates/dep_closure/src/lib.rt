@@ -3,7 +3,7 @@
 //!
 //! Begin at `whole` (a whole list) and `changing` (a list that changes). Both stand on `providing` (when a trove satisfies a
 //! requirement). `changing` stands on `slots` (troves by their names, and edits of them), `index` (which troves name a
-//! dependency) and `staying` (whether edits keep a closed list closed).
+//! dependency) and `staying` (what is the first that edits of a closed list leave without what it requires).
 #![tactic(auto)]
 
 mod changing;

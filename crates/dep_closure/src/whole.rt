@@ -109,8 +109,8 @@ fn first_unmet<'a>(list: &[Trove], providers: &Providers, required: &'a [Dep]) -
     None
 }
 
-// The refusal of a requirement of the trove of this name.
-fn unmet(alloc: Global, name: &Name, require: &Dep) -> Result<Refusal, OutOfMemory>
+/// The refusal of a requirement of the trove of this name.
+pub(crate) fn unmet(alloc: Global, name: &Name, require: &Dep) -> Result<Refusal, OutOfMemory>
     ensures { IfOk result (λ made. made ≡ refusal.Unmet name.now (dep_text require.now)) }
 {
     let name = Text::new(alloc, name.text())?;

@@ -1,10 +1,12 @@
 //! The arguments of a line, and its answer.
-use cny_base::{Copies, Fault, Name, OutOfMemory, TextFault};
+use cny_base::{Bytes, Copies, Fault, Name, OutOfMemory, Path, TextFault};
 use cny_dep::Dep;
 use cny_report::refusal_text;
+use file_stream::{FileRec, decode_full};
+use sha1::Sha1;
 use std::alloc::{AllocError, AllocFailed, Global};
-use trove_id::{TroveId, id_text, read_id};
-use trove_stream::{Deps, Files, Refs, Trove};
+use trove_id::{id_text, read_id};
+use trove_stream::{Deps, FileAt, Files, Refs, Trove, encode_full};
 
 /// Why a line has no answer.
 #[derive(Debug, Drop)]
@@ -98,26 +100,42 @@ fn deps_of(alloc: Global, text: &str) -> Result<Deps, Stop> {
     Ok(Deps::new(deps))
 }
 
-// A trove of an id, with what it refers to, requires and provides.
-fn trove_with(
-    alloc: Global,
-    id: TroveId,
-    refs: Refs,
-    required: Deps,
-    provided: Deps,
-) -> Result<Trove, Stop> {
-    let files = Files::new(Vec::new(alloc));
-    Ok(Trove::make(id, files, refs, required, provided)?)
+// The file record whose bytes in the explicit encoding these hexadecimal digits write.
+fn record_of(alloc: Global, digits: &str) -> Result<FileRec, Stop> {
+    match hex::decode(alloc, digits) {
+        Ok(bytes) => Ok(decode_full(alloc, bytes.as_slice())?),
+        Err(_) => Err(Stop::Unreadable),
+    }
 }
 
-// A trove of the text of its id, its references, what it requires and what it provides, with a bar between two.
+// A file of its path and its record, with a space between the two.
+fn file_of(alloc: Global, text: &str) -> Result<FileAt, Stop> {
+    let (path, digits) = text.split_once(' ').ok_or(Stop::Unreadable)?;
+    let rec = record_of(alloc, digits)?;
+    Ok(FileAt {
+        path: Path::read(alloc, path)?,
+        rec,
+    })
+}
+
+// The files of a text, with a semicolon and a space between two; none for a hyphen.
+fn files_of(alloc: Global, text: &str) -> Result<Files, Stop> {
+    let mut files = Vec::new(alloc);
+    for part in &parts_of(alloc, text, "; ")? {
+        files.push(file_of(alloc, part.as_str())?)?;
+    }
+    Ok(Files::new(files))
+}
+
+// A trove of the text of its id, its references, what it requires, what it provides and its files, with a bar between two.
 fn trove_of(alloc: Global, text: &str) -> Result<Trove, Stop> {
     let parts = parts_of(alloc, text, "|")?;
     let id = read_id(alloc, text_at(parts.as_slice(), 0)?)?;
     let refs = refs_of(alloc, text_at(parts.as_slice(), 1)?)?;
     let required = deps_of(alloc, text_at(parts.as_slice(), 2)?)?;
     let provided = deps_of(alloc, text_at(parts.as_slice(), 3)?)?;
-    trove_with(alloc, id, refs, required, provided)
+    let files = files_of(alloc, text_at(parts.as_slice(), 4)?)?;
+    Ok(Trove::make(id, files, refs, required, provided)?)
 }
 
 /// The troves of an argument, with an ampersand between two, which has a space on each side; none for a hyphen.
@@ -141,13 +159,19 @@ pub fn push_field(line: &mut String, field: &str) -> Result<(), OutOfMemory> {
     Ok(())
 }
 
-// The id of a trove, and how many references, requirements and provides it has.
+// The hexadecimal digits of the SHA-1 of a trove's stream in the explicit encoding.
+fn digest_of(alloc: Global, trove: &Trove) -> Result<String, Stop> {
+    let mut stream = Bytes::from_vec(Vec::new(alloc));
+    encode_full(alloc, trove, &mut stream)?;
+    let digest = Sha1::digest(stream.get());
+    Ok(hex::encode(alloc, digest.as_slice())?)
+}
+
+// The id of a trove, and the digest of all that it holds.
 fn trove_text(alloc: Global, trove: &Trove) -> Result<String, Stop> {
     let id = id_text(alloc, trove.id())?;
-    let refs = trove.refs().len();
-    let required = trove.requires_().len();
-    let provided = trove.provides().len();
-    Ok(format!(in alloc; "{} {refs} {required} {provided}", id.get())?)
+    let digest = digest_of(alloc, trove)?;
+    Ok(format!(in alloc; "{} {digest}", id.get())?)
 }
 
 /// `ok` and a field for each trove.

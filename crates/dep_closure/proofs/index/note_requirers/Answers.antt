@@ -13,7 +13,7 @@ returns-in_err-note_deps-clause-kept c = λ dep name h. c.note_deps.ensures.kept
 pub loop-trove-preserved : goal.loop-trove-preserved
 loop-trove-preserved c =
     let t : TroveParts = c.trove-item.result in
-    all_noted_more c.args.index.now c.loop-trove.index c.note_deps.new.index c.args.list.now c.loop-trove.trove-index t (omega arith) c.trove-item.is c.loop-trove.invariant c.note_deps.ensures.kept
+    all_noted_more (λ (u : TroveParts). u.requires_) c.args.index.now c.loop-trove.index c.note_deps.new.index c.args.list.now c.loop-trove.trove-index t (omega arith) c.trove-item.is c.loop-trove.invariant c.note_deps.ensures.kept
     (subst (λ (id : TroveId). IsNoted c.note_deps.new.index id.name t.requires_) c.id.ensures.value
     (subst (λ (deps : List Dependency). IsNoted c.note_deps.new.index c.id.result.now.name deps) c.requires_.ensures.value c.in_ok-note_deps.ensures.noted))
 

@@ -15,7 +15,8 @@ invariant_of-result c =
     λ name.
     ap (λ (s : Option (Option TroveParts)). slot_or s None) (c.in_ok-put_troves.ensures.troves name)
     ∙ held_of (trove_of name c.args.list.now) (slot c.new-slots.result name) (ap (λ (es : List (List ℕ × Option TroveParts)). lookup (is_at (slice_cmp nat_cmp name)) es) c.new-slots.ensures.empty) in
-    kept_of c.args.list.now c.put_troves.new.slots c.note_requirers.new.index c.in_ok-known.known c.requires c.put_troves.ensures.ordered found c.in_ok-note_requirers.ensures.noted c.in_ok-known.ensures
+    kept_of c.args.list.now c.put_troves.new.slots found c.note_requirers.new.index c.note_providers.new.index c.in_ok-known.known c.requires c.put_troves.ensures.ordered c.in_ok-note_requirers.ensures.noted
+    c.in_ok-note_providers.ensures.noted c.in_ok-known.ensures
 
 pub returns : goal.returns
 returns c =
@@ -23,6 +24,7 @@ returns c =
     λ name.
     ap (λ (s : Option (Option TroveParts)). slot_or s None) (c.in_ok-put_troves.ensures.troves name)
     ∙ held_of (trove_of name c.args.list.now) (slot c.new-slots.result name) (ap (λ (es : List (List ℕ × Option TroveParts)). lookup (is_at (slice_cmp nat_cmp name)) es) c.new-slots.ensures.empty) in
-    same_held c.args.list.now c.requires c.put_troves.new.slots c.note_requirers.new.index c.in_ok-known.known
-    (kept_of c.args.list.now c.put_troves.new.slots c.note_requirers.new.index c.in_ok-known.known c.requires c.put_troves.ensures.ordered found c.in_ok-note_requirers.ensures.noted c.in_ok-known.ensures)
+    same_held c.args.list.now c.requires c.put_troves.new.slots c.note_requirers.new.index c.note_providers.new.index c.in_ok-known.known
+    (kept_of c.args.list.now c.put_troves.new.slots found c.note_requirers.new.index c.note_providers.new.index c.in_ok-known.known c.requires c.put_troves.ensures.ordered c.in_ok-note_requirers.ensures.noted
+    c.in_ok-note_providers.ensures.noted c.in_ok-known.ensures)
     (λ name. sym (found name))
