@@ -6,13 +6,14 @@
 # requires and one of what it provides, and that has as many files. COUNT is at most 65,535 for a component, 65,530 for the named
 # components, and 327,675 for the files of a package; SIZE, the bytes of each file, at most 16,777,216.
 # Without words: 16,384, 32,768 and 65,535 files of 100 bytes of one component; 81,920, 163,840 and 327,675 of a package; 16,384,
-# 32,768 and 65,530 named components with as many files of 1 byte; and 50, 100 and 200 MB in files of 100,000 bytes of a component.
+# 32,768 and 65,530 named components with as many files of 1 byte; 50, 100 and 200 MB in files of 100,000 bytes of a component, and
+# 50, 100 and 200 MB in 16,384, 32,768 and 65,535 files.
 set -eu
 top=$(CDPATH='' cd "$(dirname "$0")/.." && pwd)
 work=$(mktemp -d)
 trap 'rm -rf "$work"' EXIT
 mkdir -p "$work/crates/manifests/src"
-for crate in cny_base cny_stream cny_flavor cny_version cny_dep file_stream trove_id trove_items trove_stream trove_rel change_set cny_manifest; do
+for crate in cny_base cny_stream cny_flavor cny_version cny_dep file_stream trove_id trove_items trove_stream trove_rel change_set manifest_troves cny_manifest; do
     cp -r "$top/crates/$crate" "$work/crates/"
     grep "^$crate:" "$top/crates.txt" >>"$work/crates.txt"
 done
@@ -125,6 +126,7 @@ if [ $# -eq 0 ]; then
     set -- "$@" package 81920 100 package 163840 100 package 327675 100
     set -- "$@" named 16384 1 named 32768 1 named 65530 1
     set -- "$@" component 500 100000 component 1000 100000 component 2000 100000
+    set -- "$@" component 16384 3000 component 32768 3000 component 65535 3000
 fi
 while [ $# -gt 2 ]; do
     python3 - "$1" "$2" "$3" <<'MEASURE'

@@ -46,7 +46,14 @@ end_is b rest behind at can none = subst (λ (l : List ℕ). Runs (InBody b) res
 
 pub read_is : (bytes rest : List ℕ) (b : Body) (troves : List TroveParts) (contents : List Carried) → Runs AtMagic bytes (InBody b) rest → IsEndOf b rest troves contents → IsReadOf bytes troves contents
 read_is bytes rest b troves contents run end =
-    record { body = b; runs = runs_then AtMagic bytes (InBody b) rest (Ended b) [] run end.runs; troves_are = end.troves_are; contents_are = end.contents_are }
+    record {
+      body = b;
+      runs = runs_then AtMagic bytes (InBody b) rest (Ended b) [] run end.runs;
+      troves_are = end.troves_are;
+      rising = end.rising;
+      entries = end.entries;
+      contents_are = end.contents_are;
+    }
 
 -- ---- emptiness
 

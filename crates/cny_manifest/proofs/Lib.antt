@@ -1,16 +1,12 @@
-pub mod Policies
 pub mod CutLines
 pub mod Names
 pub mod Steps
 pub mod WordLines
 pub mod Values
-pub mod Naming
 pub mod OneReading
 pub mod Ending
-pub mod Differing
-pub mod Keeping
 pub mod Owners
-pub mod Sharing
+pub mod Carrying
 pub mod FieldTexts
 pub mod LineTexts
 pub mod Adding

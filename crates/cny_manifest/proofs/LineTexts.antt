@@ -14,7 +14,7 @@ use Rattle.cny_base.specs.declared.name.NameKind.TheVariants.{Component, Package
 use Rattle.cny_version.specs.Version.{WholeVersion}
 use Rattle.file_stream.specs.declared.record.Flags.{Flags}
 use Rattle.file_stream.specs.Owner.{OwnerNames, is_owner, is_owner_word, root_owner}
-use Rattle.cny_manifest.specs.declared.deps.DepLine.{DepLine}
+use Rattle.manifest_troves.specs.declared.lines.DepLine.{DepLine}
 use Rattle.cny_manifest.specs.declared.entries.DirLine.{DirLine}
 use Rattle.cny_manifest.specs.declared.entries.FileLine.{FileLine}
 use Rattle.cny_manifest.specs.declared.words.Word.{Word}

@@ -1,12 +1,9 @@
--- Names of packages and of their components, and the last of lists that rise.
-use Rattle.std.proofs.Common.{◌≡◌, ℕ, suc, ◌-◌, Bool, true, false, ◌&&◌, nat_eq, List, [], ◌∷◌, ◌++◌, length, take, drop, Some, refl, sym, ap, ◌∙◌, arith}
+-- Names of components of a package, and the last of lists that rise.
+use Rattle.std.proofs.Common.{◌≡◌, ℕ, suc, ◌-◌, Bool, true, false, ◌&&◌, nat_eq, List, [], ◌∷◌, length, take, drop, Some, refl, sym, ap, ◌∙◌, arith}
 use Rattle.std.specs.Prelude.{◌==◌, slice_get}
-use Rattle.std.specs.Cmp.{first_so, second_so}
 use Rattle.std.specs.Cmp.Lexicographic.{pointwise}
 use Rattle.std.specs.Ordering.{is_lt}
-use Rattle.std.specs.Str.{bytes_eq}
 use Rattle.std.specs.declared.cmp.Ordering.{Ordering}
-use Rattle.std.proofs.lemmas.Bool.{true≢false}
 use Rattle.std.proofs.lemmas.Bool.Decides.{nat_tests}
 use Rattle.cny_base.specs.Below.{begins_with}
 use Rattle.trove_items.specs.declared.files.FileAt.{FileAt}
@@ -28,41 +25,6 @@ goes_on whole name rest is same = ap begins_with_colon same ∙ sym (ap (λ b. b
 
 pub other_front : (whole name : List ℕ) → pointwise nat_eq (take (length whole) name) whole ≡ false → false ≡ is_component_of whole name
 other_front whole name is = sym (ap (λ b. b && begins_with_colon (drop (length whole) name)) (sym (begins_by whole name) ∙ is))
-
--- ---- a name, and more behind it
-
-and_more : (x y z : Bool) → (y ≡ false → z ≡ false) → (x && y) ≡ false → (x && z) ≡ false
-and_more true y z h e = h e
-and_more false y z h e = refl
-
-and_true : (x y z : Bool) → x ≡ true → y ≡ z → (x && y) ≡ z
-and_true true y z e h = h
-and_true false y z e h = absurd (true≢false (sym e))
-
-turned : (a b : ℕ) → nat_eq a b ≡ nat_eq b a
-turned a b = grind (arith, nat_tests)
-
-eq_other : (whole more name : List ℕ) → pointwise nat_eq (take (length whole) name) whole ≡ false → bytes_eq (whole ++ more) name ≡ false
-eq_other [] more name e = absurd (true≢false e)
-eq_other (a ∷ whole) more [] e = refl
-eq_other (a ∷ whole) more (b ∷ name) e =
-    and_more (nat_eq a b) (pointwise nat_eq (take (length whole) name) whole) (bytes_eq (whole ++ more) name) (eq_other whole more name)
-    (ap (λ x. x && pointwise nat_eq (take (length whole) name) whole) (turned a b) ∙ e)
-
-eq_behind : (whole more name : List ℕ) → pointwise nat_eq (take (length whole) name) whole ≡ true → bytes_eq (whole ++ more) name ≡ bytes_eq more (drop (length whole) name)
-eq_behind [] more name e = refl
-eq_behind (a ∷ whole) more [] e = absurd (true≢false (sym e))
-eq_behind (a ∷ whole) more (b ∷ name) e =
-    and_true (nat_eq a b) (bytes_eq (whole ++ more) name) (bytes_eq more (drop (length whole) name))
-    (turned a b ∙ first_so (nat_eq b a) (pointwise nat_eq (take (length whole) name) whole) e)
-    (eq_behind whole more name (second_so (nat_eq b a) (pointwise nat_eq (take (length whole) name) whole) e))
-
-pub not_named : (whole more name : List ℕ) → pointwise nat_eq (take (length whole) name) whole ≡ false → false ≡ bytes_eq (whole ++ more) name
-not_named whole more name e = sym (eq_other whole more name e)
-
-pub named : (whole more name rest : List ℕ) (answer : Bool) → pointwise nat_eq (take (length whole) name) whole ≡ true → rest ≡ drop (length whole) name → answer ≡ bytes_eq more rest
-    → answer ≡ bytes_eq (whole ++ more) name
-named whole more name rest answer e is told = told ∙ ap (bytes_eq more) is ∙ sym (eq_behind whole more name e)
 
 -- ---- the last
 

@@ -14,10 +14,15 @@ use Rattle.cny_manifest.specs.Body.{Body}
 use Rattle.cny_manifest.specs.FirstFault.{NoneNext, GoesOn, fault_of, StopsBehind, refusal_of, IsFirstFault, IsFaultOf, IsRefusalOrMemory, fault_from}
 use Rattle.cny_manifest.specs.Grammar.{Progress, AtMagic, AtName, AtVersion, InBody, InContent, InTarget, Ended, IsLine, IsNext, Lead, IsManifest}
 use Rattle.cny_manifest.specs.Lines.{with_feed, line_at, content_at}
-use Rattle.cny_manifest.specs.Made.{troves_of, first_collision, contents_of, IsCollisionOf}
+use Rattle.cny_manifest.specs.Made.{lines_of}
+use Rattle.cny_manifest.specs.Spelling.{IsSpelling}
+use Rattle.manifest_troves.specs.Contents.{first_collision, contents_of, IsCollisionOf}
+use Rattle.manifest_troves.specs.Troves.{troves_of}
 use Rattle.cny_manifest.specs.Makes.{Makes}
 use Rattle.cny_manifest.specs.Reading.{LeadOnly, Runs, Stops, StopsBy, IsReadOf}
+use Rattle.cny_manifest.proofs.Adding.{manifest_spelled}
 use Rattle.cny_manifest.proofs.CutLines.{ok_is, line_again, content_again}
+use Rattle.cny_manifest.proofs.Leading.{spelling_manifest}
 
 -- ---- one list of items
 
@@ -70,15 +75,21 @@ lead_plain p (x ∷ xs) q one = (one.0, one.1.0, lead_plain one.0 xs q one.2)
 ended_is : (b c : Body) → ◌≡◌ {A = Progress} (Ended b) (Ended c) → c ≡ b
 ended_is b c e = cc
 
-pub manifest_of : (bytes : List ℕ) (b : Body) → Runs AtMagic bytes (Ended b) [] → IsManifest bytes b
+manifest_of : (bytes : List ℕ) (b : Body) → Runs AtMagic bytes (Ended b) [] → IsManifest bytes b
 manifest_of bytes b run =
     record { texts = run.texts; good = lead_plain AtMagic run.texts (Ended b) run.good; spelled = run.spelled ∙ append-nil (flat_map with_feed run.texts) }
+
+pub spelling_of : (bytes : List ℕ) (b : Body) → Runs AtMagic bytes (Ended b) [] → IsSpelling bytes b
+spelling_of bytes b run = manifest_spelled bytes b (manifest_of bytes b run)
 
 one_manifest : (bytes : List ℕ) (b other : Body) → Runs AtMagic bytes (Ended b) [] → IsManifest bytes other → other ≡ b
 one_manifest bytes b other run is =
     let same = same_items AtMagic run.texts (Ended b) [] is.texts (Ended other) [] run.good (none_ended b []) is.good (none_ended other [])
     (sym run.spelled ∙ is.spelled ∙ sym (append-nil (flat_map with_feed is.texts))) in
     ended_is b other same.1
+
+one_spelling : (bytes : List ℕ) (b other : Body) → Runs AtMagic bytes (Ended b) [] → IsSpelling bytes other → other ≡ b
+one_spelling bytes b other run is = one_manifest bytes b other run (spelling_manifest bytes other is)
 
 no_stop : (bytes : List ℕ) (b : Body) (f : Unread) → Runs AtMagic bytes (Ended b) [] → StopsBehind bytes f → ⊥
 no_stop bytes b f run stop =
@@ -113,6 +124,9 @@ no_manifest bytes f other stop is =
     let on : GoesOn (Ended other) stop.rest = subst (λ (p : Progress). GoesOn p stop.rest) same.1 stop.goes_on in
     on same.0
 
+no_spelling : (bytes : List ℕ) (f : Unread) (other : Body) → Stops AtMagic bytes f → IsSpelling bytes other → ⊥
+no_spelling bytes f other stop is = no_manifest bytes f other stop (spelling_manifest bytes other is)
+
 -- ---- what is made
 
 abbrev made_of : List TroveParts → List Carried → Made
@@ -123,7 +137,7 @@ pub made_value : (bytes : List ℕ) (troves : List TroveParts) (contents kept : 
 made_value bytes troves contents kept read none kept_is =
     record {
       body = read.body;
-      manifest = manifest_of bytes read.body read.runs;
+      spelled = spelling_of bytes read.body read.runs;
       troves_are = read.troves_are;
       apart = ap first_collision (sym read.contents_are) ∙ none;
       contents_are = kept_is ∙ ap contents_of read.contents_are;
@@ -132,8 +146,8 @@ made_value bytes troves contents kept read none kept_is =
 pub made_only : (bytes : List ℕ) (troves : List TroveParts) (contents kept : List Carried) → IsReadOf bytes troves contents → kept ≡ contents_of contents → (other : Made) → Makes bytes other
     → made_of troves kept ≡ other
 made_only bytes troves contents kept read kept_is other is =
-    let same : is.body ≡ read.body = one_manifest bytes read.body is.body read.runs is.manifest in
-    let first : troves ≡ other.troves = read.troves_are ∙ sym (is.troves_are ∙ ap troves_of same) in
+    let same : is.body ≡ read.body = one_spelling bytes read.body is.body read.runs is.spelled in
+    let first : troves ≡ other.troves = read.troves_are ∙ sym (is.troves_are ∙ ap (λ (b : Body). troves_of (lines_of b)) same) in
     let second : kept ≡ other.contents = kept_is ∙ ap contents_of (read.contents_are ∙ ap (λ (b : Body). b.contents) (sym same)) ∙ sym is.contents_are in
     ap (λ (l : List TroveParts). made_of l kept) first ∙ ap (made_of other.troves) second
 
@@ -141,7 +155,7 @@ pub made_exact : (bytes : List ℕ) (troves : List TroveParts) (contents : List 
     → IsFirstFault bytes refusal → ⊥
 made_exact bytes troves contents read none refusal (inl unread) = no_stop bytes read.body unread.fault read.runs unread.stops
 made_exact bytes troves contents read none refusal (inr collides) =
-    let same : collides.body ≡ read.body = one_manifest bytes read.body collides.body read.runs collides.manifest in
+    let same : collides.body ≡ read.body = one_spelling bytes read.body collides.body read.runs collides.spelled in
     let both : ◌≡◌ {A = Option (List ℕ × ℕ)} (Some (collides.name, collides.at)) None =
     sym collides.first ∙ ap (λ (b : Body). first_collision b.contents) same ∙ ap first_collision (sym read.contents_are) ∙ none in
     absurd cc
@@ -153,7 +167,7 @@ pub collision_is : (bytes : List ℕ) (troves : List TroveParts) (contents : Lis
 collision_is bytes troves contents name at refusal read first is =
     inr (record {
       body = read.body;
-      manifest = manifest_of bytes read.body read.runs;
+      spelled = spelling_of bytes read.body read.runs;
       name = name;
       at = at;
       first = ap first_collision (sym read.contents_are) ∙ first;
@@ -163,7 +177,7 @@ collision_is bytes troves contents name at refusal read first is =
 pub collision_only : (bytes : List ℕ) (troves : List TroveParts) (contents : List Carried) (name : List ℕ) (at : ℕ) → IsReadOf bytes troves contents
     → first_collision contents ≡ Some (name, at) → (other : Made) → Makes bytes other → ⊥
 collision_only bytes troves contents name at read first other is =
-    let same : is.body ≡ read.body = one_manifest bytes read.body is.body read.runs is.manifest in
+    let same : is.body ≡ read.body = one_spelling bytes read.body is.body read.runs is.spelled in
     let both : ◌≡◌ {A = Option (List ℕ × ℕ)} None (Some (name, at)) =
     sym is.apart ∙ ap (λ (b : Body). first_collision b.contents) same ∙ ap first_collision (sym read.contents_are) ∙ first in
     absurd cc
@@ -172,7 +186,7 @@ pub collision_exact : (bytes : List ℕ) (troves : List TroveParts) (contents : 
     → first_collision contents ≡ Some (name, at) → refusal ≡ Collision name at → (other : Refusal) → IsFirstFault bytes other → refusal ≡ other
 collision_exact bytes troves contents name at refusal read first is other (inl unread) = absurd (no_stop bytes read.body unread.fault read.runs unread.stops)
 collision_exact bytes troves contents name at refusal read first is other (inr collides) =
-    let same : collides.body ≡ read.body = one_manifest bytes read.body collides.body read.runs collides.manifest in
+    let same : collides.body ≡ read.body = one_spelling bytes read.body collides.body read.runs collides.spelled in
     let both : ◌≡◌ {A = Option (List ℕ × ℕ)} (Some (collides.name, collides.at)) (Some (name, at)) =
     sym collides.first ∙ ap (λ (b : Body). first_collision b.contents) same ∙ ap first_collision (sym read.contents_are) ∙ first in
     let pair : ◌≡◌ {A = List ℕ × ℕ} (collides.name, collides.at) (name, at) = cc in
@@ -184,12 +198,12 @@ pub unread_is : (bytes : List ℕ) (f : Unread) (refusal : Refusal) → Stops At
 unread_is bytes f refusal stop is = inl (record { fault = f; stops = stops_plain bytes f stop; refused = is })
 
 pub unread_only : (bytes : List ℕ) (f : Unread) → Stops AtMagic bytes f → (other : Made) → Makes bytes other → ⊥
-unread_only bytes f stop other is = no_manifest bytes f is.body stop is.manifest
+unread_only bytes f stop other is = no_spelling bytes f is.body stop is.spelled
 
 pub unread_exact : (bytes : List ℕ) (f : Unread) (refusal : Refusal) → Stops AtMagic bytes f → refusal ≡ refusal_of (length bytes) f → (other : Refusal) → IsFirstFault bytes other
     → refusal ≡ other
 unread_exact bytes f refusal stop is other (inl unread) = is ∙ ap (refusal_of (length bytes)) (one_stop bytes f unread.fault stop unread.stops) ∙ sym unread.refused
-unread_exact bytes f refusal stop is other (inr collides) = absurd (no_manifest bytes f collides.body stop collides.manifest)
+unread_exact bytes f refusal stop is other (inr collides) = absurd (no_spelling bytes f collides.body stop collides.spelled)
 
 -- ---- the faults of contents
 

@@ -18,7 +18,7 @@ use Rattle.trove_id.specs.Order.{id_cmp}
 use Rattle.trove_items.specs.declared.files.FileAt.{FileAt}
 use Rattle.trove_stream.specs.Trove.{is_component_of}
 use Rattle.change_set.specs.declared.change.Carried.{Carried}
-use Rattle.cny_manifest.specs.declared.deps.DepLine.{DepLine}
+use Rattle.manifest_troves.specs.declared.lines.DepLine.{DepLine}
 use Rattle.cny_manifest.specs.declared.entries.DirLine.{DirLine}
 use Rattle.cny_manifest.specs.declared.entries.FileLine.{FileLine}
 use Rattle.cny_manifest.specs.Lines.{◌&>◌}

@@ -24,8 +24,9 @@ use Rattle.cny_manifest.specs.declared.words.Word.{Word}
 use Rattle.cny_manifest.specs.declared.words.Word.TheVariants as word
 use Rattle.cny_manifest.specs.Lines.{with_feed, line_at, content_at, word_at}
 use Rattle.cny_manifest.specs.Body.{Body, file_next}
-use Rattle.cny_manifest.specs.Grammar.{Progress, AtMagic, InBody, InContent, Ended, IsNext, Lead, IsManifest}
-use Rattle.cny_manifest.specs.Made.{first_collision}
+use Rattle.cny_manifest.specs.Grammar.{Progress, AtMagic, InBody, InContent, Ended, IsNext, Lead}
+use Rattle.cny_manifest.specs.Spelling.{IsSpelling}
+use Rattle.manifest_troves.specs.Contents.{first_collision}
 
 -- ---- the rules
 
@@ -96,10 +97,10 @@ pub record IsUnread (bytes : List ℕ) (refusal : Refusal) : Type 0 where
   pub stops : StopsBehind bytes fault
   pub refused : refusal ≡ refusal_of (length bytes) fault
 
--- a manifest of which two contents with one name differ
+-- a spelling of a value of which two contents with one name differ
 pub record HasCollision (bytes : List ℕ) (refused : Refusal) : Type 0 where
   pub body : Body
-  pub manifest : IsManifest bytes body
+  pub spelled : IsSpelling bytes body
   pub name : List ℕ
   pub at : ℕ
   pub first : first_collision body.contents ≡ Some (name, at)

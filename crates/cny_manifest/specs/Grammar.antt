@@ -14,7 +14,7 @@ use Rattle.cny_dep.specs.Dep.{Dependency, IsDependency}
 use Rattle.cny_dep.specs.Relaxed as dep
 use Rattle.trove_id.specs.declared.id.TroveId.{TroveId}
 use Rattle.trove_id.specs.Id.{IsTroveId, id_text_of}
-use Rattle.cny_manifest.specs.declared.deps.DepLine.{DepLine}
+use Rattle.manifest_troves.specs.declared.lines.DepLine.{DepLine}
 use Rattle.cny_manifest.specs.declared.entries.FileLine.{FileLine}
 use Rattle.cny_manifest.specs.declared.words.Word.{Word}
 use Rattle.cny_manifest.specs.declared.words.Word.TheVariants as word

@@ -1,4 +1,3 @@
-pub mod Policy
 pub mod Lines
 pub mod Entries
 pub mod Body
@@ -7,6 +6,4 @@ pub mod FirstFault
 pub mod Made
 pub mod Reading
 pub mod Makes
-pub mod Kept
-pub mod Shares
 pub mod Spelling

@@ -13,7 +13,8 @@ use Rattle.cny_manifest.specs.declared.words.Word.{Word}
 use Rattle.cny_manifest.specs.Body.{Body, file_next}
 use Rattle.cny_manifest.specs.Grammar.{Progress, AtMagic, InBody, Ended, IsNext}
 use Rattle.cny_manifest.specs.FirstFault.{NoneNext, GoesOn, fault_of, fault_by_size, too_large_by}
-use Rattle.cny_manifest.specs.Made.{troves_of}
+use Rattle.cny_manifest.specs.Made.{lines_of}
+use Rattle.manifest_troves.specs.Troves.{troves_of, HasRisingNames, KeepsEntries}
 use Rattle.trove_stream.specs.declared.parts.TroveParts.{TroveParts}
 use Rattle.change_set.specs.declared.change.Carried.{Carried}
 use Rattle.cny_manifest.specs.Lines.{with_feed, line_at, word_at}
@@ -118,12 +119,16 @@ NoFile b fields rest (errors.Unread fault) = ((line : FileLine) → IsFile b fie
 -- the line `end` at the front, and nothing behind it, with the troves and contents of what was read before
 pub record IsEndOf (b : Body) (rest : List ℕ) (troves : List TroveParts) (contents : List Carried) : Type 0 where
   pub runs : Runs (InBody b) rest (Ended b) []
-  pub troves_are : troves ≡ troves_of b
+  pub troves_are : troves ≡ troves_of (lines_of b)
+  pub rising : HasRisingNames troves
+  pub entries : KeepsEntries (lines_of b) troves
   pub contents_are : contents ≡ b.contents
 
 -- the troves and contents of the manifest that the bytes are
 pub record IsReadOf (bytes : List ℕ) (troves : List TroveParts) (contents : List Carried) : Type 0 where
   pub body : Body
   pub runs : Runs AtMagic bytes (Ended body) []
-  pub troves_are : troves ≡ troves_of body
+  pub troves_are : troves ≡ troves_of (lines_of body)
+  pub rising : HasRisingNames troves
+  pub entries : KeepsEntries (lines_of body) troves
   pub contents_are : contents ≡ body.contents

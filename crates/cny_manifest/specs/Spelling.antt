@@ -26,7 +26,7 @@ use Rattle.trove_items.specs.Files.{file_cmp}
 use Rattle.trove_items.specs.Items.{IsRisingList}
 use Rattle.trove_items.specs.Refs.{AreRefs}
 use Rattle.change_set.specs.declared.change.Carried.{Carried}
-use Rattle.cny_manifest.specs.declared.deps.DepLine.{DepLine}
+use Rattle.manifest_troves.specs.declared.lines.DepLine.{DepLine}
 use Rattle.cny_manifest.specs.Body.{Body, is_own_by, dep_line_cmp}
 use Rattle.cny_manifest.specs.Grammar.{kind_word, IsVersionField, IsFlavorField, IsDepField, IsLine}
 use Rattle.cny_manifest.specs.Lines.{with_feed}

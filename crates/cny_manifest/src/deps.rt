@@ -5,14 +5,8 @@ ghost use Rattle.cny_manifest.specs.Reading.{ReadsOnly};
 use crate::fields::field_of;
 use cny_base::{Name, TextFault, text_of};
 use cny_dep::Dep;
+use manifest_troves::DepLine;
 use std::alloc::Global;
-
-/// A trove by its name, and what it requires or provides.
-#[derive(Debug, Drop)]
-pub(crate) struct DepLine {
-    pub name: Name,
-    pub dep: Dep,
-}
 
 // The dependency with this relaxed text.
 fn dep_of(alloc: Global, text: &[u8]) -> Result<Dep, TextFault>

@@ -3,7 +3,7 @@ ghost use Rattle.std.specs.Prelude.{◌≡◌, ◌≤◌, IfOk, OnOk};
 ghost use Rattle.cny_base.specs.Name.{kind_of_name};
 ghost use Rattle.cny_manifest.specs.Body.{is_group_kind};
 
-use crate::deps::{DepLine, dep_fields};
+use crate::deps::dep_fields;
 use crate::entries::{DirLine, FileLine, dir_of, file_of, path_of};
 use crate::head::{flavor_field, ref_field};
 use crate::order::{is_above_line, is_above_path, is_above_ref, is_own};
@@ -13,11 +13,12 @@ use cny_base::{Bytes, Name, NameKind, OutOfMemory, Path, Target, TextFault};
 use cny_flavor::Flavor;
 use cny_version::Version;
 use file_stream::FileRec;
+use manifest_troves::{DepLine, DepLines, TroveLines};
 use sha1::Sha1;
 use std::alloc::Global;
 use std::marker::Model;
 use trove_id::TroveId;
-use trove_items::FileAt;
+use trove_items::{FileAt, Files, Refs};
 
 /// What was read of a manifest behind its version: whether owners are named, the id, and what the lines say.
 #[derive(Debug, Drop)]
@@ -52,6 +53,7 @@ impl Draft {
     ghost use Rattle.cny_manifest.specs.Body as spec;
     ghost use Rattle.cny_manifest.specs.Entries.{dir_of};
     ghost use Rattle.cny_manifest.specs.Grammar.{InBody, IsWordLine};
+    ghost use Rattle.cny_manifest.specs.Made.{lines_of};
     ghost use Rattle.cny_manifest.specs.Reading.{ReadsAs, Takes};
     ghost use Rattle.cny_manifest.specs.declared.words.Word.{Word};
     ghost use Rattle.cny_manifest.specs.declared.words.WholeLine.{WholeLine};
@@ -79,13 +81,6 @@ impl Draft {
             files: Vec::new(alloc),
             contents: Vec::new(alloc),
         })
-    }
-
-    /// Whether it is of a component, a package or a group.
-    pub(crate) fn kind(&self) -> NameKind
-        ensures { result ≡ kind_of_name self.now.id.name }
-    {
-        self.id.name.kind()
     }
 
     // Whether nothing came behind the version.
@@ -299,20 +294,28 @@ impl Draft {
         Ok(line)
     }
 
-    /// The contents, in the order of their entries; takes no memory.
-    pub(crate) fn into_contents(self) -> Vec<Carried>
-        ensures { result.items ≡ self.contents }
+    /// What the lines say of the troves, and the contents in the order of their entries; takes no memory.
+    pub(crate) fn into_lines(self) -> (TroveLines, Vec<Carried>)
+        ensures lines { result.0 ≡ lines_of self }
+        ensures contents { result.1.items ≡ self.contents }
     {
         let Draft {
             owners: _owners,
-            id: _id,
-            refs: _refs,
-            requires_: _requires,
-            provides: _provides,
-            files: _files,
+            id,
+            refs,
+            requires_,
+            provides,
+            files,
             contents,
         } = self;
-        contents
+        let lines = TroveLines {
+            id,
+            refs: Refs::new(refs),
+            requires_: DepLines::new(requires_),
+            provides: DepLines::new(provides),
+            files: Files::new(files),
+        };
+        (lines, contents)
     }
 
     /// Adds a file with this content.

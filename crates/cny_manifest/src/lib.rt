@@ -2,7 +2,6 @@
 #![tactic(auto)]
 
 mod body;
-mod contents;
 mod deps;
 mod draft;
 mod entries;
@@ -13,13 +12,10 @@ mod laws;
 mod lines;
 mod made;
 mod order;
-mod policy;
 mod reading;
-mod shares;
-mod troves;
 mod words;
 
 pub use laws::spelled;
-pub use made::{Made, Troves};
-pub use policy::component_of;
+pub use made::Made;
+pub use manifest_troves::{Troves, component_of};
 pub use reading::read;

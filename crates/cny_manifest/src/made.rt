@@ -1,14 +1,12 @@
 //! What a manifest makes.
 use change_set::CarriedList;
-use cny_base::{Copies, ListOf, OutOfMemory};
-use trove_stream::Trove;
+use cny_base::{Copies, OutOfMemory};
+use manifest_troves::Troves;
 
-/// A list of troves.
-pub type Troves = ListOf<Trove>;
-
-/// What a manifest makes: its troves in name order, and the contents of their files.
+/// What a manifest makes: its troves, and the contents of their files.
 #[derive(Debug, Drop)]
 pub struct Made {
+    /// By strictly rising names.
     pub troves: Troves,
     /// By strictly rising names, which are the SHA-1 of the bytes.
     pub contents: CarriedList,

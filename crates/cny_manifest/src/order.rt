@@ -7,8 +7,8 @@ ghost use Rattle.trove_id.specs.Order.{id_cmp};
 ghost use Rattle.cny_manifest.specs.Body as spec;
 ghost use Rattle.cny_manifest.specs.Body.{is_above, dep_line_cmp};
 
-use crate::deps::DepLine;
 use cny_base::{Name, NameKind, Path};
+use manifest_troves::DepLine;
 use trove_id::TroveId;
 use trove_items::FileAt;
 

@@ -1,26 +1,26 @@
 //! The troves and contents of a manifest.
-ghost use Rattle.std.specs.Prelude.{◌≡◌, ◌≤◌, Bool, Ok, length, codes, IfOk, IfErr, MatchResult};
+ghost use Rattle.std.specs.Prelude.{◌≡◌, ◌≤◌, Bool, Ok, length, codes, All, IfOk, IfErr, MatchResult};
 ghost use Rattle.cny_base.specs.declared.refusal.Refusal.{Refusal};
 ghost use Rattle.cny_manifest.specs.declared.made.Made.{Made};
 ghost use Rattle.cny_manifest.specs.FirstFault as spec;
 ghost use Rattle.cny_manifest.specs.FirstFault.{IsFirstFault, IsFaultOf, IsRefusalOrMemory};
 ghost use Rattle.cny_manifest.specs.Grammar.{AtMagic, AtName, AtVersion, InBody};
 ghost use Rattle.cny_manifest.specs.Lines.{line_at};
-ghost use Rattle.cny_manifest.specs.Makes.{Makes};
+ghost use Rattle.cny_manifest.specs.Makes.{Makes, HasOwnContents};
 ghost use Rattle.cny_manifest.specs.Reading.{Runs, StopsBy, IsEndOf, IsReadOf};
+ghost use Rattle.manifest_troves.specs.Troves.{HasRisingNames};
+ghost use Rattle.trove_stream.specs.Trove.{IsTrove};
 
 use crate::body::take_lines;
-use crate::contents::contents_of;
 use crate::draft::Draft;
 use crate::fault::{ReadError, Unread, fault_at};
 use crate::head::{magic_of, name_of, version_of};
 use crate::lines::line_of;
-use crate::made::{Made, Troves};
-use crate::troves::troves_of;
-use change_set::{Carried, CarriedList};
+use crate::made::Made;
+use change_set::Carried;
 use cny_base::{Fault, Name, Refusal, TextFault, What};
+use manifest_troves::{Troves, contents_of, troves_of};
 use std::alloc::Global;
-use trove_stream::Trove;
 
 // Whether owners are named, by the first line, and what is behind it.
 fn take_magic(bytes: &[u8]) -> Result<(bool, &[u8]), ReadError>
@@ -81,17 +81,18 @@ fn end(
     draft: Draft,
     rest: &[u8],
     behind: &[u8],
-) -> Result<(Vec<Trove>, Vec<Carried>), ReadError>
+) -> Result<(Troves, Vec<Carried>), ReadError>
     requires { line_at rest.now ≡ Ok (codes "end", behind.now) }
-    ensures ok { IfOk result (λ made. IsEndOf draft rest.now made.0.items made.1.items) }
+    ensures ok { IfOk result (λ made. IsEndOf draft rest.now made.0 made.1.items) }
     ensures err { IfErr result (StopsBy (InBody draft) rest.now) }
 {
-    match troves_of(alloc, draft) {
-        Ok(made) => {
+    let (lines, contents) = draft.into_lines();
+    match troves_of(alloc, lines) {
+        Ok(troves) => {
             if !behind.is_empty() {
                 return Err(fault_at(behind));
             }
-            Ok(made)
+            Ok((troves, contents))
         }
         Err(TextFault::Bad) => Err(fault_at(rest)),
         Err(TextFault::Memory) => Err(ReadError::Memory),
@@ -99,8 +100,8 @@ fn end(
 }
 
 // The troves of a manifest, and its contents as they come.
-fn read_items(alloc: Global, bytes: &[u8]) -> Result<(Vec<Trove>, Vec<Carried>), ReadError>
-    ensures ok { IfOk result (λ made. IsReadOf bytes.now made.0.items made.1.items) }
+fn read_items(alloc: Global, bytes: &[u8]) -> Result<(Troves, Vec<Carried>), ReadError>
+    ensures ok { IfOk result (λ made. IsReadOf bytes.now made.0 made.1.items) }
     ensures err { IfErr result (StopsBy AtMagic bytes.now) }
 {
     let (mut draft, rest) = take_head(alloc, bytes)?;
@@ -133,16 +134,6 @@ fn fault_of(total: usize, error: ReadError) -> Fault
     }
 }
 
-// What these are.
-fn made_of(troves: Vec<Trove>, contents: Vec<Carried>) -> Made
-    ensures { result ≡ record { troves = troves.items; contents = contents.items } }
-{
-    Made {
-        troves: Troves::new(troves),
-        contents: CarriedList::new(contents),
-    }
-}
-
 /// The troves and the contents that a manifest stands for. Otherwise the refusal of its first fault, with its kind and its
 /// place, or of the first content that differs from an earlier one of its name.
 pub fn read(alloc: Global, bytes: &[u8]) -> Result<Made, Fault>
@@ -156,11 +147,16 @@ pub fn read(alloc: Global, bytes: &[u8]) -> Result<Made, Fault>
     // Where there is a fault, the first one is refused, unless memory runs out.
     ensures exact { (refusal : Refusal) → IsFirstFault bytes.now refusal
         → MatchResult result (λ read. ⊥) (IsRefusalOrMemory refusal) }
+    // Each trove that is made keeps the rules of troves, and their names strictly rise.
+    ensures troves { IfOk result (λ made. All IsTrove made.troves) }
+    ensures rising { IfOk result (λ made. HasRisingNames made.troves) }
+    // The contents are those of a change set of these troves.
+    ensures contents { IfOk result HasOwnContents }
 {
     match read_items(alloc, bytes) {
         Ok((troves, contents)) => {
             let contents = contents_of(alloc, contents)?;
-            Ok(made_of(troves, contents))
+            Ok(Made { troves, contents })
         }
         Err(error) => Err(fault_of(bytes.len(), error)),
     }

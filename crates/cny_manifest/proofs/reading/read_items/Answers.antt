@@ -15,8 +15,8 @@ pub returns-clause-ok : goal.returns-clause-ok
 returns-clause-ok c =
     let b : Body = c.take_lines.new.draft in
     let run = runs_then _ _ _ _ _ _ c.in_ok-draft.ensures.ok c.in_ok-rest.ensures.ok in
-    IfOk-weaker c.end.result (λ made. IsEndOf b c.in_ok-rest.rest.now made.0.items made.1.items) (λ made. IsReadOf c.args.bytes.now made.0.items made.1.items)
-    (λ made is. read_is c.args.bytes.now c.in_ok-rest.rest.now b made.0.items made.1.items run is) c.end.ensures.ok
+    IfOk-weaker c.end.result (λ made. IsEndOf b c.in_ok-rest.rest.now made.0 made.1.items) (λ made. IsReadOf c.args.bytes.now made.0 made.1.items)
+    (λ made is. read_is c.args.bytes.now c.in_ok-rest.rest.now b made.0 made.1.items run is) c.end.ensures.ok
 
 pub returns-clause-err : goal.returns-clause-err
 returns-clause-err c =

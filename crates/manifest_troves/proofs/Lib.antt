@@ -1,0 +1,10 @@
+pub mod Policies
+pub mod Differing
+pub mod Keeping
+pub mod Names
+pub mod Alike
+pub mod Sharing
+pub mod Components
+pub mod Rising
+pub mod Entries
+pub mod KeptOnes

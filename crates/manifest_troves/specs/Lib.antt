@@ -1,0 +1,5 @@
+pub mod Policy
+pub mod Troves
+pub mod Shares
+pub mod Contents
+pub mod Kept

@@ -1,0 +1,13 @@
+//! What the lines of a manifest make: a component, a package with its components, or a group; and the contents of their files.
+#![tactic(auto)]
+
+mod contents;
+mod lines;
+mod policy;
+mod shares;
+mod troves;
+
+pub use contents::contents_of;
+pub use lines::{DepLine, DepLines, TroveLines};
+pub use policy::component_of;
+pub use troves::{Troves, troves_of};

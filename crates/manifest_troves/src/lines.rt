@@ -1,0 +1,29 @@
+//! What the lines of a manifest say.
+use cny_base::{ListOf, Name};
+use cny_dep::Dep;
+use trove_id::TroveId;
+use trove_items::{Files, Refs};
+
+/// A trove by its name, and what it requires or provides.
+#[derive(Debug, Drop)]
+pub struct DepLine {
+    pub name: Name,
+    pub dep: Dep,
+}
+
+/// A list of such lines.
+pub type DepLines = ListOf<DepLine>;
+
+/// What the lines of a manifest say of its component, its package or its group, each list in the order of the lines.
+#[derive(Debug, Drop)]
+pub struct TroveLines {
+    pub id: TroveId,
+    /// The troves to which a group refers.
+    pub refs: Refs,
+    /// What a component, or each component of a package, requires of other troves.
+    pub requires_: DepLines,
+    /// What they provide for others.
+    pub provides: DepLines,
+    /// The entries of a component, or of all components of a package.
+    pub files: Files,
+}
