@@ -2,9 +2,9 @@
 ghost use Rattle.std.specs.Prelude.{◌≡◌, IfErr, IfOk, IfSome};
 ghost use Rattle.sha1.specs.Sha1.{sha1};
 ghost use Rattle.content_store.specs.declared.contents.FarStop.TheVariants as stop;
-ghost use Rattle.content_store.specs.Contents.{empty_contents, ContentMap, ContentsModel, KeepsContents, StopsFor};
+ghost use Rattle.content_store.specs.Contents.{empty_contents, empty_searches, AreSearches, ContentMap, ContentsModel, KeepsContents, stop_of_far, StopsFor};
 
-use cny_base::{Bytes, Copies, OutOfMemory, Path};
+use cny_base::{Bytes, Copies, OutOfMemory, Path, Stop};
 use std::alloc::{AllocError, AllocFailed, Global};
 
 /// Why a content isn't found.
@@ -52,12 +52,25 @@ impl<T: Drop> From<AllocFailed<T>> for FarStop {
     }
 }
 
+impl From<FarStop> for Stop {
+    ghost from_gives = { λ far made. made ≡ stop_of_far far };
+
+    fn from(far: FarStop) -> Self {
+        match far {
+            FarStop::Failed => Stop::FarFailed,
+            FarStop::Damaged { path } => Stop::FarDamaged { path },
+            FarStop::Memory => Stop::Memory,
+        }
+    }
+}
+
 /// Contents that are found by their SHA-1.
 ///
 /// What is kept can be known of some alone. So it may tell the map from names to contents, and which paths fail a
 /// cross-check; it counts its faults.
 pub trait Contents {
-    /// What it means: its map, which paths fail a cross-check, and how often it failed.
+    /// What it means: its map, which paths fail a cross-check, how often it failed, and what searches lead from one to
+    /// another.
     ghost contents: { ContentsModel Self };
 
     /// The content of a name, and none where there is no content of that name.
@@ -70,6 +83,9 @@ pub trait Contents {
         ensures named { IfOk result (λ found. IfSome found (λ bytes. sha1 bytes ≡ name.now)) }
         ensures stops { IfErr result (StopsFor contents self.old self.new) }
         ensures keeps { KeepsContents contents self.old self.new };
+
+    /// Searches follow one another.
+    ghost laws: { AreSearches contents };
 }
 
 /// A source without contents.
@@ -82,4 +98,6 @@ impl Contents for NoContents {
     fn find(&mut self, _alloc: Global, _name: &[u8; 20]) -> Result<Option<Bytes>, FarStop> {
         Ok(None)
     }
+
+    ghost laws = { empty_searches };
 }

@@ -14,6 +14,7 @@ mod path_of;
 mod putting;
 
 pub use contents::{Contents, FarStop, NoContents};
+pub use difference::difference as first_difference;
 pub use getting::{clear, get, has};
 pub use namer::{ByteNamer, Namer, Sha1Namer};
 pub use path_of::names_apart;

@@ -8,6 +8,7 @@ use Rattle.cny_base.specs.declared.refusal.Refusal.TheVariants.{Exists}
 use Rattle.cny_version.specs.Version.{WholeVersion, branch_text}
 use Rattle.file_stream.specs.declared.record.FileRec.{FileRec}
 use Rattle.file_stream.specs.declared.record.FileRec.TheVariants.{Dir, File, Link}
+use Rattle.file_stream.specs.Record.{has_name_and_size}
 use Rattle.trove_id.specs.declared.id.TroveId.{TroveId}
 use Rattle.trove_id.specs.Id.{id_text_of}
 use Rattle.trove_id.specs.Order.{id_eq}
@@ -103,3 +104,15 @@ names_content name t = list_any (is_file_of name) t.files
 -- one of the troves does
 abbrev pub has_content : List ℕ → List TroveParts → Bool
 has_content name troves = list_any (names_content name) troves
+
+-- the record of the file has this name and this size
+abbrev pub is_file_sized : List ℕ → ℕ → FileAt → Bool
+is_file_sized name size file = has_name_and_size name size file.rec
+
+-- the trove records a file whose contents have this name and this size
+abbrev pub trove_records : List ℕ → ℕ → TroveParts → Bool
+trove_records name size t = list_any (is_file_sized name size) t.files
+
+-- one of the troves does
+abbrev pub records_content : List ℕ → ℕ → List TroveParts → Bool
+records_content name size troves = list_any (trove_records name size) troves

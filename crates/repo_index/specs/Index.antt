@@ -2,13 +2,14 @@
 use Rattle.std.specs.Prelude.{◌≡◌, ℕ, List}
 use Rattle.trove_stream.specs.declared.parts.TroveParts.{TroveParts}
 use Rattle.repo_index.specs.declared.index.Index.{Index}
-use Rattle.repo_index.specs.Catalogue.{places_of, has_content, HasDistinctIds}
-use Rattle.repo_index.specs.Keys.{places_in, knows}
+use Rattle.repo_index.specs.Catalogue.{places_of, has_content, records_content, HasDistinctIds}
+use Rattle.repo_index.specs.Keys.{places_in, knows, knows_sized}
 
--- each name has its places there, and each content that is recorded is known
+-- each name has its places there, and each content that is recorded is known, by its name and with its size
 pub record IsIndexOf (troves : List TroveParts) (index : Index) : Type 0 where
   pub places : (name : List ℕ) → places_in index.names name ≡ places_of name troves
   pub contents : (name : List ℕ) → knows index.contents name ≡ has_content name troves
+  pub sizes : (name : List ℕ) (size : ℕ) → knows_sized index.sizes name size ≡ records_content name size troves
 
 -- the index of troves of which no two have one id
 pub record IsIndexed (troves : List TroveParts) (index : Index) : Type 0 where

@@ -1,9 +1,10 @@
 -- What the maps of an index hold.
-use Rattle.std.specs.Prelude.{◌≡◌, ℕ, Bool, List, [], ◌++◌, String, Vec}
+use Rattle.std.specs.Prelude.{◌≡◌, ℕ, Bool, ◌&&◌, ◌==◌, List, [], ◌++◌, String, Vec}
 use Rattle.std.specs.Option.{option_map_or}
 use Rattle.std.specs.Str.{bytes_eq}
 use Rattle.indexmap.specs.IndexMap.{IndexMap, get_by_text}
 use Rattle.indexmap.specs.IndexSet.{IndexSet, contains}
+use Rattle.repo_index.specs.declared.index.Content.{Content}
 
 -- the places of a name; none where the name isn't there
 abbrev pub places_in : {Y Z S : Type 0} → IndexMap (String Y) (Vec ℕ Z) S → List ℕ → List ℕ
@@ -13,7 +14,15 @@ places_in {Z} names name = option_map_or (λ (places : Vec ℕ Z). places.items)
 abbrev pub knows : {S : Type 0} → IndexSet (List ℕ) S → List ℕ → Bool
 knows contents name = contains bytes_eq contents name
 
+-- the same size and the same name
+abbrev pub same_content : Content → Content → Bool
+same_content a b = a.size == b.size && bytes_eq a.name b.name
+
+-- a content of this name and this size is among them
+abbrev pub knows_sized : {S : Type 0} → IndexSet Content S → List ℕ → ℕ → Bool
+knows_sized sizes name size = contains same_content sizes (record { size = size; name = name })
+
 -- those that were there stand first
-pub record Extends {S : Type 0} (old new : IndexSet (List ℕ) S) : Type 0 where
-  pub more : List (List ℕ)
+pub record Extends {K S : Type 0} (old new : IndexSet K S) : Type 0 where
+  pub more : List K
   pub keys_are : new.keys ≡ old.keys ++ more

@@ -161,6 +161,13 @@ impl Catalogue {
     {
         self.index.has(name)
     }
+
+    /// Whether some trove records a file whose contents have this name and this size.
+    pub fn records_content(&self, name: &[u8; 20], size: usize) -> bool
+        ensures { result ≡ spec.records_content name.now size self.now.troves }
+    {
+        self.index.has_sized(name, size)
+    }
 }
 
 impl Copies for Catalogue {

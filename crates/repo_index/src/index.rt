@@ -3,8 +3,9 @@ ghost use Rattle.std.specs.Prelude.{◌≡◌, ◌++◌, ◌∷◌, [], ◌||◌
 ghost use Rattle.std.specs.List.{list_any};
 ghost use Rattle.std.specs.Str.{bytes_eq};
 ghost use Rattle.trove_stream.specs.declared.parts.TroveParts.{TroveParts};
-ghost use Rattle.repo_index.specs.Catalogue.{places_of, has_content, is_content, is_file_of};
-ghost use Rattle.repo_index.specs.Keys.{places_in, knows, Extends};
+ghost use Rattle.repo_index.specs.Catalogue.{places_of, has_content, records_content, is_content, is_file_of, is_file_sized};
+ghost use Rattle.file_stream.specs.Record.{has_name_and_size};
+ghost use Rattle.repo_index.specs.Keys.{places_in, knows, knows_sized, Extends};
 ghost use Rattle.repo_index.specs.Index.{IsIndexOf};
 
 use cny_base::OutOfMemory;
@@ -14,12 +15,22 @@ use std::alloc::Global;
 use trove_items::FileAt;
 use trove_stream::Trove;
 
-/// The places of the troves of each name, rising, and the names of the contents that the troves record.
+/// A content, as a file record tells it.
+#[derive(PartialEq, Eq, Hash, Drop)]
+struct Content {
+    size: usize,
+    name: [u8; 20],
+}
+
+/// The places of the troves of each name, rising, and the contents that the troves record.
 #[derive(Drop)]
 pub(crate) struct Index {
     // A name may stand here without a place.
     names: IndexMap<String, Vec<usize>>,
+    // The names alone.
     contents: IndexSet<[u8; 20]>,
+    // One name may have several sizes.
+    sizes: IndexSet<Content>,
 }
 
 impl Index {
@@ -30,6 +41,7 @@ impl Index {
         Index {
             names: IndexMap::new(alloc),
             contents: IndexSet::new(alloc),
+            sizes: IndexSet::new(alloc),
         }
     }
 
@@ -45,14 +57,26 @@ impl Index {
         ensures err { OnErr result ((troves : List TroveParts) → IsIndexOf troves self.old → IsIndexOf troves self.new) }
     {
         let known = self.contents.len();
-        if let Err(error) = add_contents(&mut self.contents, trove.files()) {
+        let known_sizes = self.sizes.len();
+        if let Err(error) = self.add_trove(alloc, trove, place) {
             self.contents.truncate(known);
+            self.sizes.truncate(known_sizes);
             return Err(error);
         }
-        if let Err(error) = add_place(alloc, &mut self.names, trove.id().name.text(), place) {
-            self.contents.truncate(known);
-            return Err(error);
-        }
+        Ok(())
+    }
+
+    // The same, but on want of memory some of the trove's contents may be there, behind those that were.
+    fn add_trove(&mut self, alloc: Global, trove: &Trove, place: usize) -> Result<(), OutOfMemory>
+        ensures ok { OnOk result ((troves : List TroveParts) → IsIndexOf troves self.old → place ≡ length troves
+            → IsIndexOf (troves ++ trove.now ∷ []) self.new) }
+        ensures places { OnErr result ((name : List ℕ) → places_in self.new.names name ≡ places_in self.old.names name) }
+        ensures contents { Extends self.old.contents self.new.contents }
+        ensures sizes { Extends self.old.sizes self.new.sizes }
+    {
+        add_contents(&mut self.contents, trove.files())?;
+        add_sizes(&mut self.sizes, trove.files())?;
+        add_place(alloc, &mut self.names, trove.id().name.text(), place)?;
         Ok(())
     }
 
@@ -71,6 +95,13 @@ impl Index {
         ensures { result ≡ knows self.now.contents name.now }
     {
         self.contents.contains(name)
+    }
+
+    /// Whether a content of this name and this size is recorded.
+    pub(crate) fn has_sized(&self, name: &[u8; 20], size: usize) -> bool
+        ensures { result ≡ knows_sized self.now.sizes name.now size }
+    {
+        self.sizes.contains(&Content { size, name: *name })
     }
 }
 
@@ -108,6 +139,33 @@ fn add_content(contents: &mut IndexSet<[u8; 20]>, rec: &FileRec) -> Result<(), O
 {
     if let FileRec::File { name, .. } = rec {
         contents.insert(*name)?;
+    }
+    Ok(())
+}
+
+// Adds the contents of these files with their sizes. On want of memory some of them may be there, behind those that were.
+fn add_sizes(sizes: &mut IndexSet<Content>, files: &[FileAt]) -> Result<(), OutOfMemory>
+    ensures ok { OnOk result ((name : List ℕ) (size : ℕ) → knows_sized sizes.new name size
+        ≡ (knows_sized sizes.old name size || list_any (is_file_sized name size) files.now)) }
+    ensures kept { Extends sizes.old sizes.new }
+{
+    for file in files {
+        add_size(sizes, &file.rec)?;
+    }
+    Ok(())
+}
+
+// Adds the contents of a file with their size.
+fn add_size(sizes: &mut IndexSet<Content>, rec: &FileRec) -> Result<(), OutOfMemory>
+    ensures ok { OnOk result ((name : List ℕ) (size : ℕ) → knows_sized sizes.new name size
+        ≡ (knows_sized sizes.old name size || has_name_and_size name size rec.now)) }
+    ensures kept { Extends sizes.old sizes.new }
+{
+    if let FileRec::File { size, name, .. } = rec {
+        sizes.insert(Content {
+            size: *size as usize,
+            name: *name,
+        })?;
     }
     Ok(())
 }

@@ -1,5 +1,5 @@
 -- The names of the files are paths, and differ.
-use Rattle.std.proofs.Common.{◌≡◌, ⊎_elim, ℕ, zero, suc, ◌+◌, ◌*◌, ◌/◌, ◌<◌, ◌≤◌, ◌^◌, ◌%◌, Bool, true, false, cond, not, ◌&&◌, List, [], ◌∷◌, length, get_or, drop, slice_index, refl, ◌∙◌, ap, arith, length-append, lit<}
+use Rattle.std.proofs.Common.{◌≡◌, ⊎_elim, ℕ, zero, suc, ◌+◌, ◌*◌, ◌/◌, ◌<◌, ◌≤◌, ◌^◌, ◌%◌, Bool, true, false, cond, not, ◌&&◌, ◌||◌, List, [], ◌∷◌, length, get_or, drop, slice_index, refl, ◌∙◌, ap, arith, length-append, lit<}
 use Rattle.std.specs.Prelude.{nat_le, ◌==◌, codes}
 use Rattle.std.specs.Cmp.{first_so, second_so}
 use Rattle.std.specs.Cmp.Derive.{both_true}
@@ -15,7 +15,7 @@ use Rattle.std.proofs.lemmas.Str.Ascii.{IsAscii-nil, IsAscii-cons}
 use Rattle.hex.specs.Hex.{encode_lower, encode_with, lower_digits, IsBytes}
 use Rattle.hex.proofs.HexLemmas.{length-encode_with}
 use Rattle.cny_base.specs.Parent.{join_is_path}
-use Rattle.cny_base.specs.Path.{is_slash, is_plain, is_dots, has_part_form, is_part, are_parts, is_path}
+use Rattle.cny_base.specs.Path.{has_slash, is_slash, is_plain, is_dots, has_part_form, is_part, are_parts, is_path}
 use Rattle.tree_disk.specs.Tree.{Name, same_name}
 use Rattle.tree_disk.specs.Laws.{same_means}
 use Rattle.content_store.specs.Store.{content_path}
@@ -24,7 +24,7 @@ use Rattle.repo_state.specs.Files.{repository_base, commit_file, contents_dir}
 -- ---- one part of a path
 
 -- from `.` to `z`, but no slash
-abbrev is_low : ℕ → Bool
+abbrev pub is_low : ℕ → Bool
 is_low c = nat_le 46 c && (nat_le c 122 && not (c == 47))
 
 low_plain : (c : ℕ) → is_low c ≡ true → is_plain c ≡ true
@@ -77,8 +77,8 @@ one_digit n small = grind (arith, nat_tests)
 remainder : (n : ℕ) → n % 10 < 10
 remainder n = omega arith
 
-digits_low : (n : ℕ) → n < 2 ^ 64 → list_all is_low (decimal n) ≡ true
-digits_low = decimal_by_steps (λ n ds. list_all is_low ds ≡ true) one_digit
+pub decimal_low : (n : ℕ) → n < 2 ^ 64 → list_all is_low (decimal n) ≡ true
+decimal_low = decimal_by_steps (λ n ds. list_all is_low ds ≡ true) one_digit
     (λ n ds big rest. list_all-append is_low ds ((48 + n % 10) ∷ []) ∙ both_true rest (one_digit (n % 10) (remainder n)))
 
 no_dots : (ds : List ℕ) → is_dots (107 ∷ 46 ∷ ds) ≡ false
@@ -92,7 +92,7 @@ pub commit_is_path : (n : ℕ) → n < 2 ^ 64 → is_path (commit_file n) ≡ tr
 commit_is_path n fits =
     let long = length-decimal-le 20 n (lit< tt) (omega (arith, fits)) fits in
     let last : Name = 107 ∷ 46 ∷ decimal n in
-    join_is_path repository_base last base_is_path (parts last (digits_low n fits) (no_dots (decimal n)) (omega arith) (omega (arith, long)))
+    join_is_path repository_base last base_is_path (parts last (decimal_low n fits) (no_dots (decimal n)) (omega arith) (omega (arith, long)))
     (at_most (length (commit_file n)) (omega (arith, long, length-append repository_base (47 ∷ last))))
 
 -- ---- the digits of a content's name
@@ -149,3 +149,13 @@ pub commit_differs : (m n : ℕ) → m < 2 ^ 64 → n < 2 ^ 64 → (m ≡ n → 
 commit_differs m n m_fits n_fits other = ⊎_elim
     (λ same. absurd (other (decimal_injective m n m_fits n_fits (ap (drop 14) (same_means (commit_file m) (commit_file n) same)))))
     (λ h. h) (cases_Bool (same_name (commit_file m) (commit_file n)))
+
+-- ---- numbers have no slash
+
+none_slash : (cs : List ℕ) → list_all is_low cs ≡ true → has_slash cs ≡ false
+none_slash [] all = refl
+none_slash (c ∷ cs) all =
+    ap (λ b. b || has_slash cs) (low_no_slash c (first_so (is_low c) (list_all is_low cs) all)) ∙ none_slash cs (second_so (is_low c) (list_all is_low cs) all)
+
+pub decimal_plain : (n : ℕ) → n < 2 ^ 64 → has_slash (107 ∷ 46 ∷ decimal n) ≡ false
+decimal_plain n fits = none_slash (107 ∷ 46 ∷ decimal n) (decimal_low n fits)

@@ -1,7 +1,10 @@
-mod FileNames
+pub mod FileNames
 mod Streams
 mod TrovesRead
 mod Damages
-mod Committing
+pub mod Committing
+pub mod HeldCatalogues
+pub mod Digests
+pub mod CountedNames
 mod Handing
 mod Written

@@ -5,3 +5,4 @@ pub mod Following
 pub mod Reading
 pub mod Damage
 pub mod Steps
+pub mod Counts

@@ -1,16 +1,15 @@
 -- The state of a repository: its commits in their order, and the contents that their troves name.
-use Rattle.std.specs.Prelude.{◌≡◌, ◌≢◌, ℕ, ◌≤◌, Bool, IsTrue, List, [], ◌∷◌, ◌++◌, length, flat_map, All, Some, None, IsSome}
-use Rattle.std.specs.List.{list_any}
+use Rattle.std.specs.Prelude.{◌≡◌, ◌≢◌, ℕ, ◌≤◌, IsTrue, List, [], ◌∷◌, ◌++◌, length, flat_map, All, Some, None, IsSome}
 use Rattle.sha1.specs.Sha1.{sha1}
 use Rattle.cny_base.specs.declared.limits.TheConstants.{COMMITS_LIMIT}
-use Rattle.file_stream.specs.Record.{has_name_and_size}
 use Rattle.trove_id.specs.declared.id.TroveId.{TroveId}
-use Rattle.trove_items.specs.declared.files.FileAt.{FileAt}
 use Rattle.trove_stream.specs.declared.parts.TroveParts.{TroveParts}
 use Rattle.trove_stream.specs.Trove.{IsTrove}
 use Rattle.trove_stream.specs.Forbidden.{first_forbidden}
 use Rattle.content_store.specs.Contents.{ContentMap}
 use Rattle.repo_index.specs.Catalogue.{CatalogueParts, found}
+-- what troves record of contents
+pub use Rattle.repo_index.specs.Catalogue.{trove_records, records_content}
 
 -- a commit: its troves in their order
 abbrev pub Commit : Type 0
@@ -56,16 +55,6 @@ pub record AreCommits (commits : List Commit) : Type 0 where
 -- the catalogue of commits
 abbrev pub catalogue_of : List Commit → CatalogueParts
 catalogue_of commits = record { commits = length commits; troves = troves_of commits }
-
--- ---- contents
-
--- the trove records a file whose contents have this name and this size
-abbrev pub trove_records : List ℕ → ℕ → TroveParts → Bool
-trove_records name size t = list_any (λ (file : FileAt). has_name_and_size name size file.rec) t.files
-
--- one of the troves does
-abbrev pub records_content : List ℕ → ℕ → List TroveParts → Bool
-records_content name size troves = list_any (trove_records name size) troves
 
 -- ---- states
 

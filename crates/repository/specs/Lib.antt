@@ -1,4 +1,6 @@
 pub mod Looks
+pub mod LooksLaws
 pub mod Seen
 pub mod Loading
 pub mod Contents
+pub mod RepoContents

@@ -2,7 +2,7 @@ use Rattle.std.proofs.Common.{◌+◌, ◌∷◌, [], length, ap, arith, length-
 use Rattle.repository.specs.Loading.{HasCount, HoldsCounts, LacksCount}
 use Rattle.repository.specs.Looks.{no_damage}
 use Rattle.repository.proofs.Counted.{not_lacking, one_counted}
-use Rattle.repository.proofs.Looking.{looks_answer, looks_memory, looks_stop, looks_then}
+use Rattle.repository.specs.LooksLaws.{looks_answer, looks_memory, looks_stop, looks_then}
 use Rattle.repository.proofs.counting.counts.Goals as goal
 
 pub returns-in_err-count-clause-counts : goal.returns-in_err-count-clause-counts

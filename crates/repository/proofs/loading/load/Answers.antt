@@ -1,6 +1,6 @@
 use Rattle.std.proofs.Common.{◌∙◌}
 use Rattle.repository.proofs.CommitsRead.{missing_ref, troves_are}
-use Rattle.repository.proofs.Looking.{looks_damage}
+use Rattle.repository.specs.LooksLaws.{looks_damage}
 use Rattle.repository.proofs.loading.load.Goals as goal
 
 pub returns-in-Some-clause-loads : goal.returns-in-Some-clause-loads

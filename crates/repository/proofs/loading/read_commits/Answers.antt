@@ -1,5 +1,5 @@
 use Rattle.repository.proofs.CommitsRead.{none_read}
-use Rattle.repository.proofs.Looking.{looks_start}
+use Rattle.repository.specs.LooksLaws.{looks_start}
 use Rattle.repository.proofs.loading.read_commits.Goals as goal
 
 pub commits-init : goal.commits-init

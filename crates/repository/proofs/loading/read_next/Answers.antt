@@ -1,7 +1,7 @@
 use Rattle.std.proofs.Common.{◌+◌, arith}
 use Rattle.repo_state.specs.Holding.{one_held}
 use Rattle.repository.proofs.CommitsRead.{bad_file, bad_held, few_read, one_read}
-use Rattle.repository.proofs.Looking.{looks_damage, looks_stop}
+use Rattle.repository.specs.LooksLaws.{looks_damage, looks_stop}
 use Rattle.repository.proofs.loading.read_next.Goals as goal
 
 pub returns-in_err-troves-clause-looks : goal.returns-in_err-troves-clause-looks
