@@ -5,8 +5,8 @@ Usage: tools/repository_vectors.py stdin >crates/repository_vectors/stdin
        tools/repository_vectors.py stdout >crates/repository_vectors/stdout
 
 A line of the calls is the name of a call and its arguments, with a tab before each; the first argument is the tree of a
-repository. The files of commits and contents are read by the rules of docs/FORMATS.md, with tools/stream_model.py; nothing
-is shared with the program that is tested.
+repository. The files of commits and contents are read by the rules of docs/FORMATS.md, with tools/stream_model.py, and relative
+troves are made with tools/rel_vectors.py; nothing is shared with the program that is tested.
 """
 import sys
 from hashlib import sha1
@@ -14,7 +14,8 @@ from hashlib import sha1
 # So that a run leaves nothing behind in tools/.
 sys.dont_write_bytecode = True
 
-from stream_model import NotOfForm, Trove, directory, forbidden_path, id_of_text, id_text, inner_items, item, items, need, read_trove, regular, trove_bytes
+from rel_vectors import contents_to_send, relative_of
+from stream_model import NotOfForm, Trove, directory, forbidden_path, id_of_text, id_text, inner_items, item, items, need, read_trove, regular, set_bytes, trove_bytes
 
 BASE = b"/conaryrepo"
 MAGIC = b"CNYKM01\n"
@@ -73,6 +74,28 @@ def content(tree, commits, name):
     if kind != "f" or sha1(text).digest() != name or len(text) not in sizes:
         raise Damaged(path)
     return text
+
+
+def set_between(tree, old, fresh):
+    """The stream of the change set that leads from the old troves to the new ones."""
+    was = {trove.identity.name: trove for trove in old}
+    parts, sent = [], set()
+    for trove in fresh:
+        base = was.get(trove.identity.name)
+        if base is None:
+            parts.append(trove)
+        elif base.identity != trove.identity:
+            parts.append(relative_of(base, trove))
+        sent.update(contents_to_send(base, trove))
+    contents = []
+    for name in sorted(sent):
+        sizes = {record.size for trove in fresh for _, record in trove.files if record.kind == "f" and record.name == name}
+        path = BASE + b"/c/" + name.hex().encode()
+        kind, _, text = tree.get(path, ("n", 0, b""))
+        if kind != "f" or sha1(text).digest() != name or sizes != {len(text)}:
+            raise Damaged(path)
+        contents.append((name, text))
+    return set_bytes(parts, contents)
 
 
 # ---- repositories of the lines
@@ -205,38 +228,121 @@ def damaged_contents():
 
 NAMES = [sha1(text).digest() for text in (OLD, NEW, b"", b"else")]
 
+# The worked troves: `/etc` with one file, and the next revision with other contents. The sizes of the sets between them.
+F1 = Trove(identity(on(b"foo:runtime", b"1.0-1-1")), [(b"/etc", directory(0o755)), (b"/etc/foo", regular(0o644, 0, 3, sha1(b"abc").digest()))], [], [], [])
+F2 = Trove(identity(on(b"foo:runtime", b"1.0-2-1")), [(b"/etc", directory(0o755)), (b"/etc/foo", regular(0o644, 0, 4, sha1(b"abcd").digest()))], [], [], [])
+WORKED = tree_of([[F1], [F2]], [b"abc", b"abcd"])
+assert [len(set_between(WORKED, *ends)) for ends in (([], [F2]), ([], [F1]), ([F1], [F2]), ([], []))] == [169, 168, 207, 13]
+
+# The same file at other paths and with another mode; the same contents in two troves; a trove that the old ones don't have.
+MOVED = component(b"foo:runtime", b"1.2-1-1", [(b"/etc/bar", OLD), (b"/usr/foo", NEW)])
+MODE = Trove(identity(on(b"foo:runtime", b"1.3-1-1")), [(b"/etc/foo", regular(0o600, 0, 4, sha1(OLD).digest())), (b"/usr/foo", regular(0o644, 1, 4, sha1(NEW).digest()))], [], [], [])
+OTHER = component(b"other:lib", b"1-1-1", [(b"/lib/a", OLD), (b"/lib/b", OLD), (b"/lib/c", b"else")])
+NEXT = collection(b"group-all", b"2-1-1", [on(b"foo:runtime", b"1.1-1-1"), on(b"other:lib", b"1-1-1")])
+NEXT_FOO = collection(b"foo", b"1.1-1-1", [on(b"foo:runtime", b"1.1-1-1")])
+MANY = [[V1], [PACKAGE, GROUP, EMPTY], [V2, NEXT_FOO], [MOVED, MODE], [OTHER, NEXT]]
+MANY_TREE = tree_of(MANY, [OLD, NEW, b"", b"else"])
+# Two records of one name with different sizes, so that no bytes can be sent for both; each alone with the bytes that it asks for.
+LONG = Trove(identity(on(b"long:runtime", b"1-1-1")), [(b"/long", regular(0o644, 0, 4, sha1(OLD).digest()))], [], [], [])
+SIZES = tree_of([[SHORT], [LONG]], [OLD])
+
+
+def lists():
+    """Old and new troves, by rising names, among those of MANY."""
+    yield [], []
+    for trove in (V1, V2, EMPTY, PACKAGE, GROUP, OTHER, MODE):
+        yield [], [trove]
+        yield [trove], []
+        yield [trove], [trove]
+    for old in (V1, V2, MOVED, MODE):
+        for fresh in (V1, V2, MOVED, MODE):
+            yield [old], [fresh]
+            yield [EMPTY, old], [fresh, OTHER]
+    before, after = [EMPTY, PACKAGE, V1, GROUP], [NEXT_FOO, V2, NEXT, OTHER]
+    yield before, after
+    yield after, before
+    yield [], before
+    yield [], after
+    yield before, [EMPTY, NEXT_FOO, V2, GROUP]
+    yield [V1], before
+    yield [V1], after
+    yield [EMPTY], [V1, OTHER]
+
+
+def sets():
+    """Calls of `between`: a tree, the old troves and the new ones."""
+    yield WORKED, [], [F2]
+    yield WORKED, [], [F1]
+    yield WORKED, [F1], [F2]
+    yield WORKED, [F2], [F1]
+    yield WORKED, [], []
+    for old, fresh in lists():
+        yield MANY_TREE, old, fresh
+    # A content that is damaged counts only where it is sent.
+    for text in (OLD, NEW):
+        path = BASE + b"/c/" + sha1(text).hexdigest().encode()
+        for node in (None, DIR, LINK, ("f", 0o600, text + b"x"), ("f", 0o600, b"fals"), ("f", 0o644, text)):
+            tree = without(MANY_TREE, path) if node is None else with_node(MANY_TREE, path, node)
+            for old, fresh in (([], [V1]), ([], [V2]), ([V1], [V2]), ([V2], [V1]), ([V1], [MODE]), ([V1], [MOVED]), ([V1], [V1, OTHER]), ([V1], [V1])):
+                yield tree, old, fresh
+    yield SIZES, [], [LONG]
+    yield SIZES, [], [SHORT]
+    yield SIZES, [], [LONG, SHORT]
+    yield SIZES, [LONG], [LONG, SHORT]
+
+
+def ids_text(troves):
+    return b"|".join(id_text(trove.identity) for trove in troves) or b"-"
+
 
 def calls():
     for tree in trees():
-        yield b"load", tree, b""
-        yield b"counts", tree, b""
-    yield b"load", TREE, b"fails"
+        yield b"load", tree, []
+        yield b"counts", tree, []
+    yield b"load", TREE, [b"fails"]
     for tree in [TREE, tree_of([[V1]], [OLD, NEW, b"else"])] + list(damaged_contents()):
         for name in NAMES:
-            yield b"content", tree, name.hex().encode()
+            yield b"content", tree, [name.hex().encode()]
+            yield b"source", tree, [name.hex().encode()]
+    yield b"source", TREE, [NAMES[0].hex().encode(), b"fails"]
+    yield b"source", TREE, [NAMES[3].hex().encode(), b"fails"]
+    for tree, old, fresh in sets():
+        yield b"between", tree, [ids_text(old), ids_text(fresh)]
+    yield b"between", WORKED, [ids_text([F1]), ids_text([F2]), b"fails"]
+    yield b"between", WORKED, [ids_text([F1]), ids_text([F1]), b"fails"]
 
 
-def answer(call, tree, word):
-    if word == b"fails":
-        return [b"failed"]
+def troves_of(commits, text):
+    by_id = {id_text(trove.identity): trove for troves in commits for trove in troves}
+    return [by_id[word] for word in text.split(b"|")] if text != b"-" else []
+
+
+def answer(call, tree, words):
+    far = b"far " if call == b"source" else b""
     try:
         commits = load(tree)
         if call == b"load":
-            return [b"ok", b"%d" % len(commits)] + [id_text(trove.identity) for troves in commits for trove in troves]
+            return [b"failed"] if words else [b"ok", b"%d" % len(commits)] + [id_text(trove.identity) for troves in commits for trove in troves]
         if call == b"counts":
             return [b"ok"] + [b"%d" % len(troves) for troves in commits]
-        found = content(tree, commits, bytes.fromhex(word.decode()))
-        return [b"none"] if found is None else [b"ok", found.hex().encode()]
+        if call == b"between":
+            found = set_between(tree, *(troves_of(commits, text) for text in words[:2]))
+            # A disk whose first call fails is found out where a content is read.
+            return [b"failed"] if len(words) > 2 and found != set_bytes([], []) else [b"ok", found.hex().encode()]
+        found = content(tree, commits, bytes.fromhex(words[0].decode()))
+        if found is None:
+            return [b"none"]
+        return [far + b"failed"] if len(words) > 1 else [b"ok", found.hex().encode()]
     except Damaged as damage:
-        return [b"damaged " + damage.args[0]]
+        return [far + b"damaged " + damage.args[0]]
 
 
 def main():
     asked = sys.argv[1:]
     if asked not in (["stdin"], ["stdout"]):
         sys.exit(__doc__)
-    for call, tree, word in calls():
-        fields = [call, nodes_text(tree)] + ([word] if word else []) if asked == ["stdin"] else answer(call, tree, word)
+    for call, tree, words in calls():
+        fields = [call, nodes_text(tree)] + words if asked == ["stdin"] else answer(call, tree, words)
         sys.stdout.buffer.write(b"\t".join(fields) + b"\n")
 
 

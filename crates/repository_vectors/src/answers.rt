@@ -1,6 +1,10 @@
 //! Answers as texts.
+ghost use Rattle.change_set.specs.ChangeSet.{HasContents};
+
 use crate::stop::Stop;
-use cny_base::{Bytes, Stop as DiskEnd};
+use change_set::{ChangeSet, encode};
+use cny_base::{Bytes, Fault, Stop as DiskEnd};
+use content_store::FarStop;
 use repo_index::Catalogue;
 use repository::Counts;
 use std::alloc::Global;
@@ -43,6 +47,30 @@ pub fn content_text(alloc: Global, found: &Option<Bytes>) -> Result<String, Stop
     };
     let digits = hex::encode(alloc, bytes.get())?;
     Ok(format!(in alloc; "ok\t{}", digits.as_str())?)
+}
+
+/// The stream of a change set in hexadecimal digits.
+pub fn set_text(alloc: Global, set: &ChangeSet) -> Result<String, Stop>
+    requires { HasContents set.now }
+{
+    match encode(alloc, set) {
+        Ok(bytes) => {
+            let digits = hex::encode(alloc, bytes.get())?;
+            Ok(format!(in alloc; "ok\t{}", digits.as_str())?)
+        }
+        Err(Fault::Refused(_)) => word(alloc, "too large"),
+        Err(Fault::Memory) => Err(Stop::Memory),
+    }
+}
+
+/// Why a content wasn't found in a source.
+pub fn far_text(alloc: Global, stop: FarStop) -> Result<String, Stop> {
+    match DiskEnd::from(stop) {
+        DiskEnd::FarDamaged { path } => Ok(format!(in alloc; "far damaged {}", path.text())?),
+        DiskEnd::FarFailed => word(alloc, "far failed"),
+        DiskEnd::Memory => Err(Stop::Memory),
+        _ => word(alloc, "another end"),
+    }
 }
 
 /// Why a call stopped.

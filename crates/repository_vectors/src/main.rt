@@ -8,6 +8,7 @@ mod calls;
 mod nodes;
 mod quiet;
 mod stop;
+mod troves;
 mod words;
 
 use crate::calls::answer_to;

@@ -1,0 +1,7 @@
+mod Members
+mod Searched
+mod Told
+mod Gathered
+mod Fitting
+mod Carrying
+mod SetLaws
