@@ -1,0 +1,89 @@
+#!/bin/sh
+# Prints what a further commit of 5 troves with 50 files each costs behind so many others of the same kind, the mean of 20, to a
+# tree in memory: its time, without the reading of its change set, and the calls of the disk.
+# It builds a program for that in a folder of its own, which proves what isn't proved yet on this machine. It needs Python.
+# Usage: bench/commits.sh [COUNT...]
+set -eu
+top=$(CDPATH='' cd "$(dirname "$0")/.." && pwd)
+work=$(mktemp -d)
+trap 'rm -rf "$work"' EXIT
+mkdir -p "$work/crates/commits/src"
+for crate in cny_base cny_lanes cny_stream cny_flavor cny_version cny_dep file_stream trove_id trove_items trove_stream trove_rel change_rel change_set tree_disk tree_nodes tree_memory content_store journal_log tree_journal repo_index repo_state repository repo_commit; do
+    cp -r "$top/crates/$crate" "$work/crates/"
+    grep "^$crate:" "$top/crates.txt" >>"$work/crates.txt"
+done
+echo 'commits may_abort=20: change_set cny_base repo_commit repo_index repository tree_disk tree_memory hex anyhow' >>"$work/crates.txt"
+# a disk that tells nothing, so that nothing has to be proved of what stands
+cp "$top/crates/commit_vectors/src/quiet.rt" "$work/crates/commits/src/quiet.rt"
+cat >"$work/crates/commits/src/main.rt" <<'PROGRAM'
+//! Commits the change sets on standard input, a line each, to a tree in memory, and prints what every 20 of them cost.
+#![tactic(auto)]
+mod quiet;
+
+use crate::quiet::Quiet;
+use change_set::decode;
+use cny_base::{Fails, Mode, Node, Path};
+use repo_commit::commit;
+use repository::load;
+use std::io::{BufRead, BufReader};
+use std::time::Instant;
+use tree_memory::{MemoryTree, Nodes};
+
+fn main(rt: HostRuntime) -> Result<(), anyhow::Error> {
+    let mut nodes = Vec::new(rt.alloc());
+    let root = Path::read(rt.alloc(), "/").expect(&rt, "a path");
+    nodes.push((root, Node::Dir { mode: Mode::owner_only() })).expect(&rt, "memory");
+    let tree = MemoryTree::new(rt.alloc(), Nodes::new(nodes), Fails::new(Vec::new(rt.alloc()))).expect(&rt, "a tree");
+    let mut disk = Quiet { tree, faults: 0, calls: 0 };
+    let mut catalogue = load(rt.alloc(), &mut disk).expect(&rt, "a catalogue");
+    let mut micros: u128 = 0;
+    let mut calls: u64 = 0;
+    for line in BufReader::new(rt.alloc(), rt.reader())?.lines(rt.alloc()) {
+        let bytes = hex::decode(rt.alloc(), line?.as_str()).expect(&rt, "digits");
+        let Ok(set) = decode(rt.alloc(), bytes.as_slice()) else {
+            return Ok(());
+        };
+        let before = disk.calls;
+        let start = Instant::now(&rt)?;
+        commit(rt.alloc(), &mut disk, &mut catalogue, &set).expect(&rt, "a commit");
+        micros = micros.saturating_add(start.elapsed(&rt)?.as_micros());
+        calls = calls.saturating_add(disk.calls.saturating_sub(before));
+        if catalogue.commits() % 20 == 0 {
+            println!(rt; "{} {} {}", catalogue.commits(), micros / 20, calls / 20)?;
+            micros = 0;
+            calls = 0;
+        }
+    }
+    Ok(())
+}
+PROGRAM
+cat >"$work/sets.py" <<'SETS'
+import sys
+from hashlib import sha1
+
+sys.dont_write_bytecode = True
+sys.path.insert(0, sys.argv[1])
+
+from repository_vectors import component
+from stream_model import set_bytes
+
+for number in range(int(sys.argv[2])):
+    troves, texts = [], []
+    for place in range(5 * number, 5 * number + 5):
+        files = [(b"/usr/share/name/%010d" % file, b"content %d" % file) for file in range(50 * place, 50 * place + 50)]
+        troves.append(component(b"name%d:runtime" % place, b"1.0-1-1", files))
+        texts += [text for _, text in files]
+    print(set_bytes(troves, sorted((sha1(text).digest(), text) for text in texts)).hex())
+SETS
+[ $# -gt 0 ] || set -- 100 400
+most=$(printf '%s\n' "$@" | sort -n | tail -1)
+python3 "$work/sets.py" "$top/tools" $((most + 20)) >"$work/sets"
+cd "$work/crates/commits"
+if ! rt run </dev/null >"$work/build.log" 2>&1; then
+    tail -5 "$work/build.log" >&2
+    exit 70
+fi
+out/commits <"$work/sets" >"$work/costs"
+for count in "$@"; do
+    awk -v at=$((count + 20)) '$1 == at { printf "behind %d commits: %d us, %d calls\n", at - 20, $2, $3 }' "$work/costs"
+done

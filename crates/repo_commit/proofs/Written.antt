@@ -1,0 +1,80 @@
+-- How the writing of a commit ends.
+use Rattle.std.proofs.Common.{◌≡◌, ℕ, ◌+◌, ◌<◌, ◌≤◌, Bool, true, false, IsTrue, All, List, ◌∷◌, [], Result, Ok, Err, OnOk, OnErr, IfErr, IsErrAnd, IsErrOf, refl, sym, ◌∙◌, ap, subst, arith}
+use Rattle.std.specs.List.{list_all}
+use Rattle.cny_base.specs.Count.{Rose}
+use Rattle.cny_base.specs.declared.limits.TheConstants.{COMMITS_LIMIT}
+use Rattle.cny_base.specs.declared.stop.Stop.{Stop}
+use Rattle.cny_base.specs.declared.stop.Stop.TheVariants.{Refused, Memory, Failed, Damaged, FarFailed, FarDamaged}
+use Rattle.trove_stream.specs.declared.parts.TroveParts.{TroveParts}
+use Rattle.trove_stream.specs.Trove.{IsTrove}
+use Rattle.tree_disk.specs.Tree.{Name, Tree}
+use Rattle.tree_disk.specs.Disk.{DiskModel, IsDisk}
+use Rattle.tree_disk.specs.Confined.{Confined, IsSynced, LeavesOnly}
+use Rattle.tree_disk.specs.ConfinedLaws.{confined_start, leaves_weaker}
+use Rattle.tree_disk.specs.Moments.{rose_before}
+use Rattle.tree_disk.specs.Steps.{IsDiskStop}
+use Rattle.tree_journal.specs.Apply as apply
+use Rattle.tree_journal.specs.Recovery.{is_committed}
+use Rattle.change_set.specs.declared.change.Carried.{Carried}
+use Rattle.repo_index.specs.Catalogue.{CatalogueParts}
+use Rattle.repo_state.specs.Counts.{IsPreparedName}
+use Rattle.repo_state.specs.Files.{repository_base, FitsTrove}
+use Rattle.repo_commit.specs.Outcome.{IsAtRest}
+use Rattle.repo_commit.specs.Preparing.{EndsWith, IsReady, IsWritten, Prepares, StopsBefore, Writes}
+use Rattle.repo_commit.proofs.Applied.{all_moments, before_image, done_reads, done_tree, mid_reads, puts_of, stopped_reads}
+use Rattle.repo_commit.proofs.Preparations.{stopped_ends}
+
+abbrev failing : Stop → Result (Unit {0}) Stop
+failing e = Err e
+
+on_err : {X E : Type 0} (P : Type 0) (r : Result X E) (e : E) → IsErrAnd r (λ s. s ≡ e) → OnOk r P
+on_err P (Ok x) e is = absurd is
+on_err P (Err s) e is = tt
+
+module _ {D : Type 0} {disk : DiskModel D} (laws : IsDisk disk) (c : CatalogueParts) (contents : List Carried) (troves : List TroveParts) (few : c.commits < COMMITS_LIMIT) where
+  -- what was prepared, and a stop passed on by `?`
+  pub writes_stopped : {old mid : D} (e : Stop) (r : Result (Unit {0}) Stop) → (IsTrue disk.tells → IsAtRest disk c old) → disk.faults old ≤ disk.faults mid → (IsTrue disk.tells → Confined disk (IsPreparedName c) old mid)
+      → StopsBefore disk.tells (disk.faults old) (disk.faults mid) e → IsErrAnd r (λ s. s ≡ e) → Writes disk c contents troves old mid r
+  writes_stopped {old = old} {mid = mid} e r rests later confined stops is = record {
+    later = later;
+    ends = stopped_ends disk.tells (IsWritten c contents troves (disk.reads old) (disk.reads mid)) (disk.faults old) (disk.faults mid) e r is stops;
+    flag_clear = λ tells. on_err (is_committed repository_base (disk.reads mid) ≡ false) r e is;
+    synced = λ tells. on_err (IsSynced disk mid) r e is;
+    any_moment = λ tells. leaves_weaker (before_image laws c contents troves few old mid (rests tells) (confined tells)) (confined tells).images;
+    stopped = λ tells. mid_reads laws c contents troves few old mid (rests tells) (confined tells);
+  }
+
+  -- want of memory before the first call
+  pub writes_nothing : (d : D) (r : Result (Unit {0}) Stop) → (IsTrue disk.tells → IsAtRest disk c d) → IsErrAnd r (λ s. s ≡ Memory) → Writes disk c contents troves d d r
+  writes_nothing d r rests is = writes_stopped Memory r rests (omega arith) (λ tells. confined_start laws (IsPreparedName c) d) tt is
+
+  -- the file was applied
+  pub writes_applied : {old mid new : D} (r : Result (Unit {0}) Stop) → All IsTrove troves → All FitsTrove troves → (IsTrue disk.tells → IsAtRest disk c old) → Prepares disk (IsPreparedName c) (IsReady c contents) old mid (Ok tt) → disk.faults mid ≤ disk.faults new
+      → (IsTrue disk.tells → LeavesOnly disk mid new (apply.IsBeforeOrAfter disk repository_base (puts_of c troves) mid))
+      → (IsTrue disk.tells → OnOk r (apply.IsAtRest disk repository_base (apply.goal repository_base (puts_of c troves) (disk.reads mid)) new))
+      → (IsTrue disk.tells → OnErr r (apply.IsOneOf repository_base (puts_of c troves) (disk.reads mid) (disk.reads new)))
+      → (IsErrOf r Failed → Rose (disk.faults mid) (disk.faults new)) → IfErr r IsDiskStop → Writes disk c contents troves old new r
+  writes_applied {old = old} {mid = mid} {new = new} (Ok x) are fits rests prepared later moments applied stopped failed stops = record {
+    later = omega (arith, prepared.later, later);
+    ends = λ tells. done_tree laws c contents troves few old mid (rests tells) (prepared.confined tells) (disk.reads new) are fits (prepared.ends tells) (applied tells).stores;
+    flag_clear = λ tells. (applied tells).flag_clear;
+    synced = λ tells. (applied tells).synced;
+    any_moment = λ tells. all_moments laws c contents troves few old mid (rests tells) (prepared.confined tells) are fits (prepared.ends tells) (moments tells);
+    stopped = λ tells. done_reads laws c contents troves few old mid (rests tells) (prepared.confined tells) (disk.reads new) are fits (prepared.ends tells) (applied tells).flag_clear (applied tells).stores;
+  }
+  writes_applied {old = old} {mid = mid} {new = new} (Err e) are fits rests prepared later moments applied stopped failed stops = record {
+    later = omega (arith, prepared.later, later);
+    ends = by e stops failed;
+    flag_clear = λ tells. tt;
+    synced = λ tells. tt;
+    any_moment = λ tells. all_moments laws c contents troves few old mid (rests tells) (prepared.confined tells) are fits (prepared.ends tells) (moments tells);
+    stopped = λ tells. stopped_reads laws c contents troves few old mid (rests tells) (prepared.confined tells) (disk.reads new) are fits (prepared.ends tells) (stopped tells);
+  }
+    where
+      by : (e : Stop) → IsDiskStop e → (IsErrOf (failing e) Failed → Rose (disk.faults mid) (disk.faults new)) → StopsBefore disk.tells (disk.faults old) (disk.faults new) e
+      by Failed stop rose = rose_before (disk.faults old) (disk.faults mid) (disk.faults new) prepared.later (rose refl)
+      by Memory stop rose = tt
+      by (Refused refusal) stop rose = absurd stop
+      by (Damaged path) stop rose = absurd stop
+      by FarFailed stop rose = absurd stop
+      by (FarDamaged path) stop rose = absurd stop

@@ -1,0 +1,14 @@
+use Rattle.std.proofs.Common.{◌≡◌, drop, take, None, Ok, IsTrue}
+use Rattle.repo_commit.specs.Outcome.{committed_contents, AreSound, IsDamagedSource}
+use Rattle.repo_commit.specs.Tests.{collision}
+use Rattle.repo_commit.specs.Verdict.{Checks}
+use Rattle.repo_commit.proofs.colliding.check_collisions.Given as goal
+
+abbrev pub invariant-loop-carried : goal.invariant-loop-carried
+invariant-loop-carried g l =
+    record {
+      checks : Checks g.D.TreeDisk.disk (λ tree. None) (IsDamagedSource l.contents l.committed.troves) l.fn.disk l.disk (Ok tt);
+      rest : IsTrue g.D.TreeDisk.disk.tells → collision (committed_contents l.committed.troves (g.D.TreeDisk.disk.reads l.fn.disk)) (drop l.carried-index l.contents)
+          ≡ collision (committed_contents l.committed.troves (g.D.TreeDisk.disk.reads l.fn.disk)) l.contents;
+      sound : IsTrue g.D.TreeDisk.disk.tells → AreSound (take l.carried-index l.contents) l.committed.troves (g.D.TreeDisk.disk.reads l.fn.disk);
+    }

@@ -1,0 +1,119 @@
+-- How a commit ends on a disk.
+use Rattle.std.specs.Prelude.{◌≡◌, ◌≢◌, ℕ, ◌<◌, ◌≤◌, Bool, false, if◌then◌else◌, IsTrue, List, [], ◌++◌, All, Contains, None, Result, Ok, Err}
+use Rattle.cny_base.specs.Count.{Rose}
+use Rattle.cny_base.specs.declared.limits.TheConstants.{COMMITS_LIMIT}
+use Rattle.cny_base.specs.declared.refusal.Refusal.{Refusal}
+use Rattle.cny_base.specs.declared.stop.Stop.{Stop}
+use Rattle.cny_base.specs.declared.stop.Stop.TheVariants.{Refused, Memory, Failed, Damaged, FarFailed, FarDamaged}
+use Rattle.trove_id.specs.declared.id.TroveId.{TroveId}
+use Rattle.trove_stream.specs.declared.parts.TroveParts.{TroveParts}
+use Rattle.tree_disk.specs.Tree.{Name, Tree}
+use Rattle.tree_disk.specs.Disk.{DiskModel, HasRead}
+use Rattle.tree_disk.specs.Confined.{IsUnsynced, LeavesOnly}
+use Rattle.journal_log.specs.Own.{gate}
+use Rattle.tree_journal.specs.Recovery.{is_committed}
+use Rattle.change_set.specs.declared.change.Carried.{Carried}
+use Rattle.change_set.specs.declared.change.ChangeSet.{ChangeSet}
+use Rattle.change_set.specs.declared.change.Part.{Part}
+use Rattle.content_store.specs.Contents.{ContentMap}
+use Rattle.content_store.specs.Store.{stored}
+use Rattle.repo_index.specs.Catalogue.{CatalogueParts, has_content}
+use Rattle.repo_state.specs.Counts.{Counts}
+use Rattle.repo_state.specs.State.{catalogue_of, RepositoryState}
+use Rattle.repo_state.specs.Files.{contents_dir, repository_base, HoldsCatalogue, StoresRepository}
+use Rattle.repository.specs.Contents.{IsDamagedContent}
+use Rattle.repo_commit.specs.Steps.{after_commit, catalogue_after, ids_of, IsBeforeOrAfter}
+use Rattle.repo_commit.specs.Parts.{AreMade}
+use Rattle.repo_commit.specs.Tests.{missing_ref, refs_of, IsRefused, Passes}
+
+-- what stands in a tree under the names that troves record
+abbrev pub committed_contents : List TroveParts → Tree → ContentMap
+committed_contents troves tree name = if has_content name troves then stored tree contents_dir name else None
+
+-- A disk on which a commit may be made: the catalogue is that of the commits that its files hold, and the commit flag isn't
+-- set, also after a crash.
+pub record IsAtRest {D : Type 0} (disk : DiskModel D) (c : CatalogueParts) (d : D) : Type 0 where
+  pub holds : HoldsCatalogue (disk.reads d) c
+  pub flag_clear : is_committed repository_base (disk.reads d) ≡ false
+  pub flag_synced : disk.unsynced d (gate repository_base) ≡ false
+
+-- No name changed since the last sync on which it depends whether a tree stores this repository.
+abbrev pub IsSettled : {D : Type 0} → DiskModel D → D → RepositoryState → Type 0
+IsSettled disk d r = (q : Name) → Counts r q → disk.unsynced d q ≡ false
+
+-- ---- how it ends
+
+-- The commit is done: the files hold the catalogue with the new troves, and each repository that the disk stored became that
+-- after the commit. Where no name counted for it had changed since the last sync, none has now, and a crash leaves a tree that
+-- recovers to that after the commit alone (the law `at_rest`).
+pub record IsDone {D : Type 0} (disk : DiskModel D) (change : ChangeSet) (c c' : CatalogueParts) (ids : List TroveId) (old new : D) : Type 0 where
+  pub troves : List TroveParts
+  pub passes : Passes c (committed_contents c.troves (disk.reads old)) change troves
+  pub ids_are : ids ≡ ids_of troves
+  pub catalogue_is : c' ≡ catalogue_after troves c
+  pub rests : IsAtRest disk c' new
+  pub stores : (r : RepositoryState) → StoresRepository (disk.reads old) r → StoresRepository (disk.reads new) (after_commit troves change.contents r)
+  -- no name became unsynced
+  pub calm : (q : Name) → IsUnsynced disk new q → IsUnsynced disk old q
+  pub settled : (r : RepositoryState) → StoresRepository (disk.reads old) r → IsSettled disk old r → IsSettled disk new (after_commit troves change.contents r)
+
+-- a carried content of this name, that was committed, is damaged at this path
+pub record IsDamagedSource (contents : List Carried) (troves : List TroveParts) (tree : Tree) (path : Name) : Type 0 where
+  pub content : Carried
+  pub listed : Contains contents content
+  pub damaged : IsDamagedContent troves content.name tree path
+
+-- no committed content of a carried one's name is damaged
+abbrev pub AreSound : List Carried → List TroveParts → Tree → Type 0
+AreSound contents troves tree = All (λ (c : Carried). (path : Name) → IsDamagedContent troves c.name tree path → ⊥) contents
+
+-- Why it stopped, where the disk tells its tree. What is refused, or stops at a damaged content, changes nothing.
+abbrev pub StopsSo : {D : Type 0} → DiskModel D → ChangeSet → CatalogueParts → CatalogueParts → D → D → Stop → Type 0
+StopsSo disk change c c' old new (Refused refusal) = HasRead disk old new (IsRefused c (committed_contents c.troves (disk.reads old)) change refusal) × (c' ≡ c)
+StopsSo disk change c c' old new (Damaged path) = HasRead disk old new (IsDamagedSource change.contents c.troves (disk.reads old) path) × (c' ≡ c)
+StopsSo disk change c c' old new Failed = Unit {0}
+StopsSo disk change c c' old new Memory = Unit {0}
+StopsSo disk change c c' old new FarFailed = ⊥
+StopsSo disk change c c' old new (FarDamaged path) = ⊥
+
+-- on every disk: a fault only where the count rose, and none of another disk
+abbrev pub HasCause : ℕ → ℕ → Stop → Type 0
+HasCause before now Failed = Rose before now
+HasCause before now Memory = Unit {0}
+HasCause before now (Refused refusal) = Unit {0}
+HasCause before now (Damaged path) = Unit {0}
+HasCause before now FarFailed = ⊥
+HasCause before now (FarDamaged path) = ⊥
+
+abbrev pub EndsSo : {D : Type 0} → DiskModel D → ChangeSet → CatalogueParts → CatalogueParts → D → D → Result (List TroveId) Stop → Type 0
+EndsSo disk change c c' old new (Ok ids) = IsDone disk change c c' ids old new
+EndsSo disk change c c' old new (Err stop) = StopsSo disk change c c' old new stop
+
+-- At every moment a crash leaves a tree that recovers to the repository before or after, and so does what the disk reads.
+abbrev pub AtEveryMoment : {D : Type 0} → DiskModel D → ChangeSet → D → D → RepositoryState → Type 0
+AtEveryMoment disk change old new r = StoresRepository (disk.reads old) r → IsSettled disk old r
+    → LeavesOnly disk old new (IsBeforeOrAfter r change) × IsBeforeOrAfter r change (disk.reads new)
+
+-- ---- the tests
+
+abbrev pub TestEnds : Bool → ChangeSet → CatalogueParts → Tree → Result CatalogueParts Stop → ℕ → ℕ → Type 0
+TestEnds told change c tree (Ok added) before now = IsTrue told → Passes c (committed_contents c.troves tree) change added.troves
+TestEnds told change c tree (Err (Refused refusal)) before now = IsTrue told → IsRefused c (committed_contents c.troves tree) change refusal
+TestEnds told change c tree (Err (Damaged path)) before now = IsTrue told → IsDamagedSource change.contents c.troves tree path
+TestEnds told change c tree (Err Failed) before now = Rose before now
+TestEnds told change c tree (Err Memory) before now = Unit {0}
+TestEnds told change c tree (Err FarFailed) before now = ⊥
+TestEnds told change c tree (Err (FarDamaged path)) before now = ⊥
+
+-- the tests of a commit only read the disk
+pub record TestsChange {D : Type 0} (disk : DiskModel D) (change : ChangeSet) (c : CatalogueParts) (old new : D) (result : Result CatalogueParts Stop) : Type 0 where
+  pub later : disk.faults old ≤ disk.faults new
+  pub same : IsTrue disk.tells → HasRead disk old new (Unit {0})
+  pub ends : TestEnds disk.tells change c (disk.reads old) result (disk.faults old) (disk.faults new)
+
+-- What holds on every disk where the tests pass: the troves are made, and where there are any, none has a missing reference,
+-- and there is room for a commit.
+pub record MayJoin (c : CatalogueParts) (parts : List Part) (troves : List TroveParts) : Type 0 where
+  pub made : AreMade c.troves parts troves
+  pub refs : troves ≢ [] → missing_ref (c.troves ++ troves) (refs_of troves) ≡ None
+  pub few : troves ≢ [] → c.commits < COMMITS_LIMIT

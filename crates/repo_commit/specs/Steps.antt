@@ -1,0 +1,75 @@
+-- What a commit makes of a repository.
+use Rattle.std.specs.Prelude.{◌≡◌, ◌⊎◌, ℕ, ◌+◌, List, [], ◌∷◌, ◌++◌, length, map, Option, Some, None}
+use Rattle.std.specs.List.{find}
+use Rattle.std.specs.Str.{bytes_eq}
+use Rattle.trove_stream.specs.declared.parts.TroveParts.{TroveParts}
+use Rattle.trove_id.specs.declared.id.TroveId.{TroveId}
+use Rattle.tree_disk.specs.Tree.{Tree}
+use Rattle.tree_journal.specs.Recovery.{RecoversTo}
+use Rattle.change_set.specs.declared.change.Carried.{Carried}
+use Rattle.change_set.specs.declared.change.ChangeSet.{ChangeSet}
+use Rattle.content_store.specs.Contents.{ContentMap}
+use Rattle.repo_index.specs.Catalogue.{CatalogueParts}
+use Rattle.repo_state.specs.State.{catalogue_of, RepositoryState}
+use Rattle.repo_state.specs.Steps.{catalogue_with, with_commit}
+use Rattle.repo_state.specs.Files.{repository_base, StoresRepository}
+use Rattle.repo_commit.specs.Tests.{Passes}
+
+-- ---- values
+
+abbrev pub bytes_of : Option Carried → Option (List ℕ)
+bytes_of None = None
+bytes_of (Some content) = Some content.bytes
+
+-- the bytes that are carried under a name
+abbrev pub carried : List Carried → ContentMap
+carried contents name = bytes_of (find (λ (content : Carried). bytes_eq content.name name) contents)
+
+abbrev pub or_carried : Option (List ℕ) → Option (List ℕ) → Option (List ℕ)
+or_carried None bytes = bytes
+or_carried (Some kept) bytes = Some kept
+
+-- the contents that were there, and those that are carried
+abbrev pub with_contents : ContentMap → List Carried → ContentMap
+with_contents held contents name = or_carried (held name) (carried contents name)
+
+-- The repository after a commit of these troves with these contents. Where there are no troves it stays.
+abbrev pub after_commit : List TroveParts → List Carried → RepositoryState → RepositoryState
+after_commit [] contents r = r
+after_commit (trove ∷ troves) contents r = with_commit (trove ∷ troves) (with_contents r.contents contents) r
+
+-- the catalogue after a commit of these troves
+abbrev pub catalogue_after : List TroveParts → CatalogueParts → CatalogueParts
+catalogue_after [] c = c
+catalogue_after (trove ∷ troves) c = catalogue_with (trove ∷ troves) c
+
+abbrev pub ids_of : List TroveParts → List TroveId
+ids_of troves = map (λ (t : TroveParts). t.id) troves
+
+-- ---- states
+
+-- the change set makes this repository of another, and no test fails
+pub record IsStep (r : RepositoryState) (change : ChangeSet) (new : RepositoryState) : Type 0 where
+  pub troves : List TroveParts
+  pub passes : Passes (catalogue_of r.commits) r.contents change troves
+  pub is : new ≡ after_commit troves change.contents r
+
+-- A tree that a crash left recovers to this repository.
+pub record RecoversToRepository (image : Tree) (r : RepositoryState) : Type 0 where
+  pub tree : Tree
+  pub recovers : RecoversTo repository_base image tree
+  pub stores : StoresRepository tree r
+
+-- It recovers to this repository, and to no other.
+pub record RecoversAlone (image : Tree) (r : RepositoryState) : Type 0 where
+  pub recovers : RecoversToRepository image r
+  pub alone : (s : RepositoryState) → RecoversToRepository image s → s ≡ r
+
+-- it recovers to the repository before, or to that after the commit
+pub record RecoversAfter (image : Tree) (r : RepositoryState) (change : ChangeSet) : Type 0 where
+  pub new : RepositoryState
+  pub step : IsStep r change new
+  pub recovers : RecoversToRepository image new
+
+abbrev pub IsBeforeOrAfter : RepositoryState → ChangeSet → Tree → Type 0
+IsBeforeOrAfter r change image = RecoversToRepository image r ⊎ RecoversAfter image r change

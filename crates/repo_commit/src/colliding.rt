@@ -1,0 +1,58 @@
+//! Contents that differ from committed ones of their names.
+ghost use Rattle.std.specs.Prelude.{◌≡◌, Contains, IsTrue, OnOk};
+ghost use Rattle.tree_disk.specs.Tree.{Name};
+ghost use Rattle.content_store.specs.Difference as spec;
+ghost use Rattle.repository.specs.Contents.{IsDamagedContent};
+ghost use Rattle.repo_commit.specs.Outcome.{committed_contents, AreSound, IsDamagedSource};
+ghost use Rattle.repo_commit.specs.Tests.{collides, collision};
+ghost use Rattle.repo_commit.specs.Verdict.{Checks};
+
+use change_set::Carried;
+use cny_base::{Refusal, Stop};
+use content_store::first_difference;
+use repo_index::Catalogue;
+use repository::content;
+use std::alloc::Global;
+use tree_disk::TreeDisk;
+
+// Whether a content is the committed one of its name, where there is one.
+fn check_content<D: TreeDisk>(
+    alloc: Global,
+    disk: &mut D,
+    committed: &Catalogue,
+    carried: &Carried,
+) -> Result<(), Stop>
+    ensures checks { Checks D.disk (λ tree. collides (committed_contents committed.now.troves tree carried.now.name) carried.now)
+        (IsDamagedContent committed.now.troves carried.now.name) disk.old disk.new result }
+    ensures sound { IsTrue D.disk.tells → OnOk result
+        ((path : Name) → IsDamagedContent committed.now.troves carried.now.name (D.disk.reads disk.old) path → ⊥) }
+{
+    let Some(kept) = content(alloc, disk, committed, &carried.name)? else {
+        return Ok(());
+    };
+    match first_difference(kept.get(), carried.bytes.get()) {
+        None => Ok(()),
+        Some(at) => Err(Stop::Refused(Refusal::Collision {
+            name: carried.name,
+            at: at as u64,
+        })),
+    }
+}
+
+/// Whether each content is the committed one of its name, where there is one. `Collision` names the first one that differs,
+/// with the first difference. `Damaged` names the file of a committed content.
+pub(crate) fn check_collisions<D: TreeDisk>(
+    alloc: Global,
+    disk: &mut D,
+    committed: &Catalogue,
+    contents: &[Carried],
+) -> Result<(), Stop>
+    ensures checks { Checks D.disk (λ tree. collision (committed_contents committed.now.troves tree) contents.now)
+        (IsDamagedSource contents.now committed.now.troves) disk.old disk.new result }
+    ensures sound { IsTrue D.disk.tells → OnOk result (AreSound contents.now committed.now.troves (D.disk.reads disk.old)) }
+{
+    for carried in contents {
+        check_content(alloc, disk, committed, carried)?;
+    }
+    Ok(())
+}

@@ -1,0 +1,62 @@
+//! A change set, committed.
+ghost use Rattle.std.specs.Prelude.{◌≡◌, ◌≢◌, ◌≤◌, [], IfErr, IfOk, IsTrue, OnOk};
+ghost use Rattle.change_set.specs.ChangeSet.{HasContents};
+ghost use Rattle.repo_state.specs.State.{RepositoryState};
+ghost use Rattle.repository.specs.Loading.{IsCatalogue};
+ghost use Rattle.repo_commit.specs.Outcome.{AreSound, AtEveryMoment, EndsSo, HasCause, IsAtRest};
+
+use crate::joining::{TroveIds, ids_of, join};
+use crate::testing::tested;
+use crate::writing::write;
+use change_set::ChangeSet;
+use cny_base::Stop;
+use repo_index::Catalogue;
+use repository::stored_state;
+use std::alloc::Global;
+use tree_disk::TreeDisk;
+
+/// Commits the troves that a change set makes, in the order of its parts, with the contents that it carries, and answers their
+/// ids. It takes effect as a whole or not at all, whenever the machine stops. A change set without parts changes nothing.
+///
+/// First all is tested, without a write. Part by part: `MissingBase` where the base of a relative part isn't committed (an
+/// earlier part doesn't count), or no trove comes of it; `Exists` where its id is committed or that of an earlier part;
+/// `Reserved` where it records a forbidden path. Then, trove by trove, `MissingRef` for a reference that is neither committed
+/// nor added, and `MissingContent` for a record whose content is neither carried nor committed, with its name and its size;
+/// `Collision` for the first carried content that differs from the committed one of its name; and `TooLarge` where there are
+/// 4,294,967,295 commits. The first test that fails is the refusal, and then nothing is changed, nor where `Damaged` names the
+/// file of a committed content.
+///
+/// The catalogue is that of the disk, which is recovered: `load` answered it, and only these calls wrote since. After Ok it is
+/// that again. After `Failed` and want of memory the disk is to be recovered and loaded again; it recovers to the state before
+/// or after. `Failed` comes only where the disk's count of faults rose. The cost doesn't grow with the number of commits.
+pub fn commit<D: TreeDisk>(
+    alloc: Global,
+    disk: &mut D,
+    catalogue: &mut Catalogue,
+    change: &ChangeSet,
+) -> Result<TroveIds, Stop>
+    requires contents { HasContents change.now }
+    requires rests { IsTrue D.disk.tells → IsAtRest D.disk catalogue.old disk.old }
+    // Which repository is stored, what is answered and what was refused.
+    ensures ends { IsTrue D.disk.tells → EndsSo D.disk change.now catalogue.old catalogue.new disk.old disk.new result }
+    // Where troves are added, no committed content under the name of a carried one is damaged.
+    ensures sound { IsTrue D.disk.tells → IfOk result (λ ids. ids ≢ [] → AreSound change.now.contents catalogue.old.troves (D.disk.reads disk.old)) }
+    // At every moment, also inside each call of the disk and where a call fails, a crash leaves a tree that recovers to the
+    // repository before or to the one after, and so does what the disk reads at the end.
+    ensures any_moment { IsTrue D.disk.tells → (r : RepositoryState) → AtEveryMoment D.disk change.now disk.old disk.new r }
+    // On every disk the catalogue keeps the rules.
+    ensures rules { IsCatalogue catalogue.old → OnOk result (IsCatalogue catalogue.new) }
+    ensures later { D.disk.faults disk.old ≤ D.disk.faults disk.new }
+    ensures causes { IfErr result (HasCause (D.disk.faults disk.old) (D.disk.faults disk.new)) }
+{
+    stored_state();
+    let added = tested(alloc, disk, catalogue, change)?;
+    let ids = ids_of(alloc, added.troves())?;
+    if added.troves().is_empty() {
+        return Ok(ids);
+    }
+    let contents = change.contents.get();
+    write(alloc, disk, catalogue, contents, added.troves())?;
+    join(alloc, catalogue, added.troves())?;
+    Ok(ids)
+}

@@ -1,0 +1,47 @@
+//! Laws of commits.
+ghost use Rattle.std.specs.Prelude.{◌≡◌, All};
+ghost use Rattle.cny_base.specs.declared.refusal.Refusal.{Refusal};
+ghost use Rattle.tree_disk.specs.Tree.{Tree};
+ghost use Rattle.tree_disk.specs.Disk.{IsImageOf};
+ghost use Rattle.change_set.specs.ChangeSet.{HasContents, IsPart};
+ghost use Rattle.change_set.specs.declared.change.ChangeSet.{ChangeSet};
+ghost use Rattle.repo_index.specs.Catalogue.{CatalogueParts};
+ghost use Rattle.repo_state.specs.Files.{StoresRepository};
+ghost use Rattle.repo_state.specs.State.{catalogue_of, troves_of, IsRepository, RepositoryState};
+ghost use Rattle.repo_commit.specs.Outcome.{committed_contents, IsAtRest, IsSettled};
+ghost use Rattle.repo_commit.specs.Steps.{IsStep, RecoversAlone};
+ghost use Rattle.repo_commit.specs.Tests.{IsRefused};
+
+use change_rel::one_result;
+use repo_state::one_repository;
+use tree_disk::TreeDisk;
+
+/// A commit of a repository gives a repository, one alone; or it is refused, for one reason alone.
+pub fn commit_step()
+    ensures repository { (r new : RepositoryState) (change : ChangeSet) → IsRepository r → HasContents change → All IsPart change.parts
+        → IsStep r change new → IsRepository new }
+    ensures one { (r : RepositoryState) (change : ChangeSet) (a b : RepositoryState) → IsStep r change a → IsStep r change b → a ≡ b }
+    ensures one_refusal { (r : RepositoryState) (change : ChangeSet) (a b : Refusal) → IsRefused (catalogue_of r.commits) r.contents change a
+        → IsRefused (catalogue_of r.commits) r.contents change b → a ≡ b }
+    // None is both made and refused.
+    ensures apart { (r : RepositoryState) (change : ChangeSet) (new : RepositoryState) (refusal : Refusal) → IsStep r change new
+        → IsRefused (catalogue_of r.commits) r.contents change refusal → ⊥ }
+{
+    one_result();
+}
+
+/// Where a tree stores a repository, what stands in it under the names that troves record are the contents of that.
+pub fn same_contents()
+    ensures { (x : Tree) (r : RepositoryState) → StoresRepository x r → committed_contents (troves_of r.commits) x ≡ r.contents }
+{}
+
+/// A disk at rest that stores a repository recovers to that alone: as it reads, and, where no name that counts for it has
+/// changed since the last sync, after a crash.
+pub fn at_rest<D: TreeDisk>()
+    ensures reads { (d : D) (c : CatalogueParts) (r : RepositoryState) → IsAtRest D.disk c d → StoresRepository (D.disk.reads d) r
+        → RecoversAlone (D.disk.reads d) r }
+    ensures crash { (d : D) (c : CatalogueParts) (r : RepositoryState) (image : Tree) → IsAtRest D.disk c d → StoresRepository (D.disk.reads d) r
+        → IsSettled D.disk d r → IsImageOf D.disk d image → RecoversAlone image r }
+{
+    one_repository();
+}

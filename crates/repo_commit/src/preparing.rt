@@ -1,0 +1,174 @@
+//! What is written before the file of a commit: the directories, the new contents, and nothing at the name behind the file.
+ghost use Rattle.std.specs.Prelude.{◌≡◌, ◌<◌, All, IfOk, IsTrue, Some};
+ghost use Rattle.std.specs.FinMap.{get};
+ghost use Rattle.std.specs.List.Sorted.{IsStrictlySortedBy};
+ghost use Rattle.sha1.specs.Sha1.{sha1};
+ghost use Rattle.cny_base.specs.Path.{is_path, parent};
+ghost use Rattle.cny_base.specs.declared.limits.TheConstants.{COMMITS_LIMIT};
+ghost use Rattle.cny_base.specs.declared.node.Node.TheVariants as node;
+ghost use Rattle.tree_disk.specs.Clear.{is_within};
+ghost use Rattle.tree_disk.specs.Confined.{Among};
+ghost use Rattle.tree_disk.specs.Disk.{one_name};
+ghost use Rattle.tree_disk.specs.Looks.{sees_dir, sees_nothing};
+ghost use Rattle.tree_disk.specs.Rows.{can_make, is_dir_at, with_node};
+ghost use Rattle.tree_disk.specs.Steps.{Makes};
+ghost use Rattle.tree_journal.specs.Apply.{with_base};
+ghost use Rattle.tree_journal.specs.Steps.{IsOther};
+ghost use Rattle.change_set.specs.ChangeSet.{content_cmp};
+ghost use Rattle.change_set.specs.declared.change.Carried.{Carried};
+ghost use Rattle.content_store.specs.Store.{content_path, stored};
+ghost use Rattle.repo_state.specs.Counts.{IsPreparedName, IsUnnamedContent};
+ghost use Rattle.repo_state.specs.Files.{contents_dir, repository_base};
+ghost use Rattle.repo_commit.specs.Preparing.{is_dir_name, AreStored, IsPutName, IsReady, IsStored, Prepares};
+
+use change_set::Carried;
+use cny_base::{Mode, Path, Stop};
+use content_store::{Sha1Namer, clear, put};
+use repo_index::Catalogue;
+use repo_state::{base_path, commit_path, contents_path};
+use std::alloc::Global;
+use tree_disk::{Look, TreeDisk, steps};
+
+// ---- directories
+
+fn is_dir(look: &Look) -> bool
+    ensures { result ≡ sees_dir look.now }
+{
+    matches!(look, Look::Dir { .. })
+}
+
+fn is_nothing(look: &Look) -> bool
+    ensures { result ≡ sees_nothing look.now }
+{
+    matches!(look, Look::Nothing)
+}
+
+// Makes a directory where nothing stands, with mode 0755.
+fn new_dir<D: TreeDisk>(alloc: Global, disk: &mut D, path: &Path) -> Result<(), Stop>
+    requires { IsTrue D.disk.tells → IsTrue (can_make (D.disk.reads disk.old) path.now) }
+    ensures { Makes D.disk (one_name path.now) (λ tree. with_node tree path.now (node.Dir 493)) disk.old disk.new result }
+{
+    let Some(mode) = Mode::new(0o755) else {
+        unreachable!()
+    };
+    steps::make_dir(alloc, disk, path, mode)
+}
+
+// Makes a directory in place of a file or a link.
+fn replace_by_dir<D: TreeDisk>(alloc: Global, disk: &mut D, path: &Path) -> Result<(), Stop>
+    requires path { IsTrue (is_path path.now) }
+    requires parent { IsTrue D.disk.tells → IsTrue (is_dir_at (D.disk.reads disk.old) (parent path.now)) }
+    requires stands { IsTrue D.disk.tells → IsOther (get (D.disk.reads disk.old) path.now) }
+    ensures { Makes D.disk (one_name path.now) (λ tree. with_node tree path.now (node.Dir 493)) disk.old disk.new result }
+{
+    steps::remove(alloc, disk, path)?;
+    new_dir(alloc, disk, path)
+}
+
+// Makes a directory where none stands. A file or a link that stands there goes first.
+fn make_dir<D: TreeDisk>(alloc: Global, disk: &mut D, path: &Path) -> Result<(), Stop>
+    requires path { IsTrue (is_path path.now) }
+    requires parent { IsTrue D.disk.tells → IsTrue (is_dir_at (D.disk.reads disk.old) (parent path.now)) }
+    ensures { Makes D.disk (one_name path.now) (λ tree. with_base path.now tree) disk.old disk.new result }
+{
+    let look = steps::look(alloc, disk, path)?;
+    if is_dir(&look) {
+        return Ok(());
+    }
+    if is_nothing(&look) {
+        return new_dir(alloc, disk, path);
+    }
+    replace_by_dir(alloc, disk, path)
+}
+
+// Makes the base and the directory of the contents, and answers that.
+fn make_dirs<D: TreeDisk>(alloc: Global, disk: &mut D) -> Result<Path, Stop>
+    ensures makes { Makes D.disk is_dir_name (λ tree. with_base contents_dir (with_base repository_base tree)) disk.old disk.new result }
+    ensures path { IfOk result (λ path. path ≡ contents_dir) }
+{
+    let base = base_path(alloc)?;
+    let contents = contents_path(alloc)?;
+    make_dir(alloc, disk, &base)?;
+    make_dir(alloc, disk, &contents)?;
+    Ok(contents)
+}
+
+// ---- contents
+
+// Puts a content in place of all that stands under its name.
+fn put_content<D: TreeDisk>(
+    alloc: Global,
+    disk: &mut D,
+    dir: &Path,
+    content: &Carried,
+) -> Result<(), Stop>
+    requires hash { content.now.name ≡ sha1 content.now.bytes }
+    requires dir { dir.now ≡ contents_dir }
+    requires stands { IsTrue D.disk.tells → IsTrue (is_dir_at (D.disk.reads disk.old) contents_dir) }
+    ensures { Prepares D.disk (Among (is_within (content_path contents_dir content.now.name)))
+        (λ tree. stored tree contents_dir content.now.name ≡ Some content.now.bytes) disk.old disk.new result }
+{
+    clear(alloc, disk, dir, &content.name)?;
+    put(alloc, disk, &Sha1Namer, dir, content.bytes.get())?;
+    Ok(())
+}
+
+// Puts a content whose name no trove records.
+fn put_new<D: TreeDisk>(
+    alloc: Global,
+    disk: &mut D,
+    committed: &Catalogue,
+    dir: &Path,
+    content: &Carried,
+) -> Result<(), Stop>
+    requires hash { content.now.name ≡ sha1 content.now.bytes }
+    requires dir { dir.now ≡ contents_dir }
+    requires stands { IsTrue D.disk.tells → IsTrue (is_dir_at (D.disk.reads disk.old) contents_dir) }
+    ensures { Prepares D.disk (IsPutName committed.now content.now) (IsStored committed.now content.now) disk.old disk.new result }
+{
+    if committed.has_content(&content.name) {
+        return Ok(());
+    }
+    put_content(alloc, disk, dir, content)
+}
+
+// Puts each content whose name no trove records.
+fn put_contents<D: TreeDisk>(
+    alloc: Global,
+    disk: &mut D,
+    committed: &Catalogue,
+    dir: &Path,
+    contents: &[Carried],
+) -> Result<(), Stop>
+    requires hash { All (λ (content : Carried). content.name ≡ sha1 content.bytes) contents.now }
+    requires rising { IsStrictlySortedBy content_cmp contents.now }
+    requires dir { dir.now ≡ contents_dir }
+    requires stands { IsTrue D.disk.tells → IsTrue (is_dir_at (D.disk.reads disk.old) contents_dir) }
+    ensures { Prepares D.disk (IsUnnamedContent committed.now) (AreStored committed.now contents.now) disk.old disk.new result }
+{
+    for content in contents {
+        put_new(alloc, disk, committed, dir, content)?;
+    }
+    Ok(())
+}
+
+/// Makes the disk ready for the file of a further commit: the base and the directory of the contents stand, each content that
+/// no trove records stands under its name, in place of all that stood there, and nothing stands at the name behind that of the
+/// new file, so that no older file there counts as a commit. No other name changes. `Refused` never comes where the disk tells
+/// its tree.
+pub(crate) fn prepare<D: TreeDisk>(
+    alloc: Global,
+    disk: &mut D,
+    committed: &Catalogue,
+    contents: &[Carried],
+) -> Result<(), Stop>
+    requires few { committed.now.commits < COMMITS_LIMIT }
+    requires hash { All (λ (content : Carried). content.name ≡ sha1 content.bytes) contents.now }
+    requires rising { IsStrictlySortedBy content_cmp contents.now }
+    ensures { Prepares D.disk (IsPreparedName committed.now) (IsReady committed.now contents.now) disk.old disk.new result }
+{
+    let behind = commit_path(alloc, u64::from(committed.commits()) + 2)?;
+    let dir = make_dirs(alloc, disk)?;
+    put_contents(alloc, disk, committed, &dir, contents)?;
+    steps::clear_tree(alloc, disk, &behind)
+}
