@@ -1,17 +1,20 @@
 #!/usr/bin/env python3
-"""Makes the vectors of databases: calls, and what they have to answer.
+"""Makes the vectors of databases, rollback records and saved contents: calls, and what they have to answer.
 
     tools/state_vectors.py stdin   >crates/state_vectors/stdin     a call and its argument in each line
     tools/state_vectors.py stdout  >crates/state_vectors/stdout    what each has to answer
 
-The answers come from a reading of docs/FORMATS.md, with the grammar of troves from tools/stream_model.py; neither shares
-anything with the program.
+The answers come from a reading of docs/FORMATS.md, with the grammar of troves from tools/stream_model.py and that of rollback
+records from tools/record_model.py; none of them shares anything with the program.
 """
 import hashlib
 import sys
 
 sys.dont_write_bytecode = True
 
+import record_model as records
+from rel_vectors import relative_of
+from record_model import CAME, LISTED, NOTHING, TURNED, WAS, Record, record_bytes
 from stream_model import (
     Id, NotOfForm, Owner, Trove, directory, forbidden_path, id_text, item, link, need, read_trove, regular, rises,
     trove_bytes,
@@ -219,9 +222,192 @@ def lines():
             yield "load " + shown(text), load(text)
 
 
+# ---- rollback records
+
+# The record of the job that installed the component `foo:runtime` with `/etc` and `/etc/foo`; written by hand.
+RECORD_BY_HAND = bytes.fromhex(
+    "434e5952423032 0a"
+    "60 00000004 00000001"
+    "64 00000035 000b 666f6f3a72756e74696d65"
+    "0024 2f636f6e6172792e6578616d706c652e636f6d4065783a646576656c2f312e302d312d31 0000"
+    "67 00000008 0004 2f657463 6e 3d"
+    "67 0000000c 0008 2f6574632f666f6f 6e 3d"
+    "6f 00000000"
+)
+V2 = b"/conary.example.com@ex:devel/2.0-1-1"
+ABCD, ABX = hashlib.sha1(b"abcd").digest(), hashlib.sha1(b"abX").digest()
+FOO_2 = trove(b"foo:runtime", (b"/etc", directory(0o755)), (b"/etc/foo", regular(0o644, 0, 4, ABCD)), version=V2)
+EDITED = ("f", 0o644, 3, ABX)
+
+
+def good_records():
+    yield 2, Record(1, [(CAME, FOO.identity)], [(b"/etc", NOTHING, LISTED), (b"/etc/foo", NOTHING, LISTED)])
+    yield 2, Record(2, [(TURNED, relative_of(FOO_2, FOO))], [(b"/etc/foo", EDITED, LISTED)])
+    yield 1, Record(2, [(TURNED, relative_of(FOO_2, FOO))], [(b"/etc/foo", EDITED, LISTED)])
+    yield 1, Record(2, [(WAS, FOO)], [(b"/etc/foo", LISTED, NOTHING)])
+    yield 2, Record(2, [(WAS, OWNED)], [])
+    yield 2, Record(4_294_967_295, [], [])
+    yield 2, Record(0, [(CAME, BAR.identity), (WAS, PACKAGE), (WAS, FOO)], [])
+    marks = [NOTHING, LISTED, ("d", 0o7777), ("d", 0), EDITED, ("f", 0, 4_294_967_295, ABC), ("l", b"x"), ("l", b"y" * 1_024)]
+    paths = [b"/%02d" % at for at in range(64)]
+    yield 2, Record(7, [], [(path, marks[at // 8], marks[at % 8]) for at, path in enumerate(paths)])
+
+
+def bad_records():
+    """Bytes that are no record in the format."""
+    one, two = RECORD_BY_HAND, record_bytes(list(good_records())[1][1], 2)
+    for text in (one, two):
+        for cut in range(len(text)):
+            yield 2, text[:cut]
+        yield 1, text
+        yield 2, text + b"\0"
+        yield 2, text + item(0x6F, b"")
+    yield 2, b"CNYRB03\n" + one[8:]
+    yield 2, b"CNYRA01\n" + one[8:]
+    yield 2, records.MAGIC[1] + one[8:]
+    head, end = records.MAGIC[2] + item(0x60, four(1)), item(0x6F, b"")
+    yield 2, head
+    yield 2, records.MAGIC[2] + end
+    yield 2, records.MAGIC[2] + item(0x60, four(1) + b"\0") + end
+    yield 2, records.MAGIC[2] + item(0x60, four(1)[1:]) + end
+    yield 2, records.MAGIC[2] + item(0x61, four(1)) + end
+    yield 2, head + item(0x60, four(1)) + end
+    yield 2, head + item(0x61, b"") + end
+    yield 2, head + item(0x6F, b"\0")
+    # the order of deltas and entries
+    came, was = records.delta_bytes((CAME, BAR.identity), 2), records.delta_bytes((WAS, FOO), 2)
+    etc, foo = records.entry_bytes((b"/etc", NOTHING, LISTED)), records.entry_bytes((b"/etc/foo", NOTHING, LISTED))
+    for middle in (was + came, came + came, etc + was, foo + etc, foo + foo, came + etc + was):
+        yield 2, head + middle + end
+    # values
+    for value in (b"", BAR.identity.name, trove_bytes(FOO, True)):
+        yield 2, head + item(CAME, value) + end
+    for value in (b"", trove_bytes(FOO, False), trove_bytes(FOO, True) + b"\0", trove_bytes(FOO, True)[:-1]):
+        yield 2, head + item(WAS, value) + end
+    rel = relative_of(FOO_2, FOO)
+    yield 2, head + item(TURNED, records.model.relative_bytes(rel, False)) + end
+    yield 2, head + item(TURNED, records.model.relative_bytes(rel, True)[:-1]) + end
+    yield 2, head + item(WAS, records.model.relative_bytes(rel, True)) + end
+    old_head = records.MAGIC[1] + item(0x60, four(1))
+    yield 1, old_head + item(WAS, trove_bytes(FOO, True)) + end
+    yield 1, old_head + item(WAS, trove_bytes(OWNED, False)) + end
+    yield 1, old_head + item(TURNED, records.model.relative_bytes(rel, True)) + end
+    owned = relative_of(FOO_2._replace(identity=OWNED.identity._replace(version=V2)), OWNED)
+    yield 1, old_head + item(TURNED, records.model.relative_bytes(owned, False)) + end
+    # fingerprints
+    path = b"\0\4/etc"
+    for marks in (b"", b"n", b"nnn", b"=x", b"xn", b"nd\1", b"nd\x10\0", b"nf\1\xa4\0\0\0\3" + ABC[:-1], b"nf\x10\0\0\0\0\3" + ABC,
+                  b"nf\1\xa4\0\0\0\3" + ABC + b"n", b"nl\0\0", b"nl\0\1\1", b"nl\0\2x", b"nl\0\1\x80", b"n="):
+        yield 2, head + item(0x67, path + marks) + end
+    for path in (b"\0\0", b"\0\3etc", b"\0\5/etc/", b"\0\4/et\x80", b"\0"):
+        yield 2, head + item(0x67, path + b"n=") + end
+
+
+def record_lines():
+    for kind, one in good_records():
+        text = record_bytes(one, kind)
+        yield f"record {kind} {shown(text)}", records.read_text(text, kind)
+        yield f"rewritten {kind} {shown(text)}", record_bytes(one, 2).hex()
+    yield "record 2 " + shown(RECORD_BY_HAND), records.read_text(RECORD_BY_HAND, 2)
+    yield "rewritten 2 " + shown(RECORD_BY_HAND), RECORD_BY_HAND.hex()
+    for kind, text in bad_records():
+        yield f"record {kind} {shown(text)}", records.read_text(text, kind)
+
+
+# ---- saved contents
+
+# Two contents of one SHA-1, published by M. Stevens and others in 2017.
+COLLIDING_1 = bytes.fromhex(
+    "255044462d312e330a25e2e3cfd30a0a0a312030206f626a0a3c3c2f57696474682032203020522f4865696768742033203020522f547970"
+    "652034203020522f537562747970652035203020522f46696c7465722036203020522f436f6c6f7253706163652037203020522f4c656e67"
+    "74682038203020522f42697473506572436f6d706f6e656e7420383e3e0a73747265616d0affd8fffe00245348412d312069732064656164"
+    "2121212121852fec092339759c39b1a1c63c4c97e1fffe017f46dc93a6b67e013b029aaa1db2560b45ca67d688c7f84b8c4c791fe02b3df6"
+    "14f86db1690901c56b45c1530afedfb76038e972722fe7ad728f0e4904e046c230570fe9d41398abe12ef5bc942be33542a4802d98b5d70f"
+    "2a332ec37fac3514e74ddc0f2cc1a874cd0c78305a21566461309789606bd0bf3f98cda8044629a1"
+)
+COLLIDING_2 = bytes.fromhex(
+    "255044462d312e330a25e2e3cfd30a0a0a312030206f626a0a3c3c2f57696474682032203020522f4865696768742033203020522f547970"
+    "652034203020522f537562747970652035203020522f46696c7465722036203020522f436f6c6f7253706163652037203020522f4c656e67"
+    "74682038203020522f42697473506572436f6d706f6e656e7420383e3e0a73747265616d0affd8fffe00245348412d312069732064656164"
+    "2121212121852fec092339759c39b1a1c63c4c97e1fffe017346dc9166b67e118f029ab621b2560ff9ca67cca8c7f85ba84c79030c2b3de2"
+    "18f86db3a90901d5df45c14f26fedfb3dc38e96ac22fe7bd728f0e45bce046d23c570feb141398bb552ef5a0a82be331fea48037b8b5d71f"
+    "0e332edf93ac3500eb4ddc0decc1a864790c782c76215660dd309791d06bd0af3f98cda4bc4629b1"
+)
+
+
+def node_text(node):
+    if node is None:
+        return "n"
+    kind, *fields = node
+    if kind == "f":
+        return f"f:{fields[0]:04o}:{fields[1].hex() or '-'}"
+    return f"d:{fields[0]:04o}" if kind == "d" else "l:" + fields[0].decode()
+
+
+def tree_text(tree):
+    dirs = {path: ("d", 0o755) for path in (b"/", b"/var", b"/var/lib", b"/var/lib/conarydb")}
+    return ";".join(f"{path.decode()}={node_text(node)}" for path, node in sorted({**dirs, **tree}.items()))
+
+
+def file_mark(text, mode=0o644):
+    return ("f", mode, len(text), hashlib.sha1(text).digest())
+
+
+def difference(one, other):
+    return next((at for at, (a, b) in enumerate(zip(one, other)) if a != b), min(len(one), len(other)))
+
+
+def stashable(nodes):
+    seen = {}
+    for node in nodes:
+        if node is not None and node[0] == "f":
+            name = hashlib.sha1(node[2]).digest()
+            earlier = seen.setdefault(name, node[2])
+            if earlier != node[2]:
+                return f"collision {name.hex()} at {difference(earlier, node[2])}"
+    return "ok"
+
+
+def old(tree, number, mark):
+    if mark[0] != "f":
+        return node_text(None if mark == NOTHING else mark)
+    path = b"/var/lib/conarydb/s.%d/%s" % (number, mark[3].hex().encode())
+    node = tree.get(path)
+    if node is None or node[0] != "f" or len(node[2]) != mark[2] or hashlib.sha1(node[2]).digest() != mark[3]:
+        return "damaged " + path.decode()
+    return node_text(("f", mark[1], node[2]))
+
+
+def saved_lines():
+    file = lambda text: ("f", 0o644, text)
+    one, other = COLLIDING_1, COLLIDING_2
+    lists = [[], [file(b"")], [file(b"a"), file(b"b")], [file(b"a"), file(b"a")], [None, ("d", 0o755), ("l", b"x"), file(b"abc"), file(b"abX"), file(b"abc")]]
+    lists += [[file(one), file(other)], [file(other), ("d", 0o755), file(one)], [file(one), file(one)], [("l", b"x"), None, file(one), file(b""), file(other), file(one)]]
+    lists += [[("f", 0o600, one), ("f", 0o755, one)]]
+    for nodes in lists:
+        entries = ";".join(f"/{at:02d},{node_text(node)},n" for at, node in enumerate(nodes))
+        yield "stashable " + (entries or "-"), stashable(nodes)
+    dir_ = b"/var/lib/conarydb/s.4294967295"
+    at = lambda text, dir_=dir_: dir_ + b"/" + hashlib.sha1(text).hexdigest().encode()
+    good = {dir_: ("d", 0o755), at(b"abX"): ("f", 0o600, b"abX"), at(b""): ("f", 0o777, b"")}
+    marks = [NOTHING, ("d", 0), ("d", 0o7777), ("l", b"x"), file_mark(b"abX"), file_mark(b"abX", 0o4755), file_mark(b""), file_mark(b"other")]
+    for mark in marks:
+        yield f"old 0 {tree_text(good)} 4294967295 {records.mark_text(mark)}", old(good, 4_294_967_295, mark)
+        yield f"old 0 {tree_text({})} 1 {records.mark_text(mark)}", old({}, 1, mark)
+        yield f"old 0 {tree_text(good)} 1 {records.mark_text(mark)}", old(good, 1, mark)
+    mark = file_mark(b"abX")
+    for node in (("d", 0o755), ("l", b"x"), file(b""), file(b"abY"), file(b"abXX"), file(b"ab")):
+        yield f"old 0 {tree_text({**good, at(b'abX'): node})} 4294967295 {records.mark_text(mark)}", old({**good, at(b"abX"): node}, 4_294_967_295, mark)
+    longer = ("f", 0o644, 4, hashlib.sha1(b"abX").digest())
+    yield f"old 0 {tree_text(good)} 4294967295 {records.mark_text(longer)}", old(good, 4_294_967_295, longer)
+    for fails in (1, 2):
+        yield f"old {fails} {tree_text(good)} 4294967295 {records.mark_text(mark)}", "failed"
+
+
 def main():
     part = sys.argv[1]
-    made = list(lines())
+    made = list(lines()) + list(record_lines()) + list(saved_lines())
+    assert RECORD_BY_HAND == record_bytes(next(good_records())[1], 2)
     assert made[0][1] != "bad" and BY_HAND_2 == database_bytes(2, [FOO], 1, 1)
     for call, answer in made:
         print(call if part == "stdin" else answer)

@@ -1,4 +1,6 @@
 //! The calls.
+use crate::records::{read, rewritten};
+use crate::saved::{can_save, old};
 use crate::stop::Stop;
 use crate::trees::disk_of;
 use cny_base::{Bytes, Copies, Fault, Stop as DiskEnd, TextFault};
@@ -83,12 +85,23 @@ fn loaded(alloc: Global, text: &str) -> Result<String, Stop> {
     }
 }
 
+fn record_call(alloc: Global, call: &str, rest: &str) -> Result<String, Stop> {
+    match (call, rest.split_once(' ')) {
+        ("record", Some((format, bytes))) => read(alloc, format, bytes),
+        ("rewritten", Some((format, bytes))) => rewritten(alloc, format, bytes),
+        _ => Err(Stop::Unreadable),
+    }
+}
+
 /// The answer to a line.
 pub fn answer_to(alloc: Global, line: &str) -> Result<String, Stop> {
     match line.split_once(' ') {
         Some(("decode", rest)) => decoded(alloc, rest),
         Some(("encode", rest)) => encoded(alloc, rest),
         Some(("load", rest)) => loaded(alloc, rest),
+        Some(("stashable", rest)) => can_save(alloc, rest),
+        Some(("old", rest)) => old(alloc, rest),
+        Some((call, rest)) => record_call(alloc, call, rest),
         _ => Err(Stop::Unreadable),
     }
 }

@@ -1,0 +1,14 @@
+mod Handing
+mod Strs
+mod Utf8
+mod Numbers
+mod Rising
+mod Once
+mod Items
+mod Written
+mod EntryItems
+mod DeltaItems
+mod Heads
+mod Fronts
+mod Unique
+mod ByLists

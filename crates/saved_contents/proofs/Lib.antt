@@ -1,0 +1,4 @@
+mod Differences
+mod Digits
+mod Paths
+mod Noting

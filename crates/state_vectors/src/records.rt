@@ -1,0 +1,125 @@
+//! Rollback records as texts.
+use crate::calls::bytes_of;
+use crate::stop::Stop;
+use cny_base::{Copies, Mode, TextFault, octal};
+use record_text::{Delta, Record, Told, ToldEntry, decode, encode};
+use std::alloc::Global;
+use system_state::Format;
+use tree_scan::Mark;
+use trove_id::{TroveId, id_text};
+
+fn word(alloc: Global, word: &str) -> Result<String, Stop> {
+    Ok(String::from_str(alloc, word)?)
+}
+
+fn mode_text(alloc: Global, mode: Mode) -> Result<String, Stop> {
+    let digits = octal(mode);
+    match str::from_utf8(digits.as_slice()) {
+        Ok(text) => word(alloc, text),
+        Err(_) => Err(Stop::Unreadable),
+    }
+}
+
+fn dir_text(alloc: Global, mode: Mode) -> Result<String, Stop> {
+    let mode = mode_text(alloc, mode)?;
+    Ok(format!(in alloc; "d:{mode}")?)
+}
+
+fn file_text(alloc: Global, mode: Mode, size: u64, name: &[u8; 20]) -> Result<String, Stop> {
+    let mode = mode_text(alloc, mode)?;
+    let digits = hex::encode(alloc, name.as_slice())?;
+    Ok(format!(in alloc; "f:{mode}:{size}:{digits}")?)
+}
+
+fn mark_text(alloc: Global, mark: &Mark) -> Result<String, Stop> {
+    match mark {
+        Mark::Nothing => word(alloc, "n"),
+        Mark::Dir { mode } => dir_text(alloc, *mode),
+        Mark::File { mode, size, name } => file_text(alloc, *mode, *size, name),
+        Mark::Link { target } => Ok(format!(in alloc; "l:{}", target.text())?),
+    }
+}
+
+fn told_text(alloc: Global, told: &Told) -> Result<String, Stop> {
+    match told {
+        Told::Listed => word(alloc, "="),
+        Told::Own(mark) => mark_text(alloc, mark),
+    }
+}
+
+fn entry_text(alloc: Global, entry: &ToldEntry) -> Result<String, Stop> {
+    let before = told_text(alloc, &entry.before)?;
+    let after = told_text(alloc, &entry.after)?;
+    Ok(format!(in alloc; "{} {before} {after}", entry.path.text())?)
+}
+
+fn one_id(alloc: Global, kind: &str, id: &TroveId) -> Result<String, Stop> {
+    let text = id_text(alloc, id)?;
+    Ok(format!(in alloc; "{kind} {}", text.get())?)
+}
+
+fn two_ids(alloc: Global, old: &TroveId, fresh: &TroveId) -> Result<String, Stop> {
+    let old = id_text(alloc, old)?;
+    let fresh = id_text(alloc, fresh)?;
+    Ok(format!(in alloc; "turned {} {}", old.get(), fresh.get())?)
+}
+
+fn delta_text(alloc: Global, delta: &Delta) -> Result<String, Stop> {
+    match delta {
+        Delta::Came(id) => one_id(alloc, "came", id),
+        Delta::Was(trove) => one_id(alloc, "was", trove.id()),
+        Delta::Turned(rel) => two_ids(alloc, &rel.parts().old, &rel.parts().fresh),
+    }
+}
+
+fn push_deltas(alloc: Global, line: &mut String, deltas: &[Delta]) -> Result<(), Stop> {
+    for delta in deltas {
+        let text = delta_text(alloc, &delta.copy()?)?;
+        line.push_str("; ")?;
+        line.push_str(text.as_str())?;
+    }
+    Ok(())
+}
+
+fn push_entries(alloc: Global, line: &mut String, entries: &[ToldEntry]) -> Result<(), Stop> {
+    for entry in entries {
+        let text = entry_text(alloc, &entry.copy()?)?;
+        line.push_str("; ")?;
+        line.push_str(text.as_str())?;
+    }
+    Ok(())
+}
+
+// The number, the deltas and the entries.
+fn record_line(alloc: Global, found: &Record) -> Result<String, Stop> {
+    let mut line = format!(in alloc; "{}", found.number)?;
+    push_deltas(alloc, &mut line, found.deltas.get())?;
+    push_entries(alloc, &mut line, found.entries.get())?;
+    Ok(line)
+}
+
+fn format_of(text: &str) -> Result<Format, Stop> {
+    match text {
+        "1" => Ok(Format::One),
+        "2" => Ok(Format::Two),
+        _ => Err(Stop::Unreadable),
+    }
+}
+
+/// `record FORMAT BYTES`: what the record of these bytes says.
+pub fn read(alloc: Global, format: &str, bytes: &str) -> Result<String, Stop> {
+    let bytes = bytes_of(alloc, bytes)?;
+    match decode(alloc, format_of(format)?, bytes.as_slice()) {
+        Ok(found) => record_line(alloc, &found),
+        Err(TextFault::Bad) => word(alloc, "bad"),
+        Err(TextFault::Memory) => Err(Stop::Memory),
+    }
+}
+
+/// `rewritten FORMAT BYTES`: the bytes in format 2 of the record that these bytes are.
+pub fn rewritten(alloc: Global, format: &str, bytes: &str) -> Result<String, Stop> {
+    let bytes = bytes_of(alloc, bytes)?;
+    let found = decode(alloc, format_of(format)?, bytes.as_slice())?;
+    let again = encode(alloc, &found)?;
+    Ok(hex::encode(alloc, again.get())?)
+}
