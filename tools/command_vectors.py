@@ -1,18 +1,28 @@
 #!/usr/bin/env python3
 """Writes the script of the program command_vectors (crates/command_vectors/stdin), or what it has to answer (stdout).
 
-The answers come from the model of the commands in command_model.py, which is made from the rules of docs/COMMANDS.md,
-docs/FORMATS.md and docs/CRASH_SAFETY.md alone and shares nothing with the program that is tested with it. What `showcs` has
-to write is worked out by hand, in the table SETS. Of the lines only those of `cut` and `from` depend on how many calls of its
-disk a command makes.
+The answers come from the model of the program in program_model.py, which is made from the rules of docs/COMMANDS.md,
+docs/FORMATS.md and docs/CRASH_SAFETY.md alone and shares nothing with the program that is tested with it. Of the lines only
+those of `cut` and `from` depend on how many calls of its disks a command makes.
 
 Usage: tools/command_vectors.py (stdin|stdout|count) >FILE
 """
+import hashlib
 import sys
 
 sys.dont_write_bytecode = True
 
-from command_model import BASE, GATE, LOG, STAGE, WORK, Call, Ended, Refused, Streams, Tree, is_within, log_of, manifest_of, octal, parent_of, recover
+import program_model as root_side
+import repository_model as repo_side
+from disk_model import DIR, Damaged, Refused, Tree, is_within, item, parent_of, str_field
+from program_model import PLANNED_COMMANDS, Call, Streams, manifest_of
+from rel_vectors import relative_of
+from repository_vectors import commit_bytes
+from stream_model import ChangeSet, Id, Trove, asked_by, directory, regular, set_bytes
+
+BASE, REPO = root_side.BASE, repo_side.BASE
+GATE, LOG, STAGE, WORK = (getattr(root_side.JOURNAL, name) for name in ("gate", "log", "stage", "work"))
+SIDES = {"root": root_side.JOURNAL, "repo": repo_side.JOURNAL}
 
 
 # ---- the script
@@ -28,11 +38,15 @@ def given(data):
     return "%2D" if data == b"-" else word(data)
 
 
+def octal(mode):
+    return b"%04o" % mode
+
+
 class Script:
     """The lines so far, with their answers, and what they have set up."""
 
     def __init__(self):
-        self.lines, self.answers, self.cases, self.logs = [], [], {}, []
+        self.lines, self.answers, self.cases = [], [], {}
 
     def case(self, group):
         self.cases[group] = self.cases.get(group, 0) + 1
@@ -41,13 +55,18 @@ class Script:
         self.lines.append(line)
         self.answers.append(answer)
 
-    def root(self, edits=(), failing=0):
-        """A root with `/`, `/var` and `/var/lib`, and then what the edits put."""
-        self.tree, self.streams = Tree(failing), Streams()
-        self.say(f"root {failing}")
+    def disks(self, edits=(), repo_edits=(), root_fails=0, repo_fails=0):
+        """A root with `/`, `/var` and `/var/lib`, a repository with `/` alone, and then what the edits put."""
+        self.trees = {"root": Tree((b"/var", b"/var/lib"), root_fails), "repo": Tree((), repo_fails)}
+        self.streams = Streams()
+        self.say(f"disks {root_fails} {repo_fails}")
+        self.edit("root", edits)
+        self.edit("repo", repo_edits)
+
+    def edit(self, side, edits):
         for path, node in edits:
-            self.tree.edit(path, node)
-            self.say(" ".join(self.edit_words(path, node)))
+            self.trees[side].edit(path, node)
+            self.say(" ".join([side, *self.edit_words(path, node)]))
 
     def edit_words(self, path, node):
         if node is None:
@@ -63,51 +82,52 @@ class Script:
         self.streams.out_fails, self.streams.err_fails = out, err
         self.say(f"sinks {out} {err}")
 
-    def called(self, words, tree):
-        return Call(words, self.streams, tree, self.logs, SETS)
+    def called(self, words, trees):
+        return Call(words, self.streams, trees["root"], trees["repo"])
 
     def run(self, *words):
-        answer = answer_text(self.called(words, self.tree))
-        self.say(" ".join(["run", *map(given, words)]), answer + kept_text(self.tree))
+        call = self.called(words, self.trees)
+        self.say(" ".join(["run", *map(given, words)]), answer_text(call) + disks_text(self.trees))
+        return call.out
 
-    def cut(self, calls, pick, *words):
-        self.tree.left = calls
-        answer = answer_text(self.called(words, self.tree)) + self.recovered_text(self.tree, pick)
-        self.tree = self.tree.crash(pick)
-        self.say(" ".join(["cut", str(calls), str(pick), *map(given, words)]), answer)
+    def fed(self, data, *words):
+        """A call with this input."""
+        self.input(data)
+        return self.run(*words)
 
-    def recovered_text(self, tree, pick):
-        image = tree.crash(pick)
-        try:
-            found = "committed" if recover(image, self.logs) else "at rest"
-        except (Refused, Ended):
-            found = "stuck"
-        return "; " + found + nodes_text({p: n for p, n in image.nodes.items() if not is_within(p, BASE)})
+    def cut(self, side, calls, pick, *words):
+        self.trees[side].left = calls
+        answer = answer_text(self.called(words, self.trees)) + recovered_text(side, self.trees[side], pick)
+        self.trees = crashed(self.trees, side, pick)
+        self.say(" ".join(["cut", side, str(calls), str(pick), *map(given, words)]), answer)
 
-    def again_text(self, words, tree):
-        return "; again " + answer_text(self.called(words, tree)) + kept_text(tree)
+    def again_text(self, words, trees):
+        return "; again " + answer_text(self.called(words, trees)) + disks_text(trees)
 
-    def stopped(self, words, pick, calls):
-        tree = self.tree.copy()
-        tree.left = calls
-        call = self.called(words, tree)
-        text = answer_text(call) + self.recovered_text(tree, pick) + self.again_text(words, tree.crash(pick))
-        return call.status, text
+    def copies(self, side, failing=0):
+        return {name: tree.copy(failing if name == side else 0) for name, tree in self.trees.items()}
 
-    def failed(self, words, number):
-        tree = self.tree.copy(number)
-        call = self.called(words, tree)
-        text = answer_text(call) + nodes_text(tree.nodes) + self.recovered_text(tree, 0)
-        return call.status, text + self.again_text(words, tree)
+    def stopped(self, words, side, pick, calls):
+        trees = self.copies(side)
+        trees[side].left = calls
+        call = self.called(words, trees)
+        text = answer_text(call) + recovered_text(side, trees[side], pick)
+        return call.status, text + self.again_text(words, crashed(trees, side, pick))
 
-    def sweep(self, outcome):
+    def failed(self, words, side, number):
+        trees = self.copies(side, number)
+        call = self.called(words, trees)
+        text = answer_text(call) + nodes_text(trees[side].nodes) + recovered_text(side, trees[side], 0)
+        return call.status, text + self.again_text(words, trees)
+
+    def sweep(self, side, outcome):
         """The outcomes that differ from those before them, each with the number from which on it comes."""
         found, number = [], 0
         while True:
             status, text = outcome(number)
             if not found or found[-1][1] != text:
                 found.append((number, text))
-            if status != 5:
+            if status != (5 if side == "root" else 6):
                 return found
             number += 1
 
@@ -115,13 +135,17 @@ class Script:
         self.say(" ".join(line), " | ".join([str(len(found))] + [text for _, text in found]))
         self.say("from", " ".join(["from"] + [str(number) for number, _ in found]))
 
-    def stops(self, pick, *words):
-        found = self.sweep(lambda calls: self.stopped(words, pick, calls))
-        self.say_sweep(["stops", str(pick), *map(given, words)], found)
+    def stops(self, side, pick, *words):
+        found = self.sweep(side, lambda calls: self.stopped(words, side, pick, calls))
+        self.say_sweep(["stops", side, str(pick), *map(given, words)], found)
 
-    def faults(self, *words):
-        found = self.sweep(lambda calls: self.failed(words, calls + 1))
-        self.say_sweep(["faults", *map(given, words)], found)
+    def faults(self, side, *words):
+        found = self.sweep(side, lambda calls: self.failed(words, side, calls + 1))
+        self.say_sweep(["faults", side, *map(given, words)], found)
+
+
+def crashed(trees, side, pick):
+    return {name: tree.crash(pick if name == side else 0) for name, tree in trees.items()}
 
 
 def answer_text(call):
@@ -148,61 +172,124 @@ def kept_text(tree):
     return text + (" synced" if left == [text, text] else " unsynced")
 
 
-# ---- what stands, and what is installed and shown
+def disks_text(trees):
+    return "; root" + kept_text(trees["root"]) + "; repo" + kept_text(trees["repo"])
 
-DIR = ("dir", 0o755)
+
+def is_stored(side, path):
+    """Whether a path isn't the journal's own; of the root all of the private directory is."""
+    return not is_within(path, BASE) if side == "root" else not SIDES[side].is_own(path)
+
+
+def recovered_text(side, tree, pick):
+    image = tree.crash(pick)
+    try:
+        found = "committed" if SIDES[side].recover(image) else "at rest"
+    except (Refused, Damaged):
+        found = "stuck"
+    return "; " + found + nodes_text({path: node for path, node in image.nodes.items() if is_stored(side, path)})
+
+
+# ---- what stands, and what is installed, cooked and committed
 
 
 def file(data, mode=0o600):
     return ("file", mode, data)
 
 
-HEAD = b"manifest 1\ncomponent a:b\nversion /v\n"
-COMPONENT = b"manifest 1\ncomponent foo:runtime\nversion /conary.example.com@ex:devel/1.0-1-1\ndir 0755 /etc\nfile 0644 3 /etc/foo\nabc\nend\n"
-LEVELS = HEAD + b"dir 0755 /a\ndir 0750 /a/b\ndir 0700 /a/b/c\nfile 0600 4 /a/b/c/f\nwxyz\nfile 0640 0 /a/x\n\nend\n"
+def log_of(puts):
+    return root_side.JOURNAL.log_of(root_side.JOURNAL.numbered(puts))
 
-# The logs that stand behind a commit flag in any of the cases: those of the two manifests and of no write, and two others.
+
+LABEL, STABLE = b"conary.example.com@ex:devel", b"conary.example.com@ex:stable"
+HEAD = b"manifest 1\ncomponent a:b\nversion /v\n"
+
+
+def manifest(name, revision, lines=(), first=b"manifest 1", label=b"/" + LABEL):
+    """A manifest of this name at this revision, with further lines."""
+    kind = b"component" if b":" in name else b"group" if name.startswith(b"group-") else b"package"
+    return b"".join(line + b"\n" for line in (first, kind + b" " + name, b"version " + label + b"/" + revision, *lines, b"end"))
+
+
+def at(name, revision, label=b"/" + LABEL):
+    return name + b"=" + label + b"/" + revision
+
+
+COMPONENT = manifest(b"foo:runtime", b"1.0-1-1", [b"dir 0755 /etc", b"file 0644 3 /etc/foo", b"abc"])
+SECOND = manifest(b"foo:runtime", b"1.0-2-1", [b"dir 0755 /etc", b"file 0644 4 /etc/foo", b"abcd"])
+LEVELS = HEAD + b"dir 0755 /a\ndir 0750 /a/b\ndir 0700 /a/b/c\nfile 0600 4 /a/b/c/f\nwxyz\nfile 0640 0 /a/x\n\nend\n"
+PACKAGE_LINES = [
+    b"requires bar:runtime trove: bar:lib", b"dir 0755 /usr", b"dir 0755 /usr/lib", b"file 0755 4 /usr/lib/libbar.so.1", b"lib\n",
+    b"file 0644 4 config /usr/share/doc/bar/README", b"doc\n",
+]  # fmt: skip
+PACKAGE = manifest(b"bar", b"1.0-1-1", PACKAGE_LINES)
+SOURCE = manifest(b"foo:source", b"1.0-1")
+GROUP = manifest(b"group-all", b"1.0-1-1", [b"ref " + at(b"bar", b"1.0-1-1"), b"ref " + at(b"foo:runtime", b"1.0-1-1")])
+
+ABC, ABCD = (hashlib.sha1(data).digest() for data in (b"abc", b"abcd"))
+ETC = (b"/etc", directory(0o755))
+
+
+def component(name, revision, files=(), flavor=b""):
+    return Trove(Id(name, b"/" + LABEL + b"/" + revision, flavor), list(files), [], [], [])
+
+
+def group(name, revision, refs):
+    return Trove(Id(name, b"/" + LABEL + b"/" + revision, b""), [], sorted(refs), [], [])
+
+
+def plain(data, mode=0o644):
+    return regular(mode, 0, len(data), hashlib.sha1(data).digest())
+
+
+V1 = component(b"foo:runtime", b"1.0-1-1", [ETC, (b"/etc/foo", plain(b"abc"))])
+V2 = component(b"foo:runtime", b"1.0-2-1", [ETC, (b"/etc/foo", plain(b"abcd"))])
+
+
+def carried(*contents):
+    return sorted((hashlib.sha1(data).digest(), data) for data in contents)
+
+
+SET = set_bytes([V1], carried(b"abc"))
+RELATIVE = set_bytes([relative_of(V1, V2)], carried(b"abcd"))
+
+# Repositories as they stand after commits.
+
+
+def cooked(*manifests):
+    """The nodes of a repository in which these manifests were cooked."""
+    tree = Tree()
+    for data in manifests:
+        repo_side.commit(tree, repo_side.load(tree), ChangeSet(*manifest_of(data)))
+    return sorted((path, node) for path, node in tree.nodes.items() if path != b"/")
+
+
+COOKED, BOTH = cooked(COMPONENT), cooked(COMPONENT, SECOND)
+
+
+def content_at(data):
+    return REPO + b"/c/" + hashlib.sha1(data).hexdigest().encode()
+
+
+def with_node(edits, path, node):
+    return [(other, old) for other, old in edits if other != path] + ([] if node is None else [(path, node)])
+
+
+def node_at(edits, path):
+    return dict(edits)[path]
+
+
+# The write sets whose logs stand behind a commit flag in the cases of the root.
 REPLAYED = [(b"/x", ("dir", 0o750)), (b"/x/y", file(b"new")), (b"/z", None)]
 ONE_FILE = [(b"/a/x", file(b"x", 0o644))]
-LOGS = [manifest_of(COMPONENT)[2], manifest_of(LEVELS)[2], [], REPLAYED, ONE_FILE]
-
-# A commit flag that is set, of which no target stands yet.
 COMMITTED = [(b"/z", file(b"old", 0o644)), (BASE, DIR), (GATE, file(b"O")), (LOG, file(log_of(REPLAYED))), (STAGE, DIR), (STAGE + b"/0", file(b"new"))]
 BLOCKED = [(BASE, DIR), (GATE, file(b"O")), (LOG, file(log_of(ONE_FILE))), (STAGE, DIR), (STAGE + b"/0", file(b"x"))]
 NO_VAR = [(b"/var/lib", None), (b"/var", None)]
 
+# ---- change sets, with what is told of them
 
-def shown_item(tag, value):
-    return bytes([tag]) + len(value).to_bytes(4, "big") + value
-
-
-ABC = bytes.fromhex("a9993e364706816aba3e25717850c26c9cd0d89d")
-ABCD = bytes.fromhex("81fe8bfe87576c3ecb22426f8e57847382917acf")
-ETC = shown_item(0x04, b"\0\x04/etc\x01d\0\x01\xed")
-ETC_FOO = shown_item(0x04, b"\0\x08/etc/foo\x01f\0\x01\xa4\0\0\0\x03" + ABC)
-TROVE = (
-    shown_item(0x01, b"foo:runtime")
-    + shown_item(0x02, b"/conary.example.com@ex:devel/1.0-1-1")
-    + shown_item(0x03, b"")
-)
-END = shown_item(0x1F, b"")
-
-# `foo:runtime` at revision 1.0-1-1 with `/etc` and `/etc/foo`, and the contents `abc` of that file: 168 bytes, of which the
-# content is the item at 135, its bytes begin at 160, and the end item stands at 163.
-SET = b"CNYCS01\n" + shown_item(0x10, TROVE + ETC + ETC_FOO) + shown_item(0x12, ABC + b"abc") + END
-
-# From that trove to its revision 1.0-2-1, where `/etc/foo` has the contents `abcd`, and these: 207 bytes.
-RELATIVE = (
-    b"CNYCS01\n"
-    + shown_item(
-        0x11,
-        shown_item(0x21, b"\0\x0bfoo:runtime\0\x24/conary.example.com@ex:devel/1.0-1-1\0\0")
-        + shown_item(0x22, b"\0\x0bfoo:runtime\0\x24/conary.example.com@ex:devel/1.0-2-1\0\0")
-        + shown_item(0x24, b"\0\x08/etc/foo\x01f\0\x01\xa4\0\0\0\x04" + ABCD),
-    )
-    + shown_item(0x12, ABCD + b"abcd")
-    + END
-)
+ETC_ITEM = item(0x04, str_field(b"/etc") + b"\x01d\0\x01\xed")
+ETC_FOO_ITEM = item(0x04, str_field(b"/etc/foo") + b"\x01f\0\x01\xa4\0\0\0\x03" + ABC)
 WHOLE_LINE = b"absolute foo:runtime=/conary.example.com@ex:devel/1.0-1-1\n"
 RELATIVE_LINE = b"relative foo:runtime=/conary.example.com@ex:devel/1.0-2-1 from foo:runtime=/conary.example.com@ex:devel/1.0-1-1\n"
 
@@ -232,9 +319,9 @@ SETS = {
     edited(SET, 136, 140, b"\x01\0\0\x14"): b"malformed at 168",
     # A trove of which most bytes are missing, and one whose files are in the other order.
     edited(SET, 9, 13, b"\xff\xff\xff\xff"): b"malformed at 168",
-    edited(SET, 75, 135, ETC_FOO + ETC): b"malformed at 8",
+    edited(SET, 75, 135, ETC_FOO_ITEM + ETC_ITEM): b"malformed at 8",
     # More behind the end item.
-    SET + END: b"malformed at 168",
+    SET + item(0x1F, b""): b"malformed at 168",
     RELATIVE + b"\0": b"malformed at 207",
     # Another version of the form.
     b"CNYCS02\n": b"malformed at 0",
@@ -245,34 +332,49 @@ SETS = {
 PICKS = (0, 1, 2**32 - 1)
 
 
+# A specification of 4,096 bytes, of which a word has no more.
+FLAGS = ",".join(f"{place:02}" + "w" * 250 for place in range(16))
+LONG_SPEC = f"foo[{FLAGS}," + "z" * (4096 - len(FLAGS) - 6) + "]"
+LONGER_SPEC = "f" + LONG_SPEC
+
+
 def words_cases(script):
-    """Words are looked at before anything else: nothing of the input is taken, and neither the missing `/var` nor a call
-    that would fail is noticed. The output isn't written to."""
+    """Words are looked at before anything else: nothing of the input is taken, and neither the missing `/var` nor a call of a
+    disk that would fail is noticed. The output isn't written to."""
     usage = [
         "", "\n", "frob", "Install", "INSTALL", "install ", " install", "installed", "install\nx", "install\n\n", "install\n-",
         "install\n--", "install\n--frob", "install\n--keep=1", "install\n--Keep", "install\nx\n--keep", "install\ninstall",
         "--keep\ninstall", "--disk\nA\nB\ninstall", "--help", "--version", "showcs\nx", "showcs\n--full", "showcs ", "serve",
-        "sync", "mirror\nask",
+        "sync", "mirror\nask", "cook\nx", "cook\n--Next", "cook\n--next\n--next", "cook\n--next\nx", "cook\nx\n--next",
+        "cook\n--replace", "--next\ncook", "cooks", "commit\nx", "commit\n-", "commit\n--next", "rq\n\n", "rq\n--next", "rq\nfoo:",
+        "rq\nfoo\nbar", "rq\n:lib", "rq\ngroup-a:b", "rq\nfoo=a@b:c", "rq\n" + "n" * 256, "changeset", "changeset\n\n",
+        "changeset\nfoo=", "changeset\nfoo[", "changeset\nfoo=a@b", "changeset\nfoo=/a@b:c", "changeset\nfoo\n", "changeset\nfoo\nbar[",
+        "changeset\nfoo\nbar\nbaz", "changeset\n--next\nfoo", "shadow", "shadow\na@b:c", "shadow\na@b:c\nfoo\nbar", "shadow\na@b\nfoo",
+        "shadow\nb:c\nfoo", "shadow\nfoo\na@b:c", "shadow\na@b:c\nfoo[", "branch", "branch\na@b:c", "branch\na@b:c\nfoo\nbar",
+        "branch\n/a@b:c\nfoo", "branch\na@b:c\nfoo=", "branches\na@b:c\nfoo", "changeset\n" + LONGER_SPEC,
     ]  # fmt: skip
     planned = [
-        "cook", "cook\n--next\nx", "commit", "shadow", "branch\nx\ny\nz", "rq", "changeset\nx", "update\n-",
-        "update\n--replace\nx", "erase", "rollback\nx", "rblist", "q\na\nb\nc", "verify\n--full", "localcs", "batch", "demo\n0",
-        "demo", "install\n--replace", "install\n--keep", "install\n--keep\n--replace", "install\n--replace\n--keep",
-        "install\n--keep\n--keep", "install\n--keep\nx", "install\n--replace\n--frob",
+        "update\n-", "update\n--replace\nx", "erase", "rollback\nx", "rblist", "q\na\nb\nc", "verify\n--full", "localcs", "batch",
+        "demo\n0", "demo", "install\n--replace", "install\n--keep", "install\n--keep\n--replace", "install\n--replace\n--keep",
+        "install\n--keep\n--keep", "install\n--keep\nx", "install\n--replace\n--frob", "update\n" + LONGER_SPEC,
     ]  # fmt: skip
     for line in usage + planned:
         words = line.encode().split(b"\n") if line else []
-        script.root(NO_VAR, failing=1)
+        script.disks(NO_VAR, (), 1, 1)
         script.input(b"x", 1, 1)
         script.sinks(1, 0)
         script.run(*(words[:-1] if words and not words[-1] else words))
+        script.case("words")
+    for spec in (LONG_SPEC, LONGER_SPEC):
+        script.disks()
+        script.run(b"changeset", spec.encode())
         script.case("words")
 
 
 def install_cases(script, group, rows):
     """Manifests over roots with these edits."""
     for edits, data in rows:
-        script.root(edits)
+        script.disks(edits)
         script.input(data)
         script.run(b"install")
         script.case(group)
@@ -360,11 +462,17 @@ def manifest_cases(script):
         script.run(b"install")
 
 
+def told_by_hand(says):
+    return (0, says, b"") if not says or says.endswith(b"\n") else (1, b"", b"conary: " + says + b"\n")
+
+
 def set_cases(script):
-    for data in SETS:
-        script.root()
+    for data, says in SETS.items():
+        script.disks()
         script.input(data)
         script.run(b"showcs")
+        call = script.called([b"showcs"], script.trees)
+        assert (call.status, call.out, call.err) == told_by_hand(says)
         script.case("change sets")
 
 
@@ -373,17 +481,17 @@ def stream_cases(script):
     # A source that gives at most 50 bytes at once: three calls for the bytes, and one that meets the end.
     for data in (COMPONENT, LEVELS):
         for fails in range(1, 6):
-            script.root()
+            script.disks()
             script.input(data, 50, fails)
             script.run(b"install")
             script.case("failing sources")
     # A source that gives one byte at once.
-    script.root()
+    script.disks()
     script.input(COMPONENT, 1)
     script.run(b"install")
     script.case("failing sources")
     for words, data in ((b"install", b"x\n"), (b"x", b"")):
-        script.root()
+        script.disks()
         script.input(data)
         script.sinks(0, 1)
         script.run(words)
@@ -391,7 +499,7 @@ def stream_cases(script):
     # The effect stands, and where the output failed, nothing of the line was written.
     for data in (COMPONENT, LEVELS):
         for out, err in ((1, 0), (1, 1), (0, 1)):
-            script.root()
+            script.disks()
             script.input(data)
             script.sinks(out, err)
             script.run(b"install")
@@ -458,19 +566,19 @@ UNSET = [
 def recovery_cases(script):
     """Roots in which a journal stands already, as a crash, a damaged disk or somebody else left them."""
     for words, data, fails in OVER_COMMITTED:
-        script.root(COMMITTED)
+        script.disks(COMMITTED)
         script.input(data, 50, fails)
         script.run(*words)
         script.case("recovered before the input")
     # Nothing of the input is taken: its first call would fail.
     for edits in STUCK:
-        script.root(edits)
+        script.disks(edits)
         script.input(COMPONENT, 50, 1)
         script.run(b"install")
         script.case("logs that can't be replayed")
     # A refusal leaves them as they stand, and an installation takes them away.
     for edits in UNSET:
-        script.root(edits)
+        script.disks(edits)
         script.input(b"x\n")
         script.run(b"install")
         script.input(COMPONENT)
@@ -499,7 +607,7 @@ SHOWN = (
 
 def show_cases(script):
     for edits, words, data, fails, out, err in SHOWN:
-        script.root(edits)
+        script.disks(edits)
         script.input(data, 50, fails)
         script.sinks(out, err)
         script.run(*words)
@@ -517,43 +625,45 @@ def fault_cases(script):
         (NO_VAR, b"install", COMPONENT),
     ]
     for edits, words, data in rows:
-        script.root(edits)
+        script.disks(edits)
         script.input(data)
-        script.faults(words)
+        script.faults("root", words)
         script.case("failing roots")
 
 
-def calls_of(script, data):
-    """The calls that an installation into an empty root makes."""
-    tree, streams = Tree(), Streams()
+def calls_of(side, edits, words, data):
+    """The calls of a disk that a command makes which begins with these nodes of the repository."""
+    trees, streams = {"root": Tree((b"/var", b"/var/lib")), "repo": Tree()}, Streams()
+    for path, node in edits:
+        trees["repo"].edit(path, node)
     streams.data = data
-    Call([b"install"], streams, tree, script.logs, SETS)
-    return tree.made
+    Call(words, streams, trees["root"], trees["repo"])
+    return trees[side].made
 
 
 def crash_cases(script):
     """Calls that are cut off after each number of calls of the root, and the call made again over what a crash leaves."""
     for data in (COMPONENT, LEVELS):
         for pick in PICKS:
-            script.root()
+            script.disks()
             script.input(data)
-            script.stops(pick, b"install")
+            script.stops("root", pick, b"install")
             script.case("stopped installations")
     for pick in PICKS:
-        script.root(COMMITTED)
+        script.disks(COMMITTED)
         script.input(SET)
-        script.stops(pick, b"showcs")
+        script.stops("root", pick, b"showcs")
         script.case("stopped while a set is shown")
     # A second installation is cut off in the recovery that it begins with, and after it. The first one is cut off before
     # the base is synced; behind the write of the flag; before the last sync, with the flag as it was or gone; and so on.
     for data, pick, kind, path, before in SECONDS:
-        calls = calls_of(script, data)
+        calls = calls_of("root", [], [b"install"], data)
         number = max(place for place, call in enumerate(calls) if call == (kind, path)) + 1 - before
-        script.root()
+        script.disks()
         script.input(data)
-        script.cut(number, pick, b"install")
+        script.cut("root", number, pick, b"install")
         for then in PICKS:
-            script.stops(then, b"install")
+            script.stops("root", then, b"install")
         script.case("second installations")
 
 
@@ -571,11 +681,429 @@ SECONDS = [
 ]
 
 
+# ---- the repository
+
+
+def row_cases(script):
+    """Worked examples of the commands of the repository."""
+    # A component cooked twice.
+    script.disks()
+    script.fed(COMPONENT, b"cook")
+    script.fed(COMPONENT, b"cook")
+    script.run(b"rq")
+    script.case("cooked twice")
+    # A source, its shadow, and the next revisions on the shadow.
+    script.disks()
+    script.fed(SOURCE, b"cook")
+    script.run(b"shadow", STABLE, b"foo:source=" + LABEL)
+    for revision in (b"1.0-1", b"1.1-1"):
+        script.fed(manifest(b"foo:source", revision, label=b"/" + LABEL + b"//stable"), b"cook", b"--next")
+    script.run(b"rq", b"foo:source")
+    script.case("a shadow and next revisions")
+    # The sizes of change sets, what they hold, and what they do elsewhere.
+    script.disks()
+    script.fed(COMPONENT, b"cook")
+    script.fed(SECOND, b"cook")
+    sets = [script.run(b"changeset", *specs) for specs in ([b"foo:runtime=" + LABEL], [at(b"foo:runtime", b"1.0-1-1")], VERSIONS)]
+    assert [len(one) for one in sets] == [169, 168, 207] and sets[2] == RELATIVE
+    for data in [*sets, sets[2] + b"\0"]:
+        script.fed(data, b"showcs")
+    script.disks()
+    script.fed(sets[2], b"commit")
+    script.fed(sets[1], b"commit")
+    script.fed(sets[2], b"commit")
+    script.run(b"rq", b"foo:runtime")
+    script.case("sizes of change sets")
+    # Specifications that are refused.
+    script.disks()
+    script.run(b"changeset", b"foo")
+    script.run(b"changeset", b"foo=" + LABEL)
+    script.fed(COMPONENT, b"cook")
+    script.run(b"shadow", LABEL, b"foo:runtime=" + LABEL)
+    script.case("refused specifications")
+    # A reference and a content that aren't there.
+    script.disks()
+    script.fed(GROUP, b"cook")
+    script.fed(manifest(b"group-one", b"1.0-1-1", [b"ref " + at(b"foo:runtime", b"1.0-1-1")]), b"cook")
+    script.fed(edited(SET, 135, 163), b"commit")
+    script.case("a missing reference, a missing content")
+    # The first call of each stream and of each disk that fails.
+    for source, out, root, repo in ((1, 0, 0, 0), (0, 1, 0, 0), (0, 0, 1, 0), (0, 0, 0, 1)):
+        for words in (b"cook", b"install"):
+            script.disks((), (), root, repo)
+            script.input(COMPONENT, fails=source)
+            script.sinks(out, 0)
+            script.run(words)
+        script.case("statuses of faults")
+
+
+VERSIONS = [at(b"foo:runtime", b"1.0-1-1"), at(b"foo:runtime", b"1.0-2-1")]
+
+
+def cook_cases(script):
+    """Manifests of all kinds, and what of them is refused."""
+    for data in (PACKAGE, SOURCE, COMPONENT, manifest(b"group-none", b"1-1-1"), LEVELS, manifest(b"bar", b"1-1-1"), manifest(b"bar", b"2-1")):
+        script.disks()
+        script.fed(data, b"cook")
+        script.run(b"rq")
+        script.case("cooked manifests")
+    # All three kinds, owners, flavors, and a relative change set with owners.
+    script.disks()
+    for data in (COMPONENT, PACKAGE, GROUP):
+        script.fed(data, b"cook")
+    for name in (b"bar", b"bar:lib", b"group-all", b"foo", b"group-none"):
+        script.run(b"rq", name)
+    owned = [b"dir 0755 root:root /etc", b"file 0644 3 daemon:adm /etc/foo", b"abc"]
+    script.fed(manifest(b"own:runtime", b"1.0-1-1", owned, b"manifest 2"), b"cook")
+    script.run(b"changeset", b"own:runtime=" + LABEL)
+    script.fed(manifest(b"own:runtime", b"1.0-1-1", [b"flavor krb, ~ssl", *owned], b"manifest 2"), b"cook")
+    script.run(b"rq", b"own:runtime")
+    script.run(b"changeset", b"own:runtime=" + LABEL + b"[krb,ssl]")
+    script.case("cooked manifests")
+    for size in range(0, len(PACKAGE), 7):
+        script.disks()
+        script.fed(PACKAGE[:size], b"cook")
+        script.case("manifests refused by cook")
+    for lines in ([b"file 0644 16777217 /a"], [b"dir 0755 /b", b"dir 0755 /a"], [b"ref " + at(b"foo", b"1-1-1")], [b"frob"], [b"dir 0755 /a", b""]):
+        script.disks()
+        script.fed(manifest(b"a:b", b"1-1-1", lines), b"cook")
+        script.case("manifests refused by cook")
+    # Tests behind the grammar: what exists comes before what is reserved, trove by trove, and that before references.
+    reserved = [b"dir 0755 /var/lib/conarydb", b"file 0644 1 /var/lib/conarydb/x", b"x"]
+    script.disks()
+    script.fed(manifest(b"a:b", b"1-1-1", reserved), b"cook")
+    script.fed(manifest(b"a:b", b"1-1-1", [b"link /var", b"target x"]), b"cook")
+    script.fed(manifest(b"a:b", b"1-1-1", [b"file 0644 0 /", b""]), b"cook")
+    script.fed(manifest(b"a:b", b"1-1-1", [b"dir 0700 /", b"dir 0700 /var", b"dir 0700 /var/lib"]), b"cook")
+    script.fed(manifest(b"a:b", b"1-1-1", reserved), b"cook")
+    script.case("manifests refused by cook")
+    # Nothing that stands in the repository's way matters: it is cleared, or isn't read.
+    for edits in STRAYS:
+        script.disks((), edits)
+        script.fed(COMPONENT, b"cook")
+        script.fed(SECOND, b"cook")
+        script.run(b"rq")
+        script.case("strays in a repository")
+
+
+# A file or a link in place of the base or of the contents; files of later commits; nodes at the names of contents.
+STRAYS = [
+    [(REPO, file(b"base"))],
+    [(b"/x", DIR), (REPO, ("link", b"x"))],
+    [(REPO, ("dir", 0o700)), (REPO + b"/c", file(b"contents", 0o644))],
+    [(REPO, DIR), (REPO + b"/c", ("link", b"/"))],
+    [(REPO, DIR), (repo_side.commit_path(2), file(b"old")), (repo_side.commit_path(3), DIR), (repo_side.commit_path(3) + b"/x", DIR)],
+    [(REPO, DIR), (REPO + b"/c", DIR), (content_at(b"abc"), DIR), (content_at(b"abc") + b"/x", file(b"x")), (content_at(b"abcd"), ("link", b"x"))],
+    [(REPO, DIR), (REPO + b"/c", DIR), (content_at(b"abc"), file(b"other")), (content_at(b"x"), file(b"y"))],
+]
+
+
+def commit_cases(script):
+    """Change sets that are committed or refused."""
+    whole = [(data, [b"commit"]) for data in SETS]
+    for data, words in whole:
+        script.disks()
+        script.fed(data, *words)
+        script.case("committed change sets")
+    # Over a repository that has the first version: its content needn't be carried, one of another size is missing.
+    shorter = component(b"foo:runtime", b"1.0-1-2", [ETC, (b"/etc/foo", regular(0o644, 0, 4, ABC))])
+    same = component(b"foo:runtime", b"1.0-1-2", [ETC, (b"/etc/bar", plain(b"abc"))])
+    lost = group(b"group-lost", b"1-1-1", [Id(b"none", V1.identity.version, b""), V1.identity])
+    taken = component(b"a:b", b"1-1-1", [(b"/var/lib", plain(b"abc"))])
+    hidden = component(b"a:b", b"1-1-1", [(BASE + b"/x", plain(b"nowhere"))])
+    nowhere = component(b"b:c", b"1-1-1", [(b"/a", plain(b"abc")), (b"/b", plain(b"none")), (b"/c", plain(b"nowhere"))])
+    from_second = relative_of(V2, component(b"foo:runtime", b"1.0-3-1", [(b"/etc/foo", plain(b"abcd"))]))
+    stale = relative_of(V1._replace(files=[]), V2)
+    onto_taken = relative_of(V1, component(b"foo:runtime", b"2-1-1", [(b"/var", plain(b"abc"))]))
+    for parts in (
+        [shorter], [same], [V1], [V2, V1], [V2, V2], [lost], [lost, nowhere], [nowhere, lost], [nowhere], [taken], [taken, V1], [V1, taken],
+        [hidden, lost], [from_second], [relative_of(V1, V2), from_second], [V2, from_second], [stale], [from_second, taken],
+        [taken, from_second], [onto_taken], [relative_of(V1, same)], [group(b"group-a", b"1-1-1", [same.identity]), same],
+        [group(b"group-a", b"1-1-1", [Id(b"group-b", b"/" + LABEL + b"/1-1-1", b"")]), group(b"group-b", b"1-1-1", [Id(b"group-a", b"/" + LABEL + b"/1-1-1", b"")])],
+    ):  # fmt: skip
+        script.disks((), COOKED)
+        carries = [b"abcd"] if any(name == ABCD for part in parts for name, _ in asked_by(part)) else []
+        script.fed(set_bytes(parts, carried(*carries)), b"commit")
+        script.run(b"rq")
+        script.case("commits over a commit")
+    # A content that is carried again is compared with the committed one.
+    script.disks((), COOKED)
+    script.fed(set_bytes([same], carried(b"abc")), b"commit")
+    script.case("commits over a commit")
+
+
+def listing_cases(script):
+    """The lists of committed troves."""
+    script.disks()
+    for words in ([b"rq"], [b"rq", b"foo"], [b"rq", b"foo:runtime"]):
+        script.run(*words)
+    script.disks((), BOTH)
+    for words in ([b"rq"], [b"rq", b"foo:runtime"], [b"rq", b"foo"], [b"rq", b"foo:lib"]):
+        script.run(*words)
+    script.case("lists")
+
+
+def spec_cases(script):
+    """Specifications and configurations."""
+    flavors = [manifest(b"foo:runtime", b"1.0-1-1", [line, b"file 0644 1 /a", b"%d" % place]) for place, line in enumerate((b"flavor ssl", b"flavor !ssl", b"flavor ~krb is: x86"))]
+    for config in CONFIGS:
+        script.disks([] if config is None else [(b"/etc", DIR), (b"/etc/conaryrc", config)], cooked(*flavors))
+        for spec in SPECS:
+            script.run(b"changeset", spec)
+        script.case("specifications")
+    for size in (65_536, 65_537):
+        script.disks([(b"/etc", DIR), (b"/etc/conaryrc", file(b"#" * size))])
+        script.run(b"changeset", b"foo:runtime")
+        script.case("specifications")
+    # Where no directory stands above the file, there is none. One that is too large isn't read.
+    for edits in ([(b"/etc", file(b"x"))], [(b"/x", DIR), (b"/x/conaryrc", file(b"flavor ((\n")), (b"/etc", ("link", b"x"))]):
+        script.disks(edits, COOKED)
+        script.run(b"changeset", b"foo:runtime=" + LABEL)
+        script.case("specifications")
+
+
+SPECS = [b"foo:runtime", b"foo:runtime=" + LABEL, b"foo:runtime=" + LABEL + b"[]", b"foo:runtime=" + STABLE, at(b"foo:runtime", b"1.0-1-1"), b"foo:lib=" + LABEL]
+# The nodes at the path of the configuration.
+CONFIGS = [
+    None,
+    DIR,
+    ("link", b"x"),
+    file(b""),
+    file(b"# mine\nroot /\ninstallLabelPath " + LABEL + b"\nflavor ~ssl, ~!krb is: x86(~i686, sse2)\n[build]\nflavor ((\n", 0o644),
+    file(b"installLabelPath " + STABLE + b" " + LABEL + b"\r\nflavor ~!ssl"),
+    file(b"# mine\nflavor ((\n"),
+    file(b"installLabelPath a@b\nflavor ((\n"),
+]
+
+
+def set_making_cases(script):
+    """Change sets of what references reach, whole and relative."""
+    newer = manifest(b"bar", b"1.0-2-1", [*PACKAGE_LINES[:3], b"link /usr/lib/libbar.so", b"target libbar.so.1", *PACKAGE_LINES[3:5]])
+    second_group = manifest(b"group-all", b"1.0-2-1", [b"ref " + at(b"bar", b"1.0-2-1"), b"ref " + at(b"foo:runtime", b"1.0-1-1")])
+    twice = manifest(b"group-all", b"1.0-3-1", [b"ref " + at(b"bar", b"1.0-1-1"), b"ref " + at(b"bar", b"1.0-2-1")])
+    nodes = cooked(COMPONENT, PACKAGE, GROUP, newer, second_group, twice)
+    groups = [at(b"group-all", b"1.0-%d-1" % number) for number in (1, 2, 3)]
+    script.disks((), nodes)
+    rows = [[one] for one in groups] + [[groups[0], groups[1]], [groups[1], groups[0]], [groups[0], groups[0]], [groups[1], groups[2]], [groups[2], groups[0]]]
+    rows += [[at(b"bar", b"1.0-1-1"), at(b"bar", b"1.0-2-1")], [at(b"bar:lib", b"1.0-1-1"), groups[1]], [b"bar=" + LABEL, b"none=" + LABEL], [b"none=" + LABEL, b"bar"]]
+    made = [script.run(b"changeset", *row) for row in rows]
+    for data in made:
+        if data:
+            script.fed(data, b"showcs")
+    script.case("change sets that are made")
+    # Each of them elsewhere.
+    script.disks()
+    for place in (1, 0, 3, 1):
+        script.fed(made[place], b"commit")
+    script.run(b"rq")
+    script.case("change sets that are made")
+    # Contents that aren't there, or others: damaged, wherever they are read.
+    for node in (None, file(b"abX"), file(b"abcd"), DIR, ("link", b"x")):
+        script.disks((), with_node(BOTH, content_at(b"abc"), node))
+        for words in ([b"rq"], [b"changeset", VERSIONS[0]], [b"changeset", *VERSIONS]):
+            script.run(*words)
+        script.fed(manifest(b"again:lib", b"1-1-1", [b"file 0644 3 /a", b"abc"]), b"cook")
+        script.fed(set_bytes([component(b"again:lib", b"1-1-1", [(b"/a", plain(b"abc"))])], []), b"commit")
+        script.case("damaged contents")
+
+
+def moving_cases(script):
+    """Shadows and branches, and next revisions of them."""
+    nodes = cooked(COMPONENT, PACKAGE, GROUP, SOURCE)
+    for way in (b"shadow", b"branch"):
+        script.disks((), nodes)
+        for label, spec in (
+            (STABLE, b"group-all=" + LABEL), (STABLE, b"group-all=" + LABEL), (STABLE, b"bar=" + LABEL), (LABEL, b"bar=" + LABEL),
+            (b"a@b:c", b"bar=" + STABLE), (STABLE, b"bar=" + STABLE), (STABLE, b"none=" + LABEL), (STABLE, b"bar"), (b"a@b:c", b"foo:source=" + LABEL),
+        ):  # fmt: skip
+            script.run(way, label, spec)
+        script.run(b"rq")
+        script.run(b"changeset", b"bar=" + LABEL, b"bar=" + STABLE)
+        script.case("shadows and branches")
+    # Nothing is moved onto a label on which one of the troves is, or where one exists; a version may be too long.
+    long_label = b"/" + b"h" * 200 + b"@n:t"
+    longer = cooked(manifest(b"foo:runtime", b"1.0-1-1", label=long_label + b"/" + b"1.0-1-1" + long_label))
+    script.disks((), longer)
+    for label in (b"x" * 40 + b"@n:t", b"x" * 74 + b"@n:t", b"x" * 75 + b"@n:t", b"x" * 200 + b"@n:t"):
+        for way in (b"shadow", b"branch"):
+            script.run(way, label, b"foo:runtime=" + long_label[1:])
+    script.case("shadows and branches")
+    script.disks([(b"/etc", DIR), (b"/etc/conaryrc", file(b"installLabelPath " + LABEL + b"\n"))], nodes)
+    script.run(b"shadow", STABLE, b"bar")
+    script.edit("root", [(b"/etc/conaryrc", file(b"installLabelPath x\n"))])
+    script.run(b"branch", STABLE, b"bar")
+    script.case("shadows and branches")
+
+
+def next_cases(script):
+    """Next revisions."""
+    for data in (COMPONENT, PACKAGE, GROUP, SOURCE):
+        script.disks((), cooked(COMPONENT, PACKAGE, SOURCE))
+        for _ in range(3):
+            script.fed(data, b"cook", b"--next")
+        script.run(b"rq", data.split(b" ")[2].split(b"\n")[0])
+        script.case("next revisions")
+    # Of another upstream, source count, branch and flavor; behind a commit that isn't the newest by its number.
+    script.disks((), cooked(*(manifest(b"foo:runtime", revision) for revision in (b"1.0-1-7", b"1.0-2-3", b"1.1-1-1", b"1.0-1-4"))))
+    for revision, lines in ((b"1.0-1-1", []), (b"1.0-2-9", [b"flavor ssl"]), (b"1.0-3-9", []), (b"1.1-1-1", []), (b"1.0-1-1", [])):
+        script.fed(manifest(b"foo:runtime", revision, lines), b"cook", b"--next")
+    script.fed(manifest(b"foo:runtime", b"1.0-1.1-1", [], label=b"/" + LABEL + b"//stable"), b"cook", b"--next")
+    script.case("next revisions")
+    # The greatest count, the longest version, and both tests before those of a commit.
+    script.disks((), cooked(manifest(b"foo:runtime", b"1.0-1-4294967295")))
+    script.fed(COMPONENT, b"cook", b"--next")
+    script.fed(manifest(b"foo:runtime", b"1.0-1-1", [b"dir 0755 /var/lib/conarydb"]), b"cook", b"--next")
+    script.case("next revisions")
+    front = b"1.0-1-9"
+    long_label = b"/" + b"h" * 200 + b"@n:t/" + b"1" * 40 + b"-1-1/" + b"h" * 200 + b"@n:t"
+    long_upstream = b"1" * (512 - len(long_label) - 5)
+    script.disks((), cooked(manifest(b"foo:runtime", long_upstream + b"-1-9", label=long_label)))
+    script.fed(manifest(b"foo:runtime", long_upstream + b"-1-1", label=long_label), b"cook", b"--next")
+    script.case("next revisions")
+
+
+def damage_cases(script):
+    """Repositories that are damaged, or in which a log can't be put."""
+    first, second = repo_side.commit_path(1), repo_side.commit_path(2)
+    text = node_at(BOTH, first)[2]
+    damages = [
+        with_node(BOTH, first, file(text[:-1])), with_node(BOTH, first, file(text + b"x")), with_node(BOTH, first, file(b"")),
+        with_node(BOTH, first, DIR), with_node(BOTH, second, ("link", b"k.1")), with_node(BOTH, second, file(text)),
+        with_node(COOKED, first, file(commit_bytes([group(b"group-a", b"1-1-1", [V1.identity])]))),
+        with_node(COOKED, first, file(commit_bytes([component(b"a:b", b"1-1-1", [(b"/var", plain(b"abc"))])]))),
+    ]  # fmt: skip
+    for nodes in damages:
+        script.disks((), nodes)
+        # Nothing of the input is taken: its first call would fail.
+        script.input(COMPONENT, 50, 1)
+        for words in ([b"cook"], [b"install"], [b"showcs"], [b"rq"], [b"frob"]):
+            script.run(*words)
+        script.case("damaged repositories")
+    # Without its first commit there is none.
+    script.disks((), with_node(BOTH, first, None))
+    script.run(b"rq")
+    script.case("damaged repositories")
+    journal, put = repo_side.JOURNAL, [(b"/x", ("dir", 0o750)), (b"/x/y", file(b"new"))]
+    log = journal.log_of(journal.numbered(put))
+    flag = [(REPO, DIR), (journal.gate, file(b"O"))]
+    whole = flag + [(journal.log, file(log)), (journal.stage, DIR), (journal.stage + b"/0", file(b"new"))]
+    for nodes in (flag, flag + [(journal.log, file(log[:-1]))], whole[:3], [(b"/x", file(b""))] + whole[:-1] + [(journal.stage + b"/0", file(b"neW"))]):
+        script.disks((), nodes)
+        script.input(COMPONENT, 50, 1)
+        for words in ([b"cook"], [b"install"], [b"rq"]):
+            script.run(*words)
+        script.case("logs of the repository that can't be put")
+    # Where both disks stop the program, the root does; its recovery is done before the repository's is looked at.
+    for edits in (NO_VAR, SET_FLAG, BLOCKED, COMMITTED):
+        script.disks(edits, flag)
+        script.run(b"rq")
+        script.case("logs of the repository that can't be put")
+    script.disks((), [(b"/x", DIR), (b"/x/y", DIR), (b"/x/y/z", DIR)] + whole)
+    script.run(b"rq")
+    script.disks((), whole)
+    script.run(b"rq")
+    script.fed(COMPONENT, b"install")
+    script.case("logs of the repository that can't be put")
+
+
+# The words, the input, and the nodes of the repository before.
+CHANGING = [
+    ([b"cook"], COMPONENT, []),
+    ([b"cook"], PACKAGE, COOKED),
+    ([b"commit"], RELATIVE, COOKED),
+]
+READING = [
+    ([b"rq"], b"", BOTH),
+    ([b"changeset", *VERSIONS], b"", BOTH),
+    ([b"shadow", STABLE, b"foo:runtime=" + LABEL], b"", COOKED),
+    ([b"install"], COMPONENT, COOKED),
+]
+
+
+def repository_fault_cases(script):
+    """Each call of either disk that fails, and the next call, over what that leaves."""
+    rows = [row for row in CHANGING + READING if are_built(row[0])]
+    for words, data, nodes in rows:
+        for side in SIDES:
+            script.disks([(b"/etc", DIR), (b"/etc/conaryrc", file(b"flavor ssl\n"))], nodes)
+            script.input(data)
+            script.faults(side, *words)
+            script.case("failing disks")
+    # The effect stands, and where the output failed, nothing of the line was written.
+    for words, data, nodes in rows:
+        for out, err in ((1, 0), (1, 1), (0, 1)):
+            script.disks((), nodes)
+            script.input(data, 50)
+            script.sinks(out, err)
+            script.run(*words)
+            script.run(*words)
+            script.case("failing sinks")
+    for words, data, nodes in [row for row in rows if row[1]][:3]:
+        for fails in range(1, len(data) // 50 + 3):
+            script.disks((), nodes)
+            script.input(data, 50, fails)
+            script.run(*words)
+            script.case("failing sources")
+
+
+def repository_crash_cases(script):
+    """Commands that are cut off after each number of calls of the repository, and made again over what a crash leaves."""
+    for words, data, nodes in [row for row in CHANGING if are_built(row[0])]:
+        for pick in PICKS:
+            script.disks((), nodes)
+            script.input(data)
+            script.stops("repo", pick, *words)
+            script.case("stopped commits")
+    for side in SIDES:
+        for words, data, nodes in [row for row in READING if are_built(row[0])]:
+            script.disks((), nodes)
+            script.input(data)
+            script.stops(side, 1, *words)
+            script.case("stopped commits")
+
+
+def second_cases(script):
+    """Second commands, cut off in the recovery with which they begin, and after it."""
+    for pick, kind, path, before in REPOSITORY_SECONDS:
+        calls = calls_of("repo", COOKED, [b"cook"], PACKAGE)
+        number = max(place for place, call in enumerate(calls) if call == (kind, path)) + 1 - before
+        script.disks((), COOKED)
+        script.input(PACKAGE)
+        script.cut("repo", number, pick, b"cook")
+        for then in PICKS:
+            script.stops("repo", then, b"rq")
+        script.run(b"rq")
+        script.case("second commands")
+
+
+# A crash, and the call behind which the first command is cut off, or so many calls before it.
+REPOSITORY_SECONDS = [
+    (0, "append", repo_side.JOURNAL.gate, 0),
+    (1, "remove", repo_side.JOURNAL.gate, 0),
+    (2**32 - 1, "rename", repo_side.commit_path(2), 0),
+    (2**32 - 1, "append", repo_side.JOURNAL.gate, 1),
+]
+
+# The cases, each with the commands that it needs beside `install`, `showcs` and `rq`.
+GROUPS = (
+    (words_cases, []), (manifest_cases, []), (set_cases, []), (stream_cases, []), (recovery_cases, []), (show_cases, []), (fault_cases, []),
+    (crash_cases, []), (row_cases, [b"cook", b"commit", b"changeset", b"shadow"]), (cook_cases, [b"cook", b"changeset"]),
+    (commit_cases, [b"commit"]), (listing_cases, []), (spec_cases, [b"changeset"]), (set_making_cases, [b"changeset", b"commit", b"cook"]),
+    (moving_cases, [b"shadow", b"branch", b"changeset"]), (next_cases, [b"cook"]), (damage_cases, []), (repository_fault_cases, []),
+    (repository_crash_cases, []), (second_cases, [b"cook"]),
+)  # fmt: skip
+
+
+def are_built(commands):
+    """Whether none of these commands is still planned."""
+    return not set(commands) & set(PLANNED_COMMANDS)
+
+
 def main():
     script = Script()
-    script.logs = LOGS
-    for cases in (words_cases, manifest_cases, set_cases, stream_cases, recovery_cases, show_cases, fault_cases, crash_cases):
-        cases(script)
+    for cases, needed in GROUPS:
+        if are_built(needed):
+            cases(script)
     if sys.argv[1:] == ["count"]:
         for group, count in script.cases.items():
             print(count, group)

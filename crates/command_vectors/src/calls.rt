@@ -1,13 +1,13 @@
 //! Whole calls of the program.
+use crate::disks::Disks;
 use crate::source::metered_source;
 use crate::stop::Stop;
-use crate::trees::{fails_of, new_tree};
+use crate::trees::fails_of;
 use crate::words::push_word;
 use cny_base::{Bytes, Copies};
 use cny_flow::MemorySink;
 use conary_cli::run;
 use std::alloc::Global;
-use tree_memory::MemoryTree;
 
 /// The standard streams of a call.
 #[derive(Drop)]
@@ -56,21 +56,18 @@ fn answer_of(
     Ok(Answer { status, text })
 }
 
-/// Calls the program once. The first call of the repository's disk would fail, since the commands that are built don't touch
-/// it.
+/// Calls the program once.
 pub fn call(
     alloc: Global,
     words: &[String],
     streams: &Streams,
-    root: &mut MemoryTree,
+    disks: &mut Disks,
 ) -> Result<Answer, Stop> {
     let fails = fails_of(alloc, streams.input_fails)?;
     let mut input = metered_source(streams.input.copy()?, streams.most, fails);
     let mut out = MemorySink::new(alloc, fails_of(alloc, streams.out_fails)?);
     let mut err = MemorySink::new(alloc, fails_of(alloc, streams.err_fails)?);
-    let mut repo = new_tree(alloc, 1)?;
-    let status = run(
-        alloc, words, &mut input, &mut out, &mut err, &mut repo, root,
-    );
+    let Disks { root, repo } = disks;
+    let status = run(alloc, words, &mut input, &mut out, &mut err, repo, root);
     answer_of(alloc, status, out.bytes(), err.bytes(), input.taken)
 }

@@ -1,11 +1,12 @@
 //! Answers a script: each line of standard input is a step, and the line of standard output with its number is what comes of
-//! it. A step sets up a tree in memory and the standard streams, or makes whole calls of the program over them. The words of
+//! it. A step sets up two trees in memory and the standard streams, or makes whole calls of the program over them. The words of
 //! a line have a space between two; `-` is a word without bytes, and `%20` a space. The wanted output comes from
 //! tools/command_vectors.py, which is made from the rules of the documents alone.
 #![tactic(auto)]
 
 mod calls;
 mod crashes;
+mod disks;
 mod source;
 mod steps;
 mod stop;
@@ -27,7 +28,7 @@ fn line_for(alloc: Global, state: &mut State, line: &str) -> io::Result<String> 
 }
 
 fn new_state(alloc: Global) -> io::Result<State> {
-    match State::new(alloc, 0) {
+    match State::new(alloc, 0, 0) {
         Ok(state) => Ok(state),
         Err(_) => Err(io::Error::from(io::ErrorKind::OutOfMemory)),
     }

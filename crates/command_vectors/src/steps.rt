@@ -1,33 +1,28 @@
 //! The steps of a script.
 use crate::calls::{Streams, call};
 use crate::crashes::{Called, Failing, Outcome, cut_off, outcome_numbers, outcome_texts, outcomes};
+use crate::disks::{Disks, Side};
 use crate::stop::Stop;
-use crate::trees::{edit, kept_text, new_tree};
+use crate::trees::edit;
 use crate::words::{bytes_at, count_at, mode_at, number_at, text_at, texts_from, words_of};
 use cny_base::{Bytes, Mode, Node, Target};
 use std::alloc::Global;
-use tree_memory::MemoryTree;
 
 /// What the steps have set up.
 #[derive(Drop)]
 pub struct State {
-    root: MemoryTree,
+    disks: Disks,
     streams: Streams,
     // The last step `stops` or `faults`.
     outcomes: Vec<Outcome>,
 }
 
 impl State {
-    /// A root of `/`, `/var` and `/var/lib`, of mode 0755, of which the call of this number fails where it isn't 0; no
-    /// input, and no other call that fails.
-    pub fn new(alloc: Global, failing: u64) -> Result<Self, Stop> {
-        let mut root = new_tree(alloc, failing)?;
-        for path in ["/var", "/var/lib"] {
-            let mode = Mode::new(0o755).ok_or(Stop::Unreadable)?;
-            edit(alloc, &mut root, path, Some(Node::Dir { mode }))?;
-        }
+    /// Both disks as they are at first, of which the calls of these numbers fail where they aren't 0; no input, and no other
+    /// call that fails.
+    pub fn new(alloc: Global, root_fails: u64, repo_fails: u64) -> Result<Self, Stop> {
         Ok(State {
-            root,
+            disks: Disks::new(alloc, root_fails, repo_fails)?,
             streams: Streams::new(alloc),
             outcomes: Vec::new(alloc),
         })
@@ -58,14 +53,13 @@ fn node_of(alloc: Global, kind: &str, words: &[Vec<u8>]) -> Result<Option<Node>,
     })
 }
 
-fn put(
-    alloc: Global,
-    root: &mut MemoryTree,
-    kind: &str,
-    words: &[Vec<u8>],
-) -> Result<String, Stop> {
-    let node = node_of(alloc, kind, words)?;
-    edit(alloc, root, text_at(words, 0)?, node)?;
+// `root KIND PATH ...` or `repo KIND PATH ...`: puts a node.
+fn put(alloc: Global, disks: &mut Disks, side: Side, words: &[Vec<u8>]) -> Result<String, Stop> {
+    let [_, rest @ ..] = words else {
+        return Err(Stop::Unreadable);
+    };
+    let node = node_of(alloc, text_at(words, 0)?, rest)?;
+    edit(alloc, disks.side_mut(side), text_at(rest, 0)?, node)?;
     done(alloc)
 }
 
@@ -87,53 +81,64 @@ fn set_sinks(alloc: Global, streams: &mut Streams, words: &[Vec<u8>]) -> Result<
 // `run WORD...`: calls the program.
 fn run_call(alloc: Global, state: &mut State, words: &[Vec<u8>]) -> Result<String, Stop> {
     let words = texts_from(alloc, words, 0)?;
-    let mut answer = call(alloc, words.as_slice(), &state.streams, &mut state.root)?;
-    let kept = kept_text(alloc, &state.root)?;
+    let mut answer = call(alloc, words.as_slice(), &state.streams, &mut state.disks)?;
+    let kept = state.disks.kept_text(alloc)?;
     answer.text.push_str(kept.as_str())?;
     Ok(answer.text)
 }
 
-// `cut CALLS PICK WORD...`: calls the program over a root that stops after so many calls, and takes what a crash leaves.
+// `cut DISK CALLS PICK WORD...`: calls the program over a disk that stops after so many calls, and takes what a crash leaves.
 fn cut(alloc: Global, state: &mut State, words: &[Vec<u8>]) -> Result<String, Stop> {
-    let calls = count_at(words, 0)?;
-    let pick = number_at(words, 1)?;
-    let words = texts_from(alloc, words, 2)?;
-    let State { root, streams, .. } = state;
-    cut_off(alloc, words.as_slice(), streams, root, calls, pick)
+    let side = Side::of(text_at(words, 0)?)?;
+    let calls = count_at(words, 1)?;
+    let pick = number_at(words, 2)?;
+    let words = texts_from(alloc, words, 3)?;
+    let State { disks, streams, .. } = state;
+    cut_off(alloc, words.as_slice(), streams, disks, side, calls, pick)
 }
 
-// What comes of the call with these words, over roots that fail in turn.
+// What comes of the call with these words, over disks that fail in turn.
 fn sweep(
     alloc: Global,
     state: &mut State,
+    side: Side,
     words: &[String],
     failing: Failing,
 ) -> Result<String, Stop> {
     let called = Called {
         words,
         streams: &state.streams,
-        root: &state.root,
+        disks: &state.disks,
+        side,
     };
     state.outcomes = outcomes(alloc, called, failing)?;
     outcome_texts(alloc, state.outcomes.as_slice())
 }
 
-// `stops PICK WORD...`: what comes of the call, stopped after each number of calls of the root, with the crash picked.
+// `stops DISK PICK WORD...`: what comes of the call, stopped after each number of calls of the disk, with the crash picked.
 fn stops(alloc: Global, state: &mut State, words: &[Vec<u8>]) -> Result<String, Stop> {
-    let pick = number_at(words, 0)?;
-    let words = texts_from(alloc, words, 1)?;
-    sweep(alloc, state, words.as_slice(), Failing::Stops { pick })
+    let side = Side::of(text_at(words, 0)?)?;
+    let pick = number_at(words, 1)?;
+    let words = texts_from(alloc, words, 2)?;
+    sweep(
+        alloc,
+        state,
+        side,
+        words.as_slice(),
+        Failing::Stops { pick },
+    )
 }
 
-// `faults WORD...`: what comes of the call, with each call of the root failing in turn.
+// `faults DISK WORD...`: what comes of the call, with each call of the disk failing in turn.
 fn faults(alloc: Global, state: &mut State, words: &[Vec<u8>]) -> Result<String, Stop> {
-    let words = texts_from(alloc, words, 0)?;
-    sweep(alloc, state, words.as_slice(), Failing::Once)
+    let side = Side::of(text_at(words, 0)?)?;
+    let words = texts_from(alloc, words, 1)?;
+    sweep(alloc, state, side, words.as_slice(), Failing::Once)
 }
 
-// `root CALL`: sets all up anew.
+// `disks CALL CALL`: sets all up anew, with the call of the root that fails and that of the repository.
 fn reset(alloc: Global, state: &mut State, words: &[Vec<u8>]) -> Result<String, Stop> {
-    *state = State::new(alloc, number_at(words, 0)?)?;
+    *state = State::new(alloc, number_at(words, 0)?, number_at(words, 1)?)?;
     done(alloc)
 }
 
@@ -144,10 +149,11 @@ pub fn answer_step(alloc: Global, state: &mut State, line: &str) -> Result<Strin
     let words = words_of(alloc, rest)?;
     let words = words.as_slice();
     match step {
-        "root" => reset(alloc, state, words),
+        "disks" => reset(alloc, state, words),
+        "root" => put(alloc, &mut state.disks, Side::Root, words),
+        "repo" => put(alloc, &mut state.disks, Side::Repository, words),
         "input" => set_input(alloc, &mut state.streams, words),
         "sinks" => set_sinks(alloc, &mut state.streams, words),
-        "dir" | "file" | "link" | "nothing" => put(alloc, &mut state.root, step, words),
         "run" => run_call(alloc, state, words),
         "cut" => cut(alloc, state, words),
         "stops" => stops(alloc, state, words),

@@ -1,4 +1,5 @@
 //! Trees in memory: made, copied and told.
+use crate::disks::Side;
 use crate::stop::Stop;
 use crate::words::push_word;
 use cny_base::{Copies, Fails, Mode, Node, Path, octal};
@@ -98,11 +99,11 @@ fn push_node(line: &mut String, node: &Node) -> Result<(), AllocError> {
     }
 }
 
-// What stands at each path, of these alone whose paths are taken.
-fn told(alloc: Global, tree: &MemoryTree, whole: bool) -> Result<String, Stop> {
+// What stands at each path; of a side, what isn't its journal's own.
+fn told(alloc: Global, tree: &MemoryTree, side: Option<Side>) -> Result<String, Stop> {
     let mut line = String::new(alloc);
     for path in paths_of(alloc, tree)? {
-        if !whole && path.is_reserved() {
+        if is_left_out(side, path.text()) {
             continue;
         }
         if let Some(node) = tree.node(&path) {
@@ -113,14 +114,21 @@ fn told(alloc: Global, tree: &MemoryTree, whole: bool) -> Result<String, Stop> {
     Ok(line)
 }
 
-/// What stands at each path: the path, the kind, the mode, and the bytes or the target.
-pub fn nodes_text(alloc: Global, tree: &MemoryTree) -> Result<String, Stop> {
-    told(alloc, tree, true)
+fn is_left_out(side: Option<Side>, path: &str) -> bool {
+    match side {
+        Some(side) => side.is_own(path),
+        None => false,
+    }
 }
 
-/// The same without the private directory and what is in it.
-pub fn stored_text(alloc: Global, tree: &MemoryTree) -> Result<String, Stop> {
-    told(alloc, tree, false)
+/// What stands at each path: the path, the kind, the mode, and the bytes or the target.
+pub fn nodes_text(alloc: Global, tree: &MemoryTree) -> Result<String, Stop> {
+    told(alloc, tree, None)
+}
+
+/// The same without the journal's own files; of the root without its private directory.
+pub fn stored_text(alloc: Global, tree: &MemoryTree, side: Side) -> Result<String, Stop> {
+    told(alloc, tree, Some(side))
 }
 
 /// What stands at each path, and whether crashes leave just that.

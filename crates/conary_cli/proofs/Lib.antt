@@ -1,4 +1,6 @@
 pub mod ManifestText
 pub mod Installation
-pub mod ReadyRoot
-pub mod WholeCall
+pub mod Passing
+pub mod ShowEnds
+pub mod FormEnds
+pub mod Calls

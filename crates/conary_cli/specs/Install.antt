@@ -1,5 +1,5 @@
 -- What `install` means.
-use Rattle.std.specs.Prelude.{ℕ, Bool, true, false, ◌&&◌, not, List, [], ◌∷◌, ◌++◌, Option, Some, None, Result, Ok, Err, ◌==◌, codes}
+use Rattle.std.specs.Prelude.{◌≡◌, ℕ, Bool, true, false, ◌&&◌, not, List, [], ◌∷◌, ◌++◌, Option, Some, None, Result, Ok, Err, ◌==◌, codes}
 use Rattle.std.specs.List.{find, list_any}
 use Rattle.std.specs.Str.{bytes_eq}
 use Rattle.std.specs.FinMap.{get, keys}
@@ -13,22 +13,15 @@ use Rattle.tree_disk.specs.Rows.{is_dir_at}
 use Rattle.tree_disk.specs.Tree.{Name, Tree, same_name, put, is_dir}
 use Rattle.conary_cli.specs.declared.manifest.types.Item.{Item}
 use Rattle.conary_cli.specs.declared.manifest.types.Manifest.{Manifest}
-use Rattle.conary_cli.specs.Input.{within_limit, left_by}
 use Rattle.conary_cli.specs.ReadManifest.{manifest_in}
-use Rattle.conary_cli.specs.Call.{Effect, Equals, Meaning}
-pub use Rattle.conary_cli.specs.FixedDirs.{◌>>=◌, fixed_dirs}
+use Rattle.conary_cli.specs.RootEffect.{RootEffect}
+use Rattle.cli_call.specs.State.{on_root, Effect, Meaning, tree_of}
+pub use Rattle.cli_call.specs.FixedDirs.{◌>>=◌, fixed_dirs}
 
 -- refused for what was found
 abbrev pub none_of : {A : Type 0} → (A → Refusal) → Option A → Result (Unit {0}) Refusal
 none_of refuse None = Ok tt
 none_of refuse (Some x) = Err (refuse x)
-
--- ---- the manifest on the input
-
-abbrev pub read_manifest : List ℕ → Result Manifest Refusal
-read_manifest input = do
-  bytes ← within_limit input
-  manifest_in bytes
 
 -- ---- the tests of a manifest's items, which are in path order
 
@@ -88,24 +81,23 @@ checks tree items = reserved items >>= λ _. unowned tree items >>= λ _. parent
 abbrev pub installed_line : Manifest → List ℕ
 installed_line m = codes "installed " ++ m.name ++ codes "=" ++ m.version ++ codes "\n"
 
-abbrev pub installs : Manifest → Tree → Result Effect Refusal
+abbrev pub installs : Manifest → Tree → Result RootEffect Refusal
 installs m tree = checks tree m.items >>= λ _. Ok (record { tree = with_items tree m.items; out = installed_line m })
 
 -- the paths of items
 abbrev pub is_named : List Item → Name → Bool
 is_named items path = list_any (λ item. same_name path item.path) items
 
-abbrev pub names_in : Result Manifest Refusal → Name → Bool
-names_in (Ok m) path = is_named m.items path
-names_in (Err r) path = false
+-- ---- the command
 
--- The fixed directories, the input within its limit, the manifest, the tests, and then the tree with the items and one line.
-abbrev pub install_outcome : Tree → List ℕ → Result Effect Refusal
-install_outcome tree input = fixed_dirs tree >>= λ _. read_manifest input >>= λ m. installs m tree
+-- the effect on the root, as one on both disks
+abbrev pub on_both : Result RootEffect Refusal → Result Effect Refusal
+on_both (Ok e) = Ok (record { change = on_root e.tree; out = e.out })
+on_both (Err r) = Err r
+
+-- the manifest that the input is, the tests, and then the tree with the items and one line
+abbrev pub install_outcome : Tree → List ℕ → Result RootEffect Refusal
+install_outcome tree input = manifest_in input >>= λ m. installs m tree
 
 abbrev pub install : Meaning
-install = record {
-  IsOutcome = λ tree input. Equals (install_outcome tree input);
-  left = λ tree input. left_by (fixed_dirs tree) input;
-  names = λ input. names_in (read_manifest input);
-}
+install = record { takes_input = true; IsOutcome = λ s input outcome. outcome ≡ on_both (install_outcome (tree_of s.root) input) }

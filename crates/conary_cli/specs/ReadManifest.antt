@@ -3,8 +3,8 @@ use Rattle.std.specs.Prelude.{◌≡◌, ℕ, ◌-◌, List, length, Result, Ok,
 use Rattle.cny_base.specs.declared.refusal.Refusal.{Refusal}
 use Rattle.cny_base.specs.declared.refusal.Refusal.TheVariants as refusal
 use Rattle.cny_base.specs.declared.refusal.What.TheVariants as what
-use Rattle.conary_cli.specs.declared.failure.Failure.{Failure}
-use Rattle.conary_cli.specs.declared.failure.Failure.TheVariants as failure
+use Rattle.cli_call.specs.declared.failure.Failure.{Failure}
+use Rattle.cli_call.specs.declared.failure.Failure.TheVariants as failure
 use Rattle.conary_cli.specs.declared.manifest.types.Manifest.{Manifest}
 use Rattle.conary_cli.specs.declared.manifest.fault.Unread.{Unread}
 use Rattle.conary_cli.specs.declared.manifest.fault.Unread.TheVariants.{At, TooLarge, NotBuilt}

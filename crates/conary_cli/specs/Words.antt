@@ -1,10 +1,11 @@
 -- The words of the command line: which lists of them are commands.
-use Rattle.std.specs.Prelude.{◌≡◌, List, [], ◌∷◌, ℕ, Bool, Result, Ok, Err, if◌then◌else◌, codes}
+use Rattle.std.specs.Prelude.{◌≡◌, List, [], ◌∷◌, ℕ, Bool, Some, None, Result, Ok, Err, if◌then◌else◌, codes}
 use Rattle.std.specs.List.{list_any}
 use Rattle.std.specs.Str.{bytes_eq}
+use Rattle.cny_base.specs.Name.{is_name}
 use Rattle.cny_base.specs.declared.refusal.Refusal.TheVariants.{NotBuilt}
-use Rattle.conary_cli.specs.declared.failure.Failure.{Failure}
-use Rattle.conary_cli.specs.declared.failure.Failure.TheVariants as failure
+use Rattle.cli_call.specs.declared.failure.Failure.{Failure}
+use Rattle.cli_call.specs.declared.failure.Failure.TheVariants as failure
 use Rattle.conary_cli.specs.declared.words.Command.{Command}
 use Rattle.conary_cli.specs.declared.words.Command.TheVariants as command
 
@@ -14,7 +15,7 @@ is_among words word = list_any (bytes_eq word) words
 -- the commands that aren't built yet
 abbrev pub planned_commands : List (List ℕ)
 planned_commands =
-    codes "cook" ∷ codes "commit" ∷ codes "shadow" ∷ codes "branch" ∷ codes "rq" ∷ codes "changeset" ∷ codes "update"
+    codes "cook" ∷ codes "commit" ∷ codes "shadow" ∷ codes "branch" ∷ codes "changeset" ∷ codes "update"
     ∷ codes "erase" ∷ codes "rollback" ∷ codes "rblist" ∷ codes "q" ∷ codes "verify" ∷ codes "localcs" ∷ codes "batch" ∷ codes "demo" ∷ []
 
 -- the options of `install` that aren't built yet
@@ -40,19 +41,26 @@ abbrev pub show_of : List (List ℕ) → Result Command Failure
 show_of [] = Ok command.ShowChangeSet
 show_of (word ∷ words) = Err failure.Usage
 
+-- `rq`: all committed troves, or those of a name; another word is usage
+abbrev pub list_of : List (List ℕ) → Result Command Failure
+list_of [] = Ok (command.ListCommitted None)
+list_of (word ∷ []) = if is_name word then Ok (command.ListCommitted (Some word)) else Err failure.Usage
+list_of (word ∷ other ∷ words) = Err failure.Usage
+
 -- The command that the words are. The first word alone decides whether it isn't built yet; all else is usage.
 abbrev pub command_of : List (List ℕ) → Result Command Failure
 command_of [] = Err failure.Usage
 command_of (word ∷ words) =
     if bytes_eq word (codes "install") then install_of words
     else if bytes_eq word (codes "showcs") then show_of words
+    else if bytes_eq word (codes "rq") then list_of words
     else if is_planned_command word then Err (not_built word)
     else Err failure.Usage
 
--- The words were read as this. Memory may run out where they are no command.
+-- The words were read as this, or memory ran out.
 abbrev pub ReadsWords : Result Command Failure → Result Command Failure → Type 0
 ReadsWords expected (Ok c) = expected ≡ Ok c
-ReadsWords expected (Err failure.Memory) = (e : Failure) × (expected ≡ Err e)
+ReadsWords expected (Err failure.Memory) = Unit {0}
 ReadsWords expected (Err failure.Usage) = expected ≡ Err failure.Usage
 ReadsWords expected (Err (failure.Refused r)) = expected ≡ Err (failure.Refused r)
 ReadsWords expected (Err _) = ⊥

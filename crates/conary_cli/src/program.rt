@@ -1,101 +1,85 @@
 //! A whole call of the program.
-ghost use Rattle.std.specs.Prelude.{◌≡◌, IsTrue, Err, string_bytes, map};
-ghost use Rattle.cny_base.specs.declared.refusal.Refusal.{Refusal};
-ghost use Rattle.cny_flow.specs.Flow.{sink_state};
-ghost use Rattle.tree_disk.specs.Confined.{Among, Confined, LeavesOnly};
-ghost use Rattle.tree_disk.specs.Disk.{HasRead};
-ghost use Rattle.tree_disk.specs.Steps.{no_name};
-ghost use Rattle.conary_cli.specs.Call.{objects, WhereTold, Performs, Writes};
-ghost use Rattle.conary_cli.specs.FixedDirs.{fixed_dirs};
-ghost use Rattle.conary_cli.specs.OnRoot.{IsReady};
-ghost use Rattle.conary_cli.specs.Ready.{PerformsReady};
-ghost use Rattle.conary_cli.specs.Readers.{ShowsCommand};
-ghost use Rattle.conary_cli.specs.Recovered.{RecoversToNone};
-ghost use Rattle.conary_cli.specs.Run.{call_state, meaning, PerformsWords, IsBeforeOrDone, IsBeforeOrAfterCall, ShowsCall};
-ghost use Rattle.conary_cli.specs.WholeCall.{IsWholeCall};
+ghost use Rattle.std.specs.Prelude.{◌≡◌, string_bytes, map};
+ghost use Rattle.cny_flow.specs.Flow.{sink_state, source_state};
+ghost use Rattle.cli_call.specs.Call.{call_state, RunsCall, RunsOpen};
+ghost use Rattle.cli_call.specs.Command.{disks, AreReady};
+ghost use Rattle.cli_call.specs.Line.{moment, RunsLine};
+ghost use Rattle.conary_cli.specs.Commands.{meaning, IsWholeCall, RunsWords};
+ghost use Rattle.conary_cli.specs.FormDecides.{FormDecides};
 ghost use Rattle.conary_cli.specs.Words.{command_of};
 
-use crate::failure::Failure;
-use crate::install::install;
-use crate::report::report;
-use crate::root::ready;
-use crate::show::show_change_set;
+use crate::commands::{perform, takes_input};
 use crate::words::{Command, read_words};
 use change_set::unique_set;
-use cny_base::Text;
-use cny_flow::{FlowFault, Sink, Source};
+use cli_call::{Failure, Opened, open_disks, read_given, report, store_laws, write_answer};
+use cny_flow::{Sink, Source};
 use std::alloc::Global;
 use tree_disk::TreeDisk;
 
-// Performs a command over a ready root.
-fn perform_ready<I: Source, T: TreeDisk>(
+// Performs a command over two disks that are open, and writes what it answers.
+fn run_command<O: Sink, T: TreeDisk, P: TreeDisk>(
     alloc: Global,
-    command: Command,
-    input: &mut I,
+    command: &Command,
+    input: &[u8],
+    opened: &mut Opened,
+    out: &mut O,
+    repo: &mut P,
     root: &mut T,
-) -> Result<Text, Failure>
-    requires { IsTrue T.disk.tells → IsReady T.disk root.old }
-    ensures { PerformsReady I.source T.disk (meaning command) input.old root.old input.new root.new result }
+) -> Result<(), Failure>
+    requires { AreReady T.disk P.disk (disks root.old repo.old opened.old) }
+    ensures { RunsLine T.disk P.disk (meaning command.now) input.now (moment O.sink root.old repo.old opened.old out.old) (moment O.sink root.new repo.new opened.new out.new) result }
 {
-    match command {
-        Command::Install => install(alloc, input, root),
-        Command::ShowChangeSet => show_change_set(alloc, input, root),
-    }
+    let answered = perform(alloc, command, input, opened, repo, root);
+    write_answer(answered, out)
 }
 
-// Makes the root ready, and performs a command.
-fn perform<I: Source, T: TreeDisk>(
+// Reads what the command is given, and performs it over two disks that are open.
+fn run_open<I: Source, O: Sink, T: TreeDisk, P: TreeDisk>(
     alloc: Global,
-    command: Command,
+    command: &Command,
     input: &mut I,
+    opened: &mut Opened,
+    out: &mut O,
+    repo: &mut P,
     root: &mut T,
-) -> Result<Text, Failure>
-    ensures performs { Performs (meaning command) (objects I.source T.disk input.old root.old) (objects I.source T.disk input.new root.new) result }
-    ensures images { WhereTold (objects I.source T.disk input.old root.old) (λ bytes.
-        LeavesOnly T.disk root.old root.new (IsBeforeOrDone T.disk (meaning command) bytes root.old)) }
-    ensures seen { WhereTold (objects I.source T.disk input.old root.old) (λ bytes. ShowsCommand T.disk (meaning command) bytes root.old root.new) }
-    ensures untouched { IsTrue T.disk.tells → RecoversToNone (T.disk.reads root.old) → Confined T.disk (Among no_name) root.old root.new }
-    ensures missing { IsTrue T.disk.tells → (r : Refusal) → fixed_dirs (T.disk.reads root.old) ≡ Err r → HasRead T.disk root.old root.new Unit }
+) -> Result<(), Failure>
+    requires { AreReady T.disk P.disk (disks root.old repo.old opened.old) }
+    ensures { RunsOpen T.disk P.disk (meaning command.now) (source_state I.source input.old) (source_state I.source input.new)
+        (moment O.sink root.old repo.old opened.old out.old) (moment O.sink root.new repo.new opened.new out.new) result }
 {
-    ready(alloc, root)?;
-    perform_ready(alloc, command, input, root)
+    let bytes = read_given(alloc, takes_input(command), input)?;
+    run_command(alloc, command, bytes.get(), opened, out, repo, root)
 }
 
-fn perform_words<I: Source, T: TreeDisk>(
+// Opens both disks, and performs a command.
+fn run_call<I: Source, O: Sink, T: TreeDisk, P: TreeDisk>(
+    alloc: Global,
+    command: &Command,
+    input: &mut I,
+    out: &mut O,
+    repo: &mut P,
+    root: &mut T,
+) -> Result<(), Failure>
+    ensures { RunsCall T.disk P.disk (meaning command.now) (call_state I.source O.sink input.old out.old root.old repo.old)
+        (call_state I.source O.sink input.new out.new root.new repo.new) result }
+{
+    let mut opened = open_disks(alloc, repo, root)?;
+    run_open(alloc, command, input, &mut opened, out, repo, root)
+}
+
+fn run_words<I: Source, O: Sink, T: TreeDisk, P: TreeDisk>(
     alloc: Global,
     words: &[String],
     input: &mut I,
+    out: &mut O,
+    repo: &mut P,
     root: &mut T,
-) -> Result<Text, Failure>
-    ensures performs { PerformsWords (command_of (map string_bytes words.now)) (objects I.source T.disk input.old root.old)
-        (objects I.source T.disk input.new root.new) result }
-    ensures images { WhereTold (objects I.source T.disk input.old root.old) (λ bytes.
-        LeavesOnly T.disk root.old root.new (IsBeforeOrAfterCall T.disk (command_of (map string_bytes words.now)) bytes root.old)) }
-    ensures seen { WhereTold (objects I.source T.disk input.old root.old) (λ bytes.
-        ShowsCall T.disk (command_of (map string_bytes words.now)) bytes root.old root.new) }
-    ensures untouched { IsTrue T.disk.tells → RecoversToNone (T.disk.reads root.old) → Confined T.disk (Among no_name) root.old root.new }
-    ensures missing { IsTrue T.disk.tells → (r : Refusal) → fixed_dirs (T.disk.reads root.old) ≡ Err r → HasRead T.disk root.old root.new Unit }
+) -> Result<(), Failure>
+    ensures { RunsWords T.disk P.disk (command_of (map string_bytes words.now)) (call_state I.source O.sink input.old out.old root.old repo.old)
+        (call_state I.source O.sink input.new out.new root.new repo.new) result }
 {
     let command = read_words(alloc, words)?;
-    perform(alloc, command, input, root)
-}
-
-// Writes what a command answered, by one call of the sink; where that is no byte, or the command failed, by none.
-fn write_answer<O: Sink>(answered: Result<Text, Failure>, out: &mut O) -> Result<(), Failure>
-    ensures { Writes answered (sink_state O.sink out.old) (sink_state O.sink out.new) result }
-{
-    let text = match answered {
-        Ok(text) => text,
-        Err(failure) => return Err(failure),
-    };
-    if text.get().is_empty() {
-        return Ok(());
-    }
-    match out.give(text.get().as_bytes()) {
-        Ok(()) => Ok(()),
-        Err(FlowFault::Failed) => Err(Failure::OutputFault),
-        Err(FlowFault::Memory) => Err(Failure::Memory),
-    }
+    run_call(alloc, &command, input, out, repo, root)
 }
 
 /// Does all that the program does, and answers its status.
@@ -108,14 +92,19 @@ pub fn run<I: Source, O: Sink, E: Sink, P: TreeDisk, T: TreeDisk>(
     repo: &mut P,
     root: &mut T,
 ) -> u8
-    ensures call { IsWholeCall T.disk (map string_bytes words.now)
-        (call_state I.source O.sink E.sink T.disk input.old out.old err.old root.old)
-        (call_state I.source O.sink E.sink T.disk input.new out.new err.new root.new) root.old root.new result }
-    ensures repository { repo.new ≡ repo.old }
+    // All that a call promises, by the command that the words are.
+    ensures call { IsWholeCall T.disk P.disk (command_of (map string_bytes words.now))
+        (call_state I.source O.sink input.old out.old root.old repo.old) (call_state I.source O.sink input.new out.new root.new repo.new)
+        (sink_state E.sink err.old) (sink_state E.sink err.new) result }
+    // `install` refuses an input for its form exactly where it is no manifest's text, and `showcs` describes exactly the inputs
+    // that are change sets.
+    ensures form { FormDecides T.disk P.disk (command_of (map string_bytes words.now))
+        (call_state I.source O.sink input.old out.old root.old repo.old) (call_state I.source O.sink input.new out.new root.new repo.new)
+        (sink_state E.sink err.old) (sink_state E.sink err.new) result }
 {
-    // Of one input there is one description at most.
+    // What the disks store is told by the names that count, and of one input there is one description at most.
+    store_laws();
     unique_set();
-    let answered = perform_words(alloc, words, input, root);
-    let end = write_answer(answered, out);
+    let end = run_words(alloc, words, input, out, repo, root);
     report(alloc, &end, err)
 }

@@ -1,29 +1,26 @@
 //! The command that describes a change set.
-ghost use Rattle.std.specs.Prelude.{IsTrue};
-ghost use Rattle.conary_cli.specs.OnRoot.{IsReady};
-ghost use Rattle.conary_cli.specs.Ready.{PerformsReady};
+ghost use Rattle.cli_call.specs.Command.{disks, AreReady, Performs};
 ghost use Rattle.conary_cli.specs.ShowChangeSet as spec;
 
-use crate::failure::Failure;
-use crate::input::read_input;
 use change_set::decode;
+use cli_call::{Failure, Opened, store_laws};
 use cny_base::Text;
-use cny_flow::Source;
 use cny_report::change_text;
 use std::alloc::Global;
 use tree_disk::TreeDisk;
 
-/// Describes the change set on the input: a line for each part, and one for each content. The root is ready, and no call of
-/// it is made.
-pub fn show_change_set<I: Source, T: TreeDisk>(
+/// Describes the change set that the input is: a line for each part, and one for each content. No call of a disk is made.
+pub fn show_change_set<T: TreeDisk, P: TreeDisk>(
     alloc: Global,
-    input: &mut I,
+    input: &[u8],
+    opened: &Opened,
+    repo: &P,
     root: &T,
 ) -> Result<Text, Failure>
-    requires { IsTrue T.disk.tells → IsReady T.disk root.now }
-    ensures { PerformsReady I.source T.disk spec.show_change_set input.old root.now input.new root.now result }
+    requires { AreReady T.disk P.disk (disks root.now repo.now opened.now) }
+    ensures { Performs T.disk P.disk spec.show_change_set input.now (disks root.now repo.now opened.now) (disks root.now repo.now opened.now) result }
 {
-    let bytes = read_input(alloc, input)?;
-    let change = decode(alloc, bytes.get())?;
+    store_laws();
+    let change = decode(alloc, input)?;
     Ok(change_text(alloc, &change)?)
 }

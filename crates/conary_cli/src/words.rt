@@ -1,18 +1,20 @@
 //! The words of the command line.
 ghost use Rattle.std.specs.Prelude.{◌≡◌, string_bytes, map};
-ghost use Rattle.conary_cli.specs.Words.{is_planned_command, is_planned_option, command_of, install_of, show_of, ReadsWords, not_built};
+ghost use Rattle.conary_cli.specs.Words.{is_planned_command, is_planned_option, command_of, install_of, list_of, show_of, ReadsWords, not_built};
 
-use crate::failure::Failure;
-use cny_base::{Refusal, Text};
+use cli_call::Failure;
+use cny_base::{Name, Refusal, Text, TextFault};
 use std::alloc::Global;
 
-/// A command with its options.
-#[derive(Clone, Copy, Debug)]
+/// A command with its words.
+#[derive(Drop)]
 pub enum Command {
     /// Puts the files of a manifest's component into the root.
     Install,
     /// Describes a change set.
     ShowChangeSet,
+    /// Lists committed troves, all or those of a name.
+    ListCommitted { name: Option<Name> },
 }
 
 /// Whether the word is a command that isn't built yet.
@@ -26,7 +28,6 @@ fn is_planned(word: &str) -> bool
             | "commit"
             | "shadow"
             | "branch"
-            | "rq"
             | "changeset"
             | "update"
             | "erase"
@@ -79,6 +80,23 @@ fn read_show(words: &[String]) -> Result<Command, Failure>
     Err(Failure::Usage)
 }
 
+// The words after `rq`.
+fn read_list(alloc: Global, words: &[String]) -> Result<Command, Failure>
+    ensures { ReadsWords (list_of (map string_bytes words.now)) result }
+{
+    let [word, rest @ ..] = words else {
+        return Ok(Command::ListCommitted { name: None });
+    };
+    if !rest.is_empty() {
+        return Err(Failure::Usage);
+    }
+    match Name::read(alloc, word.as_str()) {
+        Ok(name) => Ok(Command::ListCommitted { name: Some(name) }),
+        Err(TextFault::Bad) => Err(Failure::Usage),
+        Err(TextFault::Memory) => Err(Failure::Memory),
+    }
+}
+
 /// The command that the words are, or why they are none.
 pub fn read_words(alloc: Global, words: &[String]) -> Result<Command, Failure>
     ensures { ReadsWords (command_of (map string_bytes words.now)) result }
@@ -91,6 +109,9 @@ pub fn read_words(alloc: Global, words: &[String]) -> Result<Command, Failure>
     }
     if word.as_str() == "showcs" {
         return read_show(rest);
+    }
+    if word.as_str() == "rq" {
+        return read_list(alloc, rest);
     }
     if is_planned(word.as_str()) {
         return not_built_yet(alloc, word.as_str());

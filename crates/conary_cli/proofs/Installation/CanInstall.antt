@@ -31,12 +31,12 @@ use Rattle.tree_journal.specs.CanBePut.{HasWay, IsClearBelow, CanBePut, AllCanBe
 use Rattle.tree_journal.specs.Apply.{with_base, goal, CanApply}
 use Rattle.tree_journal.specs.Staging.{has_content, AllStaged}
 use Rattle.conary_cli.specs.declared.manifest.types.Item.{Item}
-use Rattle.conary_cli.specs.FixedDirs.{◌>>=◌, dir_at, fixed_dirs}
+use Rattle.cli_call.specs.FixedDirs.{◌>>=◌, dir_at, fixed_dirs}
 use Rattle.conary_cli.specs.ManifestForm.{Rise, IsItem}
 use Rattle.conary_cli.specs.Install.{with_items, lacks_parent, none_of, parents, is_forbidden_item, reserved, unowned, checks}
 use Rattle.conary_cli.specs.NewPuts.{want_of, new_puts}
-use Rattle.conary_cli.specs.OnRoot.{IsReady}
-use Rattle.conary_cli.specs.Recovered.{base}
+use Rattle.cli_call.specs.Command.{IsReady}
+use Rattle.conary_cli.specs.RootEffect.{base}
 use Rattle.conary_cli.proofs.Installation.FirstNames.{is_listed, found_none, differ}
 use Rattle.conary_cli.proofs.Installation.ItemParents.{paths_of, item_stands}
 use Rattle.conary_cli.proofs.Installation.WithItems.{node_among, some_stays, none_adds}
@@ -152,7 +152,7 @@ not_lacking : (b : Bool) → not b ≡ false → b ≡ true
 not_lacking true h = refl
 not_lacking false h = absurd cc
 
-with_items_well_formed : (t : Tree) (items : List Item) → WellFormed t → AllByRecursion IsItem items → list_all (λ item. is_node item.node) items ≡ true → parents (with_items t items) ≡ Ok tt → WellFormed (with_items t items)
+pub with_items_well_formed : (t : Tree) (items : List Item) → WellFormed t → AllByRecursion IsItem items → list_all (λ item. is_node item.node) items ≡ true → parents (with_items t items) ≡ Ok tt → WellFormed (with_items t items)
 with_items_well_formed t items well all nodes ok = record {
   paths = λ q some. by_path q (get t q) refl some;
   root_stands = dir_stays t items root well.root_stands;

@@ -1,6 +1,6 @@
 -- What an installation does on a ready root.
-use Rattle.std.proofs.Common.{◌≡◌, ⊎_elim, ℕ, ◌≤◌, Bool, true, false, List, [], ◌∷◌, Option, Result, Ok, Err, sym, ap, ◌∙◌, subst, inl, inr, arith}
-use Rattle.std.specs.Prelude.{IsTrue, ◌||◌}
+use Rattle.std.proofs.Common.{◌≡◌, ⊎_elim, ℕ, ◌≤◌, Bool, true, false, List, [], ◌∷◌, Option, Some, None, cond, refl, Result, Ok, Err, sym, ap, ◌∙◌, subst, inl, inr, arith}
+use Rattle.std.specs.Prelude.{IsTrue}
 use Rattle.std.specs.List.{AllByRecursion, list_all}
 use Rattle.std.specs.FinMap.{get}
 use Rattle.cny_base.specs.declared.node.Node.{Node}
@@ -18,33 +18,40 @@ use Rattle.journal_log.specs.Targets.{is_target}
 use Rattle.tree_journal.specs.Apply.{goal, CanApply, IsBeforeOrAfter, IsOneOf, is_own_or_target}
 use Rattle.tree_journal.specs.Recovery.{is_committed, RecoversTo}
 use Rattle.tree_journal.specs.Visible.{ShowsNode, IsVisible}
-use Rattle.conary_cli.specs.declared.failure.Failure.{Failure}
-use Rattle.conary_cli.specs.declared.failure.Failure.TheVariants as failure
+use Rattle.cli_call.specs.declared.failure.Failure.{Failure}
+use Rattle.cli_call.specs.declared.failure.Failure.TheVariants as failure
 use Rattle.conary_cli.specs.declared.manifest.types.Item.{Item}
 use Rattle.conary_cli.specs.declared.manifest.types.Manifest.{Manifest}
-use Rattle.conary_cli.specs.Call.{Effect, Equals}
-use Rattle.conary_cli.specs.FixedDirs.{◌>>=◌, fixed_dirs}
-use Rattle.conary_cli.specs.Install.{checks, installed_line, installs, is_named, with_items}
+use Rattle.conary_cli.specs.RootEffect.{RootEffect, Equals}
+use Rattle.cli_call.specs.FixedDirs.{◌>>=◌, fixed_dirs}
+use Rattle.conary_cli.specs.Install.{checks, installed_line, installs, with_items}
 use Rattle.conary_cli.specs.ManifestForm.{IsManifest}
 use Rattle.conary_cli.specs.NewPuts.{new_puts}
-use Rattle.conary_cli.specs.OnRoot.{Checked, ChecksRoot, Found, SearchesRoot, Applied, AppliesRoot, IsReady, Rests, Acted, IsBeforeOrEffect, ActsOnRoot}
-use Rattle.conary_cli.specs.Readers.{IsShown}
-use Rattle.conary_cli.specs.Recovered.{base}
-use Rattle.conary_cli.proofs.ReadyRoot.Applied.{recovers_itself, recovers_on}
+use Rattle.conary_cli.specs.OnRoot.{Checked, ChecksRoot, Found, SearchesRoot, Applied, AppliesRoot, Rests, Acted, IsBeforeOrEffect, ActsOnRoot, KeepsOthers, IsShown}
+use Rattle.cli_call.specs.Command.{IsReady}
+use Rattle.conary_cli.specs.RootEffect.{base}
+use Rattle.conary_cli.proofs.Installation.Applied.{recovers_itself, recovers_on}
 use Rattle.conary_cli.proofs.Installation.CanInstall.{can_install, goal_stores}
-use Rattle.conary_cli.proofs.ReadyRoot.FixedPaths.{directory_path}
-use Rattle.conary_cli.proofs.ReadyRoot.Shown.{read_shown}
-use Rattle.conary_cli.proofs.Installation.NewItems.{new_elsewhere, neither, or_none}
+use Rattle.cli_call.specs.FixedPaths.{directory_path}
+use Rattle.cli_call.specs.CommandLaws.{read_shown}
+use Rattle.conary_cli.proofs.Installation.NewItems.{new_elsewhere, new_stands, or_none}
+use Rattle.conary_cli.proofs.Installation.WithItems.{node_among, or_else, get_with_items}
 
--- a name that isn't that of an item
-unnamed : (items : List Item) (p : Name) → is_named items p ≡ false → AllByRecursion (λ item. same_name p item.path ≡ false) items
-unnamed [] p h = tt
-unnamed (item ∷ items) p h =
-    let parts = neither (same_name p item.path) (is_named items p) h in
-    (parts.0, unnamed items p parts.1)
+-- where the items have nothing at a name, none of them is there
+unlisted : (items : List Item) (q : Name) → node_among items q ≡ None → AllByRecursion (λ item. same_name q item.path ≡ false) items
+unlisted [] q h = tt
+unlisted (item ∷ items) q h = by (same_name q item.path) refl h (unlisted items q)
+  where
+    by : (b : Bool) → same_name q item.path ≡ b → cond b (Some item.node) (node_among items q) ≡ None → (node_among items q ≡ None → AllByRecursion (λ item. same_name q item.path ≡ false) items) → AllByRecursion (λ item. same_name q item.path ≡ false) (item ∷ items)
+    by true same is rest = absurd (cc is)
+    by false same is rest = (same, rest is)
+
+nothing_among : (stands among : Option Node) → stands ≡ None → or_else stands among ≡ None → among ≡ None
+nothing_among None among is h = h
+nothing_among (Some n) among is h = absurd (cc is)
 
 -- the effect of an installation
-abbrev effect : Manifest → Tree → Effect
+abbrev effect : Manifest → Tree → RootEffect
 effect m t = record { tree = with_items t m.items; out = installed_line m }
 
 outcome_is : (m : Manifest) (t : Tree) → checks t m.items ≡ Ok tt → installs m t ≡ Ok (effect m t)
@@ -81,7 +88,7 @@ module _ {D : Type 0} {disk : DiskModel D} (laws : IsDisk disk) where
   image_itself : (d : D) → IsReady disk d → (image : Tree) → IsImageOf disk d image → RecoversTo base image (disk.reads d)
   image_itself d ready image crash = subst (λ (t : Tree). RecoversTo base t (disk.reads d)) (sym (only_reads laws d ready.synced image crash)) (recovers_itself (disk.reads d) ready.flag_clear)
 
-  read_leaves : {old new : D} (IsOutcome : Result Effect Refusal → Type 0) → HasRead disk old new (Unit {0}) → IsReady disk old → LeavesOnly disk old new (IsBeforeOrEffect IsOutcome (disk.reads old))
+  read_leaves : {old new : D} (IsOutcome : Result RootEffect Refusal → Type 0) → HasRead disk old new (Unit {0}) → IsReady disk old → LeavesOnly disk old new (IsBeforeOrEffect IsOutcome (disk.reads old))
   read_leaves {old = old} IsOutcome read ready = leaves_step laws read.time
       (λ image crash. inl (image_itself old ready image crash))
       (λ image crash. inl (image_itself old ready image (same_images read.same image crash)))
@@ -96,19 +103,19 @@ module _ {D : Type 0} {disk : DiskModel D} (laws : IsDisk disk) where
   read_recovers {old = old} read ready = subst (λ (t : Tree). RecoversTo base t (disk.reads old)) (sym read.same.reads) (recovers_itself (disk.reads old) ready.flag_clear)
 
   -- the root was only read
-  acts_read : {names : Name → Bool} {outcome : Tree → Result Effect Refusal} {old new : D} (f : Failure) → disk.faults old ≤ disk.faults new → (IsTrue disk.tells → HasRead disk old new (Unit {0})) → (IsTrue disk.tells → IsReady disk old)
-      → Acted disk.tells (outcome (disk.reads old)) (disk.reads old) (disk.reads new) (Err f) (disk.faults old) (disk.faults new) → ActsOnRoot disk names outcome old new (Err f)
+  acts_read : {outcome : Tree → Result RootEffect Refusal} {old new : D} (f : Failure) → disk.faults old ≤ disk.faults new → (IsTrue disk.tells → HasRead disk old new (Unit {0})) → (IsTrue disk.tells → IsReady disk old)
+      → Acted disk.tells (outcome (disk.reads old)) (disk.reads old) (disk.reads new) (Err f) (disk.faults old) (disk.faults new) → ActsOnRoot disk outcome old new (Err f)
   acts_read {outcome = outcome} {old = old} {new = new} f later read ready acted = record {
     later = later;
     any_moment = λ told. read_leaves (Equals (outcome (disk.reads old))) (read told) (ready told);
     seen = λ told. unfailed_weaker (λ t is. inl is) (read_shown laws (read told));
-    outside = λ told p other. ap (λ (t : Tree). get t p) (read told).same.reads;
+    outside = λ told q out left. ap (λ (t : Tree). get t q) (read told).same.reads;
     rests = λ told. rests_any new (Err f) (ready_on (read told) (ready told));
     acted = acted;
   }
 
   -- nothing was done yet
-  pub leaves_waiting : (IsOutcome : Result Effect Refusal → Type 0) (d : D) → IsReady disk d → LeavesOnly disk d d (IsBeforeOrEffect IsOutcome (disk.reads d))
+  pub leaves_waiting : (IsOutcome : Result RootEffect Refusal → Type 0) (d : D) → IsReady disk d → LeavesOnly disk d d (IsBeforeOrEffect IsOutcome (disk.reads d))
   leaves_waiting IsOutcome d ready = record {
     later = omega arith;
     each = λ image since. inl (image_itself d ready image (laws.only_now d image since));
@@ -127,7 +134,7 @@ module _ {D : Type 0} {disk : DiskModel D} (laws : IsDisk disk) where
   acted_checked m old new _ read ready checked = absurd checked
 
   pub check_stopped : (m : Manifest) (xs : List Item) {old new : D} (f : Failure) → xs ≡ m.items → (IsTrue disk.tells → IsReady disk old)
-      → ChecksRoot disk (λ tree. checks tree xs) old new (Err f) → ActsOnRoot disk (is_named m.items) (installs m) old new (Err f)
+      → ChecksRoot disk (λ tree. checks tree xs) old new (Err f) → ActsOnRoot disk (installs m) old new (Err f)
   check_stopped m xs {old = old} {new = new} f same ready checks_root =
       let checked = subst (λ (l : List Item). Checked disk.tells (checks (disk.reads old) l) (Err f) (disk.faults old) (disk.faults new)) same checks_root.checked in
       acts_read f checks_root.later checks_root.read ready (acted_checked m old new f checks_root.read ready checked)
@@ -142,7 +149,7 @@ module _ {D : Type 0} {disk : DiskModel D} (laws : IsDisk disk) where
   acted_searched m old mid new found _ le read ready h = absurd h
 
   pub search_stopped : (m : Manifest) (xs ys : List Item) {old mid new : D} (f : Failure) → (IsTrue disk.tells → IsReady disk old)
-      → ChecksRoot disk (λ tree. checks tree xs) old mid (Ok tt) → SearchesRoot disk (λ tree. new_puts tree ys) mid new (Err f) → ActsOnRoot disk (is_named m.items) (installs m) old new (Err f)
+      → ChecksRoot disk (λ tree. checks tree xs) old mid (Ok tt) → SearchesRoot disk (λ tree. new_puts tree ys) mid new (Err f) → ActsOnRoot disk (installs m) old new (Err f)
   search_stopped m xs ys {old = old} {mid = mid} {new = new} f ready first then =
       acts_read f (omega (arith, first.later, then.later)) (λ told. read_on (first.read told) (then.read told)) ready
       (acted_searched m old mid new (new_puts (disk.reads mid) ys) f first.later (λ told. read_on (first.read told) (then.read told)) ready then.found)
@@ -189,11 +196,19 @@ module _ {D : Type 0} {disk : DiskModel D} (laws : IsDisk disk) where
           (subst (λ (o : Option Node). ShowsNode (get (disk.reads mid) q) o (get t q)) (targets_are b q out) (seen q out)),
     )
 
-    outside_of : IsBegun disk m.items puts old mid → AgreesOutside (is_own_or_target base puts) (disk.reads new) (disk.reads mid) → AgreesOutside (λ p. is_own base p || is_named m.items p) (disk.reads new) (disk.reads old)
-    outside_of b agrees p other =
-        let parts = neither (is_own base p) (is_named m.items p) other in
-        let target : is_target puts p ≡ false = ap (λ (ps : List Put). is_target ps p) b.writes ∙ new_elsewhere (disk.reads old) m.items p (unnamed m.items p parts.1) in
-        agrees p (or_none (is_own base p) (is_target puts p) parts.0 target) ∙ ap (λ (t : Tree). get t p) b.read.same.reads
+    target_of : (puts' : List Put) → puts ≡ puts' → (q : Name) → is_target puts' q ≡ false → is_target puts q ≡ false
+    target_of puts' is q h = ap (λ (ps : List Put). is_target ps q) is ∙ h
+
+    -- a name that the items leave as it is isn't a target
+    left_alone : (q : Name) → get (with_items (disk.reads old) m.items) q ≡ get (disk.reads old) q → (o : Option Node) → get (disk.reads old) q ≡ o → is_target (new_puts (disk.reads old) m.items) q ≡ false
+    left_alone q same (Some n) stands = new_stands (disk.reads old) m.items q n stands
+    left_alone q same None stands = new_elsewhere (disk.reads old) m.items q (unlisted m.items q (nothing_among (get (disk.reads old) q) (node_among m.items q) stands (sym (get_with_items (disk.reads old) m.items q) ∙ same ∙ stands)))
+
+    outside_of : IsBegun disk m.items puts old mid → AgreesOutside (is_own_or_target base puts) (disk.reads new) (disk.reads mid) → KeepsOthers (installs m (disk.reads old)) (disk.reads old) (disk.reads new)
+    outside_of b agrees q out left =
+        let same = left (effect m (disk.reads old)) (outcome_is m (disk.reads old) b.passed) in
+        let target = target_of (new_puts (disk.reads old) m.items) b.writes q (left_alone q same (get (disk.reads old) q) refl) in
+        agrees q (or_none (is_own base q) (is_target puts q) out target) ∙ ap (λ (t : Tree). get t q) b.read.same.reads
 
     rests_applied : (s : Result (Unit {0}) Failure) (out : List ℕ) → IsTrue disk.tells → Applied disk puts mid new s → Rests disk new (answer_of s out)
     rests_applied (Ok x) out told a = record { flag_clear = (a told).flag_clear; synced = (a told).synced }
@@ -215,7 +230,7 @@ module _ {D : Type 0} {disk : DiskModel D} (laws : IsDisk disk) where
 
     -- however the writes ended
     pub acts_applied : (s : Result (Unit {0}) Failure) (out : List ℕ) → out ≡ installed_line m → disk.faults old ≤ disk.faults mid → (IsTrue disk.tells → IsReady disk old) → (IsTrue disk.tells → IsBegun disk m.items puts old mid)
-        → AppliesRoot disk puts mid new s → ActsOnRoot disk (is_named m.items) (installs m) old new (answer_of s out)
+        → AppliesRoot disk puts mid new s → ActsOnRoot disk (installs m) old new (answer_of s out)
     acts_applied s out line le ready b a = record {
       later = omega (arith, le, a.later);
       any_moment = λ told. leaves_then (read_leaves (Equals (installs m (disk.reads old))) (b told).read (ready told)) (leaves_weaker (moment_of (ready told) (b told)) (a.any_moment told));

@@ -20,7 +20,7 @@ use Rattle.conary_cli.specs.ManifestForm.{Rise}
 use Rattle.conary_cli.specs.Install.{with_items}
 use Rattle.tree_journal.specs.Staging.{resolved, resolve}
 use Rattle.conary_cli.specs.NewPuts.{want_of, put_of, new_put, new_puts}
-use Rattle.conary_cli.specs.Recovered.{base}
+use Rattle.conary_cli.specs.RootEffect.{base}
 use Rattle.conary_cli.proofs.Installation.FirstNames.{Before, is_before, differ}
 use Rattle.conary_cli.proofs.Installation.ItemParents.{above, not_among, paths_of}
 use Rattle.conary_cli.proofs.Installation.WithItems.{node_among, or_else, get_with_items}
@@ -84,6 +84,22 @@ new_elsewhere t (item ∷ items) q all = by (is_empty_at t item.path) (new_elsew
     by : (b : Bool) → is_target (new_puts t items) q ≡ false → is_target (cons_option (cond b (Some (put_of item)) None) (new_puts t items)) q ≡ false
     by true rest = or_none (same_name q item.path) (is_target (new_puts t items) q) all.0 rest
     by false rest = rest
+
+-- nor is one at which something stands
+pub new_stands : (t : Tree) (items : List Item) (q : Name) (n : Node) → get t q ≡ Some n → is_target (new_puts t items) q ≡ false
+new_stands t [] q n stands = refl
+new_stands t (item ∷ items) q n stands = by (is_empty_at t item.path) refl (new_stands t items q n stands)
+  where
+    full : is_empty_at t q ≡ false
+    full = ap (λ (o : Option Node). not (is_some o)) stands
+
+    other : (b : Bool) → same_name q item.path ≡ b → is_empty_at t item.path ≡ true → b ≡ false
+    other true same empty = let here : is_empty_at t q ≡ true = ap (is_empty_at t) (same_means q item.path same) ∙ empty in absurd (cc (here, full))
+    other false same empty = refl
+
+    by : (b : Bool) → is_empty_at t item.path ≡ b → is_target (new_puts t items) q ≡ false → is_target (cons_option (cond b (Some (put_of item)) None) (new_puts t items)) q ≡ false
+    by true empty rest = or_none (same_name q item.path) (is_target (new_puts t items) q) (ap (λ b. b) (other (same_name q item.path) refl empty)) rest
+    by false empty rest = rest
 
 -- ---- the tree with them
 

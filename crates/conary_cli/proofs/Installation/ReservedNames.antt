@@ -14,7 +14,7 @@ use Rattle.tree_disk.specs.Tree.{Name, same_name}
 use Rattle.journal_log.specs.Own.{gate, log, work, staged, is_own, is_own_file}
 use Rattle.conary_cli.specs.declared.manifest.types.Item.{Item}
 use Rattle.conary_cli.specs.Install.{none_of, is_forbidden_item, reserved}
-use Rattle.conary_cli.specs.Recovered.{base}
+use Rattle.conary_cli.specs.RootEffect.{base}
 
 -- ---- names below the base
 

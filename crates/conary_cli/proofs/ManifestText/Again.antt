@@ -26,8 +26,8 @@ use Rattle.conary_cli.proofs.ManifestText.Takes.{cut_takes, regroup}
 use Rattle.std.proofs.lemmas.List.Quantifiers.{position-Some}
 use Rattle.cny_base.specs.declared.node.Node.{Node}
 use Rattle.cny_base.specs.declared.refusal.Refusal.{Refusal}
-use Rattle.conary_cli.specs.declared.failure.Failure.{Failure}
-use Rattle.conary_cli.specs.declared.failure.Failure.TheVariants as failure
+use Rattle.cli_call.specs.declared.failure.Failure.{Failure}
+use Rattle.cli_call.specs.declared.failure.Failure.TheVariants as failure
 use Rattle.conary_cli.specs.ReadManifest.{manifest_in, ReadsManifest, ReadsOnly}
 
 -- ---- places

@@ -18,7 +18,7 @@ use Rattle.cny_base.specs.Path.{is_path}
 use Rattle.std.specs.Ordering.{nat_cmp, is_lt}
 use Rattle.std.specs.Cmp.Lexicographic.{slice_cmp}
 use Rattle.std.specs.Result.{IfOk}
-use Rattle.conary_cli.specs.declared.failure.Failure.{Failure}
+use Rattle.cli_call.specs.declared.failure.Failure.{Failure}
 use Rattle.conary_cli.specs.ReadManifest.{or_refused, manifest_in, ReadsManifest}
 use Rattle.std.specs.List.{flat_map, AllByRecursion}
 use Rattle.conary_cli.specs.declared.manifest.types.Manifest.{Manifest}

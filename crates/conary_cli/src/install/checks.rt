@@ -17,7 +17,7 @@ ghost use Rattle.conary_cli.specs.Parents.{is_made_dir, lacks_dir, parents_with}
 ghost use Rattle.conary_cli.specs.Seen.{other_than_dir, other_than_link, no_dir_seen};
 
 use crate::manifest::Item;
-use crate::texts::text_of_path;
+use cli_call::text_of_path;
 use cny_base::{Copies, Mode, Node, OutOfMemory, Path, Refusal, Stop, Target};
 use std::alloc::Global;
 use std::collections::BTreeSet;

@@ -4,22 +4,19 @@ ghost use Rattle.std.specs.List.{list_all};
 ghost use Rattle.tree_disk.specs.Tree.{is_node};
 ghost use Rattle.tree_journal.specs.Apply.{CanApply};
 ghost use Rattle.conary_cli.specs.Install as spec;
-ghost use Rattle.conary_cli.specs.Install.{checks, installed_line, is_named, installs};
+ghost use Rattle.conary_cli.specs.Install.{checks, installed_line, installs};
 ghost use Rattle.conary_cli.specs.ManifestForm.{Rise, IsManifest};
 ghost use Rattle.conary_cli.specs.NewPuts.{new_puts};
-ghost use Rattle.conary_cli.specs.OnRoot.{ChecksRoot, SearchesRoot, AppliesRoot, ActsOnRoot, IsReady};
-ghost use Rattle.conary_cli.specs.Ready.{PerformsReady};
-ghost use Rattle.conary_cli.specs.Recovered.{base};
+ghost use Rattle.conary_cli.specs.OnRoot.{ChecksRoot, SearchesRoot, AppliesRoot, ActsOnRoot};
+ghost use Rattle.cli_call.specs.Command.{disks, AreReady, IsReady, Performs};
+ghost use Rattle.conary_cli.specs.RootEffect.{base};
 
 mod checks;
 mod puts;
 
-use crate::failure::Failure;
-use crate::input::read_input;
 use crate::manifest::{Item, Manifest, read_manifest};
-use crate::root::{on_root, private_directory};
+use cli_call::{Failure, Opened, on_root, private_directory, store_laws};
 use cny_base::{OutOfMemory, Text};
-use cny_flow::Source;
 use std::alloc::Global;
 use tree_disk::{TreeDisk, node_ranges};
 use tree_journal::{Puts, apply};
@@ -81,7 +78,9 @@ fn install_manifest<T: TreeDisk>(
 ) -> Result<Text, Failure>
     requires valid { IsManifest manifest }
     requires ready { IsTrue T.disk.tells → IsReady T.disk root.old }
-    ensures { ActsOnRoot T.disk (is_named manifest.items) (installs manifest) root.old root.new result }
+    ensures acts { ActsOnRoot T.disk (installs manifest) root.old root.new result }
+    // The items' nodes are ones that a disk can hold.
+    ensures nodes { list_all (λ item. is_node item.node) manifest.items ≡ true }
 {
     hold_nodes(&manifest);
     let line = line_of_manifest(alloc, &manifest)?;
@@ -91,16 +90,18 @@ fn install_manifest<T: TreeDisk>(
     Ok(line)
 }
 
-/// Installs the component of the manifest on the input, and answers the line that says so. The root is ready.
-pub fn install<I: Source, T: TreeDisk>(
+/// Installs the component of the manifest that the input is, and answers the line that says so. The repository isn't touched.
+pub fn install<T: TreeDisk, P: TreeDisk>(
     alloc: Global,
-    input: &mut I,
+    input: &[u8],
+    opened: &Opened,
+    repo: &P,
     root: &mut T,
 ) -> Result<Text, Failure>
-    requires { IsTrue T.disk.tells → IsReady T.disk root.old }
-    ensures { PerformsReady I.source T.disk spec.install input.old root.old input.new root.new result }
+    requires { AreReady T.disk P.disk (disks root.old repo.now opened.now) }
+    ensures { Performs T.disk P.disk spec.install input.now (disks root.old repo.now opened.now) (disks root.new repo.now opened.now) result }
 {
-    let bytes = read_input(alloc, input)?;
-    let manifest = read_manifest(alloc, bytes.get())?;
+    store_laws();
+    let manifest = read_manifest(alloc, input)?;
     install_manifest(alloc, root, manifest)
 }

@@ -10,7 +10,7 @@ use super::fault::{ReadError, Unread, fault_at, line_fault};
 use super::fields::{dir_line, file_line, is_same, path_of, strip, text_of};
 use super::lines::{content_of, line_of};
 use super::types::{Item, Items, Manifest};
-use crate::failure::Failure;
+use cli_call::Failure;
 use cny_base::{
     Bytes, CONTENT_LIMIT, FILES_LIMIT, Mode, Name, NameKind, Node, OutOfMemory, Refusal, Text,
     TextFault, What,

@@ -1,4 +1,4 @@
-use Rattle.conary_cli.proofs.ReadyRoot.Steps.{checks_root}
+use Rattle.conary_cli.proofs.Installation.Steps.{checks_root}
 use Rattle.conary_cli.proofs.install.check_items.Goals as goal
 
 pub returns : goal.returns

@@ -1,6 +1,6 @@
 use Rattle.std.proofs.Common.{sym, ◌∙◌}
 use Rattle.conary_cli.specs.NewPuts.{new_puts}
-use Rattle.conary_cli.proofs.ReadyRoot.Searching.{search_stops}
+use Rattle.conary_cli.proofs.Installation.Searching.{search_stops}
 use Rattle.conary_cli.proofs.install.new_items.Goals as goal
 
 pub returns-in_err-puts : goal.returns-in_err-puts

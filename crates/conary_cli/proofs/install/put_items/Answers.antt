@@ -1,7 +1,7 @@
 use Rattle.std.proofs.Common.{subst}
 use Rattle.conary_cli.specs.OnRoot.{AppliesRoot}
-use Rattle.conary_cli.proofs.ReadyRoot.Applied.{Application, puts_applied, puts_waiting}
-use Rattle.conary_cli.proofs.ReadyRoot.Recovering.{err_is}
+use Rattle.conary_cli.proofs.Installation.Applied.{Application, puts_applied, puts_waiting}
+use Rattle.conary_cli.proofs.Passing.{err_is}
 use Rattle.conary_cli.proofs.install.put_items.Goals as goal
 
 pub returns-in_err-directory : goal.returns-in_err-directory

@@ -1,0 +1,165 @@
+-- A disk that is opened: it is only read, recovered, and only read again.
+use Rattle.std.proofs.Common.{◌≡◌, ◌≤◌, Bool, true, false, Result, Ok, Err, IfOk, IfErr, refl, sym, ap, ◌∙◌, subst, inl, inr, ⊎_elim, arith}
+use Rattle.std.specs.Prelude.{IsTrue}
+use Rattle.std.specs.FinMap.{get}
+use Rattle.cny_base.specs.declared.refusal.Refusal.{Refusal}
+use Rattle.cny_base.specs.declared.stop.Stop.{Stop}
+use Rattle.cny_base.specs.declared.stop.Stop.TheVariants as stop
+use Rattle.tree_disk.specs.Tree.{Name, Tree}
+use Rattle.tree_disk.specs.Disk.{DiskModel, IsDisk, IsImageOf, HasRead}
+use Rattle.tree_disk.specs.Confined.{Among, LeavesOnly}
+use Rattle.tree_disk.specs.ConfinedLaws.{confined_read, confined_then, leaves_then, leaves_step, leaves_weaker}
+use Rattle.tree_disk.specs.Moments.{rose_before, same_images}
+use Rattle.tree_disk.specs.Steps.{no_name, Found, Tests}
+use Rattle.tree_disk.specs.Unfailed.{UnlessFailed, unfailed_then, unfailed_weaker}
+use Rattle.tree_journal.specs.Recovery.{is_committed, RecoversTo, at_rest, by_log, RecoversAsThen, IsRecovered, IsDamagedAt}
+use Rattle.tree_journal.specs.Recovering.{IsVisibleIn}
+use Rattle.tree_journal.specs.Staging.{outcome}
+use Rattle.cli_call.specs.CommandLaws.{read_shown}
+use Rattle.cli_call.specs.Opening.{RecoversAt, RecoveryStops, IsOpen, Opens, OpeningStops, nothing_read}
+use Rattle.cli_call.specs.Recovered.{RecoversToNone, IsKept, RefusesLog}
+use Rattle.cli_call.specs.Store.{Store}
+use Rattle.cli_call.specs.StoreLaws.{kept_so}
+
+visible_itself : (base : Name) (t : Tree) → IsVisibleIn base t t
+visible_itself base t tree r q out = inl refl
+
+module _ {D X : Type 0} (store : Store X) {disk : DiskModel D} (laws : IsDisk disk) where
+  -- a call that only reads leaves what a crash might leave before, and shows what stood before
+  read_leaves : (old new : D) → HasRead disk old new (Unit {0}) → LeavesOnly disk old new (RecoversAsThen disk store.base old)
+  read_leaves old new read = leaves_step laws read.time (λ image is. inl is) (λ image is. inl (same_images read.same image is))
+
+  read_visible : (old new : D) → HasRead disk old new (Unit {0}) → UnlessFailed disk old new (IsVisibleIn store.base (disk.reads old))
+  read_visible old new read = unfailed_weaker (λ t is. subst (IsVisibleIn store.base (disk.reads old)) (sym is) (visible_itself store.base (disk.reads old))) (read_shown laws read)
+
+  -- ---- the disk was only read
+
+  pub opens_read : {V : Type 0} {tests : Tree → Result (Unit {0}) Refusal} {IsRead : Tree → V → Type 0} (old new : D) (e : Stop) → disk.faults old ≤ disk.faults new → (IsTrue disk.tells → HasRead disk old new (Unit {0})) → OpeningStops store disk tests old new e → Opens store disk tests IsRead old new (Err e)
+  opens_read old new e later read stops = record {
+    later = later;
+    images = λ told. read_leaves old new (read told);
+    seen = λ told. read_visible old new (read told);
+    opened = λ told. tt;
+    kept = λ told. subst (IsKept store.base (disk.reads old)) (sym (read told).same.reads) (kept_so store.base (disk.reads old));
+    missing = λ told r is. read told;
+    untouched = λ told none. confined_read laws (Among no_name) (read told);
+    stops = stops;
+  }
+
+  -- ---- it was recovered
+
+  as_at : (old mid : D) → HasRead disk old mid (Unit {0}) → (image : Tree) → RecoversAsThen disk store.base mid image → RecoversAsThen disk store.base old image
+  as_at old mid read image h = ⊎_elim
+      (λ is. inl (same_images read.same image is))
+      (λ r. inr (λ tree to. r tree (subst (λ (t : Tree). RecoversTo store.base t tree) (sym read.same.reads) to)))
+      h
+
+  -- a recovered disk recovers to what it reads
+  recovers_to_new : (mid new : D) → IsRecovered disk store.base mid new → IsKept store.base (disk.reads mid) (disk.reads new) → (b : Bool) → is_committed store.base (disk.reads mid) ≡ b → RecoversTo store.base (disk.reads mid) (disk.reads new)
+  recovers_to_new mid new recovered kept true set =
+      let log = recovered.had_log set in
+      let stores = recovered.stores (outcome store.base log.puts (disk.reads mid)) (by_log set log.puts log.holds log.stand log.can (λ p out. refl)) in
+      by_log set log.puts log.holds log.stand log.can (λ p out. sym (stores p out))
+  recovers_to_new mid new recovered kept false clear = at_rest clear (λ p out. ap (λ (t : Tree). get t p) (sym (kept.same clear)))
+
+  pub is_open : {V : Type 0} {tests : Tree → Result (Unit {0}) Refusal} {IsRead : Tree → V → Type 0} (old mid new : D) (value : V) → HasRead disk old mid (Unit {0}) → tests (disk.reads old) ≡ Ok tt → IsRecovered disk store.base mid new → IsKept store.base (disk.reads mid) (disk.reads new) → IsRead (disk.reads new) value
+      → IsOpen store disk tests IsRead old new value
+  is_open old mid new value read fixed recovered kept value_is = record {
+    settled = record { flag_clear = recovered.flag_clear; synced = recovered.synced };
+    fixed = fixed;
+    recovers = subst (λ (t : Tree). RecoversTo store.base t (disk.reads new)) read.same.reads (recovers_to_new mid new recovered kept (is_committed store.base (disk.reads mid)) refl);
+    stores = λ tree r. recovered.stores tree (subst (λ (t : Tree). RecoversTo store.base t tree) (sym read.same.reads) r);
+    value_is = value_is;
+  }
+
+  -- first it was only read, and passed the tests
+  pub opens_recovered : {V : Type 0} {tests : Tree → Result (Unit {0}) Refusal} {IsRead : Tree → V → Type 0} (old mid new : D) {s : Result (Unit {0}) Stop} (result : Result V Stop) → disk.faults old ≤ disk.faults mid → (IsTrue disk.tells → HasRead disk old mid (Unit {0})) → (IsTrue disk.tells → tests (disk.reads old) ≡ Ok tt) → RecoversAt disk store.base mid new s
+      → (IsTrue disk.tells → IfOk result (IsOpen store disk tests IsRead old new)) → IfErr result (OpeningStops store disk tests old new) → Opens store disk tests IsRead old new result
+  opens_recovered old mid new result later read fixed recovers opened stops = record {
+    later = omega (arith, later, recovers.later);
+    images = λ told. leaves_then (read_leaves old mid (read told)) (leaves_weaker (as_at old mid (read told)) (recovers.images told));
+    seen = λ told. unfailed_then later recovers.later (read_visible old mid (read told))
+        (unfailed_weaker (λ t seen. subst (λ (u : Tree). IsVisibleIn store.base u t) (read told).same.reads seen) (recovers.seen told));
+    opened = opened;
+    kept = λ told. subst (λ (t : Tree). IsKept store.base t (disk.reads new)) (read told).same.reads (recovers.kept told);
+    missing = λ told r is. let ok = fixed told in absurd (cc (ok, is));
+    untouched = λ told none. confined_then (confined_read laws (Among no_name) (read told)) (recovers.untouched told (subst (RecoversToNone store.base) (sym (read told).same.reads) none));
+    stops = stops;
+  }
+
+  -- why it wasn't recovered
+  log_refused : (old mid new : D) (r : Refusal) → HasRead disk old mid (Unit {0}) → (disk.reads new ≡ disk.reads mid) × RefusesLog store.base (disk.reads mid) r → (disk.reads new ≡ disk.reads old) × RefusesLog store.base (disk.reads old) r
+  log_refused old mid new r read h = (h.0 ∙ read.same.reads, subst (λ (t : Tree). RefusesLog store.base t r) read.same.reads h.1)
+
+  pub stops_on : (tests : Tree → Result (Unit {0}) Refusal) (old mid new : D) (e : Stop) → disk.faults old ≤ disk.faults mid → (IsTrue disk.tells → HasRead disk old mid (Unit {0})) → RecoveryStops disk store.base mid new e → OpeningStops store disk tests old new e
+  stops_on tests old mid new stop.Failed le read stops = rose_before (disk.faults old) (disk.faults mid) (disk.faults new) le stops
+  stops_on tests old mid new stop.Memory le read stops = tt
+  stops_on tests old mid new (stop.Refused r) le read stops = λ told. let h = log_refused old mid new r (read told) (stops told) in record { same = h.0; cause = inl h.1 }
+  stops_on tests old mid new (stop.Damaged path) le read stops = λ told. inl (record {
+    damaged = subst (λ (t : Tree). IsDamagedAt store.base t path) (read told).same.reads (stops told).damaged;
+    same = (stops told).same ∙ (read told).same.reads;
+  })
+  stops_on tests old mid new stop.FarFailed le read stops = absurd stops
+  stops_on tests old mid new (stop.FarDamaged path) le read stops = absurd stops
+
+  -- ---- it was recovered, and only read since
+
+  image_since : (old mid : D) → LeavesOnly disk old mid (RecoversAsThen disk store.base old) → (image : Tree) → IsImageOf disk mid image → RecoversAsThen disk store.base old image
+  image_since old mid leaves image is = leaves.each image (laws.counts_now mid (disk.now old) image leaves.later is)
+
+  read_after : (old mid new : D) → LeavesOnly disk old mid (RecoversAsThen disk store.base old) → HasRead disk mid new (Unit {0}) → LeavesOnly disk mid new (RecoversAsThen disk store.base old)
+  read_after old mid new leaves read = leaves_step laws read.time (λ image is. image_since old mid leaves image is) (λ image is. image_since old mid leaves image (same_images read.same image is))
+
+  shown_after : (old mid new : D) → IsRecovered disk store.base old mid → HasRead disk mid new (Unit {0}) → UnlessFailed disk mid new (IsVisibleIn store.base (disk.reads old))
+  shown_after old mid new recovered read = unfailed_weaker
+      (λ t is tree to q out. inr (inl (ap (λ (u : Tree). get u q) is ∙ recovered.stores tree to q out)))
+      (read_shown laws read)
+
+  pub opens_loaded : {V : Type 0} {tests : Tree → Result (Unit {0}) Refusal} {IsRead : Tree → V → Type 0} (old mid new : D) (result : Result V Stop) → RecoversAt disk store.base old mid (Ok tt) → disk.faults mid ≤ disk.faults new → (IsTrue disk.tells → HasRead disk mid new (Unit {0})) → (IsTrue disk.tells → tests (disk.reads old) ≡ Ok tt)
+      → (IsTrue disk.tells → IfOk result (IsOpen store disk tests IsRead old new)) → IfErr result (OpeningStops store disk tests old new) → Opens store disk tests IsRead old new result
+  opens_loaded old mid new result recovers later read fixed opened stops = record {
+    later = omega (arith, recovers.later, later);
+    images = λ told. leaves_then (recovers.images told) (read_after old mid new (recovers.images told) (read told));
+    seen = λ told. unfailed_then recovers.later later (recovers.seen told) (shown_after old mid new (recovers.recovered told) (read told));
+    opened = opened;
+    kept = λ told. subst (λ (t : Tree). IsKept store.base (disk.reads old) t) (sym (read told).same.reads) (recovers.kept told);
+    missing = λ told r is. let ok = fixed told in absurd (cc (ok, is));
+    untouched = λ told none. confined_then (recovers.untouched told none) (confined_read laws (Among no_name) (read told));
+    stops = stops;
+  }
+
+  -- what a recovered disk has in common with one that was only read since
+  pub recovered_on : (old mid new : D) → HasRead disk mid new (Unit {0}) → IsRecovered disk store.base old mid → IsRecovered disk store.base old new
+  recovered_on old mid new read recovered = record {
+    flag_clear = ap (is_committed store.base) read.same.reads ∙ recovered.flag_clear;
+    synced = λ p. read.same.unsynced p ∙ recovered.synced p;
+    stores = λ tree to p out. ap (λ (t : Tree). get t p) read.same.reads ∙ recovered.stores tree to p out;
+    had_log = recovered.had_log;
+  }
+
+  -- ---- the two ways
+
+  -- the tests stopped
+  found_stops : (tests : Tree → Result (Unit {0}) Refusal) (told : Bool) (expected : Result (Unit {0}) Refusal) (e : Stop) (old new : D) → disk.tells ≡ told → expected ≡ tests (disk.reads old) → (IsTrue disk.tells → HasRead disk old new (Unit {0})) → Found (λ (d : Unit {0}). d) told expected (Err e) (disk.faults old) (disk.faults new) → OpeningStops store disk tests old new e
+  found_stops tests told expected stop.Failed old new is same read found = found
+  found_stops tests told expected stop.Memory old new is same read found = tt
+  found_stops tests told expected (stop.Refused r) old new is same read found = λ t. record { same = (read t).same.reads; cause = inr (sym same ∙ found (sym is ∙ t)) }
+  found_stops tests told expected (stop.Damaged path) old new is same read found = absurd found
+  found_stops tests told expected stop.FarFailed old new is same read found = absurd found
+  found_stops tests told expected (stop.FarDamaged path) old new is same read found = absurd found
+
+  pub tests_stopped : {V : Type 0} {tests : Tree → Result (Unit {0}) Refusal} {IsRead : Tree → V → Type 0} (old new : D) (e : Stop) → Tests disk (λ (d : Unit {0}). d) tests old new (Err e) → Opens store disk tests IsRead old new (Err e)
+  tests_stopped {tests = tests} old new e checks = opens_read old new e checks.later checks.same (found_stops tests disk.tells (tests (disk.reads old)) e old new refl refl checks.same checks.found)
+
+  pub opens_stopped : {V : Type 0} {tests : Tree → Result (Unit {0}) Refusal} {IsRead : Tree → V → Type 0} (old mid new : D) (s : Result (Unit {0}) Stop) (e : Stop) → s ≡ Err e → (IsTrue disk.tells → HasRead disk old mid (Unit {0})) → (IsTrue disk.tells → tests (disk.reads old) ≡ Ok tt) → disk.faults old ≤ disk.faults mid → RecoversAt disk store.base mid new s → Opens store disk tests IsRead old new (Err e)
+  opens_stopped old mid new (Ok x) e is read fixed later recovers = absurd (cc is)
+  opens_stopped {tests = tests} {IsRead = IsRead} old mid new (Err f) e is read fixed later recovers =
+      let same : f ≡ e = cc is in
+      subst (λ (x : Stop). Opens store disk tests IsRead old new (Err x)) same (opens_recovered old mid new (Err f) later read fixed recovers (λ told. tt) (stops_on tests old mid new f later read recovers.stops))
+
+module _ {D X : Type 0} (store : Store X) {disk : DiskModel D} (laws : IsDisk disk) {tests : Tree → Result (Unit {0}) Refusal} where
+  -- a disk of which nothing is read, after its tests
+  pub checked_opens : (old mid new : D) (s : Result (Unit {0}) Stop) → Tests disk (λ (d : Unit {0}). d) tests old mid (Ok tt) → RecoversAt disk store.base mid new s → Opens store disk tests nothing_read old new s
+  checked_opens old mid new (Ok x) checks recovers = opens_recovered store laws old mid new (Ok x) checks.later checks.same checks.found recovers
+      (λ told. is_open store laws old mid new x (checks.same told) (checks.found told) (recovers.recovered told) (recovers.kept told) tt) tt
+  checked_opens old mid new (Err e) checks recovers = opens_stopped store laws old mid new (Err e) e refl checks.same checks.found checks.later recovers

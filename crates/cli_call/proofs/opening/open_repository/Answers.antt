@@ -1,0 +1,22 @@
+use Rattle.std.proofs.Common.{subst, refl, arith}
+use Rattle.repo_state.specs.Files.{HoldsCatalogue}
+use Rattle.cli_call.specs.Opening.{no_test, Opens, RecoversAt}
+use Rattle.cli_call.specs.Stores.{repository_store}
+use Rattle.cli_call.proofs.OpeningDisks.{opens_stopped}
+use Rattle.cli_call.proofs.LoadingRepository.{loaded_opens}
+use Rattle.cli_call.specs.StoreLaws.{nothing_done}
+use Rattle.cli_call.proofs.Passing.{err_is}
+use Rattle.cli_call.proofs.opening.open_repository.Goals as goal
+
+pub returns-in_err-recover_disk-clause-opens : goal.returns-in_err-recover_disk-clause-opens
+returns-in_err-recover_disk-clause-opens g c =
+    let disk = g.P.TreeDisk.disk in
+    err_is (Opens repository_store disk no_test HoldsCatalogue c.args.repo.now c.recover_disk.new.disk) c.from_residual-in_err-recover_disk.result c.in_err-recover_disk.field-0.0 c.from_residual-in_err-recover_disk.ensures.1
+    (opens_stopped repository_store g.met.P.TreeDisk.laws c.args.repo.now c.args.repo.now c.recover_disk.new.disk c.recover_disk.result c.in_err-recover_disk.field-0.0 c.in_err-recover_disk.was (λ told. nothing_done g.met.P.TreeDisk.laws c.args.repo.now) (λ told. refl) (omega arith)
+    (subst (λ p. RecoversAt disk p c.args.repo.now c.recover_disk.new.disk c.recover_disk.result) c.in_ok-directory.ensures c.recover_disk.ensures))
+
+pub returns-clause-opens : goal.returns-clause-opens
+returns-clause-opens g c =
+    let disk = g.P.TreeDisk.disk in
+    loaded_opens g.met.P.TreeDisk.laws c.args.repo.now c.recover_disk.new.disk c.load.new.disk c.recover_disk.result c.in_ok-recover_disk.field-0 c.load.result c.in_ok-recover_disk.was
+    (subst (λ p. RecoversAt disk p c.args.repo.now c.recover_disk.new.disk c.recover_disk.result) c.in_ok-directory.ensures c.recover_disk.ensures) c.load.ensures.loads

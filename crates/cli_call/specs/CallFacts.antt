@@ -1,0 +1,243 @@
+-- What is known of a call by how it ended, whatever the disks store.
+use Rattle.std.proofs.Common.{◌≡◌, ◌≤◌, ℕ, Bool, true, false, List, Result, Ok, Err, refl, sym, ap, ◌∙◌, subst, inl, inr, ⊎_elim, arith}
+use Rattle.std.specs.Prelude.{◌⊎◌, IsTrue}
+use Rattle.std.specs.Io.KnownBytes.{Keeps}
+use Rattle.cny_base.specs.Count.{Rose}
+use Rattle.cny_base.specs.declared.refusal.Refusal.{Refusal}
+use Rattle.cny_base.specs.declared.stop.Stop.{Stop}
+use Rattle.cny_base.specs.declared.stop.Stop.TheVariants as stop
+use Rattle.tree_disk.specs.Tree.{Tree}
+use Rattle.tree_disk.specs.Disk.{DiskModel, IsDisk}
+use Rattle.tree_disk.specs.Confined.{Among, Confined}
+use Rattle.tree_disk.specs.ConfinedLaws.{confined_start}
+use Rattle.tree_disk.specs.Moments.{rose_before}
+use Rattle.tree_disk.specs.Steps.{no_name}
+use Rattle.cli_call.specs.declared.failure.Failure.{Failure}
+use Rattle.cli_call.specs.declared.failure.Failure.TheVariants as failure
+use Rattle.cli_call.specs.declared.opened.Opened.{Opened}
+use Rattle.cli_call.specs.Call.{CallState, OpensRoot, OpensRepository, AreOpened, StopsReading, RunsWith, NotOpened, RunsCall}
+use Rattle.cli_call.specs.Command.{disks, ChangesNothing}
+use Rattle.cli_call.specs.FixedDirs.{fixed_dirs}
+use Rattle.cli_call.specs.Line.{Moment, LineCause, RunsLine}
+use Rattle.cli_call.specs.LineLaws.{keeps_still}
+use Rattle.cli_call.specs.Reading.{ReadsGiven}
+use Rattle.cli_call.specs.Recovered.{RecoversToNone, IsKept, RefusesLog}
+use Rattle.cli_call.specs.Report.{End, status_of}
+use Rattle.cli_call.specs.State.{Meaning}
+use Rattle.cli_call.specs.Stops.{root_failure, repository_failure}
+use Rattle.cli_call.specs.Store.{IsSettled}
+use Rattle.cli_call.specs.StoreLaws.{kept_so}
+use Rattle.cli_call.specs.Stores.{root_store, repository_store}
+use Rattle.cli_call.specs.WholeCall.{AreKept, RestOpened, IsDamage, OnlyRead}
+
+-- of two causes that are known where a disk is told, the first, or the second by itself
+pub by_told : {A B : Type 0} (told : Bool) → (IsTrue told → A ⊎ B) → (IsTrue told → A) ⊎ B
+by_told true h = ⊎_elim (λ a. inl (λ is. a)) (λ b. inr b) (h refl)
+by_told false h = inl (λ is. absurd (cc is))
+
+never_fixed : {r : Refusal} {d : Result (Unit {0}) Refusal} → d ≡ Ok tt → d ≡ Err r → ⊥
+never_fixed a b = cc (a, b)
+
+module _ {T P : Type 0} (root_disk : DiskModel T) (repo_disk : DiskModel P) where
+  -- why a call ended so, and what was written
+  abbrev pub CallCause : CallState T P → CallState T P → End → Type 0
+  CallCause before now (Ok x) = Unit {0}
+  CallCause before now (Err (failure.Refused r)) = Keeps before.out.written now.out.written
+  CallCause before now (Err failure.InputFault) = Rose before.input.faults now.input.faults × Keeps before.out.written now.out.written
+  CallCause before now (Err failure.OutputFault) = Rose before.out.faults now.out.faults
+  CallCause before now (Err failure.RootFault) = Rose (root_disk.faults before.root) (root_disk.faults now.root) × Keeps before.out.written now.out.written
+  CallCause before now (Err failure.RepositoryFault) = Rose (repo_disk.faults before.repo) (repo_disk.faults now.repo) × Keeps before.out.written now.out.written
+  CallCause before now (Err failure.Memory) = Keeps before.out.written now.out.written
+  CallCause before now (Err (failure.Damaged path)) = IsDamage root_disk repo_disk before now path × Keeps before.out.written now.out.written
+  CallCause before now (Err failure.Usage) = ⊥
+
+  -- opening was refused, for the log of a disk, or for a fixed directory
+  pub record RefusedLog (before now : CallState T P) (end : End) : Type 0 where
+    pub refusal : Refusal
+    pub is : end ≡ Err (failure.Refused refusal)
+    pub log : (IsTrue root_disk.tells → RefusesLog root_store.base (root_disk.reads before.root) refusal)
+        ⊎ (IsTrue repo_disk.tells → RefusesLog repository_store.base (repo_disk.reads before.repo) refusal)
+    pub unread : now.input ≡ before.input
+
+  pub record RefusedDir (before now : CallState T P) (end : End) : Type 0 where
+    pub refusal : Refusal
+    pub is : end ≡ Err (failure.Refused refusal)
+    pub missing : fixed_dirs (root_disk.reads before.root) ≡ Err refusal
+    pub unread : now.input ≡ before.input
+
+  abbrev pub SettlesSo : CallState T P → CallState T P → End → Type 0
+  SettlesSo before now end = RestOpened root_disk repo_disk before now ⊎ RefusedLog before now end ⊎ RefusedDir before now end
+
+  pub record CallFacts (before now : CallState T P) (end : End) : Type 0 where
+    pub cause : CallCause before now end
+    pub kept : ChangesNothing end → AreKept root_disk repo_disk before now
+    pub settles : status_of end ≤ 4 → SettlesSo before now end
+    pub root_untouched : IsTrue root_disk.tells → RecoversToNone root_store.base (root_disk.reads before.root) → Confined root_disk (Among no_name) before.root now.root
+    pub repo_untouched : IsTrue repo_disk.tells → RecoversToNone repository_store.base (repo_disk.reads before.repo) → Confined repo_disk (Among no_name) before.repo now.repo
+    pub missing : IsTrue root_disk.tells → (r : Refusal) → fixed_dirs (root_disk.reads before.root) ≡ Err r → OnlyRead root_disk repo_disk before now
+
+module _ {T P : Type 0} {root_disk : DiskModel T} {repo_disk : DiskModel P} (root_laws : IsDisk root_disk) (repo_laws : IsDisk repo_disk) (before now : CallState T P) where
+  -- ---- the root wasn't opened
+
+  root_cause : (e : Stop) → OpensRoot root_disk repo_disk before.root now.root (Err e) → now.input ≡ before.input → now.out ≡ before.out → CallCause root_disk repo_disk before now (Err (root_failure e))
+  root_cause stop.Failed opens unread silent = (opens.stops, keeps_still before.out now.out silent)
+  root_cause stop.Memory opens unread silent = keeps_still before.out now.out silent
+  root_cause (stop.Refused r) opens unread silent = keeps_still before.out now.out silent
+  root_cause (stop.Damaged path) opens unread silent = (inl (unread, inl opens.stops), keeps_still before.out now.out silent)
+  root_cause stop.FarFailed opens unread silent = absurd opens.stops
+  root_cause (stop.FarDamaged path) opens unread silent = absurd opens.stops
+
+  root_settles : (e : Stop) → OpensRoot root_disk repo_disk before.root now.root (Err e) → now.input ≡ before.input → status_of (Err (root_failure e)) ≤ 4 → SettlesSo root_disk repo_disk before now (Err (root_failure e))
+  root_settles (stop.Refused r) opens unread le = ⊎_elim
+      (λ log. inr (inl (record { refusal = r; is = refl; log = inl log; unread = unread })))
+      (λ dir. inr (inr (record { refusal = r; is = refl; missing = dir; unread = unread })))
+      (by_told root_disk.tells (λ told. (opens.stops told).cause))
+  root_settles stop.Failed opens unread le = absurd (omega (arith, le))
+  root_settles stop.Memory opens unread le = absurd (omega (arith, le))
+  root_settles (stop.Damaged path) opens unread le = absurd (omega (arith, le))
+  root_settles stop.FarFailed opens unread le = absurd opens.stops
+  root_settles (stop.FarDamaged path) opens unread le = absurd opens.stops
+
+  same_repo : now.repo ≡ before.repo → IsKept repository_store.base (repo_disk.reads before.repo) (repo_disk.reads now.repo)
+  same_repo same = subst (λ (d : P). IsKept repository_store.base (repo_disk.reads before.repo) (repo_disk.reads d)) (sym same) (kept_so repository_store.base (repo_disk.reads before.repo))
+
+  at_root : (e : Stop) → OpensRoot root_disk repo_disk before.root now.root (Err e) → now.repo ≡ before.repo → now.input ≡ before.input → now.out ≡ before.out → CallFacts root_disk repo_disk before now (Err (root_failure e))
+  at_root e opens same unread silent = record {
+    cause = root_cause e opens unread silent;
+    kept = λ none. record { root = opens.kept; repo = λ told. same_repo same };
+    settles = root_settles e opens unread;
+    root_untouched = opens.untouched;
+    repo_untouched = λ told none. subst (λ (d : P). Confined repo_disk (Among no_name) before.repo d) (sym same) (confined_start repo_laws (Among no_name) before.repo);
+    missing = λ told r is. record { root = opens.missing told r is; repo = same; unread = unread };
+  }
+
+  -- ---- the root was opened, and the repository wasn't
+
+  repo_cause : (e : Stop) → OpensRepository root_disk repo_disk before.repo now.repo (Err e) → now.input ≡ before.input → now.out ≡ before.out → CallCause root_disk repo_disk before now (Err (repository_failure e))
+  repo_cause stop.Failed opens unread silent = (opens.stops, keeps_still before.out now.out silent)
+  repo_cause stop.Memory opens unread silent = keeps_still before.out now.out silent
+  repo_cause (stop.Refused r) opens unread silent = keeps_still before.out now.out silent
+  repo_cause (stop.Damaged path) opens unread silent = (inl (unread, inr opens.stops), keeps_still before.out now.out silent)
+  repo_cause stop.FarFailed opens unread silent = absurd opens.stops
+  repo_cause (stop.FarDamaged path) opens unread silent = absurd opens.stops
+
+  repo_settles : (e : Stop) → OpensRepository root_disk repo_disk before.repo now.repo (Err e) → now.input ≡ before.input → status_of (Err (repository_failure e)) ≤ 4 → SettlesSo root_disk repo_disk before now (Err (repository_failure e))
+  repo_settles (stop.Refused r) opens unread le = inr (inl (record {
+    refusal = r;
+    is = refl;
+    log = inr (λ told. ⊎_elim (λ log. log) (λ is. absurd (cc is)) (opens.stops told).cause);
+    unread = unread;
+  }))
+  repo_settles stop.Failed opens unread le = absurd (omega (arith, le))
+  repo_settles stop.Memory opens unread le = absurd (omega (arith, le))
+  repo_settles (stop.Damaged path) opens unread le = absurd (omega (arith, le))
+  repo_settles stop.FarFailed opens unread le = absurd opens.stops
+  repo_settles (stop.FarDamaged path) opens unread le = absurd opens.stops
+
+  at_repository : (e : Stop) → OpensRoot root_disk repo_disk before.root now.root (Ok tt) → OpensRepository root_disk repo_disk before.repo now.repo (Err e) → now.input ≡ before.input → now.out ≡ before.out → CallFacts root_disk repo_disk before now (Err (repository_failure e))
+  at_repository e opens_root opens unread silent = record {
+    cause = repo_cause e opens unread silent;
+    kept = λ none. record { root = opens_root.kept; repo = opens.kept };
+    settles = repo_settles e opens unread;
+    root_untouched = λ told none. absurd (none (root_disk.reads now.root) (opens_root.opened told).recovers);
+    repo_untouched = opens.untouched;
+    missing = λ told r is. absurd (never_fixed (opens_root.opened told).fixed is);
+  }
+
+  pub not_opened : (end : End) → NotOpened root_disk repo_disk before now end → CallFacts root_disk repo_disk before now end
+  not_opened end stops = ⊎_elim
+      (λ at. subst (λ (x : End). CallFacts root_disk repo_disk before now x) (sym (stops.is ∙ ap Err at.is)) (at_root at.stop at.opens at.same stops.unread stops.silent))
+      (λ at. subst (λ (x : End). CallFacts root_disk repo_disk before now x) (sym (stops.is ∙ ap Err at.is)) (at_repository at.stop at.opens_root at.opens stops.unread stops.silent))
+      stops.stops
+
+  -- ---- both were opened
+
+  module _ (root : T) (repo : P) (opened opened' : Opened) (opens : AreOpened root_disk repo_disk before.root root before.repo repo opened) where
+    abbrev mid : Moment T P
+    mid = record { at = disks root repo opened; out = before.out }
+
+    abbrev last : Moment T P
+    last = record { at = disks now.root now.repo opened'; out = now.out }
+
+    open_root_untouched : IsTrue root_disk.tells → RecoversToNone root_store.base (root_disk.reads before.root) → Confined root_disk (Among no_name) before.root now.root
+    open_root_untouched told none = absurd (none (root_disk.reads root) (opens.opens_root.opened told).recovers)
+
+    open_repo_untouched : IsTrue repo_disk.tells → RecoversToNone repository_store.base (repo_disk.reads before.repo) → Confined repo_disk (Among no_name) before.repo now.repo
+    open_repo_untouched told none = absurd (none (repo_disk.reads repo) (opens.opens.opened told).recovers)
+
+    open_missing : IsTrue root_disk.tells → (r : Refusal) → fixed_dirs (root_disk.reads before.root) ≡ Err r → OnlyRead root_disk repo_disk before now
+    open_missing told r is = absurd (never_fixed (opens.opens_root.opened told).fixed is)
+
+    kept_root : root_disk.reads now.root ≡ root_disk.reads root → IsTrue root_disk.tells → IsKept root_store.base (root_disk.reads before.root) (root_disk.reads now.root)
+    kept_root same told = subst (λ (t : Tree). IsKept root_store.base (root_disk.reads before.root) t) (sym same) (opens.opens_root.kept told)
+
+    kept_repo : repo_disk.reads now.repo ≡ repo_disk.reads repo → IsTrue repo_disk.tells → IsKept repository_store.base (repo_disk.reads before.repo) (repo_disk.reads now.repo)
+    kept_repo same told = subst (λ (t : Tree). IsKept repository_store.base (repo_disk.reads before.repo) t) (sym same) (opens.opens.kept told)
+
+    -- the input wasn't read
+
+    unread_cause : (m : Meaning) (e : Failure) → ReadsGiven m.takes_input before.input now.input (Err e) → now.out ≡ before.out → CallCause root_disk repo_disk before now (Err e)
+    unread_cause m (failure.Refused r) reads silent = keeps_still before.out now.out silent
+    unread_cause m failure.InputFault reads silent = (reads.cause, keeps_still before.out now.out silent)
+    unread_cause m failure.Memory reads silent = keeps_still before.out now.out silent
+    unread_cause m failure.Usage reads silent = absurd reads.cause
+    unread_cause m failure.OutputFault reads silent = absurd reads.cause
+    unread_cause m failure.RootFault reads silent = absurd reads.cause
+    unread_cause m failure.RepositoryFault reads silent = absurd reads.cause
+    unread_cause m (failure.Damaged path) reads silent = absurd reads.cause
+
+    rest_unread : now.root ≡ root → now.repo ≡ repo → RestOpened root_disk repo_disk before now
+    rest_unread same_root same_repo' = record {
+      fixed = λ told. (opens.opens_root.opened told).fixed;
+      root = λ told. subst (λ (d : T). IsSettled root_disk root_store.base d) (sym same_root) (opens.opens_root.opened told).settled;
+      repo = λ told. subst (λ (d : P). IsSettled repo_disk repository_store.base d) (sym same_repo') (opens.opens.opened told).settled;
+    }
+
+    unread_facts : (m : Meaning) (e : Failure) → ReadsGiven m.takes_input before.input now.input (Err e) → last ≡ mid → CallFacts root_disk repo_disk before now (Err e)
+    unread_facts m e reads same =
+        let silent : now.out ≡ before.out = ap (λ (x : Moment T P). x.out) same in
+        let same_root : now.root ≡ root = ap (λ (x : Moment T P). x.at.root) same in
+        let same_repo' : now.repo ≡ repo = ap (λ (x : Moment T P). x.at.repo) same in
+        record {
+          cause = unread_cause m e reads silent;
+          kept = λ none. record { root = kept_root (ap root_disk.reads same_root); repo = kept_repo (ap repo_disk.reads same_repo') };
+          settles = λ le. inl (rest_unread same_root same_repo');
+          root_untouched = open_root_untouched;
+          repo_untouched = open_repo_untouched;
+          missing = open_missing;
+        }
+
+    -- the command was performed
+
+    run_cause : (end : End) → LineCause root_disk repo_disk mid last end → CallCause root_disk repo_disk before now end
+    run_cause (Ok x) h = tt
+    run_cause (Err (failure.Refused r)) h = h
+    run_cause (Err failure.OutputFault) h = h
+    run_cause (Err failure.RootFault) h = (rose_before (root_disk.faults before.root) (root_disk.faults root) (root_disk.faults now.root) opens.opens_root.later h.0, h.1)
+    run_cause (Err failure.RepositoryFault) h = (rose_before (repo_disk.faults before.repo) (repo_disk.faults repo) (repo_disk.faults now.repo) opens.opens.later h.0, h.1)
+    run_cause (Err failure.Memory) h = h
+    run_cause (Err (failure.Damaged path)) h = (inr h.0, h.1)
+    run_cause (Err failure.Usage) h = absurd h
+    run_cause (Err failure.InputFault) h = absurd h
+
+    run_facts : (m : Meaning) (bytes : List ℕ) (end : End) → RunsLine root_disk repo_disk m bytes mid last end → CallFacts root_disk repo_disk before now end
+    run_facts m bytes end runs = record {
+      cause = run_cause end runs.cause;
+      kept = λ none. record { root = λ told. kept_root ((runs.same none).root told) told; repo = λ told. kept_repo ((runs.same none).repo told) told };
+      settles = λ le. inl (record { fixed = λ told. (opens.opens_root.opened told).fixed; root = (runs.rest le).root; repo = (runs.rest le).repo });
+      root_untouched = open_root_untouched;
+      repo_untouched = open_repo_untouched;
+      missing = open_missing;
+    }
+
+    pub open_facts : (m : Meaning) (end : End) → StopsReading root_disk repo_disk m before.input now.input mid last end ⊎ RunsWith root_disk repo_disk m before.input now.input mid last end → CallFacts root_disk repo_disk before now end
+    open_facts m end how = ⊎_elim
+        (λ stops. subst (λ (x : End). CallFacts root_disk repo_disk before now x) (sym stops.is) (unread_facts m stops.failure stops.reads stops.same))
+        (λ runs. run_facts m runs.bytes end runs.runs)
+        how
+
+  pub call_facts : (m : Meaning) (end : End) → RunsCall root_disk repo_disk m before now end → CallFacts root_disk repo_disk before now end
+  call_facts m end how = ⊎_elim
+      (λ stops. not_opened end stops)
+      (λ goes. open_facts goes.root goes.repo goes.opened goes.opened' goes.opens m end goes.runs)
+      how

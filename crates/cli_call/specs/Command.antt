@@ -1,0 +1,146 @@
+-- What a command's own function does over two disks that are open.
+use Rattle.std.specs.Prelude.{◌≡◌, ◌⊎◌, ℕ, ◌≤◌, false, IsTrue, List, Result, Ok, Err}
+use Rattle.std.specs.FinMap.{get}
+use Rattle.cny_base.specs.Count.{Rose}
+use Rattle.cny_base.specs.declared.refusal.Refusal.{Refusal}
+use Rattle.tree_disk.specs.Tree.{Name, Tree}
+use Rattle.tree_disk.specs.Disk.{DiskModel}
+use Rattle.tree_disk.specs.Confined.{IsSynced, LeavesOnly}
+use Rattle.tree_disk.specs.Unfailed.{UnlessFailed}
+use Rattle.journal_log.specs.Own.{is_own}
+use Rattle.repo_state.specs.Files.{HoldsCatalogue}
+use Rattle.repository.specs.Loading.{IsCatalogue}
+use Rattle.tree_journal.specs.Recovery.{is_committed}
+use Rattle.tree_journal.specs.Visible.{IsVisible}
+use Rattle.cli_call.specs.declared.failure.Failure.{Failure}
+use Rattle.cli_call.specs.declared.failure.Failure.TheVariants as failure
+use Rattle.cli_call.specs.declared.opened.Opened.{Opened}
+use Rattle.cli_call.specs.FixedDirs.{fixed_dirs}
+use Rattle.cli_call.specs.Report.{End, status_of}
+use Rattle.cli_call.specs.State.{State, Effect, Meaning, tree_of, after, Takes, IsNext, OneDisk}
+use Rattle.cli_call.specs.Store.{Store, OneOf, HasDamagedFile, IsSettled, RestsAt}
+use Rattle.cli_call.specs.Stores.{root_store, repository_store}
+
+-- ---- two disks that are open
+
+-- the two disks at one moment, and what is kept of them in memory
+pub record Disks (T P : Type 0) : Type 0 where
+  pub root : T
+  pub repo : P
+  pub opened : Opened
+
+abbrev pub disks : {T P : Type 0} → T → P → Opened → Disks T P
+disks root repo opened = record { root = root; repo = repo; opened = opened }
+
+-- a root on which a command begins: the fixed directories stand, and it is at rest
+pub record IsReady {D : Type 0} (disk : DiskModel D) (d : D) : Type 0 where
+  pub fixed : fixed_dirs (disk.reads d) ≡ Ok tt
+  pub flag_clear : is_committed root_store.base (disk.reads d) ≡ false
+  pub synced : IsSynced disk d
+
+-- a repository on which a command begins: it is at rest, and this is its catalogue
+pub record IsLoaded {D : Type 0} (disk : DiskModel D) (opened : Opened) (d : D) : Type 0 where
+  pub settled : IsSettled disk repository_store.base d
+  pub catalogue : HoldsCatalogue (disk.reads d) opened.catalogue
+
+-- how a command's own function ended, as an end of a call
+abbrev pub end_of : Result (List ℕ) Failure → End
+end_of (Ok text) = Ok tt
+end_of (Err e) = Err e
+
+-- the ends before which nothing was changed
+abbrev pub ChangesNothing : End → Type 0
+ChangesNothing (Err (failure.Refused r)) = Unit {0}
+ChangesNothing (Err failure.InputFault) = Unit {0}
+ChangesNothing _ = ⊥
+
+-- ---- by a state that the disks store
+
+-- What one disk goes through, from a state to another: at every moment a crash leaves a tree that recovers to one of the two; after
+-- a status up to 4 it rests at the second, and else, as it reads, it recovers to one of them.
+pub record Goes {D X : Type 0} (store : Store X) (disk : DiskModel D) (x y : X) (old new : D) (end : End) : Type 0 where
+  pub images : LeavesOnly disk old new (OneOf store x y)
+  pub rests : status_of end ≤ 4 → RestsAt store disk new y
+  pub reads : OneOf store x y (disk.reads new)
+
+-- how a command's own function ended, by its outcomes on a state: the state after it, and its bytes
+abbrev pub Answers : (Result Effect Refusal → Type 0) → State → State → Result (List ℕ) Failure → Type 0
+Answers IsOutcome s next (Ok text) = Takes IsOutcome s next (λ bytes. bytes ≡ text)
+Answers IsOutcome s next (Err (failure.Refused r)) = IsOutcome (Err r) × (next ≡ s)
+Answers IsOutcome s next (Err failure.RootFault) = IsNext IsOutcome s next
+Answers IsOutcome s next (Err failure.RepositoryFault) = IsNext IsOutcome s next
+Answers IsOutcome s next (Err failure.Memory) = IsNext IsOutcome s next
+Answers IsOutcome s next (Err failure.Usage) = ⊥
+Answers IsOutcome s next (Err failure.InputFault) = ⊥
+Answers IsOutcome s next (Err failure.OutputFault) = ⊥
+Answers IsOutcome s next (Err (failure.Damaged path)) = ⊥
+
+-- no effect that is an outcome changes this name of the root
+abbrev pub IsLeft : (Result Effect Refusal → Type 0) → State → Name → Type 0
+IsLeft IsOutcome s q = (e : Effect) → IsOutcome (Ok e) → get (tree_of (after s e.change).root) q ≡ get (tree_of s.root) q
+
+-- Each name of the root but the journal's own that no such effect changes reads as before, however the command ends.
+abbrev pub KeepsOthers : (Result Effect Refusal → Type 0) → State → Tree → Tree → Type 0
+KeepsOthers IsOutcome s before now = (q : Name) → is_own root_store.base q ≡ false → IsLeft IsOutcome s q → get now q ≡ get before q
+
+-- What readers of the root see: the tree before; or, at each name but the journal's own, its node, that of an effect which is an
+-- outcome, or nothing where just one of the two is a directory.
+abbrev pub IsShown : (Result Effect Refusal → Type 0) → State → Tree → Tree → Type 0
+IsShown IsOutcome s before t = (t ≡ before) ⊎ ((e : Effect) × IsOutcome (Ok e) × IsVisible root_store.base (tree_of s.root) (tree_of (after s e.change).root) t)
+
+module _ {T P : Type 0} (root_disk : DiskModel T) (repo_disk : DiskModel P) where
+  -- both disks rest and store the state
+  pub record StandsFor (m : Disks T P) (s : State) : Type 0 where
+    pub root : RestsAt root_store root_disk m.root s.root
+    pub repo : RestsAt repository_store repo_disk m.repo s.repository
+
+  -- a command may begin
+  pub record AreReady (m : Disks T P) : Type 0 where
+    pub root : IsTrue root_disk.tells → IsReady root_disk m.root
+    pub repo : IsTrue repo_disk.tells → IsLoaded repo_disk m.opened m.repo
+    pub rules : IsCatalogue m.opened.catalogue
+
+  -- each disk that is told rests, and a crash leaves just what it reads
+  pub record Rest (m : Disks T P) : Type 0 where
+    pub root : IsTrue root_disk.tells → IsSettled root_disk root_store.base m.root
+    pub repo : IsTrue repo_disk.tells → IsSettled repo_disk repository_store.base m.repo
+
+  -- each disk that is told reads as before
+  pub record ReadsSame (old new : Disks T P) : Type 0 where
+    pub root : IsTrue root_disk.tells → root_disk.reads new.root ≡ root_disk.reads old.root
+    pub repo : IsTrue repo_disk.tells → repo_disk.reads new.repo ≡ repo_disk.reads old.repo
+
+  -- a file of one of the disks is damaged
+  abbrev pub HasDamage : Disks T P → Name → Type 0
+  HasDamage m path = (IsTrue root_disk.tells → HasDamagedFile root_store (root_disk.reads m.root) path) ⊎ (IsTrue repo_disk.tells → HasDamagedFile repository_store (repo_disk.reads m.repo) path)
+
+  -- why it ended so: the count of faults of a disk rose, or a file is damaged
+  abbrev pub HasCause : Disks T P → Disks T P → Result (List ℕ) Failure → Type 0
+  HasCause old new (Ok text) = Unit {0}
+  HasCause old new (Err (failure.Refused r)) = Unit {0}
+  HasCause old new (Err failure.RootFault) = Rose (root_disk.faults old.root) (root_disk.faults new.root)
+  HasCause old new (Err failure.RepositoryFault) = Rose (repo_disk.faults old.repo) (repo_disk.faults new.repo)
+  HasCause old new (Err failure.Memory) = Unit {0}
+  HasCause old new (Err (failure.Damaged path)) = HasDamage new path
+  HasCause old new (Err failure.Usage) = ⊥
+  HasCause old new (Err failure.InputFault) = ⊥
+  HasCause old new (Err failure.OutputFault) = ⊥
+
+  -- From a state that the disks store: the state after it, and what each disk went through.
+  pub record PerformsFrom (IsOutcome : Result Effect Refusal → Type 0) (s : State) (old new : Disks T P) (result : Result (List ℕ) Failure) : Type 0 where
+    pub next : State
+    pub answers : Answers IsOutcome s next result
+    pub apart : OneDisk s next
+    pub root : Goes root_store root_disk s.root next.root old.root new.root (end_of result)
+    pub repo : Goes repository_store repo_disk s.repository next.repository old.repo new.repo (end_of result)
+    pub outside : KeepsOthers IsOutcome s (root_disk.reads old.root) (root_disk.reads new.root)
+    pub seen : UnlessFailed root_disk old.root new.root (IsShown IsOutcome s (root_disk.reads old.root))
+
+  -- THE CLAUSE of each command's own function: a command of this meaning was performed with this input, and ended so.
+  pub record Performs (m : Meaning) (input : List ℕ) (old new : Disks T P) (result : Result (List ℕ) Failure) : Type 0 where
+    pub root_later : root_disk.faults old.root ≤ root_disk.faults new.root
+    pub repo_later : repo_disk.faults old.repo ≤ repo_disk.faults new.repo
+    pub cause : HasCause old new result
+    pub rest : status_of (end_of result) ≤ 4 → Rest new
+    pub same : ChangesNothing (end_of result) → ReadsSame old new
+    pub told : IsTrue root_disk.tells → IsTrue repo_disk.tells → (s : State) → StandsFor old s → PerformsFrom (m.IsOutcome s input) s old new result

@@ -1,0 +1,10 @@
+-- Why a call ends with a status other than 0, where the reason is a fault of what it read.
+use Rattle.cny_base.specs.declared.refusal.Fault.{Fault}
+use Rattle.cny_base.specs.declared.refusal.Fault.TheVariants as fault
+use Rattle.cli_call.specs.declared.failure.Failure.{Failure}
+use Rattle.cli_call.specs.declared.failure.Failure.TheVariants as failure
+
+-- the same refusal, or want of memory
+abbrev pub failure_of_fault : Fault → Failure
+failure_of_fault (fault.Refused refusal) = failure.Refused refusal
+failure_of_fault fault.Memory = failure.Memory

@@ -1,0 +1,33 @@
+-- The input of a command, and its limit.
+use Rattle.std.specs.Prelude.{◌≡◌, ℕ, ◌+◌, List, length, drop, Option, Some, IfSome, Result, Ok, Err, nat_lt, if◌then◌else◌}
+use Rattle.cny_base.specs.declared.limits.TheConstants.{INPUT_LIMIT}
+use Rattle.cny_base.specs.declared.refusal.Refusal.{Refusal}
+use Rattle.cny_base.specs.declared.refusal.Refusal.TheVariants.{TooLarge}
+use Rattle.cny_base.specs.declared.refusal.What.TheVariants.{Input}
+use Rattle.cli_call.specs.declared.failure.Failure.{Failure}
+use Rattle.cli_call.specs.declared.failure.Failure.TheVariants as failure
+
+-- the greatest number of bytes of an input
+abbrev pub input_limit : ℕ
+input_limit = INPUT_LIMIT
+
+-- the input, where it is within its limit
+abbrev pub within_limit : List ℕ → Result (List ℕ) Refusal
+within_limit input = if nat_lt input_limit (length input) then Err (TooLarge Input (input_limit + 1)) else Ok input
+
+-- what is left after the input was read: reading stops one byte past the limit
+abbrev pub left_after_reading : List ℕ → List ℕ
+left_after_reading input = drop (input_limit + 1) input
+
+-- the input is read once the fixed directories stand
+abbrev pub left_by : Result (Unit {0}) Refusal → List ℕ → List ℕ
+left_by (Ok _) input = left_after_reading input
+left_by (Err r) input = input
+
+-- how reading the input ended, from the bytes that were left to those that are
+abbrev pub ReadsInput : Option (List ℕ) → Option (List ℕ) → Result (List ℕ) Failure → Type 0
+ReadsInput left rest (Ok bytes) = IfSome left (λ input. (within_limit input ≡ Ok bytes) × (rest ≡ Some (left_after_reading input)))
+ReadsInput left rest (Err (failure.Refused r)) = IfSome left (λ input. (within_limit input ≡ Err r) × (rest ≡ Some (left_after_reading input)))
+ReadsInput left rest (Err failure.InputFault) = Unit
+ReadsInput left rest (Err failure.Memory) = Unit
+ReadsInput left rest (Err _) = ⊥

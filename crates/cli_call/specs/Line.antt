@@ -1,0 +1,84 @@
+-- A command over two disks that are open, with what it writes.
+use Rattle.std.specs.Prelude.{◌≡◌, ℕ, ◌≤◌, IsTrue, List, Result, Ok, Err}
+use Rattle.std.specs.Io.KnownBytes.{Appends, Keeps}
+use Rattle.cny_base.specs.Count.{Rose}
+use Rattle.cny_base.specs.declared.refusal.Refusal.{Refusal}
+use Rattle.cny_flow.specs.Flow.{SinkModel, SinkState, sink_state, AppendsPart}
+use Rattle.tree_disk.specs.Disk.{DiskModel}
+use Rattle.tree_disk.specs.Unfailed.{UnlessFailed}
+use Rattle.cli_call.specs.declared.failure.Failure.{Failure}
+use Rattle.cli_call.specs.declared.failure.Failure.TheVariants as failure
+use Rattle.cli_call.specs.declared.opened.Opened.{Opened}
+use Rattle.cli_call.specs.Command.{Disks, disks, Goes, KeepsOthers, IsShown, StandsFor, Rest, ReadsSame, HasDamage, ChangesNothing}
+use Rattle.cli_call.specs.Report.{End, status_of}
+use Rattle.cli_call.specs.State.{State, Effect, Meaning, Takes, IsNext, OneDisk}
+use Rattle.cli_call.specs.Stores.{root_store, repository_store}
+
+-- ---- writing
+
+-- What a command answered was written, and nothing else: all of it, or after a fault of the output a first part of it.
+abbrev pub Wrote : Result (List ℕ) Failure → SinkState → SinkState → End → Type 0
+Wrote (Err e) before now end = (end ≡ Err e) × (now ≡ before)
+Wrote (Ok text) before now (Ok x) = Appends before.written now.written text
+Wrote (Ok text) before now (Err failure.OutputFault) = Rose before.faults now.faults × AppendsPart before.written now.written text
+Wrote (Ok text) before now (Err failure.Memory) = Keeps before.written now.written
+Wrote (Ok text) before now (Err _) = ⊥
+
+pub record Writes (answered : Result (List ℕ) Failure) (before now : SinkState) (end : End) : Type 0 where
+  pub later : before.faults ≤ now.faults
+  pub wrote : Wrote answered before now end
+
+-- ---- the whole line
+
+-- all that it works on: the disks and the output
+pub record Moment (T P : Type 0) : Type 0 where
+  pub at : Disks T P
+  pub out : SinkState
+
+abbrev pub moment : {O T P : Type 0} → SinkModel O → T → P → Opened → O → Moment T P
+moment sink root repo opened out = record { at = disks root repo opened; out = sink_state sink out }
+
+-- how it ended, by its outcomes on a state: the state after it, and what was written
+abbrev pub Ends : (Result Effect Refusal → Type 0) → State → State → SinkState → SinkState → End → Type 0
+Ends IsOutcome s next before now (Ok x) = Takes IsOutcome s next (λ bytes. Appends before.written now.written bytes)
+Ends IsOutcome s next before now (Err (failure.Refused r)) = IsOutcome (Err r) × (next ≡ s) × Keeps before.written now.written
+Ends IsOutcome s next before now (Err failure.OutputFault) = Takes IsOutcome s next (λ bytes. AppendsPart before.written now.written bytes)
+Ends IsOutcome s next before now (Err failure.RootFault) = IsNext IsOutcome s next × Keeps before.written now.written
+Ends IsOutcome s next before now (Err failure.RepositoryFault) = IsNext IsOutcome s next × Keeps before.written now.written
+Ends IsOutcome s next before now (Err failure.Memory) = IsNext IsOutcome s next × Keeps before.written now.written
+Ends IsOutcome s next before now (Err failure.Usage) = ⊥
+Ends IsOutcome s next before now (Err failure.InputFault) = ⊥
+Ends IsOutcome s next before now (Err (failure.Damaged path)) = ⊥
+
+module _ {T P : Type 0} (root_disk : DiskModel T) (repo_disk : DiskModel P) where
+  -- why it ended so
+  abbrev pub LineCause : Moment T P → Moment T P → End → Type 0
+  LineCause old new (Ok x) = Unit {0}
+  LineCause old new (Err (failure.Refused r)) = Keeps old.out.written new.out.written
+  LineCause old new (Err failure.OutputFault) = Rose old.out.faults new.out.faults
+  LineCause old new (Err failure.RootFault) = Rose (root_disk.faults old.at.root) (root_disk.faults new.at.root) × Keeps old.out.written new.out.written
+  LineCause old new (Err failure.RepositoryFault) = Rose (repo_disk.faults old.at.repo) (repo_disk.faults new.at.repo) × Keeps old.out.written new.out.written
+  LineCause old new (Err failure.Memory) = Keeps old.out.written new.out.written
+  LineCause old new (Err (failure.Damaged path)) = HasDamage root_disk repo_disk new.at path × Keeps old.out.written new.out.written
+  LineCause old new (Err failure.Usage) = ⊥
+  LineCause old new (Err failure.InputFault) = ⊥
+
+  -- From a state that the disks store: the state after it, and what each disk went through.
+  pub record LineFrom (IsOutcome : Result Effect Refusal → Type 0) (s : State) (old new : Moment T P) (end : End) : Type 0 where
+    pub next : State
+    pub ends : Ends IsOutcome s next old.out new.out end
+    pub apart : OneDisk s next
+    pub root : Goes root_store root_disk s.root next.root old.at.root new.at.root end
+    pub repo : Goes repository_store repo_disk s.repository next.repository old.at.repo new.at.repo end
+    pub outside : KeepsOthers IsOutcome s (root_disk.reads old.at.root) (root_disk.reads new.at.root)
+    pub seen : UnlessFailed root_disk old.at.root new.at.root (IsShown IsOutcome s (root_disk.reads old.at.root))
+
+  -- A command of this meaning was performed with this input, what it answered was written, and it ended so.
+  pub record RunsLine (m : Meaning) (input : List ℕ) (old new : Moment T P) (end : End) : Type 0 where
+    pub root_later : root_disk.faults old.at.root ≤ root_disk.faults new.at.root
+    pub repo_later : repo_disk.faults old.at.repo ≤ repo_disk.faults new.at.repo
+    pub out_later : old.out.faults ≤ new.out.faults
+    pub cause : LineCause old new end
+    pub rest : status_of end ≤ 4 → Rest root_disk repo_disk new.at
+    pub same : ChangesNothing end → ReadsSame root_disk repo_disk old.at new.at
+    pub told : IsTrue root_disk.tells → IsTrue repo_disk.tells → (s : State) → StandsFor root_disk repo_disk old.at s → LineFrom (m.IsOutcome s input) s old new end

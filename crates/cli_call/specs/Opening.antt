@@ -1,0 +1,91 @@
+-- How a disk is opened: what a crash left is recovered, and what it stores is read.
+use Rattle.std.specs.Prelude.{◌≡◌, ◌⊎◌, ◌≤◌, IsTrue, Result, Ok, Err, OnOk, IfOk, IfErr}
+use Rattle.cny_base.specs.Count.{Rose}
+use Rattle.cny_base.specs.declared.refusal.Refusal.{Refusal}
+use Rattle.cny_base.specs.declared.stop.Stop.{Stop}
+use Rattle.cny_base.specs.declared.stop.Stop.TheVariants as stop
+use Rattle.tree_disk.specs.Tree.{Name, Tree}
+use Rattle.tree_disk.specs.Disk.{DiskModel, HasRead}
+use Rattle.tree_disk.specs.Confined.{Among, Confined, LeavesOnly}
+use Rattle.tree_disk.specs.Steps.{no_name}
+use Rattle.tree_disk.specs.Unfailed.{UnlessFailed}
+use Rattle.journal_log.specs.Own.{StoresSame}
+use Rattle.tree_journal.specs.Recovering.{IsVisibleIn}
+use Rattle.tree_journal.specs.Recovery.{RecoversTo, RecoversAsThen, IsRecovered, IsDamagedAt}
+use Rattle.cli_call.specs.Recovered.{RecoversToNone, IsKept, RefusesLog}
+use Rattle.cli_call.specs.Store.{Store, HasDamagedFile, IsSettled}
+
+-- ---- recovering
+
+-- the log behind its set commit flag, or a file that it stages, is damaged, and the tree is as it was
+pub record HasDamagedLog {D : Type 0} (disk : DiskModel D) (base : Name) (old new : D) (path : Name) : Type 0 where
+  pub damaged : IsDamagedAt base (disk.reads old) path
+  pub same : disk.reads new ≡ disk.reads old
+
+-- why a disk isn't recovered
+abbrev pub RecoveryStops : {D : Type 0} → DiskModel D → Name → D → D → Stop → Type 0
+RecoveryStops disk base old new stop.Failed = Rose (disk.faults old) (disk.faults new)
+RecoveryStops disk base old new stop.Memory = Unit {0}
+RecoveryStops disk base old new (stop.Refused r) = IsTrue disk.tells → (disk.reads new ≡ disk.reads old) × RefusesLog base (disk.reads old) r
+RecoveryStops disk base old new (stop.Damaged path) = IsTrue disk.tells → HasDamagedLog disk base old new path
+RecoveryStops disk base old new stop.FarFailed = ⊥
+RecoveryStops disk base old new (stop.FarDamaged path) = ⊥
+
+-- What a crash left of a disk is recovered.
+pub record RecoversAt {D : Type 0} (disk : DiskModel D) (base : Name) (old new : D) (result : Result (Unit {0}) Stop) : Type 0 where
+  pub later : disk.faults old ≤ disk.faults new
+  pub images : IsTrue disk.tells → LeavesOnly disk old new (RecoversAsThen disk base old)
+  pub seen : IsTrue disk.tells → UnlessFailed disk old new (IsVisibleIn base (disk.reads old))
+  pub recovered : IsTrue disk.tells → OnOk result (IsRecovered disk base old new)
+  pub kept : IsTrue disk.tells → IsKept base (disk.reads old) (disk.reads new)
+  pub untouched : IsTrue disk.tells → RecoversToNone base (disk.reads old) → Confined disk (Among no_name) old new
+  pub stops : IfErr result (RecoveryStops disk base old new)
+
+-- ---- opening
+
+-- A disk that was opened: it rests, a crash leaves just what it reads, it stores the same as all that it recovered to, and this is what was read of it.
+pub record IsOpen {D X V : Type 0} (store : Store X) (disk : DiskModel D) (tests : Tree → Result (Unit {0}) Refusal) (IsRead : Tree → V → Type 0) (old new : D) (value : V) : Type 0 where
+  pub settled : IsSettled disk store.base new
+  pub fixed : tests (disk.reads old) ≡ Ok tt
+  pub recovers : RecoversTo store.base (disk.reads old) (disk.reads new)
+  pub stores : (tree : Tree) → RecoversTo store.base (disk.reads old) tree → StoresSame store.base (disk.reads new) tree
+  pub value_is : IsRead (disk.reads new) value
+
+-- A disk's log is damaged; or it was recovered, and a file is.
+abbrev pub MeetsDamage : {D X : Type 0} → Store X → DiskModel D → D → D → Name → Type 0
+MeetsDamage store disk old new path = IsTrue disk.tells → HasDamagedLog disk store.base old new path ⊎ HasDamagedFile store (disk.reads new) path
+
+-- its log can't be put, or it fails the tests; the tree is as it was
+pub record RefusesOpening {D : Type 0} (disk : DiskModel D) (base : Name) (tests : Tree → Result (Unit {0}) Refusal) (old new : D) (r : Refusal) : Type 0 where
+  pub same : disk.reads new ≡ disk.reads old
+  pub cause : RefusesLog base (disk.reads old) r ⊎ (tests (disk.reads old) ≡ Err r)
+
+-- why a disk isn't opened
+abbrev pub OpeningStops : {D X : Type 0} → Store X → DiskModel D → (Tree → Result (Unit {0}) Refusal) → D → D → Stop → Type 0
+OpeningStops store disk tests old new stop.Failed = Rose (disk.faults old) (disk.faults new)
+OpeningStops store disk tests old new stop.Memory = Unit {0}
+OpeningStops store disk tests old new (stop.Refused r) = IsTrue disk.tells → RefusesOpening disk store.base tests old new r
+OpeningStops store disk tests old new (stop.Damaged path) = MeetsDamage store disk old new path
+OpeningStops store disk tests old new stop.FarFailed = ⊥
+OpeningStops store disk tests old new (stop.FarDamaged path) = ⊥
+
+-- A disk is opened. At every moment a crash leaves an image at entry, or a tree that recovers to all that the disk, as it read then,
+-- recovers to; however it ends, it recovers to all that it recovered to.
+pub record Opens {D X V : Type 0} (store : Store X) (disk : DiskModel D) (tests : Tree → Result (Unit {0}) Refusal) (IsRead : Tree → V → Type 0) (old new : D) (result : Result V Stop) : Type 0 where
+  pub later : disk.faults old ≤ disk.faults new
+  pub images : IsTrue disk.tells → LeavesOnly disk old new (RecoversAsThen disk store.base old)
+  pub seen : IsTrue disk.tells → UnlessFailed disk old new (IsVisibleIn store.base (disk.reads old))
+  pub opened : IsTrue disk.tells → IfOk result (IsOpen store disk tests IsRead old new)
+  pub kept : IsTrue disk.tells → IsKept store.base (disk.reads old) (disk.reads new)
+  -- where a test fails, the disk is only read; where it recovers to no tree, it is left as it stands
+  pub missing : IsTrue disk.tells → (r : Refusal) → tests (disk.reads old) ≡ Err r → HasRead disk old new (Unit {0})
+  pub untouched : IsTrue disk.tells → RecoversToNone store.base (disk.reads old) → Confined disk (Among no_name) old new
+  pub stops : IfErr result (OpeningStops store disk tests old new)
+
+-- a disk without tests
+abbrev pub no_test : Tree → Result (Unit {0}) Refusal
+no_test tree = Ok tt
+
+-- of which nothing is read
+abbrev pub nothing_read : Tree → Unit {0} → Type 0
+nothing_read tree value = Unit {0}

@@ -1,0 +1,59 @@
+-- How a disk stores a state: which trees store it, and which states a tree that a crash left recovers to.
+use Rattle.std.specs.Prelude.{◌≡◌, ◌⊎◌, false}
+use Rattle.std.specs.FinMap.{get}
+use Rattle.tree_disk.specs.Tree.{Name, Tree}
+use Rattle.tree_disk.specs.Disk.{DiskModel}
+use Rattle.tree_disk.specs.Confined.{IsSynced}
+use Rattle.journal_log.specs.Own.{gate, is_own}
+use Rattle.tree_journal.specs.Recovery.{is_committed, RecoversTo}
+
+-- how states of a kind stand on a disk
+pub record Store (X : Type 0) : Type 1 where
+  -- the directory of the disk's journal
+  pub base : Name
+  -- the tree stores the state
+  pub IsStored : Tree → X → Type 0
+  -- it depends on this name whether a tree stores the state
+  pub Counts : X → Name → Type 0
+  -- this file of the tree isn't in its grammar, or fails a cross-check
+  pub IsDamaged : Tree → Name → Type 0
+
+-- what holds of each store
+pub record IsStore {X : Type 0} (store : Store X) : Type 0 where
+  -- a tree that is equal at the names that count stores the same state
+  pub counted : (t u : Tree) (x : X) → store.IsStored t x → ((q : Name) → store.Counts x q → get u q ≡ get t q) → store.IsStored u x
+  -- the journal's own names don't count
+  pub own : (x : X) (q : Name) → store.Counts x q → is_own store.base q ≡ false
+  -- a tree with a damaged file stores no state
+  pub whole : (t : Tree) (path : Name) (x : X) → store.IsDamaged t path → store.IsStored t x → ⊥
+
+-- a tree that a crash left recovers to a tree that stores the state
+pub record Recovers {X : Type 0} (store : Store X) (image : Tree) (x : X) : Type 0 where
+  pub tree : Tree
+  pub recovers : RecoversTo store.base image tree
+  pub stored : store.IsStored tree x
+
+-- it recovers to the one state or to the other
+abbrev pub OneOf : {X : Type 0} → Store X → X → X → Tree → Type 0
+OneOf store x y image = Recovers store image x ⊎ Recovers store image y
+
+-- The commit flag isn't set, and this file is damaged.
+pub record HasDamagedFile {X : Type 0} (store : Store X) (tree : Tree) (path : Name) : Type 0 where
+  pub flag_clear : is_committed store.base tree ≡ false
+  pub damaged : store.IsDamaged tree path
+
+-- a disk at rest: its commit flag isn't set, neither now nor after a crash
+pub record IsResting {D : Type 0} (disk : DiskModel D) (base : Name) (d : D) : Type 0 where
+  pub flag_clear : is_committed base (disk.reads d) ≡ false
+  pub flag_synced : disk.unsynced d (gate base) ≡ false
+
+-- a disk at rest of which a crash leaves just what it reads
+pub record IsSettled {D : Type 0} (disk : DiskModel D) (base : Name) (d : D) : Type 0 where
+  pub flag_clear : is_committed base (disk.reads d) ≡ false
+  pub synced : IsSynced disk d
+
+-- a disk at rest that stores the state, also after a crash
+pub record RestsAt {D X : Type 0} (store : Store X) (disk : DiskModel D) (d : D) (x : X) : Type 0 where
+  pub resting : IsResting disk store.base d
+  pub settled : (q : Name) → store.Counts x q → disk.unsynced d q ≡ false
+  pub stored : store.IsStored (disk.reads d) x

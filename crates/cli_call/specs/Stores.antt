@@ -1,0 +1,38 @@
+-- How the root and the repository are stored.
+use Rattle.std.specs.Prelude.{◌≡◌, ◌⊎◌, false, List, ℕ}
+use Rattle.cny_base.specs.Reserved.{private_directory}
+use Rattle.tree_disk.specs.Tree.{Name, Tree, WellFormed}
+use Rattle.journal_log.specs.Own.{is_own, StoresSame}
+use Rattle.repo_index.specs.Catalogue.{CatalogueParts}
+use Rattle.cli_call.specs.Counts.{Counts}
+use Rattle.repo_state.specs.Damage.{IsDamagedCommit}
+use Rattle.repo_state.specs.Files.{repository_base, HoldsCatalogue, StoresRepository}
+use Rattle.repo_state.specs.State.{RepositoryState}
+use Rattle.repository.specs.Contents.{IsDamagedContent}
+use Rattle.cli_call.specs.State.{RootState}
+use Rattle.cli_call.specs.Store.{Store}
+
+-- A root stores a tree that is well formed and equal at every name but the journal's own. None of its files can be damaged.
+abbrev pub root_store : Store RootState
+root_store = record {
+  base = private_directory;
+  IsStored = λ tree x. WellFormed x × StoresSame private_directory tree x;
+  Counts = λ x q. is_own private_directory q ≡ false;
+  IsDamaged = λ tree path. ⊥;
+}
+
+-- a content that a committed trove names doesn't stand under its name with a size that is recorded
+pub record HasDamagedContent (tree : Tree) (path : Name) : Type 0 where
+  pub catalogue : CatalogueParts
+  pub holds : HoldsCatalogue tree catalogue
+  pub name : List ℕ
+  pub damaged : IsDamagedContent catalogue.troves name tree path
+
+-- A repository stores its state; a commit's file or a content can be damaged.
+abbrev pub repository_store : Store RepositoryState
+repository_store = record {
+  base = repository_base;
+  IsStored = StoresRepository;
+  Counts = Counts;
+  IsDamaged = λ tree path. IsDamagedCommit tree path ⊎ HasDamagedContent tree path;
+}

@@ -1,0 +1,13 @@
+//! The laws of what the disks store.
+ghost use Rattle.cli_call.specs.Store.{IsStore};
+ghost use Rattle.cli_call.specs.Stores.{repository_store};
+
+use repository::stored_state;
+
+/// What a repository stores depends on the names that count alone, none of which is the journal's, and a damaged one stores
+/// nothing.
+pub fn store_laws()
+    ensures { IsStore repository_store }
+{
+    stored_state();
+}

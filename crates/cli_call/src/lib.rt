@@ -1,0 +1,29 @@
+//! A call of the program, but for its commands: the two disks are opened, the input is read, what a command answers is written,
+//! and its end is reported.
+//!
+//! Begin with the definitions: `specs/Store` and `specs/Stores` (what a disk stores), `specs/State` (what a command means),
+//! `specs/Command` (the clause of each command's own function) and `specs/WholeCall` (what a whole call promises).
+#![tactic(auto)]
+
+mod failure;
+mod fixed_dirs;
+mod input;
+mod laws;
+mod opened;
+mod opening;
+mod recovered;
+mod reporting;
+mod stops;
+mod texts;
+mod writing;
+
+pub use failure::Failure;
+pub use input::read_given;
+pub use laws::store_laws;
+pub use opened::Opened;
+pub use opening::open_disks;
+pub use recovered::private_directory;
+pub use reporting::report;
+pub use stops::{on_repository, on_root};
+pub use texts::{joined, text_of_path};
+pub use writing::write_answer;

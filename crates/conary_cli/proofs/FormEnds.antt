@@ -1,0 +1,102 @@
+-- The form of the input decides how a command ends.
+use Rattle.std.proofs.Common.{◌≡◌, ℕ, ◌+◌, ◌≤◌, Bool, true, cond, List, length, Result, Ok, Err, refl, ap, ◌∙◌, subst, inl, inr}
+use Rattle.std.proofs.lemmas.Bool.{le-ltb}
+use Rattle.cny_base.specs.declared.refusal.Refusal.{Refusal}
+use Rattle.cny_base.specs.declared.refusal.Refusal.TheVariants as refusal
+use Rattle.cny_base.specs.declared.refusal.What.TheVariants.{Input}
+use Rattle.cny_flow.specs.Flow.{SinkState}
+use Rattle.tree_disk.specs.Tree.{Tree}
+use Rattle.tree_disk.specs.Disk.{DiskModel}
+use Rattle.change_set.specs.declared.change.ChangeSet.{ChangeSet}
+use Rattle.change_set.specs.ChangeSet.{IsSetStream}
+use Rattle.cli_call.specs.declared.failure.Failure.{Failure}
+use Rattle.cli_call.specs.Call.{CallState}
+use Rattle.cli_call.specs.FixedDirs.{◌>>=◌, fixed_dirs}
+use Rattle.cli_call.specs.Input.{input_limit, within_limit}
+use Rattle.cli_call.specs.Reading.{given}
+use Rattle.cli_call.specs.State.{State, Effect, Meaning, tree_of, Then}
+use Rattle.cli_call.specs.WholeCall.{Outcome, IsAnswered}
+use Rattle.conary_cli.specs.declared.words.Command.{Command}
+use Rattle.conary_cli.specs.declared.words.Command.TheVariants as command
+use Rattle.conary_cli.specs.declared.manifest.types.Manifest.{Manifest}
+use Rattle.conary_cli.specs.declared.manifest.fault.Unread.{Unread}
+use Rattle.conary_cli.specs.declared.manifest.fault.Unread.TheVariants as unread
+use Rattle.conary_cli.specs.Commands.{IsWholeCall}
+use Rattle.conary_cli.specs.FormDecides.{IsFormRefusal, DecidesForm, DecidesSet, FormDecides}
+use Rattle.conary_cli.specs.Install.{install, install_outcome, installs, on_both}
+use Rattle.conary_cli.specs.ManifestForm.{IsManifest, IsManifestText, spelling, max_items}
+use Rattle.conary_cli.specs.ManifestReading.{manifest_at, planned_text}
+use Rattle.conary_cli.specs.ReadManifest.{refusal_of, manifest_in}
+use Rattle.conary_cli.specs.ReadManifest as reading
+use Rattle.conary_cli.specs.ShowChangeSet.{described, IsDescribed, show_change_set}
+use Rattle.conary_cli.proofs.ManifestText.Takes.{manifest_takes}
+use Rattle.conary_cli.proofs.ManifestText.Again.{manifest_again}
+
+-- ---- the outcome by the form
+
+within : (input : List ℕ) → length input ≤ input_limit → within_limit input ≡ Ok input
+within input le = ap (λ b. cond b (Err (refusal.TooLarge Input (input_limit + 1))) (Ok input)) (le-ltb input_limit (length input) le)
+
+-- where the shared tests pass, the outcome is the command's own
+own_outcome : (m : Meaning) (s : State) (input : List ℕ) (o : Result Effect Refusal) → m.takes_input ≡ true → fixed_dirs (tree_of s.root) ≡ Ok tt → length input ≤ input_limit → Outcome m s input o → m.IsOutcome s input o
+own_outcome m s input o takes dirs le is =
+    let is_given : given m.takes_input input ≡ Ok input = ap (λ (b : Bool). given b input) takes ∙ within input le in
+    subst (λ (g : Result (List ℕ) Refusal). Then g (m.IsOutcome s) o) is_given
+    (subst (λ (d : Result (Unit {0}) Refusal). Then d (λ _. Then (given m.takes_input input) (m.IsOutcome s)) o) dirs is)
+
+spelled : (m : Manifest) (input : List ℕ) → IsManifest m → input ≡ spelling m → manifest_in input ≡ Ok m
+unfolding manifest_in
+spelled m input is same = rw (same, manifest_again max_items m refl is) refl
+
+form_of : (size : ℕ) (f : Unread) → IsFormRefusal (refusal_of size f)
+form_of size (unread.At left) = inl (_, refl)
+form_of size (unread.TooLarge n) = inr (inl (n, refl))
+form_of size (unread.NotBuilt word) = inr (inr (planned_text word, refl))
+
+no_manifest : (input : List ℕ) (r : Result Manifest Unread) → manifest_at max_items input ≡ r → (IsManifestText input → ⊥) → (refused : Refusal) × IsFormRefusal refused × (reading.or_refused (length input) r ≡ Err refused)
+no_manifest input (Ok m) is none =
+    let read = manifest_takes max_items input m refl is in
+    absurd (none (record { manifest = m; valid = read.0; spelled = read.1 }))
+no_manifest input (Err f) is none = (refusal_of (length input) f, form_of (length input) f, refl)
+
+outside : (input : List ℕ) → (IsManifestText input → ⊥) → (refused : Refusal) × IsFormRefusal refused × (manifest_in input ≡ Err refused)
+unfolding manifest_in
+outside input none = no_manifest input (manifest_at max_items input) refl none
+
+outcome_by : (tree : Tree) (input : List ℕ) (r : Result Manifest Refusal) → manifest_in input ≡ r → on_both (install_outcome tree input) ≡ on_both (r >>= λ m. installs m tree)
+outcome_by tree input r is = ap (λ (x : Result Manifest Refusal). on_both (x >>= λ m. installs m tree)) is
+
+-- ---- how a call ends
+
+-- bytes are the stream of one change set at most
+abbrev OneSet : Type 0
+OneSet = (set other : ChangeSet) (bytes : List ℕ) → IsSetStream set bytes → IsSetStream other bytes → set ≡ other
+
+module _ {T P : Type 0} (root_disk : DiskModel T) (repo_disk : DiskModel P) (before now : CallState T P) (err err' : SinkState) (status : ℕ) where
+  decides : (input : List ℕ) (s : State) (o : Result Effect Refusal) → Outcome install s input o → IsAnswered root_disk repo_disk s o before now err err' status → fixed_dirs (tree_of s.root) ≡ Ok tt → length input ≤ input_limit → DecidesForm root_disk repo_disk input s before now err err' status
+  decides input s o is answered dirs le =
+      let own = own_outcome install s input o refl dirs le is in
+      record {
+        taken = λ m valid same. subst (λ (x : Result Effect Refusal). IsAnswered root_disk repo_disk s x before now err err' status) (own ∙ outcome_by (tree_of s.root) input (Ok m) (spelled m input valid same)) answered;
+        refused = λ none.
+            let out = outside input none in
+            (out.0, out.1, subst (λ (x : Result Effect Refusal). IsAnswered root_disk repo_disk s x before now err err' status) (own ∙ outcome_by (tree_of s.root) input (Err out.0) out.2) answered);
+      }
+
+  shown_as : OneSet → (input : List ℕ) (s : State) (o : Result Effect Refusal) → IsDescribed input o → IsAnswered root_disk repo_disk s o before now err err' status → DecidesSet root_disk repo_disk input s before now err err' status
+  shown_as one input s (Ok e) is answered = record {
+    shown = λ set spelled. subst (λ (x : Effect). IsAnswered root_disk repo_disk s (Ok x) before now err err' status) (is.2 ∙ ap described (one is.0 set input is.1 spelled)) answered;
+    refused = λ none. absurd (none is.0 is.1);
+  }
+  shown_as one input s (Err r) is answered = record {
+    shown = λ set spelled. absurd (is.1 set spelled);
+    refused = λ none. (r, is.0, answered);
+  }
+
+  pub form_decides : OneSet → (words : Result Command Failure) → IsWholeCall root_disk repo_disk words before now err err' status → FormDecides root_disk repo_disk words before now err err' status
+  form_decides one (Ok command.Install) call = λ root repo s recovers input is dirs le small.
+      let a = call.answers small root repo s recovers input is in decides input s a.0 a.1 a.2 dirs le
+  form_decides one (Ok command.ShowChangeSet) call = λ root repo s recovers input is dirs le small.
+      let a = call.answers small root repo s recovers input is in shown_as one input s a.0 (own_outcome show_change_set s input a.0 refl dirs le a.1) a.2
+  form_decides one (Ok (command.ListCommitted name)) call = tt
+  form_decides one (Err e) call = tt

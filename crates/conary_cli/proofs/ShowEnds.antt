@@ -1,0 +1,33 @@
+-- How `showcs` ends, from its input.
+use Rattle.std.proofs.Common.{◌≡◌, ℕ, List, Ok, Err, refl, ap}
+use Rattle.cny_base.specs.declared.refusal.Fault.{Fault}
+use Rattle.cny_base.specs.declared.refusal.Fault.TheVariants as fault
+use Rattle.tree_disk.specs.Disk.{DiskModel, IsDisk}
+use Rattle.change_set.specs.declared.change.ChangeSet.{ChangeSet}
+use Rattle.change_set.specs.ChangeSet.{IsSetStream}
+use Rattle.change_set.specs.FirstFault.{IsFaultOf}
+use Rattle.cny_report.specs.Changes.{change_text}
+use Rattle.cli_call.specs.declared.failure.Failure.TheVariants as failure
+use Rattle.cli_call.specs.Command.{Disks, AreReady, Performs}
+use Rattle.cli_call.specs.CommandLaws.{none_read, performs_reading}
+use Rattle.cli_call.specs.Failures.{failure_of_fault}
+use Rattle.cli_call.specs.RootLaws.{root_laws}
+use Rattle.cli_call.specs.State.{nothing}
+use Rattle.cli_call.specs.Store.{IsStore}
+use Rattle.cli_call.specs.Stores.{repository_store}
+use Rattle.conary_cli.specs.ShowChangeSet.{show_change_set}
+
+module _ {T P : Type 0} {root_disk : DiskModel T} {repo_disk : DiskModel P} (root_disk_laws : IsDisk root_disk) (repo_disk_laws : IsDisk repo_disk) (store_laws : IsStore repository_store) (input : List ℕ) (m : Disks T P) (ready : AreReady root_disk repo_disk m) where
+  -- the change set that was read
+  pub shows : (text : List ℕ) (set : ChangeSet) → IsSetStream set input → text ≡ change_text set → Performs root_disk repo_disk show_change_set input m m (Ok text)
+  shows text set spelled is = performs_reading root_disk_laws repo_disk_laws root_laws store_laws show_change_set input m m ready (none_read root_disk_laws repo_disk_laws m m refl refl) (Ok text) tt
+      (λ root repo s stands. (set, spelled, ap (λ (t : List ℕ). record { change = nothing; out = t }) is))
+
+  -- or none
+  pub memory_out : Performs root_disk repo_disk show_change_set input m m (Err failure.Memory)
+  memory_out = performs_reading root_disk_laws repo_disk_laws root_laws store_laws show_change_set input m m ready (none_read root_disk_laws repo_disk_laws m m refl refl) (Err failure.Memory) tt tt
+
+  pub shows_none : (f : Fault) → IsFaultOf input f → ((set : ChangeSet) → IsSetStream set input → f ≡ fault.Memory) → Performs root_disk repo_disk show_change_set input m m (Err (failure_of_fault f))
+  shows_none (fault.Refused r) is only = performs_reading root_disk_laws repo_disk_laws root_laws store_laws show_change_set input m m ready (none_read root_disk_laws repo_disk_laws m m refl refl) (Err (failure.Refused r)) tt
+      (λ root repo s stands. (is, λ set spelled. let h = only set spelled in absurd (cc h)))
+  shows_none fault.Memory is only = memory_out

@@ -1,0 +1,31 @@
+-- The table of commands: what each means.
+use Rattle.std.specs.Prelude.{◌≡◌, ◌⊎◌, ℕ, Result, Ok, Err}
+use Rattle.cny_flow.specs.Flow.{SinkState}
+use Rattle.tree_disk.specs.Disk.{DiskModel}
+use Rattle.cli_call.specs.declared.failure.Failure.{Failure}
+use Rattle.cli_call.specs.declared.failure.Failure.TheVariants as failure
+use Rattle.cli_call.specs.Call.{CallState, RunsCall}
+use Rattle.cli_call.specs.Report.{End}
+use Rattle.cli_call.specs.State.{Meaning}
+use Rattle.cli_call.specs.WholeCall.{IsCallOf, IsNoCall}
+use Rattle.repo_commands.specs.Listing.{list_committed}
+use Rattle.conary_cli.specs.declared.words.Command.{Command}
+use Rattle.conary_cli.specs.declared.words.Command.TheVariants as command
+use Rattle.conary_cli.specs.Install.{install}
+use Rattle.conary_cli.specs.ShowChangeSet.{show_change_set}
+
+abbrev pub meaning : Command → Meaning
+meaning command.Install = install
+meaning command.ShowChangeSet = show_change_set
+meaning (command.ListCommitted name) = list_committed name
+
+module _ {T P : Type 0} (root_disk : DiskModel T) (repo_disk : DiskModel P) where
+  -- The words are a command, and it was called; or they are none, and nothing was done.
+  abbrev pub RunsWords : Result Command Failure → CallState T P → CallState T P → End → Type 0
+  RunsWords (Ok c) before now end = RunsCall root_disk repo_disk (meaning c) before now end
+  RunsWords (Err e) before now end = (now ≡ before) × ((end ≡ Err e) ⊎ (end ≡ Err failure.Memory))
+
+  -- what a whole call promises: as its command means, or nothing was done
+  abbrev pub IsWholeCall : Result Command Failure → CallState T P → CallState T P → SinkState → SinkState → ℕ → Type 0
+  IsWholeCall (Ok c) before now err err' status = IsCallOf root_disk repo_disk (meaning c) before now err err' status
+  IsWholeCall (Err e) before now err err' status = IsNoCall e before now err err' status
