@@ -20,36 +20,53 @@ cat >"$work/crates/commits/src/main.rt" <<'PROGRAM'
 #![tactic(auto)]
 mod quiet;
 
+ghost use Rattle.change_set.specs.ChangeSet.{HasContents};
+
 use crate::quiet::Quiet;
-use change_set::decode;
+use change_set::{ChangeSet, decode};
 use cny_base::{Fails, Mode, Node, Path};
 use repo_commit::commit;
 use repository::load;
+use std::alloc::Global;
 use std::io::{BufRead, BufReader};
+use std::process::Abort;
 use std::time::Instant;
 use tree_memory::{MemoryTree, Nodes};
 
+// A disk with the root directory alone.
+fn new_disk<R: Abort + Alloc<A = Global>>(rt: &R) -> Quiet {
+    let path = Path::read(rt.alloc(), "/").expect(rt, "a path");
+    let root = (path, Node::Dir { mode: Mode::owner_only() });
+    let nodes = vec![in rt.alloc(); root].expect(rt, "memory");
+    let fails = Fails::new(Vec::new(rt.alloc()));
+    let tree = MemoryTree::new(rt.alloc(), Nodes::new(nodes), fails).expect(rt, "a tree");
+    Quiet { tree, faults: 0, calls: 0 }
+}
+
+// The change set of a line.
+fn set_of<R: Abort + Alloc<A = Global>>(rt: &R, line: &str) -> ChangeSet
+    ensures { HasContents result }
+{
+    let bytes = hex::decode(rt.alloc(), line).expect(rt, "digits");
+    decode(rt.alloc(), bytes.as_slice()).expect(rt, "a change set")
+}
+
 fn main(rt: HostRuntime) -> Result<(), anyhow::Error> {
-    let mut nodes = Vec::new(rt.alloc());
-    let root = Path::read(rt.alloc(), "/").expect(&rt, "a path");
-    nodes.push((root, Node::Dir { mode: Mode::owner_only() })).expect(&rt, "memory");
-    let tree = MemoryTree::new(rt.alloc(), Nodes::new(nodes), Fails::new(Vec::new(rt.alloc()))).expect(&rt, "a tree");
-    let mut disk = Quiet { tree, faults: 0, calls: 0 };
+    let mut disk = new_disk(&rt);
     let mut catalogue = load(rt.alloc(), &mut disk).expect(&rt, "a catalogue");
     let mut micros: u128 = 0;
     let mut calls: u64 = 0;
     for line in BufReader::new(rt.alloc(), rt.reader())?.lines(rt.alloc()) {
-        let bytes = hex::decode(rt.alloc(), line?.as_str()).expect(&rt, "digits");
-        let Ok(set) = decode(rt.alloc(), bytes.as_slice()) else {
-            return Ok(());
-        };
+        let line = line?;
+        let set = set_of(&rt, line.as_str());
         let before = disk.calls;
         let start = Instant::now(&rt)?;
         commit(rt.alloc(), &mut disk, &mut catalogue, &set).expect(&rt, "a commit");
         micros = micros.saturating_add(start.elapsed(&rt)?.as_micros());
         calls = calls.saturating_add(disk.calls.saturating_sub(before));
-        if catalogue.commits() % 20 == 0 {
-            println!(rt; "{} {} {}", catalogue.commits(), micros / 20, calls / 20)?;
+        let commits = catalogue.commits();
+        if commits % 20 == 0 {
+            println!(rt; "{commits} {} {}", micros / 20, calls / 20)?;
             micros = 0;
             calls = 0;
         }

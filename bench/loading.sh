@@ -23,6 +23,7 @@ mod quiet;
 use crate::quiet::Quiet;
 use cny_base::{Bytes, Fails, Mode, Node, Path};
 use file_stream::{FileRec, Flags, Owner};
+use repo_index::Catalogue;
 use repo_state::{commit_path, content_path, encode_commit};
 use repository::{content, counts, load};
 use sha1::Sha1;
@@ -30,6 +31,7 @@ use std::alloc::Global;
 use std::env;
 use std::process::Abort;
 use std::time::Instant;
+use tree_disk::TreeDisk;
 use tree_memory::{MemoryTree, Nodes};
 use trove_id::read_id;
 use trove_items::FileAt;
@@ -52,7 +54,7 @@ fn file<R: Abort + Alloc<A = Global>>(rt: &R, number: u32) -> FileAt {
     let mode = Mode::owner_only();
     let owner = Owner::new(rt.alloc(), "root", "root").expect(rt, "an owner");
     let flags = Flags { config: false, initial: false, transient: false };
-    let size = bytes.get().len() as u32;
+    let size = u32::try_from(bytes.get().len()).expect(rt, "a small content");
     let name = Sha1::digest(bytes.get());
     FileAt { path: path(rt, text.as_str()), rec: FileRec::File { mode, owner, flags, size, name } }
 }
@@ -72,30 +74,65 @@ fn trove<R: Abort + Alloc<A = Global>>(rt: &R, number: u32) -> Trove {
     Trove::make(id, Files::new(files), refs, required, provided).expect(rt, "a trove")
 }
 
-// The nodes of so many commits, and of the first 1,000 contents.
-fn nodes<R: Abort + Alloc<A = Global>>(rt: &R, commits: u32) -> Nodes {
+fn make_dir<R: Abort + Alloc<A = Global>>(rt: &R, disk: &mut Quiet, text: &str) {
+    disk.make_dir(rt.alloc(), &path(rt, text), Mode::owner_only()).expect(rt, "a directory");
+}
+
+fn make_file<R: Abort + Alloc<A = Global>>(rt: &R, disk: &mut Quiet, path: &Path, bytes: &Bytes) {
+    disk.append(rt.alloc(), path, bytes.get()).expect(rt, "a file");
+}
+
+// A disk with the root directory alone.
+fn new_disk<R: Abort + Alloc<A = Global>>(rt: &R) -> Quiet {
+    let root = (path(rt, "/"), Node::Dir { mode: Mode::owner_only() });
+    let nodes = vec![in rt.alloc(); root].expect(rt, "memory");
+    let fails = Fails::new(Vec::new(rt.alloc()));
+    let tree = MemoryTree::new(rt.alloc(), Nodes::new(nodes), fails).expect(rt, "a tree");
+    Quiet { tree, faults: 0, calls: 0 }
+}
+
+// Writes the file of the commit behind so many others.
+fn write_commit<R: Abort + Alloc<A = Global>>(rt: &R, disk: &mut Quiet, before: u32) {
     let alloc = rt.alloc();
-    let mode = Mode::owner_only();
-    let mut nodes = Vec::new(alloc);
-    for text in ["/", "/conaryrepo", "/conaryrepo/c"] {
-        nodes.push((path(rt, text), Node::Dir { mode })).expect(rt, "memory");
+    let mut troves = Vec::new(alloc);
+    for place in 0..5u32 {
+        troves.push(trove(rt, before.wrapping_mul(5).wrapping_add(place))).expect(rt, "memory");
     }
+    let bytes = encode_commit(alloc, troves.as_slice()).expect(rt, "memory");
+    let at = commit_path(alloc, u64::from(before) + 1).expect(rt, "memory");
+    make_file(rt, disk, &at, &bytes);
+}
+
+// Writes the file of the content of this number.
+fn write_content<R: Abort + Alloc<A = Global>>(rt: &R, disk: &mut Quiet, number: u32) {
+    let bytes = bytes_of(rt, number);
+    let at = content_path(rt.alloc(), &Sha1::digest(bytes.get())).expect(rt, "memory");
+    make_file(rt, disk, &at, &bytes);
+}
+
+// Writes so many commits, and the first 1,000 contents.
+fn write_all<R: Abort + Alloc<A = Global>>(rt: &R, disk: &mut Quiet, commits: u32) {
+    make_dir(rt, disk, "/conaryrepo");
+    make_dir(rt, disk, "/conaryrepo/c");
     for before in 0..commits {
-        let mut troves = Vec::new(alloc);
-        for place in 0..5u32 {
-            troves.push(trove(rt, before.wrapping_mul(5).wrapping_add(place))).expect(rt, "memory");
-        }
-        let bytes = encode_commit(alloc, troves.as_slice()).expect(rt, "memory");
-        let at = commit_path(alloc, u64::from(before) + 1).expect(rt, "memory");
-        nodes.push((at, Node::File { mode, bytes })).expect(rt, "memory");
+        write_commit(rt, disk, before);
     }
     for number in 0..1000u32 {
-        let bytes = bytes_of(rt, number);
-        let at = content_path(alloc, &Sha1::digest(bytes.get())).expect(rt, "memory");
-        nodes.push((at, Node::File { mode, bytes })).expect(rt, "memory");
+        write_content(rt, disk, number);
     }
-    nodes.sort_unstable_by(|node, other| node.0.text().cmp(other.0.text()));
-    Nodes::new(nodes)
+    disk.sync(rt.alloc()).expect(rt, "a sync");
+}
+
+// How many of the first 1,000 contents are there.
+fn found<R: Abort + Alloc<A = Global>>(rt: &R, disk: &mut Quiet, catalogue: &Catalogue) -> u32 {
+    let mut found = 0u32;
+    for number in 0..1000u32 {
+        let name = Sha1::digest(bytes_of(rt, number).get());
+        if content(rt.alloc(), disk, catalogue, &name).expect(rt, "a content").is_some() {
+            found = found.wrapping_add(1);
+        }
+    }
+    found
 }
 
 fn main(rt: HostRuntime) -> Result<(), anyhow::Error> {
@@ -103,24 +140,19 @@ fn main(rt: HostRuntime) -> Result<(), anyhow::Error> {
     for word in env::args(&rt)?.skip(1) {
         commits = word.as_str().parse::<u32>()?;
     }
-    let tree = MemoryTree::new(rt.alloc(), nodes(&rt, commits), Fails::new(Vec::new(rt.alloc()))).expect(&rt, "a tree");
-    let mut disk = Quiet { tree, faults: 0, calls: 0 };
+    let mut disk = new_disk(&rt);
+    write_all(&rt, &mut disk, commits);
     let start = Instant::now(&rt)?;
     let catalogue = load(rt.alloc(), &mut disk).expect(&rt, "a catalogue");
-    let loaded = start.elapsed(&rt)?;
+    let loaded = start.elapsed(&rt)?.as_millis();
     let start = Instant::now(&rt)?;
     let numbers = counts(rt.alloc(), &mut disk, &catalogue).expect(&rt, "numbers");
-    let counted = start.elapsed(&rt)?;
+    let counted = start.elapsed(&rt)?.as_millis();
     let start = Instant::now(&rt)?;
-    let mut found = 0u32;
-    for number in 0..1000u32 {
-        let name = Sha1::digest(bytes_of(&rt, number).get());
-        if content(rt.alloc(), &mut disk, &catalogue, &name).expect(&rt, "a content").is_some() {
-            found = found.wrapping_add(1);
-        }
-    }
-    let read = start.elapsed(&rt)?;
-    println!(rt; "{} commits, {} troves: loaded in {} ms, counted in {} ms, {found} contents read in {} ms", numbers.get().len(), catalogue.troves().len(), loaded.as_millis(), counted.as_millis(), read.as_millis())?;
+    let found = found(&rt, &mut disk, &catalogue);
+    let read = start.elapsed(&rt)?.as_millis();
+    let (commits, troves) = (numbers.get().len(), catalogue.troves().len());
+    println!(rt; "{commits} commits, {troves} troves: loaded in {loaded} ms, counted in {counted} ms, {found} contents read in {read} ms")?;
     Ok(())
 }
 PROGRAM

@@ -346,10 +346,16 @@ def collisions():
     both = tree_of([[component(b"both:runtime", b"1-1-1", [(b"/a", ONE), (b"/b", OLD), (b"/c", NEW)])]], [ONE, OLD, NEW])
     again = component(b"again:runtime", b"1-1-1", [(b"/a", OTHER), (b"/b", OLD), (b"/c", NEW)])
     for text in (ONE, OLD, NEW):
-        for node in (None, DIR, JUNK, ("f", 0o600, text + b"x"), ("f", 0o600, text[:-1])):
+        for node in (None, DIR, JUNK, ("f", 0o600, text + b"x"), ("f", 0o600, text[:-1]), ("f", 0o600, text[:-1] + b"?")):
             broken = {path: at for path, at in both.items() if path != content_path(text)}
             yield broken if node is None else {**broken, content_path(text): node}, set_of([again], [OTHER, OLD, NEW])
             yield broken if node is None else {**broken, content_path(text): node}, set_of([again], [])
+        # Tests that come before that of the damaged content, and all contents but the damaged one.
+        broken = {**both, content_path(text): JUNK}
+        yield broken, set_of([again, LOST], [OTHER, OLD, NEW])
+        yield broken, set_of([again, sized(b"sized:runtime", b"1-1-1", [(b"/a", ELSE, 5), (b"/b", ELSE, 6)])], [OTHER, OLD, NEW, ELSE])
+        yield broken, set_of([again, component(b"both:runtime", b"1-1-1", [])], [OTHER, OLD, NEW])
+        yield broken, set_of([again], [other for other in (OTHER, OLD, NEW) if sha1(other).digest() != sha1(text).digest()])
 
 
 def worked():
@@ -376,7 +382,7 @@ def several():
 
 
 # Numbers that pick what stands at each name that a crash may leave changed.
-PICKS = [0, 2**64 - 1, 0x5555_5555_5555_5555, 1, 0x0123_4567_89AB_CDEF, 0x9E37_79B9_7F4A_7C15, 0xD1B5_4A32_D192_ED03, 0x2545_F491_4F6C_DD1D]
+PICKS = [0, 2**64 - 1, 2**32 - 1, 0x5555_5555_5555_5555, 0xAAAA_AAAA_AAAA_AAAA, 1, 0x0123_4567_89AB_CDEF, 0x9E37_79B9_7F4A_7C15, 0xD1B5_4A32_D192_ED03, 0x2545_F491_4F6C_DD1D]
 
 
 def cut_off():

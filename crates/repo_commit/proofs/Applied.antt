@@ -1,40 +1,32 @@
 -- The file of a commit, applied to a disk that was made ready.
-use Rattle.std.proofs.Common.{◌≡◌, ◌≢◌, ◌⊎◌, inl, inr, ⊎_elim, ℕ, ◌+◌, ◌<◌, ◌≤◌, ◌^◌, Bool, true, false, cond, ◌||◌, ◌&&◌, IsTrue, List, [], ◌∷◌, ◌++◌, length, get_or, All, Option, Some, None, is_some, Result, Ok, Err, OnOk, OnErr, IfErr, IsErrAnd, IsErrOf, refl, sym, ◌∙◌, ap, subst, arith}
-use Rattle.std.specs.Prelude.{codes, nat_le}
+use Rattle.std.proofs.Common.{◌≡◌, inl, inr, ⊎_elim, ℕ, ◌+◌, ◌<◌, ◌^◌, true, false, List, [], ◌∷◌, All, Option, Some, None, refl, sym, ◌∙◌, ap, subst, arith}
 use Rattle.std.specs.List.{list_all}
 use Rattle.std.specs.Fmt.{decimal}
-use Rattle.std.specs.Cmp.Derive.{both_true}
 use Rattle.std.proofs.lemmas.Bool.{cases_Bool}
 use Rattle.std.proofs.lemmas.List.Elements.{All-cons, All-nil}
 use Rattle.std.specs.FinMap.{get}
-use Rattle.cny_base.specs.Count.{Rose}
 use Rattle.cny_base.specs.Below.{is_below, below_parent}
-use Rattle.cny_base.specs.Path.{has_slash, is_path, join, parent, root}
+use Rattle.cny_base.specs.Path.{is_path, parent}
 use Rattle.cny_base.specs.declared.limits.TheConstants.{COMMITS_LIMIT}
 use Rattle.cny_base.specs.declared.node.Node.{Node}
 use Rattle.cny_base.specs.declared.node.Node.TheVariants as node
-use Rattle.cny_base.specs.declared.stop.Stop.{Stop}
-use Rattle.cny_base.specs.declared.stop.Stop.TheVariants.{Refused, Memory, Failed, Damaged, FarFailed, FarDamaged}
 use Rattle.trove_stream.specs.declared.parts.TroveParts.{TroveParts}
 use Rattle.trove_stream.specs.Trove.{IsTrove}
-use Rattle.tree_disk.specs.Tree.{Name, Tree, same_name, is_byte, is_dir, is_node, WellFormed}
+use Rattle.tree_disk.specs.Tree.{Name, Tree, is_byte, is_dir, WellFormed}
 use Rattle.tree_disk.specs.Nodes.{is_node-File}
 use Rattle.tree_disk.specs.Allowed.{put_well_formed}
 use Rattle.tree_disk.specs.Children.{none_below}
 use Rattle.tree_disk.specs.Rows.{is_dir_at}
-use Rattle.tree_disk.specs.Disk.{DiskModel, IsDisk, IsImageOf}
-use Rattle.tree_disk.specs.Confined.{AgreesExcept, Confined, DiffersOnlyAt, IsSynced, IsUnsynced, IsUnsyncedOr, LeavesOnly}
-use Rattle.tree_disk.specs.ConfinedLaws.{confined_start, leaves_then, leaves_weaker}
-use Rattle.tree_disk.specs.Moments.{rose_before}
-use Rattle.tree_disk.specs.Steps.{IsDiskStop}
+use Rattle.tree_disk.specs.Disk.{DiskModel, IsDisk}
+use Rattle.tree_disk.specs.Confined.{Confined, DiffersOnlyAt, IsUnsyncedOr, LeavesOnly}
+use Rattle.tree_disk.specs.ConfinedLaws.{leaves_then, leaves_weaker}
 use Rattle.journal_log.specs.declared.put.Put.{Put}
-use Rattle.journal_log.specs.Own.{gate, is_own, StoresSame}
-use Rattle.journal_log.specs.Targets.{is_target}
+use Rattle.journal_log.specs.Own.{gate, StoresSame}
 use Rattle.journal_log.specs.WriteSet.{CanBeNamed}
 use Rattle.tree_journal.specs.Apply.{goal, with_base, CanApply, IsAsBefore, IsOneOf}
 use Rattle.tree_journal.specs.Apply as apply
-use Rattle.tree_journal.specs.CanBePut.{AllCanBePut, CanBePut, HasWay, IsClearBelow}
-use Rattle.tree_journal.specs.Recovery.{at_rest, is_committed, is_flag, RecoversTo}
+use Rattle.tree_journal.specs.CanBePut.{AllCanBePut, CanBePut, HasWay}
+use Rattle.tree_journal.specs.Recovery.{at_rest, is_committed, is_flag}
 use Rattle.tree_journal.specs.Staging.{has_content, outcome}
 use Rattle.tree_journal.proofs.OwnFiles.{base_kept}
 use Rattle.tree_journal.proofs.OwnNames.{parent_join}
@@ -46,7 +38,7 @@ use Rattle.repo_state.specs.Steps.{commit_put}
 use Rattle.repo_state.proofs.CountedNames.{prepared_commits, prepared_flag}
 use Rattle.repo_state.proofs.FileNames.{base_is_path, commit_is_path, decimal_plain}
 use Rattle.repo_commit.specs.Outcome.{IsAtRest}
-use Rattle.repo_commit.specs.Preparing.{file_mode, with_file, EndsWith, IsReadied, IsReady, IsWritten, Prepares, RecoversSo, StopsBefore, Writes}
+use Rattle.repo_commit.specs.Preparing.{file_mode, with_file, IsReadied, IsReady, IsWritten, RecoversSo}
 use Rattle.repo_commit.proofs.Readying.{commit_not_root}
 
 abbrev pub puts_of : CatalogueParts → List TroveParts → List Put

@@ -1,5 +1,5 @@
 -- A carried content that a binary search finds by its name.
-use Rattle.std.proofs.Common.{◌≡◌, ℕ, zero, suc, ◌+◌, ◌<◌, Bool, true, false, ◌&&◌, ◌||◌, List, [], ◌∷◌, length, get_or, Contains, Ordering, ⊎_elim, inl, inr, refl, sym, ◌∙◌, ap, subst, arith, add-one}
+use Rattle.std.proofs.Common.{◌≡◌, ℕ, zero, suc, ◌<◌, Bool, true, false, ◌&&◌, ◌||◌, List, [], ◌∷◌, length, get_or, Ordering, ⊎_elim, inl, inr, refl, sym, ◌∙◌, ap, subst, arith, add-one}
 use Rattle.std.specs.Prelude.{◌==◌, nat_eq}
 use Rattle.std.proofs.lemmas.Bool.Decides.{nat_tests}
 use Rattle.std.specs.List.{list_any, AllByRecursion, HoldsAt}
@@ -16,7 +16,7 @@ use Rattle.tree_disk.specs.Laws.{same_means}
 use Rattle.change_set.specs.declared.change.Carried.{Carried}
 use Rattle.change_set.specs.ChangeSet.{content_cmp}
 use Rattle.repo_commit.specs.Tests.{is_carried}
-use Rattle.repo_commit.proofs.Lists.{and_first, and_second}
+use Rattle.repo_commit.proofs.Lists.{and_first}
 use Rattle.repo_commit.proofs.Making.{any_found}
 use Rattle.repo_commit.proofs.Sources.{equal_bytes, none_behind, not_before, same_bytes}
 

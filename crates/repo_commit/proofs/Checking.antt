@@ -13,7 +13,6 @@ use Rattle.tree_disk.specs.Tree.{Name, Tree}
 use Rattle.tree_disk.specs.Disk.{DiskModel, IsDisk}
 use Rattle.tree_disk.specs.Moments.{rose_before, same_on, same_start, time_on, time_start}
 use Rattle.change_set.specs.declared.change.Carried.{Carried}
-use Rattle.change_set.specs.declared.change.ChangeSet.{ChangeSet}
 use Rattle.change_set.specs.declared.change.Part.{Part}
 use Rattle.content_store.specs.Contents.{ContentMap}
 use Rattle.repo_index.specs.Catalogue.{CatalogueParts}

@@ -14,5 +14,7 @@ pub mod Readying
 pub mod Resting
 pub mod Unique
 pub mod Applied
+pub mod Within
 pub mod Written
 pub mod Outcomes
+pub mod Ordering

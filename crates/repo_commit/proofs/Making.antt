@@ -1,5 +1,5 @@
 -- Parts that make troves, one after another.
-use Rattle.std.proofs.Common.{◌≡◌, ◌⊎◌, inl, inr, ⊎_elim, ℕ, zero, suc, ◌+◌, ◌<◌, Bool, true, false, List, [], ◌∷◌, ◌++◌, length, take, drop, get_or, All, Option, Some, None, is_some, Result, Ok, Err, IsErrAnd, IfErr, refl, sym, ◌∙◌, ap, subst, append-nil, append_assoc, arith}
+use Rattle.std.proofs.Common.{◌≡◌, inr, ⊎_elim, ℕ, zero, suc, ◌+◌, ◌<◌, Bool, true, false, List, [], ◌∷◌, ◌++◌, length, take, drop, get_or, All, Option, Some, None, is_some, Result, Ok, Err, IsErrAnd, IfErr, refl, sym, ◌∙◌, ap, subst, append-nil, append_assoc, arith}
 use Rattle.std.specs.List.{list_any, Contains}
 use Rattle.std.specs.Prelude.{IsOk, MatchOption}
 use Rattle.std.proofs.lemmas.List.{take_more}
@@ -11,17 +11,15 @@ use Rattle.std.proofs.lemmas.List.Elements.{All-cons, All-head, All-nil, All-pus
 use Rattle.std.proofs.lemmas.List.Folds.{list_any_at}
 use Rattle.cny_base.specs.declared.refusal.Refusal.{Refusal}
 use Rattle.trove_items.specs.declared.files.FileAt.{FileAt}
-use Rattle.trove_rel.specs.declared.rel.RelParts.{RelParts}
 use Rattle.trove_stream.specs.declared.parts.TroveParts.{TroveParts}
 use Rattle.trove_stream.specs.Trove.{IsTrove}
 use Rattle.file_stream.specs.Record.{has_name_and_size}
-use Rattle.change_rel.specs.Leads.{Leads}
 use Rattle.change_set.specs.declared.change.Part.{Part}
 use Rattle.change_set.specs.declared.change.Part.TheVariants.{Whole, Relative}
 use Rattle.change_set.specs.ChangeSet.{has_record, IsPart}
-use Rattle.repo_index.specs.Catalogue.{CatalogueParts, found, with_trove, IsExistsOrMemory}
+use Rattle.repo_index.specs.Catalogue.{CatalogueParts, found, IsExistsOrMemory}
 use Rattle.repo_state.specs.State.{AreNew, IsAllowed, records_content, trove_records}
-use Rattle.repo_commit.specs.Parts.{AreMade, HasPart, IsFirstRefused, IsLedTo, IsPartRefused, IsTroveRefused, MakesTrove, MakeTroves, exists_already, path_reserved}
+use Rattle.repo_commit.specs.Parts.{AreMade, HasPart, IsFirstRefused, IsPartRefused, IsTroveRefused, MakesTrove, MakeTroves, exists_already, path_reserved}
 use Rattle.repo_commit.proofs.Lists.{none_some, or_either, or_first, or_second, some_append, split_at}
 
 -- ---- one more part

@@ -1,36 +1,34 @@
 -- How a commit ends.
-use Rattle.std.proofs.Common.{◌≡◌, ◌≢◌, ◌⊎◌, inl, inr, ⊎_elim, ℕ, ◌+◌, ◌<◌, ◌≤◌, ◌^◌, Bool, true, false, IsTrue, List, [], ◌∷◌, ◌++◌, length, All, Option, Some, None, Result, Ok, Err, IfErr, IsErrAnd, refl, sym, ◌∙◌, ap, subst, arith, length-append}
-use Rattle.std.proofs.lemmas.Bool.{cases_Bool}
+use Rattle.std.proofs.Common.{◌≡◌, ◌≢◌, inl, inr, ⊎_elim, ℕ, ◌+◌, ◌≤◌, Bool, IsTrue, List, [], ◌∷◌, ◌++◌, length, All, Option, Result, Ok, Err, IfErr, IsErrAnd, refl, sym, ◌∙◌, ap, subst, arith, length-append}
 use Rattle.std.specs.FinMap.{get}
-use Rattle.cny_base.specs.declared.limits.TheConstants.{COMMITS_LIMIT}
 use Rattle.cny_base.specs.declared.stop.Stop.{Stop}
 use Rattle.cny_base.specs.declared.stop.Stop.TheVariants.{Refused, Memory, Failed, Damaged, FarFailed, FarDamaged}
 use Rattle.trove_id.specs.declared.id.TroveId.{TroveId}
 use Rattle.trove_stream.specs.declared.parts.TroveParts.{TroveParts}
 use Rattle.trove_stream.specs.Trove.{IsTrove}
 use Rattle.tree_disk.specs.Tree.{Name, Tree}
-use Rattle.tree_disk.specs.Disk.{DiskModel, HasRead, IsDisk, IsImageOf}
-use Rattle.tree_disk.specs.Confined.{AgreesExcept, DiffersOnlyAt, IsSynced, IsUnsynced, IsUnsyncedOr, LeavesOnly}
+use Rattle.tree_disk.specs.Disk.{DiskModel, HasRead, IsDisk}
+use Rattle.tree_disk.specs.Confined.{AgreesExcept, IsUnsynced, IsUnsyncedOr, LeavesOnly}
 use Rattle.tree_disk.specs.ConfinedLaws.{confined_read, leaves_then, leaves_weaker}
 use Rattle.tree_disk.specs.Moments.{rose_before}
 use Rattle.journal_log.specs.Own.{gate, StoresSame}
-use Rattle.tree_journal.specs.Recovery.{at_rest, is_committed, is_flag, RecoversTo}
+use Rattle.tree_journal.specs.Recovery.{at_rest, is_committed, is_flag}
 use Rattle.change_set.specs.declared.change.Carried.{Carried}
 use Rattle.change_set.specs.declared.change.ChangeSet.{ChangeSet}
 use Rattle.change_set.specs.declared.change.Part.{Part}
 use Rattle.change_set.specs.ChangeSet.{HasContents}
 use Rattle.repo_index.specs.Catalogue.{CatalogueParts}
 use Rattle.repo_state.specs.Counts.{Counts, IsPreparedName}
-use Rattle.repo_state.specs.Files.{repository_base, FitsTrove, HoldsCatalogue, HoldsCommits, StoresRepository}
-use Rattle.repo_state.specs.State.{catalogue_of, troves_of, Commit, RepositoryState}
+use Rattle.repo_state.specs.Files.{repository_base, HoldsCatalogue, StoresRepository}
+use Rattle.repo_state.specs.State.{catalogue_of, RepositoryState}
 use Rattle.repo_state.specs.Steps.{catalogue_with, MayFollow}
 use Rattle.repo_state.specs.Following.{troves_push}
 use Rattle.repo_state.proofs.HeldCatalogues.{rules_after}
 use Rattle.repository.specs.Loading.{IsCatalogue}
 use Rattle.repo_state.proofs.CountedNames.{counted_state, prepared_state}
-use Rattle.repo_commit.specs.Outcome.{committed_contents, AtEveryMoment, EndsSo, HasCause, IsAtRest, IsDone, IsSettled, MayJoin, StopsSo, TestEnds, TestsChange}
+use Rattle.repo_commit.specs.Outcome.{committed_contents, AtEveryMoment, EndsSo, HasCause, HasMoments, IsAtRest, IsDone, IsSettled, MayJoin, StopsSo, TestEnds, TestsChange}
 use Rattle.repo_commit.specs.Preparing.{IsWritten, RecoversSo, StopsBefore, Writes}
-use Rattle.repo_commit.specs.Steps.{after_commit, catalogue_after, ids_of, IsBeforeOrAfter, IsStep, RecoversAfter, RecoversToRepository}
+use Rattle.repo_commit.specs.Steps.{after_commit, catalogue_after, ids_of, IsStep, RecoversToEither}
 use Rattle.repo_commit.specs.Tests.{Passes}
 use Rattle.repo_commit.proofs.Held.{held_is}
 use Rattle.repo_commit.proofs.States.{written_catalogue, written_state}
@@ -61,15 +59,14 @@ module _ (one : OneCatalogue) (x : Tree) (r : RepositoryState) (c : CataloguePar
   stored_after y written = written_state r change troves x y h has full over_state (subst (λ (k : CatalogueParts). IsWritten k change.contents troves x y) is_catalogue written)
 
   -- what differs at names that don't count stores the same, and what is written the repository after
-  pub recovers_so : (names : Name → Type 0) → ((q : Name) → Counts r q → names q → ⊥) → (image : Tree) → RecoversSo names c change.contents troves x image → IsBeforeOrAfter r change image
+  pub recovers_so : (names : Name → Type 0) → ((q : Name) → Counts r q → names q → ⊥) → (image : Tree) → RecoversSo names c change.contents troves x image → RecoversToEither r (after_commit troves change.contents r) image
   recovers_so names free image so = ⊎_elim
       (λ before. inl (record { tree = so.tree; recovers = so.recovers; stores = counted_state x so.tree r h (λ q counts. before q (free q counts)) }))
-      (λ written. inr (record {
-        new = after_commit troves change.contents r;
-        step = record { troves = troves; passes = over_state; is = refl };
-        recovers = record { tree = so.tree; recovers = so.recovers; stores = stored_after so.tree written };
-      }))
+      (λ written. inr (record { tree = so.tree; recovers = so.recovers; stores = stored_after so.tree written }))
       so.is
+
+  pub steps : IsStep r change (after_commit troves change.contents r)
+  steps = record { troves = troves; passes = over_state; is = refl }
 
   pub not_prepared : (q : Name) → Counts r q → IsPreparedName c q → ⊥
   not_prepared q counts prepared = prepared_state r q h.repository (subst (λ (k : CatalogueParts). IsPreparedName k q) is_catalogue prepared) counts
@@ -80,26 +77,30 @@ stores_itself : (t : Tree) → StoresSame repository_base t t
 stores_itself t q out = refl
 
 module _ {D : Type 0} {disk : DiskModel D} (laws : IsDisk disk) where
-  still_before : (c : CatalogueParts) (r : RepositoryState) (change : ChangeSet) (d : D) → IsAtRest disk c d → StoresRepository (disk.reads d) r → IsSettled disk d r → (image : Tree) → AgreesExcept (IsUnsynced disk d) image (disk.reads d) → IsBeforeOrAfter r change image
-  still_before c r change d rests h settled image agrees = inl (record {
+  still_before : (c : CatalogueParts) (r next : RepositoryState) (d : D) → IsAtRest disk c d → StoresRepository (disk.reads d) r → IsSettled disk d r → (image : Tree) → AgreesExcept (IsUnsynced disk d) image (disk.reads d) → RecoversToEither r next image
+  still_before c r next d rests h settled image agrees = inl (record {
     tree = image;
     recovers = at_rest (ap is_flag (agrees (gate repository_base) (λ un. absurd (cc (un, rests.flag_synced)))) ∙ rests.flag_clear) (stores_itself image);
     stores = counted_state (disk.reads d) image r h (λ q counts. agrees q (λ un. absurd (cc (un, settled q counts))));
   })
 
-  -- nothing was changed
-  pub read_moments : {Answer : Type 0} (c : CatalogueParts) (r : RepositoryState) (change : ChangeSet) (old new : D) → IsAtRest disk c old → HasRead disk old new Answer → StoresRepository (disk.reads old) r → IsSettled disk old r
-      → LeavesOnly disk old new (IsBeforeOrAfter r change) × IsBeforeOrAfter r change (disk.reads new)
-  read_moments c r change old new rests read h settled = (
-    leaves_weaker (λ image differs. still_before c r change old rests h settled image (λ q out. differs.agrees q (λ where_. out (⊎_elim (λ was. was) (λ none. absurd none) where_))))
+  -- nothing was changed, whichever other repository is named
+  pub kept_moments : {Answer : Type 0} (c : CatalogueParts) (r next : RepositoryState) (old new : D) → IsAtRest disk c old → HasRead disk old new Answer → StoresRepository (disk.reads old) r → IsSettled disk old r
+      → LeavesOnly disk old new (RecoversToEither r next) × RecoversToEither r next (disk.reads new)
+  kept_moments c r next old new rests read h settled = (
+    leaves_weaker (λ image differs. still_before c r next old rests h settled image (λ q out. differs.agrees q (λ where_. out (⊎_elim (λ was. was) (λ none. absurd none) where_))))
         (confined_read laws (λ q. ⊥) read).images,
-    still_before c r change old rests h settled (disk.reads new) (λ q out. ap (λ (t : Tree). get t q) read.same.reads),
+    still_before c r next old rests h settled (disk.reads new) (λ q out. ap (λ (t : Tree). get t q) read.same.reads),
   )
+
+  pub read_moments : {Answer : Type 0} (c : CatalogueParts) (r : RepositoryState) (change : ChangeSet) (old new : D) → IsAtRest disk c old → HasRead disk old new Answer → StoresRepository (disk.reads old) r → IsSettled disk old r → HasMoments disk change old new r
+  read_moments c r change old new rests read h settled =
+      let kept = kept_moments c r r old new rests read h settled in record { next = r; is = inl refl; images = kept.0; reads = kept.1 }
 
   -- the writes
   pub write_moments : (one : OneCatalogue) (c : CatalogueParts) (r : RepositoryState) (change : ChangeSet) (troves : List TroveParts) (old new : D) {result : Result (Unit {0}) Stop} → IsTrue disk.tells → IsAtRest disk c old → HasContents change → troves ≢ []
       → Passes c (committed_contents c.troves (disk.reads old)) change troves → Writes disk c change.contents troves old new result → StoresRepository (disk.reads old) r → IsSettled disk old r
-      → LeavesOnly disk old new (IsBeforeOrAfter r change) × IsBeforeOrAfter r change (disk.reads new)
+      → LeavesOnly disk old new (RecoversToEither r (after_commit troves change.contents r)) × RecoversToEither r (after_commit troves change.contents r) (disk.reads new)
   write_moments one c r change troves old new tells rests has full passes writes h settled = (
     leaves_weaker (recovers_so one (disk.reads old) r c change troves h rests.holds has full passes (IsUnsyncedOr disk old (IsPreparedName c))
         (λ q counts where_. ⊎_elim (λ un. absurd (cc (un, settled q counts))) (λ prepared. not_prepared one (disk.reads old) r c change troves h rests.holds has full passes q counts prepared) where_)) (writes.any_moment tells),
@@ -226,11 +227,17 @@ module _ {D : Type 0} {disk : DiskModel D} (laws : IsDisk disk) (change : Change
       → Writes disk c change.contents added.troves mid new result → AtEveryMoment disk change old new r
   both_moments one r {old = old} {mid = mid} {new = new} added tells has rests tests full writes h settled =
       let read = tests.same tells in
-      let first = read_moments laws c r change old mid rests read h settled in
+      let made = after_commit added.troves change.contents r in
+      let first = kept_moments laws c r made old mid rests read h settled in
       let h_mid : StoresRepository (disk.reads mid) r = subst (λ (t : Tree). StoresRepository t r) (sym read.same.reads) h in
       let passes : Passes c (committed_contents c.troves (disk.reads mid)) change added.troves = subst (λ (t : Tree). Passes c (committed_contents c.troves t) change added.troves) (sym read.same.reads) (tests.ends tells) in
       let next = write_moments laws one c r change added.troves mid new tells (rests_read c old mid read rests) has full passes writes h_mid (settled_read r old mid read settled) in
-      (leaves_then first.0 next.0, next.1)
+      record {
+        next = made;
+        is = inr (steps one (disk.reads old) r c change added.troves h rests.holds has full (tests.ends tells));
+        images = leaves_then first.0 next.0;
+        reads = next.1;
+      }
 
 -- ---- the rules
 

@@ -1,5 +1,5 @@
 -- A content put in place of what stood under its name.
-use Rattle.std.proofs.Common.{◌≡◌, ◌⊎◌, ⊎_elim, ℕ, ◌≤◌, Bool, true, false, ◌&&◌, ◌||◌, IsTrue, List, [], ◌∷◌, ◌++◌, get_or, Option, Some, None, Result, Ok, Err, refl, sym, ◌∙◌, ap, subst, arith}
+use Rattle.std.proofs.Common.{◌≡◌, ⊎_elim, ℕ, Bool, true, false, ◌&&◌, ◌||◌, IsTrue, List, get_or, Option, Some, None, Result, Ok, Err, refl, ◌∙◌, ap, subst, arith}
 use Rattle.std.specs.Prelude.{not, is_some}
 use Rattle.std.proofs.lemmas.Bool.{cases_Bool}
 use Rattle.std.specs.FinMap.{get}
@@ -13,7 +13,7 @@ use Rattle.tree_disk.specs.Laws.{same_means}
 use Rattle.tree_disk.specs.Rows.{is_dir_at, is_file_at, with_append}
 use Rattle.tree_disk.specs.Disk.{DiskModel}
 use Rattle.tree_disk.specs.Clear.{is_within, IsBare}
-use Rattle.tree_disk.specs.ClearLaws.{itself_within, or_cases, or_left, within_itself}
+use Rattle.tree_disk.specs.ClearLaws.{itself_within, or_cases, within_itself}
 use Rattle.tree_disk.specs.Confined.{Among, Confined}
 use Rattle.tree_disk.specs.ConfinedLaws.{confined_wider}
 use Rattle.content_store.specs.Outcome.{placed, put_names, put_outcome, CanPut, Decides, IsCollisionOf, PutStops}

@@ -1,15 +1,12 @@
 -- How calls that prepare a disk follow one another.
-use Rattle.std.proofs.Common.{◌≡◌, ◌≢◌, ◌⊎◌, inl, inr, ⊎_elim, ℕ, zero, suc, ◌+◌, ◌<◌, ◌≤◌, Bool, true, false, cond, ◌||◌, IsTrue, List, [], ◌∷◌, ◌++◌, length, take, get_or, All, Option, Some, None, is_some, Result, Ok, Err, IsErrAnd, refl, sym, ◌∙◌, ap, subst, arith}
-use Rattle.std.proofs.lemmas.Bool.{cases_Bool}
-use Rattle.std.specs.FinMap.{get}
+use Rattle.std.proofs.Common.{◌≡◌, ℕ, ◌≤◌, Bool, IsTrue, Result, Ok, Err, IsErrAnd, sym, subst, arith}
 use Rattle.cny_base.specs.declared.stop.Stop.{Stop}
 use Rattle.cny_base.specs.declared.stop.Stop.TheVariants.{Refused, Memory, Failed, Damaged, FarFailed, FarDamaged}
-use Rattle.cny_base.specs.declared.node.Node.{Node}
 use Rattle.tree_disk.specs.Tree.{Name, Tree}
-use Rattle.tree_disk.specs.Disk.{DiskModel, IsDisk}
+use Rattle.tree_disk.specs.Disk.{DiskModel}
 use Rattle.tree_disk.specs.Confined.{Among, Confined}
 use Rattle.tree_disk.specs.ConfinedLaws.{confined_on, confined_then, confined_wider}
-use Rattle.tree_disk.specs.Moments.{rose_before, rose_later}
+use Rattle.tree_disk.specs.Moments.{rose_before}
 use Rattle.tree_disk.specs.Steps.{Ended, Makes}
 use Rattle.repo_commit.specs.Preparing.{EndsWith, Prepares, StopsBefore}
 

@@ -1,22 +1,18 @@
 -- Contents that are put one after another, and what else is prepared.
-use Rattle.std.proofs.Common.{◌≡◌, ◌≢◌, ◌⊎◌, inl, inr, ⊎_elim, ℕ, zero, suc, ◌+◌, ◌<◌, ◌≤◌, Bool, true, false, cond, ◌||◌, IsTrue, List, [], ◌∷◌, ◌++◌, length, take, get_or, All, Some, None, Result, Ok, refl, sym, ◌∙◌, ap, subst, arith}
-use Rattle.std.proofs.lemmas.Bool.{cases_Bool}
-use Rattle.std.proofs.lemmas.List.{take_more}
-use Rattle.std.proofs.lemmas.List.Elements.{All-from_get_or, All-get_or, All-head, All-more, All-nil, All-tail, All-weaker}
-use Rattle.std.specs.FinMap.{get}
+use Rattle.std.proofs.Common.{◌≡◌, ℕ, zero, suc, ◌+◌, ◌<◌, ◌≤◌, true, List, [], ◌∷◌, length, take, get_or, All, Ok, refl, sym, ◌∙◌, ap, subst, arith}
+use Rattle.std.proofs.lemmas.List.Elements.{All-from_get_or, All-get_or, All-more}
 use Rattle.std.specs.List.{AllByRecursion}
 use Rattle.std.specs.List.Sorted.{IsStrictlySortedBy}
 use Rattle.std.specs.declared.cmp.Ordering.TheVariants.{Less}
 use Rattle.sha1.specs.Sha1.{sha1}
 use Rattle.tree_disk.specs.Tree.{Name, Tree, is_dir}
-use Rattle.tree_disk.specs.Clear.{is_within}
 use Rattle.tree_disk.specs.Rows.{is_dir_at}
 use Rattle.tree_disk.specs.Disk.{DiskModel, IsDisk}
-use Rattle.tree_disk.specs.Confined.{AgreesExcept, Confined}
-use Rattle.tree_disk.specs.ConfinedLaws.{confined_start, confined_then, confined_wider, false_from_not}
+use Rattle.tree_disk.specs.Confined.{AgreesExcept}
+use Rattle.tree_disk.specs.ConfinedLaws.{confined_start}
 use Rattle.change_set.specs.declared.change.Carried.{Carried}
 use Rattle.change_set.specs.ChangeSet.{content_cmp}
-use Rattle.content_store.specs.Store.{content_path, file_bytes, stored, IsContentName}
+use Rattle.content_store.specs.Store.{content_path, file_bytes, IsContentName}
 use Rattle.repo_index.specs.Catalogue.{CatalogueParts, has_content}
 use Rattle.repo_state.specs.Counts.{IsUnnamedContent}
 use Rattle.repo_state.specs.Files.{contents_dir}

@@ -1,13 +1,10 @@
 -- A disk that is made ready for the file of a commit.
-use Rattle.std.proofs.Common.{◌≡◌, ◌≢◌, ◌⊎◌, inl, inr, ⊎_elim, ℕ, ◌+◌, ◌<◌, ◌≤◌, Bool, true, false, cond, ◌||◌, IsTrue, List, [], ◌∷◌, ◌++◌, get_or, All, Option, Some, None, Result, Ok, refl, sym, ◌∙◌, ap, subst, arith}
+use Rattle.std.proofs.Common.{◌≡◌, ◌≢◌, inl, inr, ⊎_elim, ℕ, ◌+◌, Bool, true, false, cond, List, get_or, None, Ok, refl, ◌∙◌, ap, arith}
 use Rattle.std.proofs.lemmas.Bool.{cases_Bool}
 use Rattle.std.proofs.lemmas.List.Elements.{All-weaker}
 use Rattle.std.specs.FinMap.{get}
-use Rattle.std.specs.Fmt.{decimal}
 use Rattle.cny_base.specs.Below.{is_below, below_rest}
 use Rattle.cny_base.specs.Path.{root}
-use Rattle.cny_base.specs.declared.node.Node.{Node}
-use Rattle.cny_base.specs.declared.stop.Stop.{Stop}
 use Rattle.tree_disk.specs.Tree.{Name, Tree, same_name, is_dir}
 use Rattle.tree_disk.specs.Laws.{same_means}
 use Rattle.tree_disk.specs.Rows.{is_dir_at}

@@ -1,13 +1,8 @@
 -- The first reference that is missing.
-use Rattle.std.proofs.Common.{◌≡◌, ℕ, zero, suc, ◌+◌, ◌<◌, ◌≤◌, Bool, true, false, cond, ◌||◌, List, [], ◌∷◌, ◌++◌, length, drop, get_or, All, Option, Some, None, is_some, Result, Ok, Err, IsErrAnd, refl, sym, ◌∙◌, ap, subst, arith}
+use Rattle.std.proofs.Common.{◌≡◌, ℕ, ◌+◌, ◌<◌, ◌≤◌, Bool, true, false, cond, ◌||◌, List, [], ◌∷◌, ◌++◌, length, drop, get_or, All, Some, None, is_some, refl, sym, ◌∙◌, ap}
 use Rattle.std.specs.Prelude.{IsSome}
-use Rattle.cny_base.specs.declared.refusal.Fault.{Fault}
-use Rattle.cny_base.specs.declared.refusal.Fault.TheVariants as fault
-use Rattle.change_set.specs.Contents.{IfRefused}
-use Rattle.repo_commit.specs.Verdict.{IsVerdict}
 use Rattle.repo_commit.proofs.Lists.{drop_none, front_at}
 use Rattle.std.proofs.lemmas.List.Elements.{All-nil, All-cons}
-use Rattle.cny_base.specs.declared.refusal.Refusal.{Refusal}
 use Rattle.cny_base.specs.declared.refusal.Refusal.TheVariants.{MissingRef}
 use Rattle.trove_id.specs.declared.id.TroveId.{TroveId}
 use Rattle.trove_id.specs.Id.{id_text_of}
@@ -15,7 +10,7 @@ use Rattle.trove_stream.specs.declared.parts.TroveParts.{TroveParts}
 use Rattle.repo_index.specs.Catalogue.{found}
 use Rattle.repo_state.specs.State.{HasRefs}
 use Rattle.repo_commit.specs.Tests.{missing_ref, or_then, refs_of}
-use Rattle.repo_commit.proofs.Lists.{some_append, then_append, then_none}
+use Rattle.repo_commit.proofs.Lists.{some_append, then_none}
 
 pub missing_append : (all : List TroveParts) (a b : List TroveId) → missing_ref all (a ++ b) ≡ or_then (missing_ref all a) (missing_ref all b)
 missing_append all [] b = refl

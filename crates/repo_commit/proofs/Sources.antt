@@ -1,5 +1,5 @@
 -- Contents that are carried, and contents that are missing or collide.
-use Rattle.std.proofs.Common.{◌≡◌, ◌⊎◌, ⊎_elim, ℕ, zero, suc, ◌+◌, ◌<◌, ◌≤◌, Bool, true, false, cond, ◌&&◌, ◌||◌, List, [], ◌∷◌, ◌++◌, length, drop, get_or, All, Option, Some, None, refl, sym, ◌∙◌, ap, subst, arith, IsTrue, Ordering, add-one}
+use Rattle.std.proofs.Common.{◌≡◌, ◌⊎◌, ⊎_elim, ℕ, ◌+◌, ◌<◌, ◌≤◌, Bool, true, false, cond, List, [], ◌∷◌, ◌++◌, length, drop, get_or, All, Option, Some, None, refl, sym, ◌∙◌, ap, arith}
 use Rattle.std.specs.Prelude.{◌==◌}
 use Rattle.std.specs.List.{find, list_any, AllByRecursion}
 use Rattle.std.specs.List.Sorted.{IsStrictlySortedBy}
@@ -10,7 +10,6 @@ use Rattle.std.specs.Str.{bytes_eq}
 use Rattle.std.proofs.lemmas.Bool.Decides.{nat_tests}
 use Rattle.std.proofs.lemmas.List.Elements.{All-cons, All-head, All-nil, All-tail}
 use Rattle.std.proofs.lemmas.Slice.Eq.{bytes_eq-Decides}
-use Rattle.cny_base.specs.declared.refusal.Refusal.{Refusal}
 use Rattle.cny_base.specs.declared.refusal.Refusal.TheVariants.{MissingContent}
 use Rattle.file_stream.specs.declared.record.FileRec.{FileRec}
 use Rattle.file_stream.specs.declared.record.FileRec.TheVariants.{Dir, File, Link}
@@ -26,7 +25,7 @@ use Rattle.content_store.proofs.Differences.{same_lists}
 use Rattle.repo_state.specs.State.{records_content, trove_records}
 use Rattle.repo_commit.specs.Steps.{bytes_of, carried}
 use Rattle.repo_commit.specs.Tests.{collides, collision, collision_at, files_of, has_source, is_carried, lacks_content, missing_content, or_then}
-use Rattle.repo_commit.proofs.Lists.{and_first, and_second, drop_none, front_at, or_either, or_first, or_second, then_append, then_none}
+use Rattle.repo_commit.proofs.Lists.{and_first, and_second, drop_none, front_at, or_either, then_append, then_none}
 
 pub same_bytes : (a b : List ℕ) → bytes_eq a b ≡ true → a ≡ b
 same_bytes a b h = (bytes_eq-Decides a b).0 h

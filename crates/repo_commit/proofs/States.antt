@@ -1,32 +1,26 @@
 -- What a tree stores once the file of a commit stands.
-use Rattle.std.proofs.Common.{◌≡◌, ◌≢◌, ◌⊎◌, inl, inr, ⊎_elim, ℕ, ◌+◌, ◌<◌, ◌≤◌, ◌^◌, Bool, true, false, List, [], ◌∷◌, ◌++◌, length, All, Option, Some, None, refl, sym, ◌∙◌, ap, subst, arith}
+use Rattle.std.proofs.Common.{◌≡◌, ◌≢◌, inr, ⊎_elim, ℕ, ◌+◌, ◌<◌, ◌^◌, false, List, [], Option, Some, None, refl, sym, ◌∙◌, ap, subst, arith}
 use Rattle.std.proofs.lemmas.Bool.{cases_Bool}
-use Rattle.std.proofs.lemmas.List.Elements.{All-cons, All-head, All-tail}
 use Rattle.std.specs.FinMap.{get}
-use Rattle.cny_base.specs.declared.limits.TheConstants.{COMMITS_LIMIT}
 use Rattle.trove_stream.specs.declared.parts.TroveParts.{TroveParts}
-use Rattle.trove_stream.specs.Trove.{IsTrove}
-use Rattle.tree_disk.specs.Tree.{Name, Tree}
-use Rattle.journal_log.specs.Own.{StoresSame}
-use Rattle.journal_log.specs.Targets.{with_targets}
+use Rattle.tree_disk.specs.Tree.{Tree}
 use Rattle.change_set.specs.declared.change.Carried.{Carried}
 use Rattle.change_set.specs.declared.change.ChangeSet.{ChangeSet}
 use Rattle.change_set.specs.ChangeSet.{HasContents}
 use Rattle.content_store.specs.Store.{content_path, file_bytes, stored}
 use Rattle.repo_index.specs.Catalogue.{CatalogueParts, has_content}
-use Rattle.repo_state.specs.Counts.{Counts, IsCommitName, IsContentOfState, IsPreparedName}
-use Rattle.repo_state.specs.Files.{commit_file, contents_dir, repository_base, FitsTrove, HoldsCatalogue, StoresRepository}
-use Rattle.repo_state.specs.State.{catalogue_of, troves_of, Commit, IsRepository, RepositoryState}
-use Rattle.repo_state.specs.Steps.{catalogue_with, commit_put, with_commit, IsCommitReady, KeepsCommits, MayFollow}
+use Rattle.repo_state.specs.Files.{commit_file, contents_dir, HoldsCatalogue, StoresRepository}
+use Rattle.repo_state.specs.State.{catalogue_of, troves_of, IsRepository, RepositoryState}
+use Rattle.repo_state.specs.Steps.{catalogue_with, with_commit, IsCommitReady, KeepsCommits, MayFollow}
 use Rattle.repo_state.proofs.Committing.{commit_after}
-use Rattle.repo_state.proofs.CountedNames.{counted_state, prepared_commits, prepared_state, recorded_is_named}
+use Rattle.repo_state.proofs.CountedNames.{prepared_commits, prepared_state}
 use Rattle.repo_state.proofs.HeldCatalogues.{held_after, same_catalogue, same_state}
 use Rattle.repository.proofs.Stored.{named_is_recorded}
 use Rattle.repo_commit.specs.Preparing.{file_mode, with_file, IsReadied, IsStored, IsWritten}
 use Rattle.repo_commit.specs.Steps.{after_commit, carried, or_carried, with_contents}
 use Rattle.repo_commit.specs.Tests.{Passes}
 use Rattle.repo_commit.proofs.Sources.{found_has}
-use Rattle.repo_commit.proofs.Stepping.{after_full, follows, is_after}
+use Rattle.repo_commit.proofs.Stepping.{after_full, is_after}
 
 -- ---- the catalogue
 

@@ -1,8 +1,7 @@
 -- A commit of a repository gives a repository.
-use Rattle.std.proofs.Common.{◌≡◌, ◌≢◌, ◌⊎◌, inl, inr, ⊎_elim, ℕ, ◌+◌, ◌<◌, ◌≤◌, Bool, true, false, cond, ◌||◌, List, [], ◌∷◌, ◌++◌, length, All, Option, Some, None, refl, sym, ◌∙◌, ap, subst, arith}
+use Rattle.std.proofs.Common.{◌≡◌, ◌≢◌, ◌⊎◌, inl, inr, ⊎_elim, ℕ, ◌+◌, ◌≤◌, Bool, true, false, cond, ◌||◌, List, [], ◌∷◌, ◌++◌, length, All, Option, Some, None, refl, sym, ◌∙◌, ap, subst, arith}
 use Rattle.std.specs.Prelude.{nat_lt}
 use Rattle.std.specs.List.{list_any}
-use Rattle.std.proofs.lemmas.Bool.{cases_Bool}
 use Rattle.std.proofs.lemmas.Bool.Decides.{nat_tests}
 use Rattle.std.proofs.lemmas.List.Folds.{list_any-append}
 use Rattle.cny_base.specs.declared.limits.TheConstants.{COMMITS_LIMIT}
@@ -17,13 +16,13 @@ use Rattle.change_set.specs.declared.change.Part.{Part}
 use Rattle.change_set.specs.ChangeSet.{HasContents, IsContentOf, IsPart}
 use Rattle.content_store.specs.Contents.{ContentMap}
 use Rattle.repo_index.specs.Catalogue.{CatalogueParts}
-use Rattle.repo_state.specs.State.{catalogue_of, records_content, trove_records, troves_of, AreCommits, Commit, IsRepository, RepositoryState}
+use Rattle.repo_state.specs.State.{catalogue_of, records_content, trove_records, troves_of, IsRepository, RepositoryState}
 use Rattle.repo_state.specs.Following.{troves_push}
 use Rattle.repo_state.specs.Steps.{with_commit, MayFollow}
 use Rattle.repo_state.proofs.HeldCatalogues.{rules_after}
 use Rattle.repo_commit.specs.Parts.{AreMade}
 use Rattle.repo_commit.specs.Steps.{after_commit, carried, or_carried, with_contents, IsStep}
-use Rattle.repo_commit.specs.Tests.{collides, collision, files_of, has_source, is_carried, later_refusal, missing_content, missing_ref, or_then, refs_of, too_many, Passes}
+use Rattle.repo_commit.specs.Tests.{collides, collision, files_of, is_carried, later_refusal, missing_content, missing_ref, or_then, refs_of, too_many, Passes}
 use Rattle.repo_commit.proofs.Lists.{or_either, or_first, or_second, then_none}
 use Rattle.repo_commit.proofs.Making.{made_troves_are, parts_record}
 use Rattle.repo_commit.proofs.References.{refs_found}

@@ -1,28 +1,28 @@
 -- How the writing of a commit ends.
-use Rattle.std.proofs.Common.{◌≡◌, ℕ, ◌+◌, ◌<◌, ◌≤◌, Bool, true, false, IsTrue, All, List, ◌∷◌, [], Result, Ok, Err, OnOk, OnErr, IfErr, IsErrAnd, IsErrOf, refl, sym, ◌∙◌, ap, subst, arith}
-use Rattle.std.specs.List.{list_all}
+use Rattle.std.proofs.Common.{◌≡◌, ◌<◌, ◌≤◌, false, IsTrue, All, List, Result, Ok, Err, OnOk, OnErr, IfErr, IsErrAnd, IsErrOf, refl, arith}
 use Rattle.cny_base.specs.Count.{Rose}
 use Rattle.cny_base.specs.declared.limits.TheConstants.{COMMITS_LIMIT}
 use Rattle.cny_base.specs.declared.stop.Stop.{Stop}
 use Rattle.cny_base.specs.declared.stop.Stop.TheVariants.{Refused, Memory, Failed, Damaged, FarFailed, FarDamaged}
 use Rattle.trove_stream.specs.declared.parts.TroveParts.{TroveParts}
 use Rattle.trove_stream.specs.Trove.{IsTrove}
-use Rattle.tree_disk.specs.Tree.{Name, Tree}
 use Rattle.tree_disk.specs.Disk.{DiskModel, IsDisk}
-use Rattle.tree_disk.specs.Confined.{Confined, IsSynced, LeavesOnly}
-use Rattle.tree_disk.specs.ConfinedLaws.{confined_start, leaves_weaker}
+use Rattle.tree_disk.specs.Confined.{Among, Confined, IsSynced, LeavesOnly}
+use Rattle.tree_disk.specs.ConfinedLaws.{confined_start, confined_then, confined_wider, leaves_weaker}
 use Rattle.tree_disk.specs.Moments.{rose_before}
 use Rattle.tree_disk.specs.Steps.{IsDiskStop}
 use Rattle.tree_journal.specs.Apply as apply
+use Rattle.tree_journal.specs.Apply.{is_own_or_target}
 use Rattle.tree_journal.specs.Recovery.{is_committed}
 use Rattle.change_set.specs.declared.change.Carried.{Carried}
 use Rattle.repo_index.specs.Catalogue.{CatalogueParts}
 use Rattle.repo_state.specs.Counts.{IsPreparedName}
 use Rattle.repo_state.specs.Files.{repository_base, FitsTrove}
 use Rattle.repo_commit.specs.Outcome.{IsAtRest}
-use Rattle.repo_commit.specs.Preparing.{EndsWith, IsReady, IsWritten, Prepares, StopsBefore, Writes}
+use Rattle.repo_commit.specs.Preparing.{IsReady, IsWritten, Prepares, StopsBefore, Writes}
 use Rattle.repo_commit.proofs.Applied.{all_moments, before_image, done_reads, done_tree, mid_reads, puts_of, stopped_reads}
 use Rattle.repo_commit.proofs.Preparations.{stopped_ends}
+use Rattle.repo_commit.proofs.Within.{prepared_within, written_within}
 
 abbrev failing : Stop → Result (Unit {0}) Stop
 failing e = Err e
@@ -42,6 +42,7 @@ module _ {D : Type 0} {disk : DiskModel D} (laws : IsDisk disk) (c : CataloguePa
     synced = λ tells. on_err (IsSynced disk mid) r e is;
     any_moment = λ tells. leaves_weaker (before_image laws c contents troves few old mid (rests tells) (confined tells)) (confined tells).images;
     stopped = λ tells. mid_reads laws c contents troves few old mid (rests tells) (confined tells);
+    confined = λ tells. confined_wider (prepared_within c) (confined tells);
   }
 
   -- want of memory before the first call
@@ -53,22 +54,25 @@ module _ {D : Type 0} {disk : DiskModel D} (laws : IsDisk disk) (c : CataloguePa
       → (IsTrue disk.tells → LeavesOnly disk mid new (apply.IsBeforeOrAfter disk repository_base (puts_of c troves) mid))
       → (IsTrue disk.tells → OnOk r (apply.IsAtRest disk repository_base (apply.goal repository_base (puts_of c troves) (disk.reads mid)) new))
       → (IsTrue disk.tells → OnErr r (apply.IsOneOf repository_base (puts_of c troves) (disk.reads mid) (disk.reads new)))
+      → (IsTrue disk.tells → Confined disk (Among (is_own_or_target repository_base (puts_of c troves))) mid new)
       → (IsErrOf r Failed → Rose (disk.faults mid) (disk.faults new)) → IfErr r IsDiskStop → Writes disk c contents troves old new r
-  writes_applied {old = old} {mid = mid} {new = new} (Ok x) are fits rests prepared later moments applied stopped failed stops = record {
+  writes_applied {old = old} {mid = mid} {new = new} (Ok x) are fits rests prepared later moments applied stopped within failed stops = record {
     later = omega (arith, prepared.later, later);
     ends = λ tells. done_tree laws c contents troves few old mid (rests tells) (prepared.confined tells) (disk.reads new) are fits (prepared.ends tells) (applied tells).stores;
     flag_clear = λ tells. (applied tells).flag_clear;
     synced = λ tells. (applied tells).synced;
     any_moment = λ tells. all_moments laws c contents troves few old mid (rests tells) (prepared.confined tells) are fits (prepared.ends tells) (moments tells);
     stopped = λ tells. done_reads laws c contents troves few old mid (rests tells) (prepared.confined tells) (disk.reads new) are fits (prepared.ends tells) (applied tells).flag_clear (applied tells).stores;
+    confined = λ tells. confined_then (confined_wider (prepared_within c) (prepared.confined tells)) (confined_wider (written_within c troves) (within tells));
   }
-  writes_applied {old = old} {mid = mid} {new = new} (Err e) are fits rests prepared later moments applied stopped failed stops = record {
+  writes_applied {old = old} {mid = mid} {new = new} (Err e) are fits rests prepared later moments applied stopped within failed stops = record {
     later = omega (arith, prepared.later, later);
     ends = by e stops failed;
     flag_clear = λ tells. tt;
     synced = λ tells. tt;
     any_moment = λ tells. all_moments laws c contents troves few old mid (rests tells) (prepared.confined tells) are fits (prepared.ends tells) (moments tells);
     stopped = λ tells. stopped_reads laws c contents troves few old mid (rests tells) (prepared.confined tells) (disk.reads new) are fits (prepared.ends tells) (stopped tells);
+    confined = λ tells. confined_then (confined_wider (prepared_within c) (prepared.confined tells)) (confined_wider (written_within c troves) (within tells));
   }
     where
       by : (e : Stop) → IsDiskStop e → (IsErrOf (failing e) Failed → Rose (disk.faults mid) (disk.faults new)) → StopsBefore disk.tells (disk.faults old) (disk.faults new) e

@@ -3,4 +3,5 @@ pub mod Tests
 pub mod Verdict
 pub mod Steps
 pub mod Outcome
+pub mod Order
 pub mod Preparing

@@ -1,8 +1,9 @@
 -- How a commit ends on a disk.
-use Rattle.std.specs.Prelude.{◌≡◌, ◌≢◌, ℕ, ◌<◌, ◌≤◌, Bool, false, if◌then◌else◌, IsTrue, List, [], ◌++◌, All, Contains, None, Result, Ok, Err}
+use Rattle.std.specs.Prelude.{◌≡◌, ◌≢◌, ℕ, ◌<◌, ◌≤◌, Bool, false, ◌&&◌, if◌then◌else◌, IsTrue, List, [], ◌++◌, length, All, Contains, Option, Some, None, Result, Ok, Err}
+use Rattle.std.specs.Str.{bytes_eq}
+use Rattle.sha1.specs.Sha1.{sha1}
 use Rattle.cny_base.specs.Count.{Rose}
 use Rattle.cny_base.specs.declared.limits.TheConstants.{COMMITS_LIMIT}
-use Rattle.cny_base.specs.declared.refusal.Refusal.{Refusal}
 use Rattle.cny_base.specs.declared.stop.Stop.{Stop}
 use Rattle.cny_base.specs.declared.stop.Stop.TheVariants.{Refused, Memory, Failed, Damaged, FarFailed, FarDamaged}
 use Rattle.trove_id.specs.declared.id.TroveId.{TroveId}
@@ -17,18 +18,28 @@ use Rattle.change_set.specs.declared.change.ChangeSet.{ChangeSet}
 use Rattle.change_set.specs.declared.change.Part.{Part}
 use Rattle.content_store.specs.Contents.{ContentMap}
 use Rattle.content_store.specs.Store.{stored}
-use Rattle.repo_index.specs.Catalogue.{CatalogueParts, has_content}
+use Rattle.repo_index.specs.Catalogue.{CatalogueParts}
 use Rattle.repo_state.specs.Counts.{Counts}
-use Rattle.repo_state.specs.State.{catalogue_of, RepositoryState}
+use Rattle.repo_state.specs.State.{records_content, RepositoryState}
 use Rattle.repo_state.specs.Files.{contents_dir, repository_base, HoldsCatalogue, StoresRepository}
 use Rattle.repository.specs.Contents.{IsDamagedContent}
-use Rattle.repo_commit.specs.Steps.{after_commit, catalogue_after, ids_of, IsBeforeOrAfter}
+use Rattle.repo_commit.specs.Steps.{after_commit, catalogue_after, ids_of, IsOldOrNew, RecoversToEither}
 use Rattle.repo_commit.specs.Parts.{AreMade}
 use Rattle.repo_commit.specs.Tests.{missing_ref, refs_of, IsRefused, Passes}
 
--- what stands in a tree under the names that troves record
+-- the bytes have this name, and one of the troves records a file of this name and of their size
+abbrev pub is_recorded : List TroveParts → List ℕ → List ℕ → Bool
+is_recorded troves name bytes = bytes_eq (sha1 bytes) name && records_content name (length bytes) troves
+
+-- these bytes, where they are recorded
+abbrev pub if_recorded : List TroveParts → List ℕ → Option (List ℕ) → Option (List ℕ)
+if_recorded troves name None = None
+if_recorded troves name (Some bytes) = if is_recorded troves name bytes then Some bytes else None
+
+-- What stands in a tree under the names that troves record, where it has its name's SHA-1 and a size that is recorded: the
+-- bytes of a damaged file are none of it.
 abbrev pub committed_contents : List TroveParts → Tree → ContentMap
-committed_contents troves tree name = if has_content name troves then stored tree contents_dir name else None
+committed_contents troves tree name = if_recorded troves name (stored tree contents_dir name)
 
 -- A disk on which a commit may be made: the catalogue is that of the commits that its files hold, and the commit flag isn't
 -- set, also after a crash.
@@ -89,10 +100,16 @@ abbrev pub EndsSo : {D : Type 0} → DiskModel D → ChangeSet → CataloguePart
 EndsSo disk change c c' old new (Ok ids) = IsDone disk change c c' ids old new
 EndsSo disk change c c' old new (Err stop) = StopsSo disk change c c' old new stop
 
--- At every moment a crash leaves a tree that recovers to the repository before or after, and so does what the disk reads.
+-- There is one repository, that before or that after the commit, such that at every moment a crash leaves a tree that recovers to
+-- the one before or to it; and so does what the disk reads at the end.
+pub record HasMoments {D : Type 0} (disk : DiskModel D) (change : ChangeSet) (old new : D) (r : RepositoryState) : Type 0 where
+  pub next : RepositoryState
+  pub is : IsOldOrNew r change next
+  pub images : LeavesOnly disk old new (RecoversToEither r next)
+  pub reads : RecoversToEither r next (disk.reads new)
+
 abbrev pub AtEveryMoment : {D : Type 0} → DiskModel D → ChangeSet → D → D → RepositoryState → Type 0
-AtEveryMoment disk change old new r = StoresRepository (disk.reads old) r → IsSettled disk old r
-    → LeavesOnly disk old new (IsBeforeOrAfter r change) × IsBeforeOrAfter r change (disk.reads new)
+AtEveryMoment disk change old new r = StoresRepository (disk.reads old) r → IsSettled disk old r → HasMoments disk change old new r
 
 -- ---- the tests
 

@@ -10,7 +10,7 @@ use Rattle.tree_disk.specs.Tree.{Name, Tree, same_name}
 use Rattle.tree_disk.specs.Clear.{is_within}
 use Rattle.tree_disk.specs.Rows.{is_dir_at}
 use Rattle.tree_disk.specs.Disk.{DiskModel}
-use Rattle.tree_disk.specs.Confined.{AgreesExcept, Confined, IsSynced, IsUnsyncedOr, LeavesOnly}
+use Rattle.tree_disk.specs.Confined.{AgreesExcept, Among, Confined, IsSynced, IsUnsyncedOr, LeavesOnly}
 use Rattle.journal_log.specs.Own.{StoresSame}
 use Rattle.journal_log.specs.Targets.{with_targets}
 use Rattle.tree_journal.specs.Recovery.{is_committed, RecoversTo}
@@ -95,7 +95,7 @@ pub record RecoversSo (names : Name → Type 0) (c : CatalogueParts) (contents :
   pub recovers : RecoversTo repository_base image tree
   pub is : AgreesExcept names tree x ⊎ IsWritten c contents troves x tree
 
--- How the writing of a commit goes: a crash at any moment, and an error, leave a tree that recovers to one in which what
+-- How the writing of a commit goes, which changes names in the repository's directory alone: a crash at any moment, and an error, leave a tree that recovers to one in which what
 -- counts is as it was, or to one with the commit's file; after Ok that stands, and a crash leaves what is read.
 pub record Writes {D : Type 0} (disk : DiskModel D) (c : CatalogueParts) (contents : List Carried) (troves : List TroveParts) (old new : D) (result : Result Unit Stop) : Type 0 where
   pub later : disk.faults old ≤ disk.faults new
@@ -104,3 +104,4 @@ pub record Writes {D : Type 0} (disk : DiskModel D) (c : CatalogueParts) (conten
   pub synced : IsTrue disk.tells → OnOk result (IsSynced disk new)
   pub any_moment : IsTrue disk.tells → LeavesOnly disk old new (RecoversSo (IsUnsyncedOr disk old (IsPreparedName c)) c contents troves (disk.reads old))
   pub stopped : IsTrue disk.tells → RecoversSo (IsPreparedName c) c contents troves (disk.reads old) (disk.reads new)
+  pub confined : IsTrue disk.tells → Confined disk (Among (is_within repository_base)) old new

@@ -1,5 +1,5 @@
 -- What a commit makes of a repository.
-use Rattle.std.specs.Prelude.{◌≡◌, ◌⊎◌, ℕ, ◌+◌, List, [], ◌∷◌, ◌++◌, length, map, Option, Some, None}
+use Rattle.std.specs.Prelude.{◌≡◌, ◌⊎◌, ℕ, List, [], ◌∷◌, map, Option, Some, None}
 use Rattle.std.specs.List.{find}
 use Rattle.std.specs.Str.{bytes_eq}
 use Rattle.trove_stream.specs.declared.parts.TroveParts.{TroveParts}
@@ -65,11 +65,10 @@ pub record RecoversAlone (image : Tree) (r : RepositoryState) : Type 0 where
   pub recovers : RecoversToRepository image r
   pub alone : (s : RepositoryState) → RecoversToRepository image s → s ≡ r
 
--- it recovers to the repository before, or to that after the commit
-pub record RecoversAfter (image : Tree) (r : RepositoryState) (change : ChangeSet) : Type 0 where
-  pub new : RepositoryState
-  pub step : IsStep r change new
-  pub recovers : RecoversToRepository image new
+-- the repository before, or the one after the commit
+abbrev pub IsOldOrNew : RepositoryState → ChangeSet → RepositoryState → Type 0
+IsOldOrNew r change next = (next ≡ r) ⊎ IsStep r change next
 
-abbrev pub IsBeforeOrAfter : RepositoryState → ChangeSet → Tree → Type 0
-IsBeforeOrAfter r change image = RecoversToRepository image r ⊎ RecoversAfter image r change
+-- it recovers to one of two repositories
+abbrev pub RecoversToEither : RepositoryState → RepositoryState → Tree → Type 0
+RecoversToEither r next image = RecoversToRepository image r ⊎ RecoversToRepository image next

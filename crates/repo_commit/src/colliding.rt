@@ -4,6 +4,7 @@ ghost use Rattle.tree_disk.specs.Tree.{Name};
 ghost use Rattle.content_store.specs.Difference as spec;
 ghost use Rattle.repository.specs.Contents.{IsDamagedContent};
 ghost use Rattle.repo_commit.specs.Outcome.{committed_contents, AreSound, IsDamagedSource};
+ghost use Rattle.repo_commit.specs.Order.{source_stop, sources_stop, StopsAs};
 ghost use Rattle.repo_commit.specs.Tests.{collides, collision};
 ghost use Rattle.repo_commit.specs.Verdict.{Checks};
 
@@ -26,6 +27,7 @@ fn check_content<D: TreeDisk>(
         (IsDamagedContent committed.now.troves carried.now.name) disk.old disk.new result }
     ensures sound { IsTrue D.disk.tells → OnOk result
         ((path : Name) → IsDamagedContent committed.now.troves carried.now.name (D.disk.reads disk.old) path → ⊥) }
+    ensures first { IsTrue D.disk.tells → StopsAs (source_stop committed.now.troves (D.disk.reads disk.old) carried.now) result }
 {
     let Some(kept) = content(alloc, disk, committed, &carried.name)? else {
         return Ok(());
@@ -40,7 +42,7 @@ fn check_content<D: TreeDisk>(
 }
 
 /// Whether each content is the committed one of its name, where there is one. `Collision` names the first one that differs,
-/// with the first difference. `Damaged` names the file of a committed content.
+/// with the first difference. `Damaged` names the file of a committed content. Of several the first one stops.
 pub(crate) fn check_collisions<D: TreeDisk>(
     alloc: Global,
     disk: &mut D,
@@ -50,6 +52,7 @@ pub(crate) fn check_collisions<D: TreeDisk>(
     ensures checks { Checks D.disk (λ tree. collision (committed_contents committed.now.troves tree) contents.now)
         (IsDamagedSource contents.now committed.now.troves) disk.old disk.new result }
     ensures sound { IsTrue D.disk.tells → OnOk result (AreSound contents.now committed.now.troves (D.disk.reads disk.old)) }
+    ensures first { IsTrue D.disk.tells → StopsAs (sources_stop committed.now.troves (D.disk.reads disk.old) contents.now) result }
 {
     for carried in contents {
         check_content(alloc, disk, committed, carried)?;

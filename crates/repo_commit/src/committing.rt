@@ -1,9 +1,13 @@
 //! A change set, committed.
 ghost use Rattle.std.specs.Prelude.{◌≡◌, ◌≢◌, ◌≤◌, [], IfErr, IfOk, IsTrue, OnOk};
+ghost use Rattle.tree_disk.specs.Clear.{is_within};
+ghost use Rattle.tree_disk.specs.Confined.{Among, Confined};
 ghost use Rattle.change_set.specs.ChangeSet.{HasContents};
+ghost use Rattle.repo_state.specs.Files.{repository_base};
 ghost use Rattle.repo_state.specs.State.{RepositoryState};
 ghost use Rattle.repository.specs.Loading.{IsCatalogue};
 ghost use Rattle.repo_commit.specs.Outcome.{AreSound, AtEveryMoment, EndsSo, HasCause, IsAtRest};
+ghost use Rattle.repo_commit.specs.Order.{IsFirstStop};
 
 use crate::joining::{TroveIds, ids_of, join};
 use crate::testing::tested;
@@ -23,8 +27,9 @@ use tree_disk::TreeDisk;
 /// `Reserved` where it records a forbidden path. Then, trove by trove, `MissingRef` for a reference that is neither committed
 /// nor added, and `MissingContent` for a record whose content is neither carried nor committed, with its name and its size;
 /// `Collision` for the first carried content that differs from the committed one of its name; and `TooLarge` where there are
-/// 4,294,967,295 commits. The first test that fails is the refusal, and then nothing is changed, nor where `Damaged` names the
-/// file of a committed content.
+/// 4,294,967,295 commits. The first test that fails is the refusal, and then nothing is changed. `Damaged` names the file of the
+/// first carried content whose name is committed and whose file is damaged: it comes before a later content's `Collision`, and
+/// before `TooLarge`, and nothing is changed then either.
 ///
 /// The catalogue is that of the disk, which is recovered: `load` answered it, and only these calls wrote since. After Ok it is
 /// that again. After `Failed` and want of memory the disk is to be recovered and loaded again; it recovers to the state before
@@ -41,6 +46,12 @@ pub fn commit<D: TreeDisk>(
     ensures ends { IsTrue D.disk.tells → EndsSo D.disk change.now catalogue.old catalogue.new disk.old disk.new result }
     // Where troves are added, no committed content under the name of a carried one is damaged.
     ensures sound { IsTrue D.disk.tells → IfOk result (λ ids. ids ≢ [] → AreSound change.now.contents catalogue.old.troves (D.disk.reads disk.old)) }
+    // What stops it is the first test that fails. A damaged file of a committed content is one: it is named, and no later test
+    // refuses, nor are its bytes compared.
+    ensures first { IsTrue D.disk.tells → IfErr result (IsFirstStop catalogue.old (D.disk.reads disk.old) change.now) }
+    // However it ends, and at every moment, names outside the repository's directory stay as they were. None of them becomes
+    // unsynced, and a crash changes of them only what was unsynced before.
+    ensures confined { IsTrue D.disk.tells → Confined D.disk (Among (is_within repository_base)) disk.old disk.new }
     // At every moment, also inside each call of the disk and where a call fails, a crash leaves a tree that recovers to the
     // repository before or to the one after, and so does what the disk reads at the end.
     ensures any_moment { IsTrue D.disk.tells → (r : RepositoryState) → AtEveryMoment D.disk change.now disk.old disk.new r }

@@ -1,5 +1,5 @@
 //! What is written before the file of a commit: the directories, the new contents, and nothing at the name behind the file.
-ghost use Rattle.std.specs.Prelude.{◌≡◌, ◌<◌, All, IfOk, IsTrue, Some};
+ghost use Rattle.std.specs.Prelude.{◌≡◌, ◌+◌, ◌<◌, All, IfOk, IsTrue, Some};
 ghost use Rattle.std.specs.FinMap.{get};
 ghost use Rattle.std.specs.List.Sorted.{IsStrictlySortedBy};
 ghost use Rattle.sha1.specs.Sha1.{sha1};
@@ -17,12 +17,13 @@ ghost use Rattle.tree_journal.specs.Steps.{IsOther};
 ghost use Rattle.change_set.specs.ChangeSet.{content_cmp};
 ghost use Rattle.change_set.specs.declared.change.Carried.{Carried};
 ghost use Rattle.content_store.specs.Store.{content_path, stored};
+ghost use Rattle.repo_index.specs.Catalogue.{has_content};
 ghost use Rattle.repo_state.specs.Counts.{IsPreparedName, IsUnnamedContent};
-ghost use Rattle.repo_state.specs.Files.{contents_dir, repository_base};
+ghost use Rattle.repo_state.specs.Files.{commit_file, contents_dir, repository_base};
 ghost use Rattle.repo_commit.specs.Preparing.{is_dir_name, AreStored, IsPutName, IsReady, IsStored, Prepares};
 
 use change_set::Carried;
-use cny_base::{Mode, Path, Stop};
+use cny_base::{Mode, OutOfMemory, Path, Stop};
 use content_store::{Sha1Namer, clear, put};
 use repo_index::Catalogue;
 use repo_state::{base_path, commit_path, contents_path};
@@ -113,6 +114,13 @@ fn put_content<D: TreeDisk>(
     Ok(())
 }
 
+// Whether a trove records the name of a content.
+fn is_committed(committed: &Catalogue, content: &Carried) -> bool
+    ensures { result ≡ has_content content.now.name committed.now.troves }
+{
+    committed.has_content(&content.name)
+}
+
 // Puts a content whose name no trove records.
 fn put_new<D: TreeDisk>(
     alloc: Global,
@@ -126,7 +134,7 @@ fn put_new<D: TreeDisk>(
     requires stands { IsTrue D.disk.tells → IsTrue (is_dir_at (D.disk.reads disk.old) contents_dir) }
     ensures { Prepares D.disk (IsPutName committed.now content.now) (IsStored committed.now content.now) disk.old disk.new result }
 {
-    if committed.has_content(&content.name) {
+    if is_committed(committed, content) {
         return Ok(());
     }
     put_content(alloc, disk, dir, content)
@@ -152,6 +160,14 @@ fn put_contents<D: TreeDisk>(
     Ok(())
 }
 
+// The name behind that of the file of a further commit.
+fn path_behind(alloc: Global, committed: &Catalogue) -> Result<Path, OutOfMemory>
+    ensures { IfOk result (λ path. path ≡ commit_file (committed.now.commits + 2)) }
+{
+    let path = commit_path(alloc, u64::from(committed.commits()) + 2)?;
+    Ok(path)
+}
+
 /// Makes the disk ready for the file of a further commit: the base and the directory of the contents stand, each content that
 /// no trove records stands under its name, in place of all that stood there, and nothing stands at the name behind that of the
 /// new file, so that no older file there counts as a commit. No other name changes. `Refused` never comes where the disk tells
@@ -167,7 +183,7 @@ pub(crate) fn prepare<D: TreeDisk>(
     requires rising { IsStrictlySortedBy content_cmp contents.now }
     ensures { Prepares D.disk (IsPreparedName committed.now) (IsReady committed.now contents.now) disk.old disk.new result }
 {
-    let behind = commit_path(alloc, u64::from(committed.commits()) + 2)?;
+    let behind = path_behind(alloc, committed)?;
     let dir = make_dirs(alloc, disk)?;
     put_contents(alloc, disk, committed, &dir, contents)?;
     steps::clear_tree(alloc, disk, &behind)

@@ -1,9 +1,10 @@
 //! The tests of a commit.
-ghost use Rattle.std.specs.Prelude.{◌≡◌, ◌≢◌, ◌<◌, ◌++◌, [], IfOk, IsTrue, None, OnOk};
+ghost use Rattle.std.specs.Prelude.{◌≡◌, ◌≢◌, ◌<◌, ◌++◌, [], IfErr, IfOk, IsTrue, None, OnOk};
 ghost use Rattle.std.specs.List.Sorted.{IsStrictlySortedBy};
 ghost use Rattle.change_set.specs.ChangeSet.{content_cmp};
 ghost use Rattle.cny_base.specs.declared.limits.TheConstants.{COMMITS_LIMIT};
 ghost use Rattle.repo_commit.specs.Outcome.{committed_contents, AreSound, IsDamagedSource, MayJoin, TestsChange};
+ghost use Rattle.repo_commit.specs.Order.{later_stop, IsFirstStop, StopsAs};
 ghost use Rattle.repo_commit.specs.Tests.{later_refusal, missing_ref, refs_of, too_many};
 ghost use Rattle.repo_commit.specs.Verdict.{Checks, IsVerdict};
 
@@ -44,6 +45,7 @@ fn check_troves<D: TreeDisk>(
         (λ tree. later_refusal committed.now (committed_contents committed.now.troves tree) change.now.contents added.now.troves)
         (IsDamagedSource change.now.contents committed.now.troves) disk.old disk.new result }
     ensures sound { IsTrue D.disk.tells → OnOk result (AreSound change.now.contents committed.now.troves (D.disk.reads disk.old)) }
+    ensures first { IsTrue D.disk.tells → StopsAs (later_stop committed.now (D.disk.reads disk.old) change.now.contents added.now.troves) result }
     // On every disk.
     ensures refs { OnOk result (missing_ref (committed.now.troves ++ added.now.troves) (refs_of added.now.troves) ≡ None) }
     ensures few { OnOk result (committed.now.commits < COMMITS_LIMIT) }
@@ -68,6 +70,7 @@ pub(crate) fn tested<D: TreeDisk>(
     requires { IsStrictlySortedBy content_cmp change.now.contents }
     ensures tested { TestsChange D.disk change.now committed.now disk.old disk.new result }
     ensures sound { IsTrue D.disk.tells → IfOk result (λ added. added.troves ≢ [] → AreSound change.now.contents committed.now.troves (D.disk.reads disk.old)) }
+    ensures first { IsTrue D.disk.tells → IfErr result (IsFirstStop committed.now (D.disk.reads disk.old) change.now) }
     // On every disk.
     ensures joins { IfOk result (λ added. MayJoin committed.now change.now.parts added.troves) }
 {

@@ -1,5 +1,6 @@
 use Rattle.std.proofs.Common.{◌≡◌, drop, take, None, Ok, IsTrue}
 use Rattle.repo_commit.specs.Outcome.{committed_contents, AreSound, IsDamagedSource}
+use Rattle.repo_commit.specs.Order.{sources_stop}
 use Rattle.repo_commit.specs.Tests.{collision}
 use Rattle.repo_commit.specs.Verdict.{Checks}
 use Rattle.repo_commit.proofs.colliding.check_collisions.Given as goal
@@ -10,5 +11,6 @@ invariant-loop-carried g l =
       checks : Checks g.D.TreeDisk.disk (λ tree. None) (IsDamagedSource l.contents l.committed.troves) l.fn.disk l.disk (Ok tt);
       rest : IsTrue g.D.TreeDisk.disk.tells → collision (committed_contents l.committed.troves (g.D.TreeDisk.disk.reads l.fn.disk)) (drop l.carried-index l.contents)
           ≡ collision (committed_contents l.committed.troves (g.D.TreeDisk.disk.reads l.fn.disk)) l.contents;
+      left : IsTrue g.D.TreeDisk.disk.tells → sources_stop l.committed.troves (g.D.TreeDisk.disk.reads l.fn.disk) (drop l.carried-index l.contents) ≡ sources_stop l.committed.troves (g.D.TreeDisk.disk.reads l.fn.disk) l.contents;
       sound : IsTrue g.D.TreeDisk.disk.tells → AreSound (take l.carried-index l.contents) l.committed.troves (g.D.TreeDisk.disk.reads l.fn.disk);
     }

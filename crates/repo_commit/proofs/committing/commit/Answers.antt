@@ -1,9 +1,18 @@
-use Rattle.std.proofs.Common.{List, All, length, ap, sym, ◌∙◌, subst}
+use Rattle.std.proofs.Common.{List, All, length, ap, ◌∙◌, subst}
 use Rattle.std.specs.Prelude.{◌==◌}
 use Rattle.trove_stream.specs.declared.parts.TroveParts.{TroveParts}
 use Rattle.trove_stream.specs.Trove.{IsTrove}
 use Rattle.repo_state.specs.Steps.{catalogue_with}
+use Rattle.cny_base.specs.declared.stop.Stop.TheVariants.{Memory}
+use Rattle.tree_disk.specs.Clear.{is_within}
+use Rattle.tree_disk.specs.Confined.{Among}
+use Rattle.tree_disk.specs.ConfinedLaws.{confined_read}
+use Rattle.repo_state.specs.Files.{repository_base}
+use Rattle.repo_commit.specs.Order.{IsFirstStop}
 use Rattle.repo_commit.specs.Steps.{ids_of}
+use Rattle.repo_commit.proofs.Lists.{err_stop}
+use Rattle.repo_commit.proofs.Ordering.{write_first}
+use Rattle.repo_commit.proofs.Within.{confined_writes}
 use Rattle.repo_commit.proofs.Checking.{empty_list, full_list}
 use Rattle.repo_commit.proofs.Outcomes.{both_moments, done_nothing, done_write, ends_write, read_moments, rules_join, rules_kept, writes_as}
 use Rattle.repo_commit.proofs.committing.commit.Goals as goal
@@ -75,3 +84,37 @@ pub returns-clause-sound : goal.returns-clause-sound
 returns-clause-sound g c tells full =
     c.in_ok-added.ensures.sound tells
     (full_list c.in_ok-added.added.troves c.is_empty.result (c.is_empty.ensures ∙ ap (λ (l : List TroveParts). length l == 0) c.troves-2.ensures.value) c.if-is_empty.false)
+
+pub returns-in_err-added-clause-first : goal.returns-in_err-added-clause-first
+returns-in_err-added-clause-first g c tells =
+    err_stop (IsFirstStop c.args.catalogue.now (g.D.TreeDisk.disk.reads c.args.disk.now) c.args.change.now) _ c.from_residual.result (c.in_err-added.ensures.first tells) c.from_residual.ensures.1
+
+pub returns-in_err-ids-clause-first : goal.returns-in_err-ids-clause-first
+returns-in_err-ids-clause-first g c tells =
+    err_stop (IsFirstStop c.args.catalogue.now (g.D.TreeDisk.disk.reads c.args.disk.now) c.args.change.now) Memory c.from_residual-in_err-ids.result tt c.from_residual-in_err-ids.ensures.1
+
+pub returns-in_err-write-clause-first : goal.returns-in_err-write-clause-first
+returns-in_err-write-clause-first g c tells =
+    write_first c.args.catalogue.now (g.D.TreeDisk.disk.reads c.args.disk.now) c.args.change.now _ c.from_residual-in_err-write.result tells c.in_err-write.ensures.writes c.from_residual-in_err-write.ensures.1
+
+pub returns-in_err-join-clause-first : goal.returns-in_err-join-clause-first
+returns-in_err-join-clause-first g c tells =
+    err_stop (IsFirstStop c.args.catalogue.now (g.D.TreeDisk.disk.reads c.args.disk.now) c.args.change.now) Memory c.from_residual-in_err-join.result tt c.from_residual-in_err-join.ensures.1
+
+pub returns-in_err-added-clause-confined : goal.returns-in_err-added-clause-confined
+returns-in_err-added-clause-confined g c tells = confined_read g.met.D.TreeDisk.laws (Among (is_within repository_base)) (c.in_err-added.ensures.tested.same tells)
+
+pub returns-in_err-ids-clause-confined : goal.returns-in_err-ids-clause-confined
+returns-in_err-ids-clause-confined g c tells = confined_read g.met.D.TreeDisk.laws (Among (is_within repository_base)) (c.in_ok-added.ensures.tested.same tells)
+
+pub returns-then-is_empty-clause-confined : goal.returns-then-is_empty-clause-confined
+returns-then-is_empty-clause-confined g c tells = confined_read g.met.D.TreeDisk.laws (Among (is_within repository_base)) (c.in_ok-added.ensures.tested.same tells)
+
+pub returns-in_err-write-clause-confined : goal.returns-in_err-write-clause-confined
+returns-in_err-write-clause-confined g c tells = confined_writes g.met.D.TreeDisk.laws (c.in_ok-added.ensures.tested.same tells) (c.in_err-write.ensures.writes.confined tells)
+
+pub returns-in_err-join-clause-confined : goal.returns-in_err-join-clause-confined
+returns-in_err-join-clause-confined g c tells = confined_writes g.met.D.TreeDisk.laws (c.in_ok-added.ensures.tested.same tells) (c.in_ok-write.ensures.writes.confined tells)
+
+pub returns-clause-confined : goal.returns-clause-confined
+returns-clause-confined g c tells = confined_writes g.met.D.TreeDisk.laws (c.in_ok-added.ensures.tested.same tells) (c.in_ok-write.ensures.writes.confined tells)

@@ -1,4 +1,4 @@
-use Rattle.std.proofs.Common.{◌+◌, drop, ap, sym, ◌∙◌, arith}
+use Rattle.std.proofs.Common.{◌+◌, drop, sym, ◌∙◌, arith}
 use Rattle.repo_commit.specs.Tests.{lacks_content, missing_content}
 use Rattle.repo_commit.proofs.Lists.{then_first, then_second, verdict_stop}
 use Rattle.repo_commit.proofs.Sources.{source_end, source_on}

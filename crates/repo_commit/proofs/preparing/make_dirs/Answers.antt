@@ -1,8 +1,7 @@
-use Rattle.std.proofs.Common.{◌∙◌, ap, refl}
+use Rattle.std.proofs.Common.{◌∙◌, refl}
 use Rattle.std.specs.FinMap.{get}
 use Rattle.cny_base.specs.Path.{parent}
 use Rattle.tree_disk.specs.Tree.{is_dir}
-use Rattle.tree_disk.specs.Disk.{one_name}
 use Rattle.tree_disk.specs.StepLaws.{makes_then, makes_then_stop, makes_wider}
 use Rattle.tree_journal.specs.Apply.{with_base}
 use Rattle.tree_journal.proofs.OwnFiles.{base_stands}

@@ -1,10 +1,10 @@
-use Rattle.std.proofs.Common.{◌≡◌, ℕ, ◌+◌, sym, ◌∙◌, ap, subst, arith}
+use Rattle.std.proofs.Common.{◌≡◌, ◌+◌, ◌∙◌, ap, arith}
 use Rattle.tree_disk.specs.ConfinedLaws.{confined_then, confined_wider}
 use Rattle.tree_disk.specs.Rows.{is_dir_at}
 use Rattle.tree_disk.specs.Tree.{Tree}
 use Rattle.repo_state.specs.Files.{commit_file, contents_dir}
 use Rattle.repo_commit.proofs.Preparations.{makes_stopped, prepares_makes, prepares_stop}
-use Rattle.repo_commit.proofs.Readying.{behind_prepared, commit_not_root, dir_made, dirs_prepared, is_ready, unnamed_prepared}
+use Rattle.repo_commit.proofs.Readying.{behind_prepared, dir_made, dirs_prepared, is_ready, unnamed_prepared}
 use Rattle.repo_commit.proofs.preparing.prepare.Goals as goal
 
 pub returns-in_err-dir : goal.returns-in_err-dir
@@ -24,7 +24,7 @@ returns g c =
     let k = c.args.committed.now in
     let dirs = c.in_ok-dir.ensures.makes in
     let put = c.in_ok-put_contents.ensures in
-    let number : c.in_ok-behind.behind ≡ commit_file (k.commits + 2) = c.in_ok-behind.ensures ∙ ap (λ (n : ℕ). commit_file (n + 2)) (c.from.ensures ∙ c.commits.ensures) in
+    let number : c.in_ok-behind.behind ≡ commit_file (k.commits + 2) = c.in_ok-behind.ensures in
     let cleared = rw number at c.clear_tree.ensures in
     prepares_makes (omega (arith, dirs.later, put.later))
     (λ tells. confined_then (confined_wider (dirs_prepared k) (dirs.confined tells)) (confined_wider (unnamed_prepared k) (put.confined tells)))

@@ -1,4 +1,4 @@
-use Rattle.std.proofs.Common.{rules, sym, ap, ◌∙◌}
+use Rattle.std.proofs.Common.{rules}
 use Rattle.repo_commit.proofs.References.{there_old, there_new}
 use Rattle.repo_commit.proofs.refs.is_there.Goals as goal
 

@@ -4,6 +4,7 @@ use Rattle.trove_stream.specs.declared.parts.TroveParts.{TroveParts}
 use Rattle.tree_disk.specs.Moments.{same_start, time_start}
 use Rattle.repo_commit.specs.Outcome.{committed_contents}
 use Rattle.repo_commit.proofs.Checking.{empty_list, full_list, made_of, none_tested}
+use Rattle.repo_commit.proofs.Ordering.{later_first, parts_stop}
 use Rattle.repo_commit.proofs.testing.tested.Goals as goal
 
 pub returns-then-is_empty-clause-tested : goal.returns-then-is_empty-clause-tested
@@ -39,3 +40,16 @@ returns-then-is_empty-clause-sound g c tells full =
 
 pub returns-clause-sound : goal.returns-clause-sound
 returns-clause-sound g c tells full = c.in_ok-check_troves.ensures.sound tells
+
+pub returns-in_err-added-clause-first : goal.returns-in_err-added-clause-first
+returns-in_err-added-clause-first g c tells =
+    let k = c.args.committed.now in
+    parts_stop k (g.D.TreeDisk.disk.reads c.args.disk.now) c.args.change.now c.get.result.now _ c.from_residual.result
+    c.get.ensures c.in_err-added.ensures.refused c.from_residual.ensures.1
+
+pub returns-in_err-check_troves-clause-first : goal.returns-in_err-check_troves-clause-first
+returns-in_err-check_troves-clause-first g c tells =
+    let k = c.args.committed.now in
+    later_first k (g.D.TreeDisk.disk.reads c.args.disk.now) c.args.change.now c.in_ok-added.added.troves _ c.from_residual-in_err-check_troves.result
+    (made_of k.troves c.args.change.now.parts c.get.result.now c.in_ok-added.added.troves c.get.ensures c.in_ok-added.ensures.made)
+    (c.in_err-check_troves.ensures.first tells) c.from_residual-in_err-check_troves.ensures.1

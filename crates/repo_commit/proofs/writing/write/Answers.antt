@@ -1,6 +1,4 @@
-use Rattle.std.proofs.Common.{◌≡◌, List, ℕ, ◌+◌, ◌∷◌, [], sym, ◌∙◌, ap, subst}
-use Rattle.journal_log.specs.declared.put.Put.{Put}
-use Rattle.repo_state.specs.Files.{repository_base}
+use Rattle.std.proofs.Common.{◌≡◌, ℕ, ◌+◌, ◌∷◌, [], ◌∙◌, ap}
 use Rattle.repo_state.specs.Steps.{commit_put}
 use Rattle.repo_commit.specs.Preparing.{file_mode}
 use Rattle.repo_commit.proofs.Applied.{can_apply, puts_of}
@@ -33,4 +31,5 @@ returns-clause-writes g c =
     (λ tells. rw (puts_are, c.in_ok-base.ensures) at (c.apply.ensures.any_moment tells))
     (λ tells. rw (puts_are, c.in_ok-base.ensures) at (c.apply.ensures.applied tells))
     (λ tells. rw (puts_are, c.in_ok-base.ensures) at (c.apply.ensures.stopped tells))
+    (λ tells. rw (puts_are, c.in_ok-base.ensures) at (c.apply.ensures.confined tells))
     c.apply.ensures.failed c.apply.ensures.stops
