@@ -218,7 +218,7 @@ def damaged_contents():
     for text in (OLD, NEW, b""):
         path = BASE + b"/c/" + sha1(text).hexdigest().encode()
         yield without(TREE, path)
-        for node in (DIR, LINK, ("f", 0o600, text + b"x"), ("f", 0o600, b"other"), ("f", 0o644, text)):
+        for node in (DIR, LINK, ("f", 0o600, text + b"x"), ("f", 0o600, text[:-1]), ("f", 0o600, b""), ("f", 0o600, b"other"), ("f", 0o644, text)):
             yield with_node(TREE, path, node)
     yield without(tree_of([[V1]], []), BASE + b"/c")
     yield with_node(tree_of([[V1]], []), BASE + b"/c", ("f", 0o600, OLD))
