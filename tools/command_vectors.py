@@ -684,14 +684,32 @@ SECONDS = [
 # ---- the repository
 
 
-def row_cases(script):
-    """Worked examples of the commands of the repository."""
+def commit_row_cases(script):
+    """Worked examples of `cook` and `commit`."""
     # A component cooked twice.
     script.disks()
     script.fed(COMPONENT, b"cook")
     script.fed(COMPONENT, b"cook")
     script.run(b"rq")
     script.case("cooked twice")
+    # A reference and a content that aren't there.
+    script.disks()
+    script.fed(GROUP, b"cook")
+    script.fed(manifest(b"group-one", b"1.0-1-1", [b"ref " + at(b"foo:runtime", b"1.0-1-1")]), b"cook")
+    script.fed(edited(SET, 135, 163), b"commit")
+    script.case("a missing reference, a missing content")
+    # The first call of each stream and of each disk that fails.
+    for source, out, root, repo in ((1, 0, 0, 0), (0, 1, 0, 0), (0, 0, 1, 0), (0, 0, 0, 1)):
+        for words in (b"cook", b"install"):
+            script.disks((), (), root, repo)
+            script.input(COMPONENT, fails=source)
+            script.sinks(out, 0)
+            script.run(words)
+        script.case("statuses of faults")
+
+
+def row_cases(script):
+    """Worked examples of the commands that make change sets."""
     # A source, its shadow, and the next revisions on the shadow.
     script.disks()
     script.fed(SOURCE, b"cook")
@@ -721,20 +739,6 @@ def row_cases(script):
     script.fed(COMPONENT, b"cook")
     script.run(b"shadow", LABEL, b"foo:runtime=" + LABEL)
     script.case("refused specifications")
-    # A reference and a content that aren't there.
-    script.disks()
-    script.fed(GROUP, b"cook")
-    script.fed(manifest(b"group-one", b"1.0-1-1", [b"ref " + at(b"foo:runtime", b"1.0-1-1")]), b"cook")
-    script.fed(edited(SET, 135, 163), b"commit")
-    script.case("a missing reference, a missing content")
-    # The first call of each stream and of each disk that fails.
-    for source, out, root, repo in ((1, 0, 0, 0), (0, 1, 0, 0), (0, 0, 1, 0), (0, 0, 0, 1)):
-        for words in (b"cook", b"install"):
-            script.disks((), (), root, repo)
-            script.input(COMPONENT, fails=source)
-            script.sinks(out, 0)
-            script.run(words)
-        script.case("statuses of faults")
 
 
 VERSIONS = [at(b"foo:runtime", b"1.0-1-1"), at(b"foo:runtime", b"1.0-2-1")]
@@ -755,10 +759,12 @@ def cook_cases(script):
         script.run(b"rq", name)
     owned = [b"dir 0755 root:root /etc", b"file 0644 3 daemon:adm /etc/foo", b"abc"]
     script.fed(manifest(b"own:runtime", b"1.0-1-1", owned, b"manifest 2"), b"cook")
-    script.run(b"changeset", b"own:runtime=" + LABEL)
+    if are_built([b"changeset"]):
+        script.run(b"changeset", b"own:runtime=" + LABEL)
     script.fed(manifest(b"own:runtime", b"1.0-1-1", [b"flavor krb, ~ssl", *owned], b"manifest 2"), b"cook")
     script.run(b"rq", b"own:runtime")
-    script.run(b"changeset", b"own:runtime=" + LABEL + b"[krb,ssl]")
+    if are_built([b"changeset"]):
+        script.run(b"changeset", b"own:runtime=" + LABEL + b"[krb,ssl]")
     script.case("cooked manifests")
     for size in range(0, len(PACKAGE), 7):
         script.disks()
@@ -1087,7 +1093,7 @@ REPOSITORY_SECONDS = [
 # The cases, each with the commands that it needs beside `install`, `showcs` and `rq`.
 GROUPS = (
     (words_cases, []), (manifest_cases, []), (set_cases, []), (stream_cases, []), (recovery_cases, []), (show_cases, []), (fault_cases, []),
-    (crash_cases, []), (row_cases, [b"cook", b"commit", b"changeset", b"shadow"]), (cook_cases, [b"cook", b"changeset"]),
+    (crash_cases, []), (commit_row_cases, [b"cook", b"commit"]), (row_cases, [b"cook", b"commit", b"changeset", b"shadow"]), (cook_cases, [b"cook"]),
     (commit_cases, [b"commit"]), (listing_cases, []), (spec_cases, [b"changeset"]), (set_making_cases, [b"changeset", b"commit", b"cook"]),
     (moving_cases, [b"shadow", b"branch", b"changeset"]), (next_cases, [b"cook"]), (damage_cases, []), (repository_fault_cases, []),
     (repository_crash_cases, []), (second_cases, [b"cook"]),

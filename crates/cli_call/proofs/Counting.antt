@@ -1,59 +1,48 @@
--- The names on which it depends whether a tree stores a repository.
-use Rattle.std.proofs.Common.{◌≡◌, inl, inr, ⊎_elim, ℕ, ◌+◌, ◌≤◌, false, List, length, refl, ◌∙◌, ap, subst, arith}
+-- What a repository's store keeps to.
+use Rattle.std.proofs.Common.{◌≡◌, ⊎_elim, false, List, ℕ, length, Some, Option, sym, ap, ◌∙◌, subst}
+use Rattle.std.specs.Prelude.{IsTrue}
 use Rattle.std.specs.FinMap.{get}
 use Rattle.tree_disk.specs.Tree.{Name, Tree}
 use Rattle.journal_log.specs.Own.{is_own}
-use Rattle.content_store.specs.Store.{content_path, file_bytes}
-use Rattle.repo_index.specs.Catalogue.{CatalogueParts}
+use Rattle.repo_index.specs.Catalogue.{CatalogueParts, records_content}
+use Rattle.repo_state.specs.Counts.{Counts}
 use Rattle.repo_state.specs.Damage.{IsDamagedCommit}
-use Rattle.repo_state.specs.Files.{commit_file, contents_dir, repository_base, HoldsCatalogue, HoldsCommits, StoresRepository}
-use Rattle.repo_state.specs.Holding.{first_stays}
-use Rattle.repo_state.specs.State.{catalogue_of, troves_of, Commit, RepositoryState}
+use Rattle.repo_state.specs.Files.{repository_base, HoldsCatalogue, StoresRepository}
+use Rattle.repo_state.specs.State.{catalogue_of, troves_of, RepositoryState}
 use Rattle.repository.specs.Contents.{IsDamagedContent}
-use Rattle.cli_call.specs.Counts.{Counts, IsCommitName}
 use Rattle.cli_call.specs.Store.{IsStore}
-use Rattle.cli_call.specs.Stores.{repository_store, HasDamagedContent}
+use Rattle.cli_call.specs.Stores.{repository_store, HasDamagedContent, HasUnsoundContent}
 
-commit_name : (n k : ℕ) → k ≤ n + 1 → IsCommitName n (commit_file k)
-commit_name n k few = record { number = k; few = few; is = refl }
-
-counted_commits : (x y : Tree) (commits : List Commit) → HoldsCommits x commits → ((q : Name) → IsCommitName (length commits) q → get y q ≡ get x q) → HoldsCommits y commits
-counted_commits x y commits h same = record {
-  first = first_stays x y 1 commits (λ k low high. same (commit_file k) (commit_name (length commits) k (omega (arith, high)))) h.first;
-  last = same (commit_file (length commits + 1)) (commit_name (length commits) (length commits + 1) (omega arith)) ∙ h.last;
-}
-
-counted_state : (x y : Tree) (r : RepositoryState) → StoresRepository x r → ((q : Name) → Counts r q → get y q ≡ get x q) → StoresRepository y r
-counted_state x y r h same = record {
-  repository = h.repository;
-  commits = counted_commits x y r.commits h.commits (λ q is. same q (inl is));
-  contents = λ name bytes is. ap file_bytes (same (content_path contents_dir name) (inr (record { name = name; bytes = bytes; holds = is; is = refl }))) ∙ h.contents name bytes is;
-}
-
-commit_not_own : (n : ℕ) → is_own repository_base (commit_file n) ≡ false
-commit_not_own n = refl
-
-content_not_own : (name : List ℕ) → is_own repository_base (content_path contents_dir name) ≡ false
-content_not_own name = refl
-
-counted_not_own : (r : RepositoryState) (q : Name) → Counts r q → is_own repository_base q ≡ false
-counted_not_own r q (inl is) = ap (is_own repository_base) is.is ∙ commit_not_own is.number
-counted_not_own r q (inr is) = ap (is_own repository_base) is.is ∙ content_not_own is.name
-
--- what `stored_state` says
+-- what `stored_state` and `counted_names` say
 pub record StoredState : Type 0 where
   pub catalogue : (x : Tree) (r : RepositoryState) (c : CatalogueParts) → StoresRepository x r → HoldsCatalogue x c → c ≡ catalogue_of r.commits
   pub commits : (x : Tree) (r : RepositoryState) (path : Name) → StoresRepository x r → IsDamagedCommit x path → ⊥
   pub contents : (x : Tree) (r : RepositoryState) (name : List ℕ) (path : Name) → StoresRepository x r → IsDamagedContent (troves_of r.commits) name x path → ⊥
+  pub stored : (x y : Tree) (r : RepositoryState) → StoresRepository x r → ((q : Name) → Counts r q → get y q ≡ get x q) → StoresRepository y r
+  pub own : (r : RepositoryState) (q : Name) → Counts r q → is_own repository_base q ≡ false
 
 content_whole : StoredState → (x : Tree) (r : RepositoryState) (path : Name) → StoresRepository x r → HasDamagedContent x path → ⊥
 content_whole laws x r path stores bad =
     let same = laws.catalogue x r bad.catalogue stores bad.holds in
     laws.contents x r bad.name path stores (subst (λ (c : CatalogueParts). IsDamagedContent c.troves bad.name x path) same bad.damaged)
 
+same_bytes : (a b : List ℕ) (found : Option (List ℕ)) → found ≡ Some a → found ≡ Some b → a ≡ b
+same_bytes a b found one other = cc
+
+-- the content of a repository has each size that is recorded with its name
+sound_whole : StoredState → (x : Tree) (r : RepositoryState) (path : Name) → StoresRepository x r → HasUnsoundContent x path → ⊥
+sound_whole laws x r path stores bad =
+    let same = laws.catalogue x r bad.catalogue stores bad.holds in
+    let so : (size : ℕ) → IsTrue (records_content bad.name size bad.catalogue.troves) → IsTrue (records_content bad.name size (troves_of r.commits)) =
+    λ size is. subst (λ (c : CatalogueParts). IsTrue (records_content bad.name size c.troves)) same is in
+    let held = stores.repository.there bad.name bad.size (so bad.size bad.recorded) in
+    bad.none held.0 (stores.contents bad.name held.0 held.1) (stores.repository.named bad.name held.0 held.1).0 (λ size is.
+    let other = stores.repository.there bad.name size (so size is) in
+    ap (λ (l : List ℕ). length l) (same_bytes held.0 other.0 (r.contents bad.name) held.1 other.1) ∙ other.2)
+
 pub repository_laws : StoredState → IsStore repository_store
 repository_laws laws = record {
-  counted = counted_state;
-  own = counted_not_own;
-  whole = λ t path r damaged stored. ⊎_elim (λ commit. laws.commits t r path stored commit) (λ content. content_whole laws t r path stored content) damaged;
+  counted = laws.stored;
+  own = laws.own;
+  whole = λ t path r damaged stored. ⊎_elim (λ commit. laws.commits t r path stored commit) (⊎_elim (λ content. content_whole laws t r path stored content) (λ content. sound_whole laws t r path stored content)) damaged;
 }

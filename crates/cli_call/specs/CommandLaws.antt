@@ -1,7 +1,8 @@
 -- The clause of a command's own function, where it only reads the disks.
-use Rattle.std.proofs.Common.{◌≡◌, ◌≤◌, ℕ, List, Result, Ok, Err, refl, sym, ap, ◌∙◌, subst, inl, arith}
+use Rattle.std.proofs.Common.{◌≡◌, ◌≤◌, ℕ, List, Result, Ok, Err, refl, sym, ap, ◌∙◌, subst, inl, inr, arith}
 use Rattle.std.specs.Prelude.{IsTrue}
 use Rattle.std.specs.FinMap.{get}
+use Rattle.cny_base.specs.declared.refusal.Refusal.{Refusal}
 use Rattle.tree_disk.specs.Tree.{Tree}
 use Rattle.tree_disk.specs.Disk.{DiskModel, IsDisk, HasRead}
 use Rattle.tree_disk.specs.Confined.{Among}
@@ -12,10 +13,11 @@ use Rattle.tree_disk.specs.Unfailed.{UnlessFailed, unfailed_confined, unfailed_w
 use Rattle.tree_journal.specs.Recovery.{is_committed}
 use Rattle.cli_call.specs.declared.failure.Failure.{Failure}
 use Rattle.cli_call.specs.declared.failure.Failure.TheVariants as failure
-use Rattle.cli_call.specs.Command.{Disks, AreReady, Rest, ReadsSame, StandsFor, HasCause, Goes, Answers, Performs, end_of}
-use Rattle.cli_call.specs.Report.{End}
-use Rattle.cli_call.specs.State.{State, nothing, Meaning}
-use Rattle.cli_call.specs.Store.{Store, IsStore, RestsAt}
+use Rattle.cli_call.specs.Command.{Disks, AreReady, ChangesNothing, Rest, ReadsSame, StandsFor, HasCause, Goes, Answers, IsLeft, IsShown, KeepsOthers, Performs, PerformsFrom, end_of}
+use Rattle.cli_call.specs.Report.{End, status_of}
+use Rattle.repo_state.specs.State.{RepositoryState}
+use Rattle.cli_call.specs.State.{State, nothing, Effect, IsNext, Meaning, Takes}
+use Rattle.cli_call.specs.Store.{Store, IsSettled, IsStore, RestsAt}
 use Rattle.cli_call.specs.Stores.{root_store, repository_store}
 use Rattle.cli_call.specs.StoreLaws.{nothing_done, rest_reads, rest_read_on, rest_lives}
 
@@ -105,3 +107,92 @@ module _ {T P : Type 0} {root_disk : DiskModel T} {repo_disk : DiskModel P} (roo
         seen = unfailed_weaker (λ t is. inl is) (read_shown root_laws (read.root root));
       };
     }
+
+-- ---- a command that changes the repository alone
+
+-- The root's disk was left alone. What the other went through from a repository that it stored, and what was answered.
+pub record ChangesRepository {P : Type 0} (repo_disk : DiskModel P) (IsOutcome : Result Effect Refusal → Type 0) (s : State) (old new : P) (result : Result (List ℕ) Failure) : Type 0 where
+  pub next : RepositoryState
+  pub answers : Answers IsOutcome s (record { root = s.root; repository = next }) result
+  pub goes : Goes repository_store repo_disk s.repository next old new (end_of result)
+
+module _ {T P : Type 0} {root_disk : DiskModel T} {repo_disk : DiskModel P} (root_laws : IsDisk root_disk) (root_store_laws : IsStore root_store) where
+  pub performs_on_repository : (m : Meaning) (input : List ℕ) (old new : Disks T P) (result : Result (List ℕ) Failure) → AreReady root_disk repo_disk old → new.root ≡ old.root → repo_disk.faults old.repo ≤ repo_disk.faults new.repo
+      → HasCause root_disk repo_disk old new result → (status_of (end_of result) ≤ 4 → IsTrue repo_disk.tells → IsSettled repo_disk repository_store.base new.repo)
+      → (ChangesNothing (end_of result) → IsTrue repo_disk.tells → repo_disk.reads new.repo ≡ repo_disk.reads old.repo)
+      → (IsTrue repo_disk.tells → (s : State) → StandsFor root_disk repo_disk old s → ChangesRepository repo_disk (m.IsOutcome s input) s old.repo new.repo result)
+      → Performs root_disk repo_disk m input old new result
+  performs_on_repository m input old new result ready same later cause settles keeps changes =
+      let read = subst (λ (d : T). HasRead root_disk old.root d (Unit {0})) (sym same) (nothing_done root_laws old.root) in
+      record {
+        root_later = omega (arith, ap root_disk.faults same);
+        repo_later = later;
+        cause = cause;
+        rest = λ le. record {
+          root = λ told. record {
+            flag_clear = ap (is_committed root_store.base) read.same.reads ∙ (ready.root told).flag_clear;
+            synced = λ p. read.same.unsynced p ∙ (ready.root told).synced p;
+          };
+          repo = settles le;
+        };
+        same = λ none. record { root = λ told. read.same.reads; repo = keeps none };
+        told = λ root repo s stands.
+            let changed = changes repo s stands in
+            record {
+              next = record { root = s.root; repository = changed.next };
+              answers = changed.answers;
+              apart = inl refl;
+              root = goes_read root_store_laws root_laws old.root new.root s.root (end_of result) read stands.root;
+              repo = changed.goes;
+              outside = λ q out left. ap (λ (t : Tree). get t q) read.same.reads;
+              seen = unfailed_weaker (λ t is. inl is) (read_shown root_laws read);
+            };
+      }
+
+-- ---- a meaning that has all outcomes of another
+
+module _ {One Two : Result Effect Refusal → Type 0} (more : (outcome : Result Effect Refusal) → One outcome → Two outcome) where
+  takes_more : {s next : State} {HasBytes : List ℕ → Type 0} → Takes One s next HasBytes → Takes Two s next HasBytes
+  takes_more takes = record { effect = takes.effect; is = more (Ok takes.effect) takes.is; leads = takes.leads; bytes = takes.bytes }
+
+  next_more : {s next : State} → IsNext One s next → IsNext Two s next
+  next_more (inl same) = inl same
+  next_more (inr takes) = inr (takes_more takes)
+
+  answers_more : (s next : State) (result : Result (List ℕ) Failure) → Answers One s next result → Answers Two s next result
+  answers_more s next (Ok text) h = takes_more h
+  answers_more s next (Err (failure.Refused r)) h = (more (Err r) h.0, h.1)
+  answers_more s next (Err failure.RootFault) h = next_more h
+  answers_more s next (Err failure.RepositoryFault) h = next_more h
+  answers_more s next (Err failure.Memory) h = next_more h
+  answers_more s next (Err (failure.Damaged path)) h = h
+  answers_more s next (Err failure.Usage) h = h
+  answers_more s next (Err failure.InputFault) h = h
+  answers_more s next (Err failure.OutputFault) h = h
+
+  shown_more : (s : State) (before t : Tree) → IsShown One s before t → IsShown Two s before t
+  shown_more s before t (inl same) = inl same
+  shown_more s before t (inr h) = inr (h.0, more (Ok h.0) h.1, h.2)
+
+  pub performs_from_more : {T P : Type 0} {root_disk : DiskModel T} {repo_disk : DiskModel P} (s : State) (old new : Disks T P) (result : Result (List ℕ) Failure) → PerformsFrom root_disk repo_disk One s old new result → PerformsFrom root_disk repo_disk Two s old new result
+  performs_from_more {root_disk = root_disk} s old new result from = record {
+    next = from.next;
+    answers = answers_more s from.next result from.answers;
+    apart = from.apart;
+    root = from.root;
+    repo = from.repo;
+    outside = λ q out left. from.outside q out (λ e is. left e (more (Ok e) is));
+    seen = unfailed_weaker (shown_more s (root_disk.reads old.root)) from.seen;
+  }
+
+-- so it was performed too
+pub performs_more : {T P : Type 0} {root_disk : DiskModel T} {repo_disk : DiskModel P} (one two : Meaning) (from input : List ℕ) → ((s : State) (outcome : Result Effect Refusal) → one.IsOutcome s from outcome → two.IsOutcome s input outcome)
+    → (old new : Disks T P) (result : Result (List ℕ) Failure) → Performs root_disk repo_disk one from old new result → Performs root_disk repo_disk two input old new result
+performs_more one two from input more old new result done = record {
+  root_later = done.root_later;
+  repo_later = done.repo_later;
+  cause = done.cause;
+  rest = done.rest;
+  same = done.same;
+  told = λ root repo s stands. performs_from_more (more s) s old new result (done.told root repo s stands);
+}

@@ -9,7 +9,6 @@ pub mod Stops
 pub mod Recovered
 pub mod Store
 pub mod State
-pub mod Counts
 pub mod Stores
 pub mod Reading
 pub mod Opening

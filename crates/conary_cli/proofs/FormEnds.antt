@@ -98,5 +98,7 @@ module _ {T P : Type 0} (root_disk : DiskModel T) (repo_disk : DiskModel P) (bef
       let a = call.answers small root repo s recovers input is in decides input s a.0 a.1 a.2 dirs le
   form_decides one (Ok command.ShowChangeSet) call = λ root repo s recovers input is dirs le small.
       let a = call.answers small root repo s recovers input is in shown_as one input s a.0 (own_outcome show_change_set s input a.0 refl dirs le a.1) a.2
+  form_decides one (Ok (command.Cook next)) call = tt
+  form_decides one (Ok command.Commit) call = tt
   form_decides one (Ok (command.ListCommitted name)) call = tt
   form_decides one (Err e) call = tt

@@ -8,6 +8,8 @@ use Rattle.cli_call.specs.Call.{CallState, RunsCall}
 use Rattle.cli_call.specs.Report.{End}
 use Rattle.cli_call.specs.State.{Meaning}
 use Rattle.cli_call.specs.WholeCall.{IsCallOf, IsNoCall}
+use Rattle.repo_commands.specs.Commit.{commit}
+use Rattle.repo_commands.specs.Cook.{cook}
 use Rattle.repo_commands.specs.Listing.{list_committed}
 use Rattle.conary_cli.specs.declared.words.Command.{Command}
 use Rattle.conary_cli.specs.declared.words.Command.TheVariants as command
@@ -17,6 +19,8 @@ use Rattle.conary_cli.specs.ShowChangeSet.{show_change_set}
 abbrev pub meaning : Command → Meaning
 meaning command.Install = install
 meaning command.ShowChangeSet = show_change_set
+meaning (command.Cook next) = cook next
+meaning command.Commit = commit
 meaning (command.ListCommitted name) = list_committed name
 
 module _ {T P : Type 0} (root_disk : DiskModel T) (repo_disk : DiskModel P) where

@@ -14,12 +14,13 @@ use Rattle.cli_call.specs.FixedDirs.{fixed_dirs}
 use Rattle.cli_call.specs.Input.{input_limit}
 use Rattle.cli_call.specs.State.{State, tree_of}
 use Rattle.cli_call.specs.WholeCall.{FromStates, ForInput, IsAnswered, IsRefused}
+use Rattle.repo_commands.specs.SetInput.{IsNoSetStream}
 use Rattle.conary_cli.specs.declared.words.Command.{Command}
 use Rattle.conary_cli.specs.declared.words.Command.TheVariants as command
 use Rattle.conary_cli.specs.declared.manifest.types.Manifest.{Manifest}
 use Rattle.conary_cli.specs.Install.{install, installs, on_both}
 use Rattle.conary_cli.specs.ManifestForm.{IsManifest, IsManifestText, spelling}
-use Rattle.conary_cli.specs.ShowChangeSet.{show_change_set, IsNoSetStream, described}
+use Rattle.conary_cli.specs.ShowChangeSet.{show_change_set, described}
 
 -- the refusals of an input that isn't of the form: malformed, a content that is too large, or a word that isn't built yet
 abbrev pub IsFormRefusal : Refusal → Type 0
@@ -47,5 +48,7 @@ module _ {T P : Type 0} (root_disk : DiskModel T) (repo_disk : DiskModel P) wher
       fixed_dirs (tree_of s.root) ≡ Ok tt → length input ≤ input_limit → status ≤ 2 → DecidesForm input s before now err err' status))
   FormDecides (Ok command.ShowChangeSet) before now err err' status = FromStates root_disk repo_disk before (λ s. ForInput root_disk repo_disk show_change_set before (λ input.
       fixed_dirs (tree_of s.root) ≡ Ok tt → length input ≤ input_limit → status ≤ 2 → DecidesSet input s before now err err' status))
+  FormDecides (Ok (command.Cook next)) before now err err' status = Unit {0}
+  FormDecides (Ok command.Commit) before now err err' status = Unit {0}
   FormDecides (Ok (command.ListCommitted name)) before now err err' status = Unit {0}
   FormDecides (Err e) before now err err' status = Unit {0}

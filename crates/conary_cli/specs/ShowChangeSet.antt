@@ -6,10 +6,7 @@ use Rattle.change_set.specs.ChangeSet.{IsSetStream}
 use Rattle.change_set.specs.FirstFault.{IsFirstFault}
 use Rattle.cny_report.specs.Changes.{change_text}
 use Rattle.cli_call.specs.State.{nothing, Effect, Meaning}
-
--- the bytes are no change set's
-abbrev pub IsNoSetStream : List ℕ → Type 0
-IsNoSetStream bytes = (set : ChangeSet) → IsSetStream set bytes → ⊥
+use Rattle.repo_commands.specs.SetInput.{IsNoSetStream}
 
 -- the text of the change set; nothing changes
 abbrev pub described : ChangeSet → Effect

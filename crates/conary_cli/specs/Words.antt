@@ -1,5 +1,5 @@
 -- The words of the command line: which lists of them are commands.
-use Rattle.std.specs.Prelude.{◌≡◌, List, [], ◌∷◌, ℕ, Bool, Some, None, Result, Ok, Err, if◌then◌else◌, codes}
+use Rattle.std.specs.Prelude.{◌≡◌, List, [], ◌∷◌, ℕ, Bool, true, false, Some, None, Result, Ok, Err, if◌then◌else◌, codes}
 use Rattle.std.specs.List.{list_any}
 use Rattle.std.specs.Str.{bytes_eq}
 use Rattle.cny_base.specs.Name.{is_name}
@@ -15,7 +15,7 @@ is_among words word = list_any (bytes_eq word) words
 -- the commands that aren't built yet
 abbrev pub planned_commands : List (List ℕ)
 planned_commands =
-    codes "cook" ∷ codes "commit" ∷ codes "shadow" ∷ codes "branch" ∷ codes "changeset" ∷ codes "update"
+    codes "shadow" ∷ codes "branch" ∷ codes "changeset" ∷ codes "update"
     ∷ codes "erase" ∷ codes "rollback" ∷ codes "rblist" ∷ codes "q" ∷ codes "verify" ∷ codes "localcs" ∷ codes "batch" ∷ codes "demo" ∷ []
 
 -- the options of `install` that aren't built yet
@@ -41,6 +41,17 @@ abbrev pub show_of : List (List ℕ) → Result Command Failure
 show_of [] = Ok command.ShowChangeSet
 show_of (word ∷ words) = Err failure.Usage
 
+-- `cook` stands alone, or with `--next` behind it
+abbrev pub cook_of : List (List ℕ) → Result Command Failure
+cook_of [] = Ok (command.Cook false)
+cook_of (word ∷ []) = if bytes_eq word (codes "--next") then Ok (command.Cook true) else Err failure.Usage
+cook_of (word ∷ other ∷ words) = Err failure.Usage
+
+-- `commit` stands alone
+abbrev pub commit_of : List (List ℕ) → Result Command Failure
+commit_of [] = Ok command.Commit
+commit_of (word ∷ words) = Err failure.Usage
+
 -- `rq`: all committed troves, or those of a name; another word is usage
 abbrev pub list_of : List (List ℕ) → Result Command Failure
 list_of [] = Ok (command.ListCommitted None)
@@ -53,6 +64,8 @@ command_of [] = Err failure.Usage
 command_of (word ∷ words) =
     if bytes_eq word (codes "install") then install_of words
     else if bytes_eq word (codes "showcs") then show_of words
+    else if bytes_eq word (codes "cook") then cook_of words
+    else if bytes_eq word (codes "commit") then commit_of words
     else if bytes_eq word (codes "rq") then list_of words
     else if is_planned_command word then Err (not_built word)
     else Err failure.Usage

@@ -8,7 +8,7 @@ use crate::show::show_change_set;
 use crate::words::Command;
 use cli_call::{Failure, Opened};
 use cny_base::Text;
-use repo_commands::list_committed;
+use repo_commands::{commit_input, cook_manifest, list_committed};
 use std::alloc::Global;
 use tree_disk::TreeDisk;
 
@@ -19,6 +19,8 @@ pub fn takes_input(command: &Command) -> bool
     match command {
         Command::Install => true,
         Command::ShowChangeSet => true,
+        Command::Cook { .. } => true,
+        Command::Commit => true,
         Command::ListCommitted { .. } => false,
     }
 }
@@ -38,6 +40,8 @@ pub fn perform<T: TreeDisk, P: TreeDisk>(
     match command {
         Command::Install => install(alloc, input, opened, repo, root),
         Command::ShowChangeSet => show_change_set(alloc, input, opened, repo, root),
+        Command::Cook { next } => cook_manifest(alloc, *next, input, opened, repo, root),
+        Command::Commit => commit_input(alloc, input, opened, repo, root),
         Command::ListCommitted { name } => list_committed(alloc, name, opened, repo, root),
     }
 }

@@ -1,6 +1,6 @@
 //! The words of the command line.
 ghost use Rattle.std.specs.Prelude.{◌≡◌, string_bytes, map};
-ghost use Rattle.conary_cli.specs.Words.{is_planned_command, is_planned_option, command_of, install_of, list_of, show_of, ReadsWords, not_built};
+ghost use Rattle.conary_cli.specs.Words.{is_planned_command, is_planned_option, command_of, commit_of, cook_of, install_of, list_of, show_of, ReadsWords, not_built};
 
 use cli_call::Failure;
 use cny_base::{Name, Refusal, Text, TextFault};
@@ -13,6 +13,10 @@ pub enum Command {
     Install,
     /// Describes a change set.
     ShowChangeSet,
+    /// Commits what a manifest makes, with the next version of its branch or as it is.
+    Cook { next: bool },
+    /// Commits a change set.
+    Commit,
     /// Lists committed troves, all or those of a name.
     ListCommitted { name: Option<Name> },
 }
@@ -24,9 +28,7 @@ fn is_planned(word: &str) -> bool
 {
     matches!(
         word,
-        "cook"
-            | "commit"
-            | "shadow"
+        "shadow"
             | "branch"
             | "changeset"
             | "update"
@@ -80,6 +82,32 @@ fn read_show(words: &[String]) -> Result<Command, Failure>
     Err(Failure::Usage)
 }
 
+// The words after `cook`.
+fn read_cook(words: &[String]) -> Result<Command, Failure>
+    ensures { ReadsWords (cook_of (map string_bytes words.now)) result }
+{
+    let [word, rest @ ..] = words else {
+        return Ok(Command::Cook { next: false });
+    };
+    if !rest.is_empty() {
+        return Err(Failure::Usage);
+    }
+    if word.as_str() == "--next" {
+        return Ok(Command::Cook { next: true });
+    }
+    Err(Failure::Usage)
+}
+
+// The words after `commit`.
+fn read_commit(words: &[String]) -> Result<Command, Failure>
+    ensures { ReadsWords (commit_of (map string_bytes words.now)) result }
+{
+    if words.is_empty() {
+        return Ok(Command::Commit);
+    }
+    Err(Failure::Usage)
+}
+
 // The words after `rq`.
 fn read_list(alloc: Global, words: &[String]) -> Result<Command, Failure>
     ensures { ReadsWords (list_of (map string_bytes words.now)) result }
@@ -109,6 +137,12 @@ pub fn read_words(alloc: Global, words: &[String]) -> Result<Command, Failure>
     }
     if word.as_str() == "showcs" {
         return read_show(rest);
+    }
+    if word.as_str() == "cook" {
+        return read_cook(rest);
+    }
+    if word.as_str() == "commit" {
+        return read_commit(rest);
     }
     if word.as_str() == "rq" {
         return read_list(alloc, rest);

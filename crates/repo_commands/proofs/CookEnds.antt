@@ -1,0 +1,72 @@
+-- How `cook` ends, from what the reading of the manifest, the next version and the commit say.
+use Rattle.std.proofs.Common.{◌≡◌, inl, inr, ℕ, Bool, IsTrue, List, Result, Ok, Err, refl, sym, ap, ◌∙◌, subst}
+use Rattle.cny_base.specs.declared.refusal.Fault.{Fault}
+use Rattle.cny_base.specs.declared.refusal.Fault.TheVariants as fault
+use Rattle.cny_base.specs.declared.refusal.Refusal.{Refusal}
+use Rattle.tree_disk.specs.Tree.{Tree}
+use Rattle.tree_disk.specs.Disk.{DiskModel, IsDisk}
+use Rattle.trove_stream.specs.declared.parts.TroveParts.{TroveParts}
+use Rattle.change_set.specs.declared.change.ChangeSet.{ChangeSet}
+use Rattle.cny_manifest.specs.declared.made.Made.{Made}
+use Rattle.cny_manifest.specs.FirstFault.{IsFaultOf}
+use Rattle.cny_manifest.specs.Makes.{Makes}
+use Rattle.repo_index.specs.Catalogue.{CatalogueParts}
+use Rattle.repo_state.specs.Files.{HoldsCatalogue, StoresRepository}
+use Rattle.repo_state.specs.State.{catalogue_of, troves_of, RepositoryState}
+use Rattle.repo_next.specs.Steps.{IsErrOrMemory}
+use Rattle.cli_call.specs.declared.failure.Failure.{Failure}
+use Rattle.cli_call.specs.declared.failure.Failure.TheVariants as failure
+use Rattle.cli_call.specs.Command.{Disks, AreReady, Performs, StandsFor}
+use Rattle.cli_call.specs.CommandLaws.{none_read, performs_from_more, performs_reading}
+use Rattle.cli_call.specs.Failures.{failure_of_fault}
+use Rattle.cli_call.specs.RootLaws.{root_laws}
+use Rattle.cli_call.specs.State.{Effect, Meaning, State}
+use Rattle.cli_call.specs.Store.{IsStore}
+use Rattle.cli_call.specs.Stores.{repository_store}
+use Rattle.repo_commands.specs.Commit.{commit_of}
+use Rattle.repo_commands.specs.Cook.{cook, cooked_set, CommitsSet}
+
+-- what is loaded is the catalogue of the state
+abbrev pub CatalogueIs : Type 0
+CatalogueIs = (x : Tree) (r : RepositoryState) (c : CatalogueParts) → StoresRepository x r → HoldsCatalogue x c → c ≡ catalogue_of r.commits
+
+module _ {T P : Type 0} {root_disk : DiskModel T} {repo_disk : DiskModel P} (root_disk_laws : IsDisk root_disk) (repo_disk_laws : IsDisk repo_disk) (store_laws : IsStore repository_store) (law : CatalogueIs) (next : Bool) (input : List ℕ)
+    (old : Disks T P) (ready : AreReady root_disk repo_disk old) where
+  troves_are : IsTrue repo_disk.tells → (s : State) → StandsFor root_disk repo_disk old s → old.opened.catalogue.troves ≡ troves_of s.repository.commits
+  troves_are told s stands = ap (λ (c : CatalogueParts). c.troves) (law (repo_disk.reads old.repo) s.repository old.opened.catalogue stands.repo.stored (ready.repo told).catalogue)
+
+  -- a refusal before the commit, or want of memory
+  stopped : (f : Fault) → ((r : Refusal) → f ≡ fault.Refused r → IsTrue repo_disk.tells → (s : State) → StandsFor root_disk repo_disk old s → (cook next).IsOutcome s input (Err r)) → Performs root_disk repo_disk (cook next) input old old (Err (failure_of_fault f))
+  stopped (fault.Refused r) refuses = performs_reading root_disk_laws repo_disk_laws root_laws store_laws (cook next) input old old ready (none_read root_disk_laws repo_disk_laws old old refl refl) (Err (failure.Refused r)) tt
+      (λ root repo s stands. refuses r refl repo s stands)
+  stopped fault.Memory refuses = performs_reading root_disk_laws repo_disk_laws root_laws store_laws (cook next) input old old ready (none_read root_disk_laws repo_disk_laws old old refl refl) (Err failure.Memory) tt tt
+
+  -- the input is no manifest
+  pub not_read : (f : Fault) → IsFaultOf input f → Performs root_disk repo_disk (cook next) input old old (Err (failure_of_fault f))
+  not_read f is = stopped f (λ r same told s stands. inr (record { fault = r; first = subst (IsFaultOf input) same is; is = refl }))
+
+  module _ (made : Made) (makes : Makes input made) where
+    -- there is no next version
+    pub no_set : (f : Fault) → IsErrOrMemory (cooked_set next old.opened.catalogue.troves made) f → Performs root_disk repo_disk (cook next) input old old (Err (failure_of_fault f))
+    no_set f is = stopped f (λ r same told s stands. inl (record {
+      made = made;
+      makes = makes;
+      is =
+          let err : cooked_set next old.opened.catalogue.troves made ≡ Err r = subst (IsErrOrMemory (cooked_set next old.opened.catalogue.troves made)) same is in
+          let of : cooked_set next (troves_of s.repository.commits) made ≡ Err r = ap (λ (l : List TroveParts). cooked_set next l made) (sym (troves_are told s stands)) ∙ err in
+          subst (λ (made_so : Result ChangeSet Refusal). CommitsSet s.repository made_so (Err r)) (sym of) refl;
+    }))
+
+    -- the change set is committed
+    pub cooked : (set : ChangeSet) → cooked_set next old.opened.catalogue.troves made ≡ Ok set → (new : Disks T P) (result : Result (List ℕ) Failure) → Performs root_disk repo_disk (commit_of set) input old new result → Performs root_disk repo_disk (cook next) input old new result
+    cooked set is new result done = record {
+      root_later = done.root_later;
+      repo_later = done.repo_later;
+      cause = done.cause;
+      rest = done.rest;
+      same = done.same;
+      told = λ root repo s stands.
+          let of : cooked_set next (troves_of s.repository.commits) made ≡ Ok set = ap (λ (l : List TroveParts). cooked_set next l made) (sym (troves_are repo s stands)) ∙ is in
+          performs_from_more (λ outcome commits. inl (record { made = made; makes = makes; is = subst (λ (made_so : Result ChangeSet Refusal). CommitsSet s.repository made_so outcome) (sym of) commits }))
+          s old new result (done.told root repo s stands);
+    }

@@ -1,0 +1,34 @@
+-- What `commit` means.
+use Rattle.std.specs.Prelude.{◌≡◌, ℕ, true, List, Result, Ok, Err}
+use Rattle.cny_base.specs.declared.refusal.Refusal.{Refusal}
+use Rattle.trove_stream.specs.declared.parts.TroveParts.{TroveParts}
+use Rattle.change_set.specs.declared.change.ChangeSet.{ChangeSet}
+use Rattle.repo_state.specs.State.{catalogue_of, RepositoryState}
+use Rattle.repo_commit.specs.Steps.{after_commit, ids_of}
+use Rattle.repo_commit.specs.Tests.{IsRefused, Passes}
+use Rattle.cny_report.specs.Troves.{committed_text}
+use Rattle.cli_call.specs.State.{on_repository, Effect, Meaning, State}
+use Rattle.repo_commands.specs.SetInput.{OfChangeSet}
+
+-- these troves are committed with the contents of a change set, and told
+abbrev pub committed : RepositoryState → ChangeSet → List TroveParts → Effect
+committed r set troves = record { change = on_repository (after_commit troves set.contents r); out = committed_text (ids_of troves) }
+
+-- the change set makes troves of the repository, no test fails, and they are committed
+pub record IsCommitted (r : RepositoryState) (set : ChangeSet) (effect : Effect) : Type 0 where
+  pub troves : List TroveParts
+  pub passes : Passes (catalogue_of r.commits) r.contents set troves
+  pub is : effect ≡ committed r set troves
+
+-- the outcome of a commit of a change set: its effect, or the first test that fails
+abbrev pub Commits : ChangeSet → RepositoryState → Result Effect Refusal → Type 0
+Commits set r (Ok effect) = IsCommitted r set effect
+Commits set r (Err refusal) = IsRefused (catalogue_of r.commits) r.contents set refusal
+
+-- the commit of one change set, whatever the input
+abbrev pub commit_of : ChangeSet → Meaning
+commit_of set = record { takes_input = true; IsOutcome = λ s input. Commits set s.repository }
+
+-- the commit of the change set that the input is
+abbrev pub commit : Meaning
+commit = record { takes_input = true; IsOutcome = λ s input. OfChangeSet input (λ set. Commits set s.repository) }

@@ -1,0 +1,53 @@
+//! Commits of change sets.
+ghost use Rattle.std.specs.Prelude.{List, ℕ};
+ghost use Rattle.change_set.specs.ChangeSet.{HasContents};
+ghost use Rattle.cli_call.specs.Command.{disks, AreReady, Performs};
+ghost use Rattle.repo_commands.specs.Commit as spec;
+ghost use Rattle.repo_commands.specs.Commit.{commit_of};
+
+use change_set::{ChangeSet, decode};
+use cli_call::{Failure, Opened, on_repository, store_laws};
+use cny_base::Text;
+use cny_report::committed_text;
+use repo_commit::{commit, commit_step, same_contents};
+use repository::stored_state;
+use std::alloc::Global;
+use tree_disk::TreeDisk;
+
+/// Commits a change set, and tells the ids of the troves that it makes.
+pub fn commit_set<T: TreeDisk, P: TreeDisk>(
+    alloc: Global,
+    set: &ChangeSet,
+    opened: &mut Opened,
+    repo: &mut P,
+    root: &T,
+) -> Result<Text, Failure>
+    requires contents { HasContents set.now }
+    requires ready { AreReady T.disk P.disk (disks root.now repo.old opened.old) }
+    ensures { (input : List ℕ) → Performs T.disk P.disk (commit_of set.now) input (disks root.now repo.old opened.old)
+        (disks root.now repo.new opened.new) result }
+{
+    store_laws();
+    stored_state();
+    same_contents();
+    commit_step();
+    let ids = on_repository(commit(alloc, repo, &mut opened.catalogue, set))?;
+    Ok(committed_text(alloc, ids.get())?)
+}
+
+/// Commits the change set that the input is: a line `committed T` for each trove, in the order of its parts, or `nothing changes`
+/// where it has none. It takes effect as a whole or not at all, whenever the machine stops.
+pub fn commit_input<T: TreeDisk, P: TreeDisk>(
+    alloc: Global,
+    input: &[u8],
+    opened: &mut Opened,
+    repo: &mut P,
+    root: &T,
+) -> Result<Text, Failure>
+    requires { AreReady T.disk P.disk (disks root.now repo.old opened.old) }
+    ensures { Performs T.disk P.disk spec.commit input.now (disks root.now repo.old opened.old) (disks root.now repo.new opened.new) result }
+{
+    store_laws();
+    let set = decode(alloc, input)?;
+    commit_set(alloc, &set, opened, repo, root)
+}
