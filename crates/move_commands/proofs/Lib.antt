@@ -1,0 +1,2 @@
+pub mod CommittedTroves
+pub mod MovingEnds

@@ -1,0 +1,6 @@
+//! The configuration file of a root.
+#![tactic(auto)]
+
+mod reading;
+
+pub use reading::read_config;

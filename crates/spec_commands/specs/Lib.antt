@@ -1,0 +1,3 @@
+pub mod AndThen
+pub mod Meant
+pub mod Sending
