@@ -5,8 +5,10 @@
 mod agreeing;
 mod difference;
 mod entry;
+mod marks;
 mod old;
 
 pub use agreeing::stashable;
 pub use entry::{Entries, Entry};
+pub use marks::mark_of;
 pub use old::old_node;

@@ -1,0 +1,9 @@
+pub mod Searching
+pub mod Order
+pub mod Undone
+pub mod Ranging
+pub mod Firsts
+pub mod Meaning
+pub mod Ending
+pub mod Given
+pub mod Rising

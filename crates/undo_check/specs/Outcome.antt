@@ -1,0 +1,28 @@
+-- How the test ends whether a job can be taken back, after others.
+use Rattle.std.specs.Prelude.{ℕ, Bool, IsTrue, List}
+use Rattle.cny_base.specs.declared.stop.Stop.{Stop}
+use Rattle.cny_base.specs.declared.stop.Stop.TheVariants as stop
+use Rattle.tree_disk.specs.Tree.{Tree}
+use Rattle.system_state.specs.Record.{Entry}
+use Rattle.undo_check.specs.Marks.{CanUndo, IsUndoRefusal, marks_of}
+use Rattle.undo_check.specs.Jobs.{AreFound, CanUndoAll, undone_all}
+use Rattle.undo_check.specs.Seen.{FoundMarks}
+
+-- Jobs, the newest first and numbered from this one down, that can be taken back on the tree, and whose paths the map has.
+pub record AreUndone (x : Tree) (newest : ℕ) (jobs : List (List Entry)) (found : FoundMarks) : Type 0 where
+  pub found_are : AreFound newest jobs found
+  pub can : CanUndoAll jobs (marks_of x)
+
+-- once these jobs are taken back, the job with these entries can be
+abbrev pub CanUndoNext : Tree → FoundMarks → List Entry → Type 0
+CanUndoNext x found es = (newest : ℕ) (jobs : List (List Entry)) → AreUndone x newest jobs found → CanUndo es (undone_all jobs (marks_of x))
+
+-- Why it isn't found that the job can be taken back: the disk failed, no memory was left, or the job can't be.
+abbrev pub IsUndoStop : Bool → Tree → FoundMarks → List Entry → Type 0 → Stop → Type 0
+IsUndoStop told x found es rose stop.Failed = rose
+IsUndoStop told x found es rose stop.Memory = Unit {0}
+IsUndoStop told x found es rose (stop.Refused why) =
+    IsTrue told → (newest : ℕ) (jobs : List (List Entry)) → AreUndone x newest jobs found → IsUndoRefusal es (undone_all jobs (marks_of x)) why
+IsUndoStop told x found es rose (stop.Damaged path) = ⊥
+IsUndoStop told x found es rose stop.FarFailed = ⊥
+IsUndoStop told x found es rose (stop.FarDamaged path) = ⊥
