@@ -1,0 +1,13 @@
+pub mod Names
+pub mod Maps
+pub mod Recorded
+pub mod Sharing
+pub mod Added
+pub mod Streams
+pub mod Joining
+pub mod Sound
+pub mod Deltas
+pub mod ChangedIds
+pub mod Handing
+pub mod Back
+pub mod Empty

@@ -1,0 +1,11 @@
+use Rattle.std.proofs.Common.{◌≡◌, None, take}
+use Rattle.tree_disk.specs.Tree.{Name}
+use Rattle.installed_list.specs.Installed.{trove_of}
+use Rattle.past_list.specs.Table.{IsIndexed, or_else, trove_at}
+use Rattle.past_list.proofs.table.put_troves.Given as goal
+
+abbrev pub invariant-loop-trove : goal.invariant-loop-trove
+invariant-loop-trove l = record {
+  indexed : IsIndexed l.format l.table.troves l.table.marks l.table.len;
+  found : (name : Name) → trove_at l.table.troves name ≡ or_else (trove_of name (take l.trove-index l.troves)) None;
+}
