@@ -1,0 +1,5 @@
+pub mod Keyed
+pub mod Before
+pub mod Leading
+pub mod Noted
+pub mod Records

@@ -1,0 +1,5 @@
+pub mod Undo
+pub mod Named
+pub mod Changed
+pub mod Recorded
+pub mod Telling
