@@ -515,6 +515,76 @@ def differing_lines():
         yield f'differing\tfile 0644 {text} /f\t/f\t{other}', str(count)
 
 
+# ---- verifications
+
+
+def found_at(tree, path, rec, known):
+    """What a verification finds at a recorded path, and None where it is as recorded."""
+    t = tree.get(path)
+    if t is None:
+        return f'missing {path}'
+    if rec[0] == 'dir' and t[0] == 'dir' or rec[0] != 'dir' and mark(t) == mark_of_record(rec):
+        return None
+    if rec[0] == 'file' and t[0] == 'file' and contents(rec[3]) in known:
+        a, b = contents(t[2]), contents(rec[3])
+        return f'changed {path} bytes {sum(x != y for x, y in zip(a, b)) + abs(len(a) - len(b))}'
+    return f'changed {path}'
+
+
+def verify_line(tree, troves, names, known, fails=False):
+    tree = dict(tree)
+    tree.setdefault('/', D)
+    line = '\t'.join(['verify', tree_field(tree), troves_field(troves), ' '.join(names) or '-', ';'.join(known) or '-'] + ['fail'] * fails)
+    for name in names:
+        if name not in troves:
+            return line, f'not installed {name}'
+    asked = [troves[name] for name in sorted(troves) if not names or name in names]
+    paths = [(p, files[p]) for files in asked for p in sorted(files, key=key)]
+    if fails and paths:
+        return line, 'failed'
+    found = [found_at(tree, p, rec, [contents(k) for k in known]) for p, rec in paths]
+    found = [text for text in found if text]
+    return line, '|'.join(found + [f'verified {len(paths)} paths, {len(found)} changed', '']) + '|'
+
+
+def verify_lines():
+    foo = {'/etc': D, '/etc/foo': ('file', '0644', '', 'abc')}
+    stands = {'/etc': D, '/etc/foo': ('file', '0644', 'abX')}
+    yield verify_line(stands, {'foo:runtime': foo}, [], [])
+    yield verify_line(stands, {'foo:runtime': foo}, [], ['abc'])
+    yield verify_line(stands, {'foo:runtime': foo}, [], ['abX'])
+    yield verify_line(stands, {'foo:runtime': foo}, ['foo:runtime', 'foo:runtime'], ['abc'])
+    yield verify_line(stands, {'foo:runtime': foo}, ['foo:doc'], ['abc'])
+    yield verify_line(stands, {'foo:runtime': foo}, ['foo:runtime', 'foo:doc', 'a:b'], [])
+    yield verify_line(stands, {'foo:runtime': foo}, [], [], fails=True)
+    yield verify_line(stands, {'foo:runtime': foo}, ['foo:doc'], [], fails=True)
+    yield verify_line(stands, {}, [], [])
+    yield verify_line({'/etc': D}, {'foo:runtime': foo}, [], ['abc'])
+    yield verify_line({'/etc': ('link', '/usr'), '/usr': D, '/usr/foo': ('file', '0644', 'abc')}, {'foo:runtime': foo}, [], ['abc'])
+    # a changed mode: of a directory it doesn't count, of a file no byte differs
+    yield verify_line({'/etc': ('dir', '0700'), '/etc/foo': ('file', '0600', 'abc')}, {'foo:runtime': foo}, [], ['abc'])
+    recs = [D, ('file', '0644', '', 'aa'), ('file', '0644', 'c', 'ab+c'), ('link', 'a')]
+    nodes = [None, D, ('dir', '0700'), ('file', '0644', 'aa'), ('file', '0600', 'aa'), ('file', '0644', 'ba'), ('file', '0644', 'abc'), ('file', '0644', '-'), ('link', 'a'), ('link', 'b')]
+    for rec, node, known in itertools.product(recs, nodes, ([], ['aa'], ['abc'], ['aa', 'abc', '-'])):
+        yield verify_line({'/p': node} if node else {}, {'a:lib': {'/p': rec}}, [], known)
+    # troves in the order of their names, a path that two of them record, packages without files
+    two = {'b:lib': {'/d': D, '/d/x': ('file', '0644', '', 'x')}, 'a:lib': {'/d': D, '/d/y': ('link', 'z')}, 'c': {}}
+    tree = {'/d': ('file', '0644', 'd')}
+    for names in ([], ['a:lib'], ['b:lib'], ['b:lib', 'a:lib'], ['c'], ['c', 'b:lib', 'c'], ['c', 'd']):
+        yield verify_line(tree, two, names, ['x'])
+        yield verify_line({}, two, names, [])
+    rng = random.Random(31)
+    paths = ['/a', '/a/b', '/a/c', '/b']
+    for _ in range(60):
+        made = {'/': D}
+        for p in paths:
+            if made.get(parent(p), ('nothing',))[0] == 'dir' and rng.random() < 0.8:
+                made[p] = rng.choice([n for n in nodes if n])
+        lists = {name: {p: rng.choice(recs) for p in paths if rng.random() < 0.6} for name in ('a:lib', 'b:lib', 'c:lib') if rng.random() < 0.7}
+        names = [n for n in ('c:lib', 'a:lib', 'b:lib', 'd:lib') if rng.random() < 0.3]
+        yield verify_line(made, lists, names, rng.choice([[], ['aa'], ['abc', 'aa']]))
+
+
 def lines():
     yield from named_lines()
     yield from table_lines()
@@ -524,6 +594,7 @@ def lines():
     yield from random_lines(700)
     yield from mark_lines()
     yield from differing_lines()
+    yield from verify_lines()
 
 
 def main():

@@ -4,6 +4,7 @@ use crate::nodes::{disk_of, record_of};
 use crate::quiet::Quiet;
 use crate::stop::Stop;
 use crate::troves::troves_of;
+use crate::verification::verified_tree;
 use crate::words::{contents_at, mode_at, parts_of, path_at, text_at};
 use cny_base::{Copies, Options, Path, Stop as DiskEnd};
 use conflict_plan::plan;
@@ -194,6 +195,7 @@ pub fn answer_to(alloc: Global, line: &str) -> Result<String, Stop> {
         "differing" => differing_bytes(alloc, &parts),
         "plan" => planned(alloc, &parts),
         "verified" => verified(alloc, &parts),
+        "verify" => verified_tree(alloc, &parts),
         _ => Err(Stop::Unreadable),
     }
 }

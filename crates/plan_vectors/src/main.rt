@@ -9,6 +9,7 @@ mod nodes;
 mod quiet;
 mod stop;
 mod troves;
+mod verification;
 mod words;
 
 use crate::calls::answer_to;

@@ -55,14 +55,18 @@ fn push_piece(bytes: &mut Vec<u8>, piece: &str) -> Result<(), Stop> {
     }
 }
 
-/// The part at a place, as contents: pieces with a `+` between two; none for a hyphen.
-pub fn contents_at(alloc: Global, parts: &[String], place: usize) -> Result<Bytes, Stop> {
+/// A text as contents: pieces with a `+` between two; none for a hyphen.
+pub fn content_of(alloc: Global, text: &str) -> Result<Bytes, Stop> {
     let mut bytes = Vec::new(alloc);
-    let text = text_at(parts, place)?;
     if text != "-" {
         for piece in text.split('+') {
             push_piece(&mut bytes, piece)?;
         }
     }
     Ok(Bytes::from_vec(bytes))
+}
+
+/// The part at a place, as contents.
+pub fn contents_at(alloc: Global, parts: &[String], place: usize) -> Result<Bytes, Stop> {
+    content_of(alloc, text_at(parts, place)?)
 }
