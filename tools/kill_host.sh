@@ -1,8 +1,9 @@
 #!/bin/sh
-# Kills installations into a directory of the host at random moments, runs each again, and says whether the tree is then the one
-# before or the one after. Usage: tools/kill_host.sh [KILLS]
-# It is no part of the gate. It ends with status 1 where a tree is neither, where the second run doesn't end well, or where no
+# Kills installations, cooks and commits over directories of the host at random moments, runs each again, and says whether what stands
+# is then what stood before or what is to stand after. Usage: tools/kill_host.sh [KILLS [KILLS_OF_COMMITS]]
+# It is no part of the gate. It ends with status 1 where it is neither, where the second run doesn't end as it is to, or where no
 # run was cut off.
 set -eu
 top=$(cd "$(dirname "$0")/.." && pwd)
-exec python3 "$top/tools/kill_host.py" "$top/conary" "${1:-300}"
+python3 "$top/tools/kill_host.py" "$top/conary" "${1:-300}"
+exec python3 "$top/tools/kill_commits.py" "$top/crates/conary/out/conary" "${2:-300}"
