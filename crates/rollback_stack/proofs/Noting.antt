@@ -1,0 +1,107 @@
+-- The jobs of a stack, read from the newest down.
+use Rattle.std.proofs.Common.{◌≡◌, ⊎_elim, ℕ, zero, suc, ◌+◌, ◌-◌, ◌<◌, ◌≤◌, List, [], ◌∷◌, ◌++◌, length, map, refl, sym, ◌∙◌, ap, subst, arith, append_assoc, length-append}
+use Rattle.std.proofs.lemmas.List.{append-nil}
+use Rattle.trove_stream.specs.declared.parts.TroveParts.{TroveParts}
+use Rattle.tree_disk.specs.Tree.{Name, Tree}
+use Rattle.system_state.specs.declared.format.Format.{Format}
+use Rattle.system_state.specs.declared.format.Format.TheVariants.{Two}
+use Rattle.system_state.specs.Formats.{AreEnds}
+use Rattle.system_state.specs.Names.{record_file}
+use Rattle.system_state.specs.Record as state
+use Rattle.past_list.specs.Past.{AreChangedIds}
+use Rattle.trove_id.specs.declared.id.TroveId.{TroveId}
+use Rattle.job_records.specs.declared.changes.Change.{Change}
+use Rattle.job_records.specs.Entries as records
+use Rattle.job_records.specs.Reading.{HoldsNoRecord, HoldsRecord, HoldsRecords, IsDamagedRecord}
+use Rattle.job_undo.specs.declared.undo.Note.{Note}
+use Rattle.rollback_stack.specs.Numbers.{job_count}
+use Rattle.rollback_stack.specs.Reading.{AreNotes, IsNote}
+
+-- ---- numbers
+
+pub count_is : (oldest newest : ℕ) → AreEnds oldest newest → (newest ≡ 0 → ⊥) → job_count oldest newest ≡ newest - oldest + 1
+count_is zero newest ends some = ⊎_elim (λ none. absurd (some none.1)) (λ job. absurd (let low = job.0 in omega (arith, low))) ends
+count_is (suc below) newest ends some = ⊎_elim (λ none. absurd (some none.1)) (λ job. let low = job.1 in omega (arith, low)) ends
+
+pub none_of_none : (oldest newest : ℕ) → AreEnds oldest newest → newest ≡ 0 → job_count oldest newest ≡ 0
+none_of_none zero newest ends none = refl
+none_of_none (suc below) newest ends none = omega (arith, none)
+
+-- ---- one record more
+
+records_push : (f : Format) (x : Tree) (number : ℕ) (after middle before : List TroveParts) (good : List (List state.Entry)) (es : List state.Entry)
+    → HoldsRecords f x number after good middle → HoldsRecord f x (number - length good) middle before es → HoldsRecords f x number after (good ++ es ∷ []) before
+records_push f x number after middle before [] es held here =
+    let same : number - 0 ≡ number = omega arith in
+    (before, subst (λ (n : ℕ). HoldsRecord f x n after before es) same (subst (λ (l : List TroveParts). HoldsRecord f x (number - 0) l before es) held here), refl)
+records_push f x number after middle before (ds ∷ good) es held here =
+    let same : number - suc (length good) ≡ (number - 1) - length good = omega arith in
+    (held.0, held.1, records_push f x (number - 1) held.0 middle before good es held.2 (subst (λ (n : ℕ). HoldsRecord f x n middle before es) same here))
+
+-- ---- the jobs so far
+
+-- So many records from the newest down were read, and lead to this list; with notes of the others these notes are those of all.
+pub record AreNotedTo (x : Tree) (newest below : ℕ) (installed list : List TroveParts) (notes : List Note) : Type 0 where
+  pub good : List (List state.Entry)
+  pub long : length good ≡ below
+  pub holds : HoldsRecords Two x newest installed good list
+  pub noted : (count total : ℕ) (rest : List Note) → total ≡ below + count → AreNotes x count (newest - below) list rest → AreNotes x total newest installed (notes ++ rest)
+
+pub none_noted : (x : Tree) (newest : ℕ) (installed list : List TroveParts) (notes : List Note) → list ≡ installed → notes ≡ [] → AreNotedTo x newest 0 installed list notes
+none_noted x newest installed list notes same none = record {
+  good = [];
+  long = refl;
+  holds = same;
+  noted = λ count total rest is are.
+      let counts : count ≡ total = omega (arith, is) in
+      let numbers : newest - 0 ≡ newest = omega arith in
+      subst (λ (l : List Note). AreNotes x total newest installed (l ++ rest)) (sym none)
+      (subst (λ (n : ℕ). AreNotes x n newest installed rest) counts
+      (subst (λ (n : ℕ). AreNotes x count n installed rest) numbers
+      (subst (λ (l : List TroveParts). AreNotes x count (newest - 0) l rest) same are)));
+}
+
+pub one_noted : (x : Tree) (newest below : ℕ) (installed list next : List TroveParts) (notes more : List Note) (es : List state.Entry) (note : Note)
+    → AreNotedTo x newest below installed list notes → HoldsRecord Two x (newest - below) list next es → IsNote list next (newest - below) es note → more ≡ notes ++ note ∷ []
+    → AreNotedTo x newest (below + 1) installed next more
+one_noted x newest below installed list next notes more es note so_far here is pushed = record {
+  good = so_far.good ++ es ∷ [];
+  long = length-append so_far.good (es ∷ []) ∙ ap (λ (n : ℕ). n + 1) so_far.long;
+  holds = records_push Two x newest installed list next so_far.good es so_far.holds
+      (subst (λ (n : ℕ). HoldsRecord Two x (newest - n) list next es) (sym so_far.long) here);
+  noted = λ count total rest sum are.
+      let numbers : newest - (below + 1) ≡ (newest - below) - 1 = omega arith in
+      let all = so_far.noted (suc count) total (note ∷ rest) (omega (arith, sum))
+      (next, es, here, is, subst (λ (n : ℕ). AreNotes x count n next rest) numbers are) in
+      subst (λ (l : List Note). AreNotes x total newest installed l) (sym (append_assoc notes (note ∷ []) rest) ∙ ap (λ (l : List Note). l ++ rest) (sym pushed)) all;
+}
+
+pub all_noted : (x : Tree) (newest below count : ℕ) (installed list : List TroveParts) (notes : List Note) → AreNotedTo x newest below installed list notes → count ≡ below
+    → AreNotes x count newest installed notes
+all_noted x newest below count installed list notes so_far is =
+    subst (λ (l : List Note). AreNotes x count newest installed l) (append-nil notes) (so_far.noted 0 count [] (omega (arith, is)) tt)
+
+pub damaged_next : (x : Tree) (newest below count : ℕ) (installed list : List TroveParts) (notes : List Note) (path : Name) → AreNotedTo x newest below installed list notes → below < count
+    → path ≡ record_file (newest - below) → HoldsNoRecord Two x (newest - below) list → IsDamagedRecord Two x count newest installed path
+damaged_next x newest below count installed list notes path so_far lt is none = record {
+  good = so_far.good;
+  before = list;
+  fewer = let long = so_far.long in omega (arith, long, lt);
+  holds = so_far.holds;
+  none = subst (λ (n : ℕ). HoldsNoRecord Two x (newest - n) list) (sym so_far.long) none;
+  path_is = is ∙ ap (λ (n : ℕ). record_file (newest - n)) (sym so_far.long);
+}
+
+mapped_length : {A B : Type 0} (f : A → B) (xs : List A) → length (map f xs) ≡ length xs
+mapped_length f [] = refl
+mapped_length f (x ∷ xs) = ap suc (mapped_length f xs)
+
+-- what is noted of a job that was read
+pub noted_as : (after before : List TroveParts) (number : ℕ) (was now : List TroveId) (changes : List Change) (note : Note) → AreChangedIds before after was → AreChangedIds after before now
+    → note ≡ record { number = number; before = was; after = now; paths = length changes } → IsNote after before number (records.entries_of changes) note
+noted_as after before number was now changes note was_are now_are is = record {
+  number_is = ap (λ (n : Note). n.number) is;
+  before_is = subst (AreChangedIds before after) (sym (ap (λ (n : Note). n.before) is)) was_are;
+  after_is = subst (AreChangedIds after before) (sym (ap (λ (n : Note). n.after) is)) now_are;
+  paths_are = ap (λ (n : Note). n.paths) is ∙ sym (mapped_length records.entry_of changes);
+}

@@ -1,0 +1,80 @@
+use Rattle.std.proofs.Common.{◌≡◌, ◌-◌, [], List, length, ap, sym, ◌∙◌, subst, arith}
+use Rattle.cny_base.specs.Count.{Rose}
+use Rattle.past_list.specs.Past.{AreChangedIds}
+use Rattle.job_records.specs.Entries as records
+use Rattle.job_records.specs.Reading.{HoldsRecord, IsDamagedJob, IsDamagedRecord}
+use Rattle.job_undo.specs.declared.undo.Note.{Note}
+use Rattle.system_state.specs.declared.format.Format.TheVariants.{Two}
+use Rattle.tree_disk.specs.Moments.{rose_before}
+use Rattle.tree_disk.specs.Tree.{Name, Tree}
+use Rattle.rollback_stack.specs.Numbers.{job_count}
+use Rattle.rollback_stack.specs.Reading.{AreNotes, IsAllStop}
+use Rattle.rollback_stack.proofs.Later.{read_as, read_start, read_then}
+use Rattle.rollback_stack.proofs.NewestJob.{all_read, if_err_from, no_ok}
+use Rattle.rollback_stack.proofs.Noting.{all_noted, count_is, damaged_next, noted_as, one_noted}
+use Rattle.rollback_stack.proofs.stack.all.Goals as goal
+
+pub returns-in_err-job-clause-value : goal.returns-in_err-job-clause-value
+returns-in_err-job-clause-value g c tells =
+    read_as (read_then g.met.D.TreeDisk.laws (c.loop-below.invariant.read tells) (c.in_err-job.ensures.value tells)) (no_ok _ _ c.from_residual-in_err-job.result c.from_residual-in_err-job.ensures.1)
+
+pub returns-in_err-push-clause-value : goal.returns-in_err-push-clause-value
+returns-in_err-push-clause-value g c tells =
+    read_as (read_then g.met.D.TreeDisk.laws (c.loop-below.invariant.read tells) (c.in_ok-job.ensures.value tells)) (no_ok _ _ c.from_residual-in_err-push.result c.from_residual-in_err-push.ensures.1)
+
+pub returns-in_err-job-clause-stops : goal.returns-in_err-job-clause-stops
+returns-in_err-job-clause-stops g c =
+    let told = g.D.TreeDisk.disk.tells in
+    let faults = g.D.TreeDisk.disk.faults in
+    let x = g.D.TreeDisk.disk.reads c.args.disk.now in
+    let db = c.args.db.now in
+    let so_far = c.loop-below.invariant in
+    let below = c.loop-below.below in
+    let list = c.loop-below.list.troves in
+    let number = db.newest - below in
+    let count = job_count db.oldest db.newest in
+    let e = c.in_err-job.field-0.0 in
+    let counts = count_is db.oldest db.newest c.requires.db.ends c.if-db-eq0.false in
+    let rose = Rose (faults c.loop-below.disk) (faults c.read_job.new.disk) in
+    let later = Rose (faults c.args.disk.now) (faults c.read_job.new.disk) in
+    if_err_from (IsAllStop told x count db.newest db.installed later) c.from_residual-in_err-job.result e c.from_residual-in_err-job.ensures.1
+    (all_read told (IsDamagedJob Two (g.D.TreeDisk.disk.reads c.loop-below.disk) number list) rose later x count db.newest db.installed e
+    (λ tells path damaged.
+    let here = subst (λ (t : Tree). IsDamagedJob Two t number list path) (so_far.read tells).same.reads damaged in
+    damaged_next x db.newest below count db.installed list c.loop-below.notes.items path (so_far.noted tells) (omega (arith, counts, c.loop-below-test.true)) here.0 here.1)
+    (λ r. rose_before (faults c.args.disk.now) (faults c.loop-below.disk) (faults c.read_job.new.disk) so_far.later r)
+    c.in_err-job.ensures.stops)
+
+pub loop-below-preserved : goal.loop-below-preserved
+loop-below-preserved g c =
+    let x = g.D.TreeDisk.disk.reads c.args.disk.now in
+    let db = c.args.db.now in
+    let so_far = c.loop-below.invariant in
+    let below = c.loop-below.below in
+    let list = c.loop-below.list.troves in
+    let next = c.read_job.new.list.troves in
+    let job = c.in_ok-job.job in
+    let es = records.entries_of job.changes.items in
+    let is = c.in_ok-job.ensures.job in
+    record {
+      later = omega (arith, so_far.later, c.in_ok-job.ensures.later);
+      read = λ tells. read_as (read_then g.met.D.TreeDisk.laws (so_far.read tells) (c.in_ok-job.ensures.value tells)) tt;
+      format = c.in_ok-job.ensures.format ∙ so_far.format;
+      installed = is.checks.list;
+      noted = λ tells.
+          let here = subst (λ (t : Tree). HoldsRecord Two t (db.newest - below) list next es) (so_far.read tells).same.reads (c.in_ok-job.ensures.value tells).answer in
+          one_noted x db.newest below db.installed list next c.loop-below.notes.items c.push.new.self.items es c.note_of.result (so_far.noted tells) here
+          (noted_as list next (db.newest - below) job.changed.before job.changed.after job.changes.items c.note_of.result is.before_ids is.after_ids c.note_of.ensures)
+          c.in_ok-push.ensures.items;
+    }
+
+pub returns-clause-value : goal.returns-clause-value
+returns-clause-value g c tells =
+    let x = g.D.TreeDisk.disk.reads c.args.disk.now in
+    let db = c.args.db.now in
+    let so_far = c.loop-below.invariant in
+    let counts = count_is db.oldest db.newest c.requires.db.ends c.if-db-eq0.false in
+    let count = job_count db.oldest db.newest in
+    read_as (so_far.read tells) (subst (AreNotes x count db.newest db.installed) (sym c.new-2.ensures)
+    (all_noted x db.newest c.loop-below.below count db.installed c.loop-below.list.troves c.loop-below.notes.items (so_far.noted tells)
+    (omega (arith, counts, c.loop-below-test.false, c.loop-below.auto.below-end))))

@@ -1,0 +1,17 @@
+-- The numbers of jobs.
+use Rattle.std.specs.Prelude.{◌≡◌, ℕ, zero, suc, ◌-◌}
+use Rattle.cny_base.specs.declared.limits.TheConstants.{JOBS_LIMIT}
+use Rattle.cny_base.specs.declared.refusal.Fault.{Fault}
+use Rattle.cny_base.specs.declared.refusal.Fault.TheVariants as fault
+use Rattle.cny_base.specs.declared.refusal.Refusal.TheVariants.{TooLarge}
+use Rattle.cny_base.specs.declared.refusal.What.TheVariants.{Jobs}
+
+-- the newest job has the greatest number, or no memory was left
+abbrev pub IsFullOrMemory : ℕ → Fault → Type 0
+IsFullOrMemory newest fault.Memory = Unit {0}
+IsFullOrMemory newest (fault.Refused why) = (why ≡ TooLarge Jobs JOBS_LIMIT) × (newest ≡ JOBS_LIMIT)
+
+-- so many jobs has a stack with these numbers
+abbrev pub job_count : ℕ → ℕ → ℕ
+job_count zero newest = zero
+job_count (suc below) newest = newest - below

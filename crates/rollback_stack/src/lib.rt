@@ -1,0 +1,16 @@
+//! The rollback stack: for each job the record of how it is taken back, and the contents that it replaced. Jobs are read from the
+//! newest down, and taken back in that order.
+#![tactic(auto)]
+
+mod laws;
+mod numbers;
+mod stack;
+mod troves;
+mod undoing;
+
+pub use job_undo::{Back, Note, Notes, TroveIds, Undo};
+pub use laws::one_record;
+pub use numbers::next_number;
+pub use saved_contents::{Entries, Entry, stashable};
+pub use stack::{all, newest};
+pub use undoing::inverse;
