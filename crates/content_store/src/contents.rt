@@ -2,7 +2,7 @@
 ghost use Rattle.std.specs.Prelude.{◌≡◌, IfErr, IfOk, IfSome};
 ghost use Rattle.sha1.specs.Sha1.{sha1};
 ghost use Rattle.content_store.specs.declared.contents.FarStop.TheVariants as stop;
-ghost use Rattle.content_store.specs.Contents.{empty_contents, empty_searches, AreSearches, ContentMap, ContentsModel, KeepsContents, stop_of_far, StopsFor};
+ghost use Rattle.content_store.specs.Contents.{empty_contents, empty_source, ContentsModel, IsSource, KeepsContents, stop_of_far, StopsFor};
 
 use cny_base::{Bytes, Copies, OutOfMemory, Path, Stop};
 use std::alloc::{AllocError, AllocFailed, Global};
@@ -67,25 +67,27 @@ impl From<FarStop> for Stop {
 /// Contents that are found by their SHA-1.
 ///
 /// What is kept can be known of some alone. So it may tell the map from names to contents, and which paths fail a
-/// cross-check; it counts its faults.
+/// cross-check; it counts its faults. Of each name it says what a search of it may answer, and a damaged content changes no
+/// answer but that of its own name.
 pub trait Contents {
-    /// What it means: its map, which paths fail a cross-check, how often it failed, and what searches lead from one to
-    /// another.
+    /// What it means: its map, what may be answered to a name, which paths fail a cross-check, how often it failed, and what
+    /// searches lead from one to another.
     ghost contents: { ContentsModel Self };
 
     /// The content of a name, and none where there is no content of that name.
     ///
     /// `Failed` comes only where the count of faults rose, and `Damaged` names a path that fails a cross-check, where that
-    /// is told.
+    /// is told, and comes only where no answer to this name may be given.
     fn find(&mut self, alloc: Global, name: &[u8; 20]) -> Result<Option<Bytes>, FarStop>
-        ensures found { (map : ContentMap) → contents.holds self.old map → IfOk result (λ found. found ≡ map name.now) }
+        // Where a map is told that is what the map has.
+        ensures found { IfOk result (contents.answers self.old name.now) }
         // Also where no map is told.
         ensures named { IfOk result (λ found. IfSome found (λ bytes. sha1 bytes ≡ name.now)) }
-        ensures stops { IfErr result (StopsFor contents self.old self.new) }
+        ensures stops { IfErr result (StopsFor contents self.old self.new name.now) }
         ensures keeps { KeepsContents contents self.old self.new };
 
-    /// Searches follow one another.
-    ghost laws: { AreSearches contents };
+    /// Searches follow one another, and the answers are those of each map that is told.
+    ghost laws: { IsSource contents };
 }
 
 /// A source without contents.
@@ -99,5 +101,5 @@ impl Contents for NoContents {
         Ok(None)
     }
 
-    ghost laws = { empty_searches };
+    ghost laws = { empty_source };
 }

@@ -27,7 +27,7 @@ impl Drop for Known {
 }
 
 impl Contents for Known {
-    ghost use Rattle.plan_vectors.specs.Known.{known_contents, known_searches};
+    ghost use Rattle.plan_vectors.specs.Known.{known_contents, known_source};
 
     ghost contents = { known_contents };
 
@@ -38,7 +38,7 @@ impl Contents for Known {
         }
     }
 
-    ghost laws = { known_searches };
+    ghost laws = { known_source };
 }
 
 // The contents, with a semicolon between two; none for a hyphen.

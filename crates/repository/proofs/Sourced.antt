@@ -1,20 +1,30 @@
--- What a search in a repository's contents finds, why it stops, and what it keeps.
-use Rattle.std.proofs.Common.{◌≡◌, ℕ, IsTrue, List, Option, Ok, sym, ◌∙◌, subst}
+-- Why a search in a repository's contents stops.
+use Rattle.std.proofs.Common.{ℕ, List, Option, Result, Err, sym, subst}
+use Rattle.cny_base.specs.declared.stop.Stop.{Stop}
+use Rattle.cny_base.specs.declared.stop.Stop.TheVariants.{Refused, Memory, Failed, Damaged, FarFailed, FarDamaged}
 use Rattle.tree_disk.specs.Disk.{DiskModel}
-use Rattle.content_store.specs.Contents.{ContentMap}
-use Rattle.repo_index.specs.Catalogue.{CatalogueParts}
-use Rattle.repo_state.specs.State.{troves_of}
+use Rattle.content_store.specs.Contents.{StopsFor}
+use Rattle.content_store.specs.declared.contents.FarStop.{FarStop}
+use Rattle.repository.specs.declared.repo_contents.RepoContents.{RepoContents}
 use Rattle.repository.specs.Contents.{FindsContent, IsDamagedContent}
+use Rattle.repository.specs.ContentsLaws.{damaged_lacks}
 use Rattle.repository.specs.Looks.{Looks}
-use Rattle.repository.specs.RepoContents.{HoldsContents}
-use Rattle.repository.proofs.Stored.{same_content}
+use Rattle.repository.specs.RepoContents.{repo_contents, IsFarStop}
 
-module _ {D : Type 0} {disk : DiskModel D} where
-  -- what is found is the content of each state that the disk stores
-  pub search_finds : (d e : D) (catalogue : CatalogueParts) (name : List ℕ) (map : ContentMap) (found : Option (List ℕ)) → IsTrue disk.tells × HoldsContents (disk.reads d) catalogue map
-      → Looks disk (FindsContent catalogue.troves name) (IsDamagedContent catalogue.troves name) d e (Ok found) → found ≡ map name
-  search_finds d e catalogue name map found h looks =
-      let r = h.1.state in
-      let own : FindsContent (troves_of r.commits) name (disk.reads d) found =
-      subst (λ (c : CatalogueParts). FindsContent c.troves name (disk.reads d) found) h.1.catalogue_is (looks.ends h.0) in
-      same_content (disk.reads d) r name found h.1.stores own ∙ sym (h.1.contents name)
+-- a call that stopped
+abbrev stopped : Stop → Result (Option (List ℕ)) Stop
+stopped e = Err e
+
+-- the damage is that of the content of this name, which then has no answer
+pub search_stops : {D : Type 0} {disk : DiskModel D} (old new : RepoContents D) (name : List ℕ) (stop : Stop) (far : FarStop)
+    → Looks disk (FindsContent old.catalogue.now.troves name) (IsDamagedContent old.catalogue.now.troves name) old.disk.now new.disk.now (stopped stop)
+    → IsFarStop stop far → StopsFor (repo_contents disk) old new name far
+search_stops {disk = disk} old new name Failed far looks is = subst (StopsFor (repo_contents disk) old new name) (sym is) looks.ends
+search_stops {disk = disk} old new name (Damaged path) far looks is = subst (StopsFor (repo_contents disk) old new name) (sym is) (λ tells. record {
+  damaged = record { name = name; damaged = looks.ends tells };
+  lacking = λ found answer. damaged_lacks old.catalogue.now.troves name (disk.reads old.disk.now) path (looks.ends tells) found (answer.stands tells);
+})
+search_stops {disk = disk} old new name Memory far looks is = subst (StopsFor (repo_contents disk) old new name) (sym is) tt
+search_stops old new name (Refused refusal) far looks is = absurd is
+search_stops old new name FarFailed far looks is = absurd is
+search_stops old new name (FarDamaged path) far looks is = absurd is

@@ -3,7 +3,7 @@ ghost use Rattle.std.specs.Prelude.{◌≡◌, IsTrue};
 ghost use Rattle.content_store.specs.Contents.{ContentMap};
 ghost use Rattle.repo_state.specs.Files.{HoldsCatalogue, StoresRepository};
 ghost use Rattle.repo_state.specs.State.{RepositoryState};
-ghost use Rattle.repository.specs.RepoContents.{repo_contents, repo_searches, HoldsContents, IsFarStop, IsLookStop};
+ghost use Rattle.repository.specs.RepoContents.{repo_contents, repo_source, HoldsContents, IsFarStop, IsLookStop};
 
 use crate::contents::content;
 use crate::laws::stored_state;
@@ -63,5 +63,5 @@ impl<'a, D: TreeDisk> Contents for RepoContents<'a, D> {
         }
     }
 
-    ghost laws = { repo_searches D.laws };
+    ghost laws = { repo_source D.laws };
 }

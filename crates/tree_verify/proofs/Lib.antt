@@ -1,2 +1,4 @@
+mod Added
+mod Answered
 mod Listed
 mod SearchLaws

@@ -6,7 +6,8 @@ ghost use Rattle.tree_disk.specs.Rows.{bytes_at, is_file_at};
 ghost use Rattle.tree_scan.specs.Marks.{fingerprint_at};
 ghost use Rattle.tree_verify.specs.Search.{no_refusal, Searches};
 ghost use Rattle.tree_verify.specs.Verify as spec;
-ghost use Rattle.tree_verify.specs.Verify.{change_at, changed_file, finding_of, of_size};
+ghost use Rattle.tree_verify.specs.Verify.{finding_of, IsChangeAt, IsChangedFile, IsFoundAt, LacksAt, LacksContent};
+ghost use Rattle.content_store.specs.Contents.{LacksAnswer};
 
 use cny_base::{Copies, OutOfMemory, Path, Stop};
 use content_store::Contents;
@@ -37,7 +38,7 @@ fn find_change<T: TreeDisk, C: Contents>(
     name: &[u8; 20],
 ) -> Result<Found, Stop>
     requires { IsTrue T.disk.tells → IsTrue (is_file_at (T.disk.reads root.old) path.now) }
-    ensures { Searches T.disk C.contents (λ map tree found. found ≡ changed_file (bytes_at tree path.now) (of_size size (map name.now))) no_refusal
+    ensures { Searches T.disk C.contents (λ answers tree found. IsChangedFile answers (bytes_at tree path.now) size name.now found) no_refusal (λ answers tree. LacksAnswer answers name.now)
         root.old root.new far.old far.new result }
 {
     let Some(bytes) = far.find(alloc, name)? else {
@@ -59,7 +60,7 @@ fn change_found<T: TreeDisk, C: Contents>(
     mark: &Mark,
 ) -> Result<Found, Stop>
     requires { IsTrue T.disk.tells → fingerprint_at (T.disk.reads root.old) file.now.path ≡ mark.now }
-    ensures { Searches T.disk C.contents (λ map tree found. found ≡ change_at map tree file.now.path mark.now file.now.rec) no_refusal
+    ensures { Searches T.disk C.contents (λ answers tree found. IsChangeAt answers tree file.now.path mark.now file.now.rec found) no_refusal (λ answers tree. LacksContent answers mark.now file.now.rec)
         root.old root.new far.old far.new result }
 {
     match (mark, &file.rec) {
@@ -77,7 +78,7 @@ pub(crate) fn found_at<T: TreeDisk, C: Contents>(
     far: &mut C,
     file: &FileAt,
 ) -> Result<Option<Found>, Stop>
-    ensures { Searches T.disk C.contents (λ map tree found. found ≡ spec.found_at map tree file.now.path file.now.rec) no_refusal
+    ensures { Searches T.disk C.contents (λ answers tree found. IsFoundAt answers tree file.now.path file.now.rec found) no_refusal (λ answers tree. LacksAt answers tree file.now.path file.now.rec)
         root.old root.new far.old far.new result }
 {
     let mark = mark_at(alloc, root, &file.path)?;

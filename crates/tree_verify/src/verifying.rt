@@ -1,8 +1,9 @@
 //! Trees compared with what troves record.
-ghost use Rattle.std.specs.Prelude.{◌≡◌, ◌++◌, ◌∷◌, [], OnOk, IfOk, min, length, ◌^◌, ◌-◌};
+ghost use Rattle.std.specs.Prelude.{◌≡◌, ◌∷◌, [], OnOk, IfOk, IsTrue, min, length, ◌^◌, ◌-◌};
+ghost use Rattle.content_store.specs.Contents.{ContentMap};
 ghost use Rattle.update_job.specs.Lists.{AreInstalled, IsNotInstalled};
 ghost use Rattle.tree_verify.specs.Search.{no_refusal, Searches};
-ghost use Rattle.tree_verify.specs.Verify.{asked, findings, records, verified};
+ghost use Rattle.tree_verify.specs.Verify.{asked, records, verified, AreAdded, IsVerified, LacksOne};
 
 use crate::asked::{check_names, count_paths, is_asked};
 use crate::finding::{found_at, push_found};
@@ -23,7 +24,8 @@ fn verify_file<T: TreeDisk, C: Contents>(
     file: &FileAt,
     lines: &mut Vec<Finding>,
 ) -> Result<(), Stop>
-    ensures { Searches T.disk C.contents (λ map tree done. lines.new.items ≡ lines.old.items ++ findings map tree (file.now ∷ [])) no_refusal
+    ensures { Searches T.disk C.contents (λ answers tree done. AreAdded answers tree (file.now ∷ []) lines.old.items lines.new.items) no_refusal
+        (λ answers tree. LacksOne answers tree (file.now ∷ []))
         root.old root.new far.old far.new result }
 {
     let found = found_at(alloc, root, far, file)?;
@@ -39,7 +41,8 @@ fn verify_files<T: TreeDisk, C: Contents>(
     files: &[FileAt],
     lines: &mut Vec<Finding>,
 ) -> Result<(), Stop>
-    ensures { Searches T.disk C.contents (λ map tree done. lines.new.items ≡ lines.old.items ++ findings map tree files.now) no_refusal
+    ensures { Searches T.disk C.contents (λ answers tree done. AreAdded answers tree files.now lines.old.items lines.new.items) no_refusal
+        (λ answers tree. LacksOne answers tree files.now)
         root.old root.new far.old far.new result }
 {
     let mut rest = files;
@@ -59,7 +62,8 @@ fn verify_trove<T: TreeDisk, C: Contents>(
     names: &[Name],
     lines: &mut Vec<Finding>,
 ) -> Result<(), Stop>
-    ensures { Searches T.disk C.contents (λ map tree done. lines.new.items ≡ lines.old.items ++ findings map tree (records (asked names.now (trove.now ∷ [])))) no_refusal
+    ensures { Searches T.disk C.contents (λ answers tree done. AreAdded answers tree (records (asked names.now (trove.now ∷ []))) lines.old.items lines.new.items) no_refusal
+        (λ answers tree. LacksOne answers tree (records (asked names.now (trove.now ∷ []))))
         root.old root.new far.old far.new result }
 {
     if is_asked(names, trove) {
@@ -77,7 +81,8 @@ fn verify_troves<T: TreeDisk, C: Contents>(
     names: &[Name],
     lines: &mut Vec<Finding>,
 ) -> Result<(), Stop>
-    ensures { Searches T.disk C.contents (λ map tree done. lines.new.items ≡ lines.old.items ++ findings map tree (records (asked names.now troves.now))) no_refusal
+    ensures { Searches T.disk C.contents (λ answers tree done. AreAdded answers tree (records (asked names.now troves.now)) lines.old.items lines.new.items) no_refusal
+        (λ answers tree. LacksOne answers tree (records (asked names.now troves.now)))
         root.old root.new far.old far.new result }
 {
     let mut rest = troves;
@@ -96,7 +101,8 @@ fn verify_troves<T: TreeDisk, C: Contents>(
 ///
 /// `NotInstalled` exactly where one of the names isn't installed, with the first such name; of the refusals no other comes.
 /// `Failed` comes only where the root's count of faults rose, `FarFailed` only where that of the contents did, and `FarDamaged`
-/// names a path that fails a cross-check of the contents. Nothing is changed, however it ends.
+/// names a path that fails a cross-check of the contents, and comes only where a content that is searched has no answer: a damaged
+/// content that isn't searched changes nothing. Nothing is changed, however it ends.
 pub fn verify<T: TreeDisk, C: Contents>(
     alloc: Global,
     root: &mut T,
@@ -104,8 +110,11 @@ pub fn verify<T: TreeDisk, C: Contents>(
     names: &[Name],
     far: &mut C,
 ) -> Result<Verified, Stop>
-    ensures verified { Searches T.disk C.contents (λ map tree found. found ≡ verified map tree (asked names.now installed.now))
-        (IsNotInstalled installed.now names.now) root.old root.new far.old far.new result }
+    ensures verified { Searches T.disk C.contents (λ answers tree found. IsVerified answers tree (asked names.now installed.now) found)
+        (IsNotInstalled installed.now names.now) (λ answers tree. LacksOne answers tree (records (asked names.now installed.now)))
+        root.old root.new far.old far.new result }
+    ensures mapped { (map : ContentMap) → IsTrue T.disk.tells → C.contents.holds far.old map
+        → IfOk result (λ found. found ≡ verified map (T.disk.reads root.old) (asked names.now installed.now)) }
     // On every disk.
     ensures installed { OnOk result (AreInstalled installed.now names.now) }
     ensures paths { IfOk result (λ found. found.paths ≡ min (length (records (asked names.now installed.now))) (2 ^ 64 - 1)) }

@@ -1,4 +1,5 @@
-use Rattle.repository.proofs.Stored.{no_damaged_commit, same_content, no_damaged_content}
+use Rattle.repository.proofs.Stored.{no_damaged_commit, no_damaged_content}
+use Rattle.repository.specs.ContentsLaws.{same_content}
 use Rattle.repository.proofs.laws.stored_state.Goals as goal
 
 pub returns-clause-commits : goal.returns-clause-commits
