@@ -83,7 +83,7 @@ recorded_entry path [] (c ∷ cs) = refl
 recorded_entry path (o ∷ os) f = ap (λ r. record { path = path; old = Some o.1; fresh = r }) (fresh_record f)
 
 module _ {old fresh : List TroveParts} {es : List At} (entries : AreEntries old fresh es) where
-  found_entry : (path : Name) (r : Recorded) → found_at es path ≡ Some r → entry_of (path, r) ≡ record { path = path; old = record_at old path; fresh = record_at fresh path }
+  pub found_entry : (path : Name) (r : Recorded) → found_at es path ≡ Some r → entry_of (path, r) ≡ record { path = path; old = record_at old path; fresh = record_at fresh path }
   found_entry path r found = ap (entry_by path) (sym found ∙ entries.found path) ∙ recorded_entry path (claims old path) (claims fresh path)
 
   none_entry : (path : Name) → found_at es path ≡ None → entry_by path None ≡ record { path = path; old = record_at old path; fresh = record_at fresh path }

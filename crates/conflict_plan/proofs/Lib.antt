@@ -11,4 +11,5 @@ pub mod Ending
 pub mod Above
 pub mod Sighted
 pub mod Whole
+pub mod Picking
 pub mod OnePlan

@@ -4,6 +4,7 @@ pub mod Plan
 pub mod Records
 pub mod Entries
 pub mod Drafts
+pub mod Picked
 pub mod Making
 pub mod Settled
 pub mod Orphans

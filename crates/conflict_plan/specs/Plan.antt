@@ -1,5 +1,5 @@
 -- Plans: which paths a job changes, and why it is refused.
-use Rattle.std.specs.Prelude.{◌≡◌, ℕ, ◌≤◌, Bool, true, false, if◌then◌else◌, IsTrue, List, [], ◌∷◌, Option, Some, None, Result, Ok, Err}
+use Rattle.std.specs.Prelude.{◌≡◌, ◌⊎◌, ℕ, ◌≤◌, Bool, true, false, ◌||◌, if◌then◌else◌, IsTrue, List, [], ◌∷◌, Option, Some, None, is_some, Result, Ok, Err, All}
 use Rattle.std.specs.Cmp.Lexicographic.{slice_cmp}
 use Rattle.std.specs.Ordering.{nat_cmp}
 use Rattle.std.specs.List.Sorted.{IsStrictlySortedBy}
@@ -7,6 +7,7 @@ use Rattle.std.specs.declared.cmp.Ordering.{Ordering}
 use Rattle.std.specs.declared.cmp.Ordering.TheVariants.{Less}
 use Rattle.cny_base.specs.Count.{Rose}
 use Rattle.cny_base.specs.Path.{parent, root}
+use Rattle.cny_base.specs.Reserved.{is_pinned}
 use Rattle.cny_base.specs.declared.options.Options.{Options}
 use Rattle.cny_base.specs.declared.refusal.Refusal.{Refusal}
 use Rattle.cny_base.specs.declared.refusal.Refusal.TheVariants as refusal
@@ -177,6 +178,17 @@ TellsShared fresh (Err Memory) = Unit {0}
 TellsShared fresh (Err (Damaged path)) = ⊥
 TellsShared fresh (Err FarFailed) = ⊥
 TellsShared fresh (Err (FarDamaged path)) = ⊥
+
+-- One of the lists records the path, which isn't pinned, and its target is nothing or what the new list records.
+pub record IsPlannable (old fresh : List TroveParts) (x : Planned) : Type 0 where
+  pub not_pinned : is_pinned x.path ≡ false
+  pub recorded : (is_some (record_at old x.path) || is_some (record_at fresh x.path)) ≡ true
+  pub target : (x.want ≡ None) ⊎ (x.want ≡ record_at fresh x.path)
+
+-- Paths that rise, and that these lists may change.
+pub record ArePlannable (old fresh : List TroveParts) (plan : List Planned) : Type 0 where
+  pub rising : IsStrictlySortedBy planned_cmp plan
+  pub each : All (IsPlannable old fresh) plan
 
 -- the refusals of planning
 abbrev pub IsPlanRefusal : Refusal → Type 0

@@ -1,9 +1,10 @@
 //! What becomes of each path, but that a directory which is recorded no more may still stay.
-ghost use Rattle.std.specs.Prelude.{◌≡◌, IfErr, IfOk};
+ghost use Rattle.std.specs.Prelude.{◌≡◌, IfErr, IfOk, map};
 ghost use Rattle.cny_base.specs.declared.refusal.Refusal.TheVariants as refusal;
 ghost use Rattle.tree_disk.specs.Steps.{Tests};
 ghost use Rattle.conflict_plan.specs.Drafts as spec;
 ghost use Rattle.conflict_plan.specs.Drafts.{draft_by, draft_of, drafts_of, Decided, RefusesAtMost};
+ghost use Rattle.conflict_plan.specs.Picked.{planned_of, ArePicked, IsPickedDraft};
 
 use crate::entries::Entry;
 use crate::planned::Planned;
@@ -91,6 +92,7 @@ fn draft_of<D: TreeDisk>(
     ensures tests { Tests D.disk (λ draft. draft)
         (λ tree. draft_of options.now tree entry)
         disk.old disk.new result }
+    ensures picked { IfOk result (IsPickedDraft entry) }
     ensures stops { IfErr result RefusesAtMost }
 {
     if is_settled(&entry) {
@@ -110,6 +112,7 @@ pub fn drafts_of<D: TreeDisk>(
     ensures tests { Tests D.disk (λ drafts. drafts.items)
         (λ tree. drafts_of options.now tree entries.items)
         disk.old disk.new result }
+    ensures picked { IfOk result (λ drafts. ArePicked entries.items (map planned_of drafts.items)) }
     ensures stops { IfErr result RefusesAtMost }
 {
     let mut drafts = Vec::new(alloc);

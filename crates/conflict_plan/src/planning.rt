@@ -1,7 +1,7 @@
 //! The plan of a job.
 ghost use Rattle.std.specs.Prelude.{◌≡◌, IfErr, IfOk};
 ghost use Rattle.cny_base.specs.declared.refusal.Refusal.TheVariants as refusal;
-ghost use Rattle.conflict_plan.specs.Plan.{IsPlan, IsFirstRefusal, IsPlanStop, Plans, TellsShared};
+ghost use Rattle.conflict_plan.specs.Plan.{ArePlannable, IsPlan, IsFirstRefusal, IsPlanStop, Plans, TellsShared};
 
 use crate::drafting::drafts_of;
 use crate::entries::entries_of;
@@ -44,6 +44,7 @@ pub fn plan<D: TreeDisk>(
         disk.old disk.new result }
     // On every disk, also where it tells nothing.
     ensures owned { TellsShared fresh.now result }
+    ensures plannable { IfOk result (ArePlannable old.now fresh.now) }
     ensures stops { IfErr result IsPlanStop }
 {
     let records = records_of(alloc, old, fresh)?;

@@ -1,11 +1,12 @@
 //! Which directories that are recorded no more go, from the deepest path up.
-ghost use Rattle.std.specs.Prelude.{◌≡◌, not, IsTrue, IfErr, IfOk, Ok, All};
+ghost use Rattle.std.specs.Prelude.{◌≡◌, ◌⊎◌, ◌∷◌, not, IsTrue, IfErr, IfOk, Ok, All};
 ghost use Rattle.std.specs.List.{list_any};
 ghost use Rattle.cny_base.specs.Path.{is_path, join};
 ghost use Rattle.tree_disk.specs.Disk.{NamesOf};
 ghost use Rattle.tree_disk.specs.Rows.{is_dir_at};
 ghost use Rattle.tree_disk.specs.Steps.{IsDiskStop, Tests};
 ghost use Rattle.conflict_plan.specs.Making as making;
+ghost use Rattle.conflict_plan.specs.Picked.{AreKept};
 ghost use Rattle.conflict_plan.specs.Settled.{settled, with_settled, IsSeen};
 
 use crate::drafting::Draft;
@@ -74,6 +75,7 @@ fn settle<D: TreeDisk>(alloc: Global, disk: &mut D, plan: Plan, draft: Draft) ->
     ensures tests { Tests D.disk (λ plan. plan)
         (λ tree. Ok (with_settled tree draft plan))
         disk.old disk.new result }
+    ensures kept { IfOk result (λ made. (made ≡ plan) ⊎ (made ≡ draft.planned ∷ plan)) }
     ensures stops { IfErr result IsDiskStop }
 {
     let Draft { planned, if_empty } = draft;
@@ -93,6 +95,7 @@ pub fn settle_all<D: TreeDisk>(
     ensures tests { Tests D.disk (λ plan. plan)
         (λ tree. Ok (settled tree drafts.items))
         disk.old disk.new result }
+    ensures kept { IfOk result (AreKept drafts.items) }
     ensures stops { IfErr result IsDiskStop }
 {
     let mut plan = Plan::new(alloc);

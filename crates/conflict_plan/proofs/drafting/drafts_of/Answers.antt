@@ -1,11 +1,13 @@
-use Rattle.std.proofs.Common.{◌+◌, ℕ, Ok, drop, length, refl, sym, ap, ◌∙◌}
+use Rattle.std.proofs.Common.{◌+◌, ℕ, Ok, drop, length, refl, sym, ap, ◌∙◌, subst}
 use Rattle.std.proofs.lemmas.Iterator.Adapters.{YieldsList-from_vec}
 use Rattle.std.proofs.lemmas.Iterator.Consumers.{YieldsList-turn}
 use Rattle.std.proofs.lemmas.List.{length_push}
 use Rattle.tree_disk.specs.StepLaws.{tests_answer, tests_stop}
 use Rattle.conflict_plan.specs.Drafts.{drafts_of}
+use Rattle.conflict_plan.specs.Picked.{IsPickedDraft}
 use Rattle.conflict_plan.proofs.Ahead.{ahead_of, one_ahead, other_ahead, refused_ahead}
 use Rattle.tree_scan.specs.Following.{tests_next}
+use Rattle.conflict_plan.proofs.Picking.{picks_none, picks_one, PicksOn}
 use Rattle.conflict_plan.proofs.drafting.drafts_of.Goals as goal
 
 pub returns-in_err-draft-clause-tests : goal.returns-in_err-draft-clause-tests
@@ -31,6 +33,10 @@ loop-entry-preserved-in-Continue-branch-3 g c =
           ∙ one_ahead c.args.options.now tree c.args.entries.items (length c.loop-entry.yielded) item turn.0 turn.1 c.loop-entry.drafts.items c.in-Some-2.draft (run.found tells ∙ ap Ok c.in-Some-2.is)
           ∙ ap (λ l. ahead_of l (drafts_of c.args.options.now tree (drop (length c.loop-entry.yielded + 1) c.args.entries.items))) (sym c.in_ok-push.ensures.items)
           ∙ ap (λ (k : ℕ). ahead_of c.push.new.self.items (drafts_of c.args.options.now tree (drop k c.args.entries.items))) (sym (length_push c.loop-entry.yielded item));
+      picks = subst (λ (k : ℕ). PicksOn c.args.entries.items k c.push.new.self.items) (sym (length_push c.loop-entry.yielded item))
+          (subst (PicksOn c.args.entries.items (length c.loop-entry.yielded + 1)) (sym c.in_ok-push.ensures.items)
+          (picks_one c.args.entries.items (length c.loop-entry.yielded) item turn.0 turn.1 c.loop-entry.drafts.items c.in-Some-2.draft
+          (subst (IsPickedDraft item) c.in-Some-2.is c.in_ok-draft.ensures.picked) c.loop-entry.invariant.picks));
     }
 
 pub loop-entry-preserved : goal.loop-entry-preserved
@@ -45,4 +51,6 @@ loop-entry-preserved g c =
       ahead = λ tells. c.loop-entry.invariant.ahead tells
           ∙ other_ahead c.args.options.now tree c.args.entries.items (length c.loop-entry.yielded) item turn.0 turn.1 c.loop-entry.drafts.items (run.found tells ∙ ap Ok c.in_default.is)
           ∙ ap (λ (k : ℕ). ahead_of c.loop-entry.drafts.items (drafts_of c.args.options.now tree (drop k c.args.entries.items))) (sym (length_push c.loop-entry.yielded item));
+      picks = subst (λ (k : ℕ). PicksOn c.args.entries.items k c.loop-entry.drafts.items) (sym (length_push c.loop-entry.yielded item))
+          (picks_none c.args.entries.items (length c.loop-entry.yielded) item turn.0 turn.1 c.loop-entry.drafts.items c.loop-entry.invariant.picks);
     }

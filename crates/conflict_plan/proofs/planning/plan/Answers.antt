@@ -10,6 +10,8 @@ use Rattle.conflict_plan.proofs.Assembled.{first_owned, to_found, unshared}
 use Rattle.conflict_plan.proofs.Ending.{disk_passed, disk_told, memory_passed, memory_told, plans_found, plans_memory, plans_refused, plans_shared, plans_stop, shared_passed, shared_told, table_passed, table_told}
 use Rattle.tree_scan.specs.Following.{tests_next}
 use Rattle.conflict_plan.proofs.Whole.{all_drafts_seen, all_planned_seen, ends_conflict, ends_orphan, ends_plan, entries_are, found_are}
+use Rattle.conflict_plan.proofs.Picking.{are_plannable}
+use Rattle.conflict_plan.specs.Plan.{ArePlannable}
 use Rattle.conflict_plan.proofs.planning.plan.Goals as goal
 
 pub returns-in_err-records-clause-plans : goal.returns-in_err-records-clause-plans
@@ -168,3 +170,11 @@ returns-in-None-clause-owned g c =
     let es = c.in_ok-records.records.entries in
     let entries = entries_are c.args.old.now c.args.fresh.now es made c.in_ok-entries.ensures.ordered c.in_ok-entries.ensures.entries c.in_ok-entries.ensures.paths c.in_ok-records.ensures in
     unshared (to_found c.args.old.now c.args.fresh.now es entries) c.in_ok-entries.ensures.none
+
+pub returns-in-None-clause-plannable : goal.returns-in-None-clause-plannable
+returns-in-None-clause-plannable g c =
+    let made = c.in_ok-entries.entries.items in
+    let es = c.in_ok-records.records.entries in
+    let entries = entries_are c.args.old.now c.args.fresh.now es made c.in_ok-entries.ensures.ordered c.in_ok-entries.ensures.entries c.in_ok-entries.ensures.paths c.in_ok-records.ensures in
+    subst (ArePlannable c.args.old.now c.args.fresh.now) (sym c.into_list.ensures)
+    (are_plannable c.args.old.now c.args.fresh.now es entries made c.in_ok-drafts.drafts.items c.in_ok-plan.plan c.in_ok-entries.ensures.entries c.in_ok-drafts.ensures.picked c.in_ok-plan.ensures.kept)

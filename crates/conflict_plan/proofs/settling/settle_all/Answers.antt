@@ -4,6 +4,7 @@ use Rattle.tree_disk.specs.StepLaws.{tests_answer, tests_value}
 use Rattle.conflict_plan.specs.Settled.{settled_on, IsSeen}
 use Rattle.tree_scan.specs.Following.{tests_next}
 use Rattle.conflict_plan.proofs.Sighted.{settled_push}
+use Rattle.conflict_plan.proofs.Picking.{keeps_one}
 use Rattle.conflict_plan.proofs.settling.settle_all.Goals as goal
 
 pub drafts-preserved : goal.drafts-preserved
@@ -16,4 +17,5 @@ drafts-preserved g c =
           ∙ settled_push tree c.pop.new.self.items c.in-Some.draft c.drafts.plan
           ∙ ap (settled_on tree c.pop.new.self.items) (sym (tests_value run tells));
       seen = λ tells. (All-pop (IsSeen tree) c.drafts.drafts.items c.pop.new.self.items (Some c.in-Some.draft) c.in-Some.ensures.items (c.drafts.invariant.seen tells)).0;
+      keeps = keeps_one c.args.drafts.items c.drafts.drafts.items c.pop.new.self.items c.in-Some.draft c.drafts.plan c.in_ok-next.next c.in-Some.ensures.items c.in_ok-next.ensures.kept c.drafts.invariant.keeps;
     }
