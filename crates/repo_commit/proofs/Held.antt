@@ -14,7 +14,7 @@ use Rattle.repo_index.specs.Catalogue.{has_content}
 use Rattle.repo_state.specs.Files.{contents_dir, StoresRepository}
 use Rattle.repo_state.specs.State.{records_content, troves_of, RepositoryState}
 use Rattle.repo_state.proofs.CountedNames.{recorded_is_named}
-use Rattle.repository.proofs.Stored.{named_is_recorded}
+use Rattle.repository.specs.ContentsLaws.{named_is_recorded}
 use Rattle.repository.specs.Contents.{FindsContent, IsDamagedContent, IsRecorded}
 use Rattle.repo_commit.specs.Outcome.{committed_contents, if_recorded, is_recorded}
 use Rattle.repo_commit.specs.Tests.{collides, collision_at}

@@ -1,6 +1,6 @@
 -- Contents that are put one after another, and what else is prepared.
 use Rattle.std.proofs.Common.{◌≡◌, ℕ, zero, suc, ◌+◌, ◌<◌, ◌≤◌, true, List, [], ◌∷◌, length, take, get_or, All, Ok, refl, sym, ◌∙◌, ap, subst, arith}
-use Rattle.std.proofs.lemmas.List.Elements.{All-from_get_or, All-get_or, All-more}
+use Rattle.std.proofs.lemmas.List.Elements.{All-contains, All-from_get_or, All-get_or, All-more}
 use Rattle.std.specs.List.{AllByRecursion}
 use Rattle.std.specs.List.Sorted.{IsStrictlySortedBy}
 use Rattle.std.specs.declared.cmp.Ordering.TheVariants.{Less}
@@ -18,7 +18,7 @@ use Rattle.repo_state.specs.Counts.{IsUnnamedContent}
 use Rattle.repo_state.specs.Files.{contents_dir}
 use Rattle.repo_state.proofs.CountedNames.{content_apart}
 use Rattle.repo_state.proofs.Digests.{digest_is_name}
-use Rattle.repo_commit.specs.Preparing.{AreStored, IsPutName, IsStored, Prepares}
+use Rattle.repo_commit.specs.Preparing.{AreStored, IsCarriedName, IsPutName, IsStored, Prepares}
 use Rattle.repo_commit.proofs.Placing.{dir_not_within}
 use Rattle.repo_commit.proofs.Sources.{not_before}
 
@@ -48,7 +48,7 @@ earlier_name (c ∷ cs) j zero d rises before lt same = absurd (omega arith)
 earlier_name (c ∷ cs) zero (suc i) d rises before lt same = not_before c.name (get_or cs i d).name same (rec_at (λ (e : Carried). content_cmp c e ≡ Less) cs i d rises.0 (omega arith))
 earlier_name (c ∷ cs) (suc j) (suc i) d rises before lt same = earlier_name cs j i d rises.1 (omega arith) (omega arith) same
 
-is_name : (content : Carried) → content.name ≡ sha1 content.bytes → IsContentName content.name
+pub is_name : (content : Carried) → content.name ≡ sha1 content.bytes → IsContentName content.name
 is_name content hash = subst IsContentName (sym hash) (digest_is_name content.bytes)
 
 -- what was stored stays where another content is put
@@ -88,9 +88,21 @@ stored_more c cs i content old new hash rises lt is agrees was now =
         taken_at (x ∷ cs) (suc i) zero d lt = refl
         taken_at (x ∷ cs) (suc i) (suc j) d lt = taken_at cs i j d (omega arith)
 
+-- the file of a content is one of a carried content
+pub put_is_carried : (c : CatalogueParts) (cs : List Carried) (i : ℕ) (content : Carried) → i < length cs → content ≡ get_or cs i content → (q : Name) → IsPutName c content q → IsCarriedName c cs q
+put_is_carried c cs i content lt is q put = record { content = content; among = (i, lt, sym is); put = put }
+
+-- and that of a content that no trove names
+pub carried_is_unnamed : (c : CatalogueParts) (cs : List Carried) → All (λ (one : Carried). one.name ≡ sha1 one.bytes) cs → (q : Name) → IsCarriedName c cs q → IsUnnamedContent c q
+carried_is_unnamed c cs hash q is = put_is_unnamed c is.content (All-contains (λ (one : Carried). one.name ≡ sha1 one.bytes) cs is.content hash is.among) q is.put
+
 -- the directory stays where contents are put
-pub dir_kept : (c : CatalogueParts) (old new : Tree) → AgreesExcept (IsUnnamedContent c) new old → is_dir_at old contents_dir ≡ true → is_dir_at new contents_dir ≡ true
+dir_kept : (c : CatalogueParts) (old new : Tree) → AgreesExcept (IsUnnamedContent c) new old → is_dir_at old contents_dir ≡ true → is_dir_at new contents_dir ≡ true
 dir_kept c old new agrees dir = ap is_dir (agrees contents_dir (λ is. absurd (cc (is.within, dir_not_within is.name)))) ∙ dir
+
+pub carried_dir_kept : (c : CatalogueParts) (cs : List Carried) → All (λ (one : Carried). one.name ≡ sha1 one.bytes) cs → (old new : Tree) → AgreesExcept (IsCarriedName c cs) new old → is_dir_at old contents_dir ≡ true
+    → is_dir_at new contents_dir ≡ true
+carried_dir_kept c cs hash old new agrees dir = dir_kept c old new (λ q out. agrees q (λ is. out (carried_is_unnamed c cs hash q is))) dir
 
 pub hash_at : (cs : List Carried) (i : ℕ) (content : Carried) → i < length cs → content ≡ get_or cs i content → All (λ (one : Carried). one.name ≡ sha1 one.bytes) cs → content.name ≡ sha1 content.bytes
 hash_at cs i content lt is all = subst (λ (one : Carried). one.name ≡ sha1 one.bytes) (sym is) (All-get_or (λ (one : Carried). one.name ≡ sha1 one.bytes) cs i content lt all)

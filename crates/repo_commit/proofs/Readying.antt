@@ -61,7 +61,7 @@ base_not_behind n = ⊎_elim (λ within. absurd (never within)) (λ none. none) 
         (λ low. let r = below_rest (commit_file n) repository_base low in let one : 0 ≡ 47 = ap (λ (q : Name). get_or q 11 0) r.1 in omega (arith, one))
         (or_cases (same_name repository_base (commit_file n)) (is_below (commit_file n) repository_base) within)
 
-content_not_behind : (n : ℕ) (name : List ℕ) → is_within (commit_file n) (content_path contents_dir name) ≡ false
+pub content_not_behind : (n : ℕ) (name : List ℕ) → is_within (commit_file n) (content_path contents_dir name) ≡ false
 content_not_behind n name = ⊎_elim (λ within. absurd (never within)) (λ none. none) (cases_Bool (is_within (commit_file n) (content_path contents_dir name)))
   where
     never : is_within (commit_file n) (content_path contents_dir name) ≡ true → ⊥

@@ -15,7 +15,7 @@ use Rattle.repo_state.specs.Steps.{catalogue_with, with_commit, IsCommitReady, K
 use Rattle.repo_state.proofs.Committing.{commit_after}
 use Rattle.repo_state.proofs.CountedNames.{prepared_commits, prepared_state}
 use Rattle.repo_state.proofs.HeldCatalogues.{held_after, same_catalogue, same_state}
-use Rattle.repository.proofs.Stored.{named_is_recorded}
+use Rattle.repository.specs.ContentsLaws.{named_is_recorded}
 use Rattle.repo_commit.specs.Preparing.{file_mode, with_file, IsReadied, IsStored, IsWritten}
 use Rattle.repo_commit.specs.Steps.{after_commit, carried, or_carried, with_contents}
 use Rattle.repo_commit.specs.Tests.{Passes}

@@ -19,10 +19,10 @@ use Rattle.repo_index.specs.Catalogue.{CatalogueParts}
 use Rattle.repo_state.specs.Counts.{IsPreparedName}
 use Rattle.repo_state.specs.Files.{repository_base, FitsTrove}
 use Rattle.repo_commit.specs.Outcome.{IsAtRest}
-use Rattle.repo_commit.specs.Preparing.{IsReady, IsWritten, Prepares, StopsBefore, Writes}
+use Rattle.repo_commit.specs.Preparing.{IsReady, IsWritten, IsWrittenName, Prepares, StopsBefore, Writes}
 use Rattle.repo_commit.proofs.Applied.{all_moments, before_image, done_reads, done_tree, mid_reads, puts_of, stopped_reads}
 use Rattle.repo_commit.proofs.Preparations.{stopped_ends}
-use Rattle.repo_commit.proofs.Within.{prepared_within, written_within}
+use Rattle.repo_commit.proofs.Within.{applied_written, prepared_within, written_within}
 
 abbrev failing : Stop → Result (Unit {0}) Stop
 failing e = Err e
@@ -33,9 +33,9 @@ on_err P (Err s) e is = tt
 
 module _ {D : Type 0} {disk : DiskModel D} (laws : IsDisk disk) (c : CatalogueParts) (contents : List Carried) (troves : List TroveParts) (few : c.commits < COMMITS_LIMIT) where
   -- what was prepared, and a stop passed on by `?`
-  pub writes_stopped : {old mid : D} (e : Stop) (r : Result (Unit {0}) Stop) → (IsTrue disk.tells → IsAtRest disk c old) → disk.faults old ≤ disk.faults mid → (IsTrue disk.tells → Confined disk (IsPreparedName c) old mid)
+  pub writes_stopped : {old mid : D} (e : Stop) (r : Result (Unit {0}) Stop) → (IsTrue disk.tells → IsAtRest disk c old) → disk.faults old ≤ disk.faults mid → (IsTrue disk.tells → Confined disk (IsPreparedName c) old mid) → (IsTrue disk.tells → Confined disk (IsWrittenName c contents) old mid)
       → StopsBefore disk.tells (disk.faults old) (disk.faults mid) e → IsErrAnd r (λ s. s ≡ e) → Writes disk c contents troves old mid r
-  writes_stopped {old = old} {mid = mid} e r rests later confined stops is = record {
+  writes_stopped {old = old} {mid = mid} e r rests later confined only stops is = record {
     later = later;
     ends = stopped_ends disk.tells (IsWritten c contents troves (disk.reads old) (disk.reads mid)) (disk.faults old) (disk.faults mid) e r is stops;
     flag_clear = λ tells. on_err (is_committed repository_base (disk.reads mid) ≡ false) r e is;
@@ -43,20 +43,21 @@ module _ {D : Type 0} {disk : DiskModel D} (laws : IsDisk disk) (c : CataloguePa
     any_moment = λ tells. leaves_weaker (before_image laws c contents troves few old mid (rests tells) (confined tells)) (confined tells).images;
     stopped = λ tells. mid_reads laws c contents troves few old mid (rests tells) (confined tells);
     confined = λ tells. confined_wider (prepared_within c) (confined tells);
+    only = only;
   }
 
   -- want of memory before the first call
   pub writes_nothing : (d : D) (r : Result (Unit {0}) Stop) → (IsTrue disk.tells → IsAtRest disk c d) → IsErrAnd r (λ s. s ≡ Memory) → Writes disk c contents troves d d r
-  writes_nothing d r rests is = writes_stopped Memory r rests (omega arith) (λ tells. confined_start laws (IsPreparedName c) d) tt is
+  writes_nothing d r rests is = writes_stopped Memory r rests (omega arith) (λ tells. confined_start laws (IsPreparedName c) d) (λ tells. confined_start laws (IsWrittenName c contents) d) tt is
 
   -- the file was applied
-  pub writes_applied : {old mid new : D} (r : Result (Unit {0}) Stop) → All IsTrove troves → All FitsTrove troves → (IsTrue disk.tells → IsAtRest disk c old) → Prepares disk (IsPreparedName c) (IsReady c contents) old mid (Ok tt) → disk.faults mid ≤ disk.faults new
+  pub writes_applied : {old mid new : D} (r : Result (Unit {0}) Stop) → All IsTrove troves → All FitsTrove troves → (IsTrue disk.tells → IsAtRest disk c old) → Prepares disk (IsPreparedName c) (IsReady c contents) old mid (Ok tt) → (IsTrue disk.tells → Confined disk (IsWrittenName c contents) old mid) → disk.faults mid ≤ disk.faults new
       → (IsTrue disk.tells → LeavesOnly disk mid new (apply.IsBeforeOrAfter disk repository_base (puts_of c troves) mid))
       → (IsTrue disk.tells → OnOk r (apply.IsAtRest disk repository_base (apply.goal repository_base (puts_of c troves) (disk.reads mid)) new))
       → (IsTrue disk.tells → OnErr r (apply.IsOneOf repository_base (puts_of c troves) (disk.reads mid) (disk.reads new)))
       → (IsTrue disk.tells → Confined disk (Among (is_own_or_target repository_base (puts_of c troves))) mid new)
       → (IsErrOf r Failed → Rose (disk.faults mid) (disk.faults new)) → IfErr r IsDiskStop → Writes disk c contents troves old new r
-  writes_applied {old = old} {mid = mid} {new = new} (Ok x) are fits rests prepared later moments applied stopped within failed stops = record {
+  writes_applied {old = old} {mid = mid} {new = new} (Ok x) are fits rests prepared only later moments applied stopped within failed stops = record {
     later = omega (arith, prepared.later, later);
     ends = λ tells. done_tree laws c contents troves few old mid (rests tells) (prepared.confined tells) (disk.reads new) are fits (prepared.ends tells) (applied tells).stores;
     flag_clear = λ tells. (applied tells).flag_clear;
@@ -64,8 +65,9 @@ module _ {D : Type 0} {disk : DiskModel D} (laws : IsDisk disk) (c : CataloguePa
     any_moment = λ tells. all_moments laws c contents troves few old mid (rests tells) (prepared.confined tells) are fits (prepared.ends tells) (moments tells);
     stopped = λ tells. done_reads laws c contents troves few old mid (rests tells) (prepared.confined tells) (disk.reads new) are fits (prepared.ends tells) (applied tells).flag_clear (applied tells).stores;
     confined = λ tells. confined_then (confined_wider (prepared_within c) (prepared.confined tells)) (confined_wider (written_within c troves) (within tells));
+    only = λ tells. confined_then (only tells) (confined_wider (applied_written c contents troves) (within tells));
   }
-  writes_applied {old = old} {mid = mid} {new = new} (Err e) are fits rests prepared later moments applied stopped within failed stops = record {
+  writes_applied {old = old} {mid = mid} {new = new} (Err e) are fits rests prepared only later moments applied stopped within failed stops = record {
     later = omega (arith, prepared.later, later);
     ends = by e stops failed;
     flag_clear = λ tells. tt;
@@ -73,6 +75,7 @@ module _ {D : Type 0} {disk : DiskModel D} (laws : IsDisk disk) (c : CataloguePa
     any_moment = λ tells. all_moments laws c contents troves few old mid (rests tells) (prepared.confined tells) are fits (prepared.ends tells) (moments tells);
     stopped = λ tells. stopped_reads laws c contents troves few old mid (rests tells) (prepared.confined tells) (disk.reads new) are fits (prepared.ends tells) (stopped tells);
     confined = λ tells. confined_then (confined_wider (prepared_within c) (prepared.confined tells)) (confined_wider (written_within c troves) (within tells));
+    only = λ tells. confined_then (only tells) (confined_wider (applied_written c contents troves) (within tells));
   }
     where
       by : (e : Stop) → IsDiskStop e → (IsErrOf (failing e) Failed → Rose (disk.faults mid) (disk.faults new)) → StopsBefore disk.tells (disk.faults old) (disk.faults new) e

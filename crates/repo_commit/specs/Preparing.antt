@@ -1,5 +1,5 @@
 -- What stands before the file of a commit is written, and how the writing of a commit goes.
-use Rattle.std.specs.Prelude.{◌≡◌, ◌⊎◌, ℕ, ◌+◌, ◌≤◌, Bool, false, ◌||◌, IsTrue, List, [], ◌∷◌, All, Some, None, Result, Ok, Err, OnOk}
+use Rattle.std.specs.Prelude.{◌≡◌, ◌⊎◌, ℕ, ◌+◌, ◌≤◌, Bool, false, ◌||◌, IsTrue, List, [], ◌∷◌, All, Contains, Some, None, Result, Ok, Err, OnOk}
 use Rattle.std.specs.FinMap.{get}
 use Rattle.cny_base.specs.Count.{Rose}
 use Rattle.cny_base.specs.declared.stop.Stop.{Stop}
@@ -11,7 +11,7 @@ use Rattle.tree_disk.specs.Clear.{is_within}
 use Rattle.tree_disk.specs.Rows.{is_dir_at}
 use Rattle.tree_disk.specs.Disk.{DiskModel}
 use Rattle.tree_disk.specs.Confined.{AgreesExcept, Among, Confined, IsSynced, IsUnsyncedOr, LeavesOnly}
-use Rattle.journal_log.specs.Own.{StoresSame}
+use Rattle.journal_log.specs.Own.{is_own, StoresSame}
 use Rattle.journal_log.specs.Targets.{with_targets}
 use Rattle.tree_journal.specs.Recovery.{is_committed, RecoversTo}
 use Rattle.change_set.specs.declared.change.Carried.{Carried}
@@ -60,6 +60,23 @@ pub record IsPutName (c : CatalogueParts) (content : Carried) (q : Name) : Type 
   pub unnamed : has_content content.name c.troves ≡ false
   pub within : IsTrue (is_within (content_path contents_dir content.name) q)
 
+-- the file of one of these contents that no trove records, or a name below it
+pub record IsCarriedName (c : CatalogueParts) (contents : List Carried) (q : Name) : Type 0 where
+  pub content : Carried
+  pub among : Contains contents content
+  pub put : IsPutName c content q
+
+-- The names that a commit of these contents writes: the two directories; the files of those contents that no trove records; the
+-- file of the commit; the name behind that; and the journal's own. All else in the directory stays, as the files of all commits
+-- that are there, and those of all other contents.
+pub data IsWrittenName (c : CatalogueParts) (contents : List Carried) (q : Name) : Type 0 where
+  base : q ≡ repository_base → IsWrittenName c contents q
+  directory : q ≡ contents_dir → IsWrittenName c contents q
+  content : IsCarriedName c contents q → IsWrittenName c contents q
+  file : q ≡ commit_file (c.commits + 1) → IsWrittenName c contents q
+  behind : IsTrue (is_within (commit_file (c.commits + 2)) q) → IsWrittenName c contents q
+  own : IsTrue (is_own repository_base q) → IsWrittenName c contents q
+
 -- The base and the new contents stand, and nothing at the name behind that of the new file.
 pub record IsReady (c : CatalogueParts) (contents : List Carried) (tree : Tree) : Type 0 where
   pub base : IsTrue (is_dir_at tree repository_base)
@@ -105,3 +122,4 @@ pub record Writes {D : Type 0} (disk : DiskModel D) (c : CatalogueParts) (conten
   pub any_moment : IsTrue disk.tells → LeavesOnly disk old new (RecoversSo (IsUnsyncedOr disk old (IsPreparedName c)) c contents troves (disk.reads old))
   pub stopped : IsTrue disk.tells → RecoversSo (IsPreparedName c) c contents troves (disk.reads old) (disk.reads new)
   pub confined : IsTrue disk.tells → Confined disk (Among (is_within repository_base)) old new
+  pub only : IsTrue disk.tells → Confined disk (IsWrittenName c contents) old new

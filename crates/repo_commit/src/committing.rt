@@ -8,6 +8,7 @@ ghost use Rattle.repo_state.specs.State.{RepositoryState};
 ghost use Rattle.repository.specs.Loading.{IsCatalogue};
 ghost use Rattle.repo_commit.specs.Outcome.{AreSound, AtEveryMoment, EndsSo, HasCause, IsAtRest};
 ghost use Rattle.repo_commit.specs.Order.{IsFirstStop};
+ghost use Rattle.repo_commit.specs.Preparing.{IsWrittenName};
 
 use crate::joining::{TroveIds, ids_of, join};
 use crate::testing::tested;
@@ -52,6 +53,10 @@ pub fn commit<D: TreeDisk>(
     // However it ends, and at every moment, names outside the repository's directory stay as they were. None of them becomes
     // unsynced, and a crash changes of them only what was unsynced before.
     ensures confined { IsTrue D.disk.tells → Confined D.disk (Among (is_within repository_base)) disk.old disk.new }
+    // In that directory too all stays at every moment but the names that the commit writes, however damaged the repository is:
+    // the files of the commits that are there, and of all contents but those that are carried and that no trove records (the
+    // law `kept_files`).
+    ensures only { IsTrue D.disk.tells → Confined D.disk (IsWrittenName catalogue.old change.now.contents) disk.old disk.new }
     // At every moment, also inside each call of the disk and where a call fails, a crash leaves a tree that recovers to the
     // repository before or to the one after, and so does what the disk reads at the end.
     ensures any_moment { IsTrue D.disk.tells → (r : RepositoryState) → AtEveryMoment D.disk change.now disk.old disk.new r }

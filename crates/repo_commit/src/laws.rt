@@ -1,14 +1,18 @@
 //! Laws of commits.
-ghost use Rattle.std.specs.Prelude.{◌≡◌, All};
+ghost use Rattle.std.specs.Prelude.{◌≡◌, ◌≤◌, ℕ, true, All, Contains, List};
+ghost use Rattle.cny_base.specs.declared.limits.TheConstants.{COMMITS_LIMIT};
 ghost use Rattle.cny_base.specs.declared.refusal.Refusal.{Refusal};
 ghost use Rattle.tree_disk.specs.Tree.{Tree};
 ghost use Rattle.tree_disk.specs.Disk.{IsImageOf};
 ghost use Rattle.change_set.specs.ChangeSet.{HasContents, IsPart};
+ghost use Rattle.change_set.specs.declared.change.Carried.{Carried};
 ghost use Rattle.change_set.specs.declared.change.ChangeSet.{ChangeSet};
-ghost use Rattle.repo_index.specs.Catalogue.{CatalogueParts};
-ghost use Rattle.repo_state.specs.Files.{StoresRepository};
+ghost use Rattle.content_store.specs.Store.{content_path, IsContentName};
+ghost use Rattle.repo_index.specs.Catalogue.{has_content, CatalogueParts};
+ghost use Rattle.repo_state.specs.Files.{commit_file, contents_dir, StoresRepository};
 ghost use Rattle.repo_state.specs.State.{catalogue_of, troves_of, IsRepository, RepositoryState};
 ghost use Rattle.repo_commit.specs.Outcome.{committed_contents, IsAtRest, IsSettled};
+ghost use Rattle.repo_commit.specs.Preparing.{IsWrittenName};
 ghost use Rattle.repo_commit.specs.Steps.{IsStep, RecoversAlone};
 ghost use Rattle.repo_commit.specs.Tests.{IsRefused};
 
@@ -33,6 +37,16 @@ pub fn commit_step()
 /// Where a tree stores a repository, what stands in it under the names that troves record are the contents of that.
 pub fn same_contents()
     ensures { (x : Tree) (r : RepositoryState) → StoresRepository x r → committed_contents (troves_of r.commits) x ≡ r.contents }
+{}
+
+/// What a commit leaves as it was, whatever stands there: the file of each commit that is there, and that of each content but
+/// those that it carries and that no trove records.
+pub fn kept_files()
+    ensures commits { (c : CatalogueParts) (change : ChangeSet) (number : ℕ) → HasContents change → c.commits ≤ COMMITS_LIMIT → number ≤ c.commits
+        → IsWrittenName c change.contents (commit_file number) → ⊥ }
+    ensures contents { (c : CatalogueParts) (change : ChangeSet) (name : List ℕ) → HasContents change → IsContentName name
+        → ((content : Carried) → Contains change.contents content → content.name ≡ name → has_content name c.troves ≡ true)
+        → IsWrittenName c change.contents (content_path contents_dir name) → ⊥ }
 {}
 
 /// A disk at rest that stores a repository recovers to that alone: as it reads, and, where no name that counts for it has

@@ -18,4 +18,4 @@ mod writing;
 
 pub use committing::commit;
 pub use joining::TroveIds;
-pub use laws::{at_rest, commit_step, same_contents};
+pub use laws::{at_rest, commit_step, kept_files, same_contents};

@@ -7,7 +7,7 @@ ghost use Rattle.cny_base.specs.Path.{is_path, parent};
 ghost use Rattle.cny_base.specs.declared.limits.TheConstants.{COMMITS_LIMIT};
 ghost use Rattle.cny_base.specs.declared.node.Node.TheVariants as node;
 ghost use Rattle.tree_disk.specs.Clear.{is_within};
-ghost use Rattle.tree_disk.specs.Confined.{Among};
+ghost use Rattle.tree_disk.specs.Confined.{Among, Confined};
 ghost use Rattle.tree_disk.specs.Disk.{one_name};
 ghost use Rattle.tree_disk.specs.Looks.{sees_dir, sees_nothing};
 ghost use Rattle.tree_disk.specs.Rows.{can_make, is_dir_at, with_node};
@@ -18,9 +18,9 @@ ghost use Rattle.change_set.specs.ChangeSet.{content_cmp};
 ghost use Rattle.change_set.specs.declared.change.Carried.{Carried};
 ghost use Rattle.content_store.specs.Store.{content_path, stored};
 ghost use Rattle.repo_index.specs.Catalogue.{has_content};
-ghost use Rattle.repo_state.specs.Counts.{IsPreparedName, IsUnnamedContent};
+ghost use Rattle.repo_state.specs.Counts.{IsPreparedName};
 ghost use Rattle.repo_state.specs.Files.{commit_file, contents_dir, repository_base};
-ghost use Rattle.repo_commit.specs.Preparing.{is_dir_name, AreStored, IsPutName, IsReady, IsStored, Prepares};
+ghost use Rattle.repo_commit.specs.Preparing.{is_dir_name, AreStored, IsCarriedName, IsPutName, IsReady, IsStored, IsWrittenName, Prepares};
 
 use change_set::Carried;
 use cny_base::{Mode, OutOfMemory, Path, Stop};
@@ -152,7 +152,7 @@ fn put_contents<D: TreeDisk>(
     requires rising { IsStrictlySortedBy content_cmp contents.now }
     requires dir { dir.now ≡ contents_dir }
     requires stands { IsTrue D.disk.tells → IsTrue (is_dir_at (D.disk.reads disk.old) contents_dir) }
-    ensures { Prepares D.disk (IsUnnamedContent committed.now) (AreStored committed.now contents.now) disk.old disk.new result }
+    ensures { Prepares D.disk (IsCarriedName committed.now contents.now) (AreStored committed.now contents.now) disk.old disk.new result }
 {
     for content in contents {
         put_new(alloc, disk, committed, dir, content)?;
@@ -181,7 +181,9 @@ pub(crate) fn prepare<D: TreeDisk>(
     requires few { committed.now.commits < COMMITS_LIMIT }
     requires hash { All (λ (content : Carried). content.name ≡ sha1 content.bytes) contents.now }
     requires rising { IsStrictlySortedBy content_cmp contents.now }
-    ensures { Prepares D.disk (IsPreparedName committed.now) (IsReady committed.now contents.now) disk.old disk.new result }
+    ensures prepares { Prepares D.disk (IsPreparedName committed.now) (IsReady committed.now contents.now) disk.old disk.new result }
+    // Of the contents it changes the carried ones alone.
+    ensures only { IsTrue D.disk.tells → Confined D.disk (IsWrittenName committed.now contents.now) disk.old disk.new }
 {
     let behind = path_behind(alloc, committed)?;
     let dir = make_dirs(alloc, disk)?;

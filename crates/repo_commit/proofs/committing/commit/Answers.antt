@@ -9,6 +9,7 @@ use Rattle.tree_disk.specs.Confined.{Among}
 use Rattle.tree_disk.specs.ConfinedLaws.{confined_read}
 use Rattle.repo_state.specs.Files.{repository_base}
 use Rattle.repo_commit.specs.Order.{IsFirstStop}
+use Rattle.repo_commit.specs.Preparing.{IsWrittenName}
 use Rattle.repo_commit.specs.Steps.{ids_of}
 use Rattle.repo_commit.proofs.Lists.{err_stop}
 use Rattle.repo_commit.proofs.Ordering.{write_first}
@@ -118,3 +119,27 @@ returns-in_err-join-clause-confined g c tells = confined_writes g.met.D.TreeDisk
 
 pub returns-clause-confined : goal.returns-clause-confined
 returns-clause-confined g c tells = confined_writes g.met.D.TreeDisk.laws (c.in_ok-added.ensures.tested.same tells) (c.in_ok-write.ensures.writes.confined tells)
+
+pub returns-in_err-added-clause-only : goal.returns-in_err-added-clause-only
+returns-in_err-added-clause-only g c tells = confined_read g.met.D.TreeDisk.laws (IsWrittenName c.args.catalogue.now c.args.change.now.contents) (c.in_err-added.ensures.tested.same tells)
+
+pub returns-in_err-ids-clause-only : goal.returns-in_err-ids-clause-only
+returns-in_err-ids-clause-only g c tells = confined_read g.met.D.TreeDisk.laws (IsWrittenName c.args.catalogue.now c.args.change.now.contents) (c.in_ok-added.ensures.tested.same tells)
+
+pub returns-then-is_empty-clause-only : goal.returns-then-is_empty-clause-only
+returns-then-is_empty-clause-only g c tells = confined_read g.met.D.TreeDisk.laws (IsWrittenName c.args.catalogue.now c.args.change.now.contents) (c.in_ok-added.ensures.tested.same tells)
+
+pub returns-in_err-write-clause-only : goal.returns-in_err-write-clause-only
+returns-in_err-write-clause-only g c tells =
+    let writes = writes_as c.args.catalogue.now c.args.change.now.contents c.get-contents.result.now c.in_ok-added.added.troves c.troves-3.result.now c.tested.new.disk c.write.new.disk _ c.get-contents.ensures c.troves-3.ensures.value c.in_err-write.ensures.writes in
+    confined_writes g.met.D.TreeDisk.laws (c.in_ok-added.ensures.tested.same tells) (writes.only tells)
+
+pub returns-in_err-join-clause-only : goal.returns-in_err-join-clause-only
+returns-in_err-join-clause-only g c tells =
+    let writes = writes_as c.args.catalogue.now c.args.change.now.contents c.get-contents.result.now c.in_ok-added.added.troves c.troves-3.result.now c.tested.new.disk c.write.new.disk _ c.get-contents.ensures c.troves-3.ensures.value c.in_ok-write.ensures.writes in
+    confined_writes g.met.D.TreeDisk.laws (c.in_ok-added.ensures.tested.same tells) (writes.only tells)
+
+pub returns-clause-only : goal.returns-clause-only
+returns-clause-only g c tells =
+    let writes = writes_as c.args.catalogue.now c.args.change.now.contents c.get-contents.result.now c.in_ok-added.added.troves c.troves-3.result.now c.tested.new.disk c.write.new.disk _ c.get-contents.ensures c.troves-3.ensures.value c.in_ok-write.ensures.writes in
+    confined_writes g.met.D.TreeDisk.laws (c.in_ok-added.ensures.tested.same tells) (writes.only tells)
