@@ -1,0 +1,20 @@
+use Rattle.root_writing.proofs.Written.{may_apply, nothing_done, goes_on}
+use Rattle.root_writing.proofs.writing.write_all.Goals as goal
+
+pub apply-requires-clause-told : goal.apply-requires-clause-told
+apply-requires-clause-told g c tells = rw c.in_ok-base.ensures (may_apply g.T.TreeDisk.disk c.args.puts.now c.args.root.now (c.requires.can tells))
+
+pub returns-in_err-base-clause-goes : goal.returns-in_err-base-clause-goes
+returns-in_err-base-clause-goes g c tells f kind s t stores settled after =
+    nothing_done g.met.T.TreeDisk.laws c.args.puts.now c.args.root.now (c.requires.can tells) f kind s t stores settled after _ c.from_residual.result c.from_residual.ensures.1
+
+pub returns-clause-goes : goal.returns-clause-goes
+returns-clause-goes g c tells f kind s t stores settled after =
+    let is = c.in_ok-base.ensures in
+    goes_on g.met.T.TreeDisk.laws c.args.puts.now c.args.root.now (c.requires.can tells) f kind s t stores settled after c.apply.new.disk
+    (rw is at (c.apply.ensures.any_moment tells))
+    (rw is at (c.apply.ensures.confined tells))
+    (rw is at (c.apply.ensures.visible tells))
+    c.apply.result
+    (rw is at (c.apply.ensures.applied tells))
+    (rw is at (c.apply.ensures.stopped tells))

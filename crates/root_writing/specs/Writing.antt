@@ -1,0 +1,73 @@
+-- How a write set takes a root from one system to another.
+use Rattle.std.specs.Prelude.{◌≡◌, ◌⊎◌, Bool, true, false, ◌||◌, List, Result, OnOk, All}
+use Rattle.std.specs.FinMap.{get}
+use Rattle.cny_base.specs.Reserved.{private_directory, is_reserved}
+use Rattle.cny_base.specs.declared.stop.Stop.{Stop}
+use Rattle.tree_disk.specs.Tree.{Name, Tree}
+use Rattle.tree_disk.specs.Disk.{DiskModel}
+use Rattle.tree_disk.specs.Confined.{Among, Confined, IsSynced, LeavesOnly}
+use Rattle.tree_disk.specs.Unfailed.{UnlessFailed}
+use Rattle.journal_log.specs.Own.{gate}
+use Rattle.journal_log.specs.declared.put.Put.{Put}
+use Rattle.journal_log.specs.Targets.{is_target}
+use Rattle.tree_journal.specs.Recovery.{is_committed}
+use Rattle.tree_journal.specs.Visible.{ShowsNode}
+use Rattle.saved_contents.specs.Old.{is_staged}
+use Rattle.system_state.specs.declared.format.Format.{Format}
+use Rattle.system_state.specs.Names.{counts}
+use Rattle.system_state.specs.SystemState.{SystemState}
+use Rattle.system_state.specs.Stores.{StoresIn, RecoversToSystem}
+use Rattle.system_state.specs.Steps.{IsPuttable}
+
+-- ---- what is asked
+
+-- None of the names that count for the system changed since the last successful sync.
+abbrev pub AreSettled : {D : Type 0} → DiskModel D → D → SystemState → Type 0
+AreSettled disk d s = (q : Name) → counts s q ≡ true → disk.unsynced d q ≡ false
+
+-- A write set that may be put on a root: the commit flag isn't set, also after a crash, no bytes are staged, and the journal can
+-- put all of it, the private directory being one.
+pub record CanWrite {D : Type 0} (disk : DiskModel D) (puts : List Put) (d : D) : Type 0 where
+  pub flag_clear : is_committed private_directory (disk.reads d) ≡ false
+  pub flag_synced : disk.unsynced d (gate private_directory) ≡ false
+  pub given : All (λ (p : Put). is_staged p.want ≡ false) puts
+  pub some : List Put
+  pub more : List Put
+  pub managed : Tree
+  pub puttable : IsPuttable some more puts (disk.reads d) managed
+
+-- ---- what is left
+
+-- A root at rest that stores the system: its commit flag isn't set, and a crash leaves just what it reads.
+pub record RestsAt {D : Type 0} (disk : DiskModel D) (f : Format) (s : SystemState) (d : D) : Type 0 where
+  pub flag_clear : is_committed private_directory (disk.reads d) ≡ false
+  pub synced : IsSynced disk d
+  pub stores : StoresIn f (disk.reads d) s
+
+-- the tree recovers to the one system or to the other
+abbrev pub RecoversToEither : SystemState → SystemState → Tree → Type 0
+RecoversToEither s t image = RecoversToSystem image s ⊎ RecoversToSystem image t
+
+-- Readers see at each name outside the private directory the node of the one system, that of the other, or nothing where just
+-- one of the two is a directory.
+abbrev pub ShowsEither : SystemState → SystemState → Tree → Type 0
+ShowsEither s t shown = (q : Name) → is_reserved q ≡ false → ShowsNode (get s.tree q) (get t.tree q) (get shown q)
+
+-- outside the private directory each name that isn't a target reads as before
+abbrev pub KeepsOthers : List Put → Tree → Tree → Type 0
+KeepsOthers puts before now = (q : Name) → is_reserved q ≡ false → is_target puts q ≡ false → get now q ≡ get before q
+
+-- the names of the private directory and the targets
+abbrev pub is_private_or_target : List Put → Name → Bool
+is_private_or_target puts q = is_reserved q || is_target puts q
+
+-- From the system s to the system t, which is stored in this format: at every moment a crash leaves a tree that recovers to one
+-- of the two, and so does what the disk reads at the end; after Ok it rests at t. However it ends, and at every moment, no name
+-- changes but those of the private directory and the targets.
+pub record Goes {D : Type 0} (disk : DiskModel D) (g : Format) (s t : SystemState) (puts : List Put) (old new : D) (result : Result (Unit {0}) Stop) : Type 0 where
+  pub images : LeavesOnly disk old new (RecoversToEither s t)
+  pub rests : OnOk result (RestsAt disk g t new)
+  pub reads : RecoversToEither s t (disk.reads new)
+  pub shown : UnlessFailed disk old new (ShowsEither s t)
+  pub others : KeepsOthers puts (disk.reads old) (disk.reads new)
+  pub confined : Confined disk (Among (is_private_or_target puts)) old new

@@ -1,0 +1,6 @@
+//! A write set put on a root, as a step from the system that the root stores to another one.
+#![tactic(auto)]
+
+mod writing;
+
+pub use writing::write_all;

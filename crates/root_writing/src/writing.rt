@@ -1,0 +1,35 @@
+//! Write sets on a root.
+ghost use Rattle.std.specs.Prelude.{◌≤◌, IfErr, IsErrOf, IsTrue};
+ghost use Rattle.cny_base.specs.Count.{Rose};
+ghost use Rattle.cny_base.specs.declared.stop.Stop.TheVariants as stop;
+ghost use Rattle.tree_disk.specs.Steps.{IsDiskStop};
+ghost use Rattle.journal_log.specs.Targets.{with_targets};
+ghost use Rattle.system_state.specs.declared.format.Format.{Format};
+ghost use Rattle.system_state.specs.SystemState.{SystemState};
+ghost use Rattle.system_state.specs.Stores.{StoresIn};
+ghost use Rattle.root_writing.specs.Writing.{AreSettled, CanWrite, Goes};
+
+use cny_base::Stop;
+use journal_log::Puts;
+use std::alloc::Global;
+use system_state::base_path;
+use tree_disk::TreeDisk;
+use tree_journal::apply;
+
+/// Puts all targets of a write set at once, by the journal of the root's private directory: a crash at any moment leaves a tree
+/// that recovers to the system before, or to the one after.
+///
+/// `Failed` comes only where the disk's count of faults rose, and want of memory also where the write set is too large for a
+/// log. After both the root recovers to the system before or after.
+pub fn write_all<T: TreeDisk>(alloc: Global, root: &mut T, puts: &Puts) -> Result<(), Stop>
+    requires can { IsTrue T.disk.tells → CanWrite T.disk puts.now root.old }
+    // From each system that the root stores to the one that it stores with all targets.
+    ensures goes { IsTrue T.disk.tells → (f g : Format) (s t : SystemState) → StoresIn f (T.disk.reads root.old) s → AreSettled T.disk root.old s
+        → StoresIn g (with_targets puts.now (T.disk.reads root.old)) t → Goes T.disk g s t puts.now root.old root.new result }
+    ensures later { T.disk.faults root.old ≤ T.disk.faults root.new }
+    ensures failed { IsErrOf result stop.Failed → Rose (T.disk.faults root.old) (T.disk.faults root.new) }
+    ensures stops { IfErr result IsDiskStop }
+{
+    let base = base_path(alloc)?;
+    apply(alloc, root, &base, puts)
+}
