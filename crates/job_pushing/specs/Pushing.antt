@@ -17,6 +17,13 @@ use Rattle.job_saving.specs.Saving.{dropped_below, is_saving_name, IsSavedJob}
 abbrev pub is_written : Db → Name → Bool
 is_written db = is_saving_name db.newest (dropped_below db.oldest)
 
+-- the one write of some record
+pub record IsRecordWrite (puts : List Put) : Type 0 where
+  pub number : ℕ
+  pub mode : ℕ
+  pub bytes : List ℕ
+  pub puts_are : puts ≡ record_put number mode bytes ∷ []
+
 -- The one write is that of the record in format 2. The tree is ready for it: it has the old contents that the record refers to,
 -- and nothing stands at the record's name.
 pub record IsPushed (x : Tree) (undo : Undo) (db : Db) (puts : List Put) : Type 0 where

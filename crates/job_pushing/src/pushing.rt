@@ -15,7 +15,7 @@ ghost use Rattle.tree_disk.specs.Rows.{is_dir_at};
 ghost use Rattle.saved_contents.specs.Agree.{AllAgree};
 ghost use Rattle.job_saving.specs.Saving.{IsNextJob, KeepsSystem, dropped_below};
 ghost use Rattle.job_undo.specs.Undo.{FitsDb};
-ghost use Rattle.job_pushing.specs.Pushing.{IsPushStop, IsPushed, is_written};
+ghost use Rattle.job_pushing.specs.Pushing.{IsPushStop, IsPushed, IsRecordWrite, is_written};
 
 use cny_base::{Bytes, Mode, OutOfMemory, Stop};
 use job_saving::save_job;
@@ -69,6 +69,8 @@ pub fn push_puts<D: TreeDisk>(
     requires agree { AllAgree undo.now.entries }
     requires dir { IsTrue D.disk.tells → IsTrue (is_dir_at (D.disk.reads disk.old) (parent private_directory)) }
     ensures pushed { IsTrue D.disk.tells → IfOk result (IsPushed (D.disk.reads disk.new) undo.now db.now) }
+    // On every disk.
+    ensures written { IfOk result IsRecordWrite }
     // However it ends, at every moment.
     ensures confined { IsTrue D.disk.tells → Confined D.disk (Among (is_written db.now)) disk.old disk.new }
     // What the root stores, it stores at every moment, if this is its next job.

@@ -51,3 +51,6 @@ pub returns-clause-keeps : goal.returns-clause-keeps
 returns-clause-keeps g c f s next tells synced stores =
     c.in_ok-save_job.ensures.keeps f s
     (next_as s c.args.undo.now.number c.args.db.now.newest c.dropped_number-dropped.result (dropped_below c.args.db.now.oldest) c.requires.fits.leads.newest c.dropped_number-dropped.ensures next) tells synced stores
+
+pub returns-clause-written : goal.returns-clause-written
+returns-clause-written g c = record { number = c.args.undo.now.number; mode = 420; bytes = c.in_ok-bytes.bytes; puts_are = c.in_ok-puts.ensures }
