@@ -1,0 +1,16 @@
+-- A SHA-1 digest has 20 bytes.
+use Rattle.std.proofs.Common.{◌≡◌, ℕ, zero, suc, ◌*◌, ◌/◌, List, length, slice_index, refl, arith, length-append}
+use Rattle.std.specs.Int.{w32, to_be_bytes}
+use Rattle.sha1.specs.Sha1.{digest_bytes, hash_after, padded_message, sha1}
+
+four_bytes : (n : ℕ) → length (to_be_bytes w32 n) ≡ 4
+four_bytes n = refl
+
+words_long : (h : List ℕ) (n : ℕ) → length (digest_bytes h n) ≡ 4 * n
+unfolding digest_bytes
+words_long h zero = refl
+words_long h (suc n) = omega (arith, words_long h n, length-append (digest_bytes h n) (to_be_bytes w32 (slice_index h n)), four_bytes (slice_index h n))
+
+pub digest_long : (m : List ℕ) → length (sha1 m) ≡ 20
+unfolding sha1
+digest_long m = words_long (hash_after (padded_message m) (length (padded_message m) / 64)) 5

@@ -1,0 +1,47 @@
+-- What follows of the targets of a plan.
+use Rattle.std.proofs.Common.{IsTrue, List, All, Result, Ok, Err, ◌∙◌, subst}
+use Rattle.std.specs.Prelude.{IfOk}
+use Rattle.std.specs.List.Sorted.{IsStrictlySortedBy}
+use Rattle.cny_base.specs.declared.refusal.Refusal.{Refusal}
+use Rattle.cny_base.specs.declared.stop.Stop.{Stop}
+use Rattle.change_set.specs.declared.change.Carried.{Carried}
+use Rattle.conflict_plan.specs.declared.planned.Planned.{Planned}
+use Rattle.conflict_plan.specs.Orphans.{IsSeenPlan}
+use Rattle.conflict_plan.specs.Plan.{planned_cmp}
+use Rattle.content_store.specs.Contents.{Answers, ContentsModel}
+use Rattle.saved_contents.specs.declared.entry.Entry.{Entry}
+use Rattle.tree_disk.specs.Disk.{DiskModel}
+use Rattle.tree_disk.specs.Tree.{Tree}
+use Rattle.job_targets.specs.declared.targets.Targets.{Targets}
+use Rattle.job_targets.specs.Gathering.{Gathers}
+use Rattle.job_targets.specs.Outcome.{AreChanges, AreGiven, AreOver, AreSavable, AreTargets, FitPlan}
+use Rattle.job_targets.specs.Targets.{HaveEntries, IsChange}
+use Rattle.job_targets.proofs.Listed.{changing_puts, entries_by_puts, given_entries, given_puts, marked_puts, rising_entries, tellable_puts, told_entries}
+
+pub given_of : (planned : List Planned) (r : Result Targets Stop) → IfOk r (FitPlan planned) → IfOk r (λ (t : Targets). AreGiven t.puts)
+given_of planned (Ok t) fits = record { given = given_puts planned t.puts fits.puts; marks = marked_puts planned t.puts t.entries fits.puts fits.entries }
+given_of planned (Err stop) fits = tt
+
+pub savable_of : (planned : List Planned) (r : Result Targets Stop) → IsStrictlySortedBy planned_cmp planned → IfOk r (FitPlan planned) → IfOk r (λ (t : Targets). AreSavable t.entries)
+savable_of planned (Ok t) rises fits = record {
+  given = given_entries planned t.entries fits.entries;
+  told = told_entries planned t.entries fits.entries;
+  rising = rising_entries planned t.entries rises fits.entries;
+  agree = fits.agree;
+}
+savable_of planned (Err stop) rises fits = tt
+
+pub changes_of : (tree : Tree) (planned : List Planned) (r : Result Targets Stop) → All (IsSeenPlan tree) planned → All IsChange planned → IfOk r (FitPlan planned) → IfOk r (λ (t : Targets). AreChanges tree t.puts)
+changes_of tree planned (Ok t) seen change fits = changing_puts tree planned t.puts seen change fits.puts
+changes_of tree planned (Err stop) seen change fits = tt
+
+module _ {D C : Type 0} {disk : DiskModel D} {contents : ContentsModel C} (carried : List Carried) (answers : Answers) (planned : List Planned) where
+  pub over_of : {old new : D} {far far' : C} {V : Tree → Refusal → Type 0} (r : Result Targets Stop)
+      → Gathers disk contents (AreTargets carried answers planned) V old new far far' r → IfOk r (FitPlan planned) → IsTrue disk.tells → IfOk r (AreOver (disk.reads old))
+  over_of {old = old} (Ok t) run fits tells =
+      let are = run.ends tells in
+      record {
+        entries = are.entries ∙ entries_by_puts (disk.reads old) planned t.puts fits.puts;
+        before = tellable_puts (disk.reads old) planned t.puts fits.puts (subst (λ (l : List Entry). HaveEntries planned l) are.entries fits.entries);
+      }
+  over_of (Err stop) run fits tells = tt

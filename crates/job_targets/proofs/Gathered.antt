@@ -1,0 +1,71 @@
+-- The writes of planned paths, gathered one after the other.
+use Rattle.std.proofs.Common.{◌≡◌, ℕ, ◌+◌, ◌<◌, List, [], ◌∷◌, ◌++◌, length, take, drop, get_or, suc, Option, Some, None, Result, Ok, Err, IsErrAnd, sym, subst}
+use Rattle.cny_base.specs.declared.refusal.Refusal.{Refusal}
+use Rattle.cny_base.specs.declared.refusal.Refusal.TheVariants.{MissingContent}
+use Rattle.cny_base.specs.declared.stop.Stop.{Stop}
+use Rattle.change_set.specs.declared.change.Carried.{Carried}
+use Rattle.conflict_plan.specs.declared.planned.Planned.{Planned}
+use Rattle.content_store.specs.Contents.{Answers, ContentsModel, IsSource}
+use Rattle.file_stream.specs.declared.record.FileRec.{FileRec}
+use Rattle.file_stream.specs.declared.record.FileRec.TheVariants as rec
+use Rattle.journal_log.specs.declared.put.Put.{Put}
+use Rattle.tree_disk.specs.Disk.{DiskModel, IsDisk}
+use Rattle.tree_disk.specs.Tree.{Tree}
+use Rattle.job_targets.specs.Gathering.{Gathers, no_refusal}
+use Rattle.job_targets.specs.Outcome.{IsFirstUnfound, IsMissing, IsUnfound}
+use Rattle.job_targets.specs.Targets.{ArePutsOf, IsPutOf}
+use Rattle.job_targets.proofs.GatherLaws.{answers_before, gathers_answer, gathers_stop, gathers_then}
+use Rattle.job_targets.proofs.Listed.{finds_by, next_taken, put_by, puts_more, split_at}
+
+unfound_by : (carried : List Carried) (answers more : Answers) (tree : Tree) (x : Planned) (size : ℕ) (name : List ℕ) (why : Refusal)
+    → ((n : List ℕ) (f : Option (List ℕ)) → answers n f → more n f) → IsUnfound carried answers tree x size name why → IsUnfound carried more tree x size name why
+unfound_by carried answers more tree x size name (MissingContent missing) widen is = (is.0, finds_by carried answers more tree x size name None widen is.1)
+unfound_by carried answers more tree x size name _ widen is = absurd is
+
+missing_by : (carried : List Carried) (answers more : Answers) (tree : Tree) (x : Planned) (o : Option FileRec) (why : Refusal)
+    → ((n : List ℕ) (f : Option (List ℕ)) → answers n f → more n f) → IsMissing carried answers tree x o why → IsMissing carried more tree x o why
+missing_by carried answers more tree x None why widen is = absurd is
+missing_by carried answers more tree x (Some (rec.Dir mode owner)) why widen is = absurd is
+missing_by carried answers more tree x (Some (rec.File mode owner flags size name)) why widen is = unfound_by carried answers more tree x size name why widen is
+missing_by carried answers more tree x (Some (rec.Link target)) why widen is = absurd is
+
+module _ {D C : Type 0} {disk : DiskModel D} {contents : ContentsModel C} (searches : IsSource contents) (laws : IsDisk disk) (carried : List Carried) (planned : List Planned) where
+  -- the writes of the first planned paths are gathered
+  abbrev AreGathered : D → D → C → C → ℕ → List Put → Type 0
+  AreGathered old new far far' k ps = Gathers {X = Unit {0}} disk contents (λ tree done. ArePutsOf carried (contents.answers far) tree (take k planned) ps) no_refusal old new far far' (Ok tt)
+
+  -- one more
+  pub put_next : {old mid new : D} {far mid_far far' : C} {k : ℕ} {x : Planned} {p : Put} {Q : Tree → Refusal → Type 0} (ps qs : List Put)
+      → AreGathered old mid far mid_far k ps
+      → Gathers disk contents (λ tree q. IsPutOf carried (contents.answers mid_far) tree x q) Q mid new mid_far far' (Ok p)
+      → k < length planned → x ≡ get_or planned k x → qs ≡ ps ++ p ∷ []
+      → AreGathered old new far far' (k + 1) qs
+  put_next {old = old} {far = far} {mid_far = mid_far} {k = k} {x = x} {p = p} {Q = Q} ps qs first one within is more =
+      gathers_answer
+      (gathers_then searches laws {U = λ tree q. ArePutsOf carried (contents.answers far) tree (take (k + 1) planned) (ps ++ q ∷ [])} {W = Q} first one
+      (λ tells are q put. subst (λ (l : List Planned). ArePutsOf carried (contents.answers far) (disk.reads old) l (ps ++ q ∷ [])) (sym (next_taken planned k x within is))
+      (puts_more carried (contents.answers far) (disk.reads old) (take k planned) ps x q are
+      (put_by carried (contents.answers mid_far) (contents.answers far) (disk.reads old) x q (answers_before contents far mid_far first.keeps) put)))
+      (λ tells are why h. h))
+      (λ tells are. subst (λ (l : List Put). ArePutsOf carried (contents.answers far) (disk.reads old) (take (k + 1) planned) l) (sym more) are)
+
+  -- a path of whose content none was found
+  pub put_stop : {old mid new : D} {far mid_far far' : C} {k : ℕ} {x : Planned} {e : Stop} {Z : Type 0} {S : Tree → Z → Type 0} {r : Result Z Stop} (ps : List Put)
+      → AreGathered old mid far mid_far k ps
+      → Gathers {X = Put} disk contents (λ tree q. IsPutOf carried (contents.answers mid_far) tree x q) (λ tree. IsMissing carried (contents.answers mid_far) tree x x.want) mid new mid_far far' (Err e)
+      → k < length planned → x ≡ get_or planned k x → IsErrAnd r (λ s. s ≡ e)
+      → Gathers disk contents S (λ tree. IsFirstUnfound carried (contents.answers far) tree planned) old new far far' r
+  put_stop {old = old} {far = far} {mid_far = mid_far} {k = k} {x = x} ps first one within is stopped =
+      gathers_stop
+      (gathers_then searches laws {U = λ tree q. Unit {0}} {W = λ tree. IsFirstUnfound carried (contents.answers far) tree planned} first one
+      (λ tells are q put. tt)
+      (λ tells are why missing. record {
+        front = take k planned;
+        first = x;
+        rest = drop (suc k) planned;
+        split = split_at planned k x within is;
+        puts = ps;
+        found = are;
+        missing = missing_by carried (contents.answers mid_far) (contents.answers far) (disk.reads old) x x.want why (answers_before contents far mid_far first.keeps) missing;
+      }))
+      stopped (λ tells why h. h)

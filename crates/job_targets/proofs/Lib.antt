@@ -1,0 +1,9 @@
+mod Adjacent
+mod Carrying
+mod Changing
+mod Digests
+mod Fitting
+mod GatherLaws
+mod Gathered
+mod Listed
+mod Standing

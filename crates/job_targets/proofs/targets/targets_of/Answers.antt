@@ -1,0 +1,16 @@
+use Rattle.job_targets.proofs.Fitting.{changes_of, given_of, over_of, savable_of}
+use Rattle.job_targets.proofs.targets.targets_of.Goals as goal
+
+pub returns-clause-over : goal.returns-clause-over
+returns-clause-over g c tells =
+    over_of c.args.carried.now (g.C.Contents.contents.answers c.args.far.now) c.args.planned.now c.make_targets.result c.make_targets.ensures.gathers c.make_targets.ensures.fits tells
+
+pub returns-clause-changes : goal.returns-clause-changes
+returns-clause-changes g c tells change =
+    changes_of (g.T.TreeDisk.disk.reads c.args.root.now) c.args.planned.now c.make_targets.result (c.requires.seen tells) change c.make_targets.ensures.fits
+
+pub returns-clause-puts : goal.returns-clause-puts
+returns-clause-puts g c = given_of c.args.planned.now c.make_targets.result c.make_targets.ensures.fits
+
+pub returns-clause-entries : goal.returns-clause-entries
+returns-clause-entries g c = savable_of c.args.planned.now c.make_targets.result c.requires.in_order c.make_targets.ensures.fits

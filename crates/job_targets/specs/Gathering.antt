@@ -1,0 +1,46 @@
+-- Runs of calls that only read a disk and search contents, and how they end.
+use Rattle.std.specs.Prelude.{◌≡◌, ℕ, ◌≤◌, Bool, IsTrue, List, Option, Result, Ok, Err}
+use Rattle.cny_base.specs.Count.{Rose}
+use Rattle.cny_base.specs.declared.refusal.Refusal.{Refusal}
+use Rattle.cny_base.specs.declared.stop.Stop.{Stop}
+use Rattle.cny_base.specs.declared.stop.Stop.TheVariants.{Refused, Memory, Failed, Damaged, FarFailed, FarDamaged}
+use Rattle.tree_disk.specs.Tree.{Name, Tree}
+use Rattle.tree_disk.specs.Disk.{DiskModel, HasRead}
+use Rattle.content_store.specs.Contents.{ContentsModel, IsDamagedSearch, KeepsContents}
+
+-- where it tells what is damaged, what stands at this path fails a cross-check, so that a name that was searched has no answer
+abbrev pub IsDamage : {C : Type 0} → ContentsModel C → C → Name → Type 0
+IsDamage contents far path = IsTrue contents.tells → (name : List ℕ) × IsDamagedSearch contents far name path
+
+-- How a run ends. Where the disk tells its tree: with a value of which P holds, or with a refusal of which Q holds. At a damaged
+-- file behind the contents, of which R holds; else with a fault of the disk or of the contents, or want of memory.
+abbrev pub Ends : {X : Type 0} → Bool → (X → Type 0) → (Refusal → Type 0) → (Name → Type 0) → (rose far_rose : Type 0) → Result X Stop → Type 0
+Ends told P Q R rose far_rose (Ok x) = IsTrue told → P x
+Ends told P Q R rose far_rose (Err (Refused why)) = IsTrue told → Q why
+Ends told P Q R rose far_rose (Err Failed) = rose
+Ends told P Q R rose far_rose (Err Memory) = Unit {0}
+Ends told P Q R rose far_rose (Err (Damaged path)) = ⊥
+Ends told P Q R rose far_rose (Err FarFailed) = far_rose
+Ends told P Q R rose far_rose (Err (FarDamaged path)) = R path
+
+-- A run that only reads the disk and searches the contents: what it makes of the tree, and why it refuses.
+pub record Gathers {D C X : Type 0} (disk : DiskModel D) (contents : ContentsModel C) (P : Tree → X → Type 0) (Q : Tree → Refusal → Type 0)
+    (old new : D) (far far' : C) (result : Result X Stop) : Type 0 where
+  pub later : disk.faults old ≤ disk.faults new
+  pub same : IsTrue disk.tells → HasRead disk old new (Unit {0})
+  pub keeps : KeepsContents contents far far'
+  pub ends : Ends disk.tells (P (disk.reads old)) (Q (disk.reads old)) (IsDamage contents far)
+      (Rose (disk.faults old) (disk.faults new)) (Rose (contents.faults far) (contents.faults far')) result
+
+-- it isn't refused
+abbrev pub no_refusal : Tree → Refusal → Type 0
+no_refusal tree why = ⊥
+
+-- the stops of such a run that isn't refused
+abbrev pub IsSearchStop : Stop → Type 0
+IsSearchStop (Refused why) = ⊥
+IsSearchStop Memory = Unit {0}
+IsSearchStop Failed = Unit {0}
+IsSearchStop (Damaged path) = ⊥
+IsSearchStop FarFailed = Unit {0}
+IsSearchStop (FarDamaged path) = Unit {0}

@@ -1,0 +1,4 @@
+pub mod Gathering
+pub mod Contents
+pub mod Targets
+pub mod Outcome

@@ -1,0 +1,185 @@
+//! Where the content of a file is found.
+ghost use Rattle.std.specs.Prelude.{◌≡◌, ◌↔◌, IfErr, IfOk, IfSome, IsTrue, Ok, Some, All, length};
+ghost use Rattle.std.specs.List.Sorted.{IsStrictlySortedBy};
+ghost use Rattle.std.specs.Option.{option_copied};
+ghost use Rattle.sha1.specs.Sha1.{sha1};
+ghost use Rattle.change_set.specs.declared.change.Carried as declared;
+ghost use Rattle.change_set.specs.ChangeSet.{content_cmp};
+ghost use Rattle.conflict_plan.specs.Orphans.{IsSeenPlan};
+ghost use Rattle.content_store.specs.Contents.{KeepsContents, StopsFor};
+ghost use Rattle.saved_contents.specs.Old.{IsContent};
+ghost use Rattle.tree_disk.specs.Rows.{bytes_at, is_file_at};
+ghost use Rattle.tree_disk.specs.Steps.{IsDiskStop, Tests};
+ghost use Rattle.job_targets.specs.Contents as spec;
+ghost use Rattle.job_targets.specs.Contents.{carried_bytes, Finds, FindsElsewhere, IsFarContent, of_size, standing};
+ghost use Rattle.job_targets.specs.Gathering.{Gathers, IsSearchStop, no_refusal};
+
+use change_set::Carried;
+use cny_base::{Bytes, Path, Stop};
+use conflict_plan::Planned;
+use content_store::{Contents, FarStop};
+use sha1::Sha1;
+use std::alloc::Global;
+use tree_disk::{TreeDisk, steps};
+use tree_scan::Mark;
+
+// The content that is carried under a name, if it has this size.
+fn carried_content<'a>(carried: &'a [Carried], size: u32, name: &[u8; 20]) -> Option<&'a [u8]>
+    requires { IsStrictlySortedBy content_cmp carried.now }
+    ensures { option_copied result ≡ of_size size (carried_bytes carried.now name.now) }
+{
+    match carried.binary_search_by(|content| content.name.cmp(name)) {
+        Ok(place) => {
+            let bytes = carried[place].bytes.get();
+            if bytes.len() == size as usize {
+                Some(bytes)
+            } else {
+                None
+            }
+        }
+        Err(_) => None,
+    }
+}
+
+// Whether it is the fingerprint of a file of this size and SHA-1, of any mode.
+fn is_file_of(mark: &Mark, size: u32, name: &[u8; 20]) -> bool
+    ensures { result ≡ spec.is_file_of size name.now mark.now }
+{
+    match mark {
+        Mark::File {
+            size: of_file,
+            name: its_name,
+            ..
+        } => *of_file == u64::from(size) && its_name.as_slice() == name.as_slice(),
+        Mark::Nothing => false,
+        Mark::Dir { .. } => false,
+        Mark::Link { .. } => false,
+    }
+}
+
+// Whether the bytes have this size and this SHA-1.
+fn is_content(bytes: &[u8], size: u32, name: &[u8; 20]) -> bool
+    ensures { IsTrue result ↔ IsContent size name.now bytes.now }
+{
+    let digest = Sha1::digest(bytes);
+    let is_size = bytes.len() as u64 == u64::from(size);
+    let is_name = digest.as_slice() == name.as_slice();
+    is_size && is_name
+}
+
+// The bytes of a file of this size and SHA-1.
+fn read_content<T: TreeDisk>(
+    alloc: Global,
+    root: &mut T,
+    path: &Path,
+    size: u32,
+    name: &[u8; 20],
+) -> Result<Option<Bytes>, Stop>
+    requires file { IsTrue T.disk.tells → IsTrue (is_file_at (T.disk.reads root.old) path.now) }
+    requires content { IsTrue T.disk.tells → IsContent size name.now (bytes_at (T.disk.reads root.old) path.now) }
+    ensures tests { Tests T.disk (λ found. found)
+        (λ tree. Ok (Some (bytes_at tree path.now)))
+        root.old root.new result }
+    ensures content { IfOk result (λ found. IfSome found (IsContent size name.now)) }
+    ensures stops { IfErr result IsDiskStop }
+{
+    let Some(bytes) = steps::read_whole(alloc, root, path, u64::from(size))? else {
+        return Ok(None);
+    };
+    // A disk that tells nothing may read another file.
+    if !is_content(bytes.get(), size, name) {
+        return Ok(None);
+    }
+    Ok(Some(bytes))
+}
+
+// The bytes of the file that stands at a planned path, if it is one of this size and SHA-1.
+fn standing_content<T: TreeDisk>(
+    alloc: Global,
+    root: &mut T,
+    planned: &Planned,
+    size: u32,
+    name: &[u8; 20],
+) -> Result<Option<Bytes>, Stop>
+    requires { IsTrue T.disk.tells → IsSeenPlan (T.disk.reads root.old) planned.now }
+    ensures tests { Tests T.disk (λ found. found)
+        (λ tree. Ok (standing tree planned.now size name.now))
+        root.old root.new result }
+    ensures content { IfOk result (λ found. IfSome found (IsContent size name.now)) }
+    ensures stops { IfErr result IsDiskStop }
+{
+    if !is_file_of(&planned.was, size, name) {
+        return Ok(None);
+    }
+    read_content(alloc, root, &planned.path, size, name)
+}
+
+// What the contents have under a name, if it has this size.
+fn far_content<C: Contents>(
+    alloc: Global,
+    far: &mut C,
+    size: u32,
+    name: &[u8; 20],
+) -> Result<Option<Bytes>, FarStop>
+    ensures found { IfOk result (IsFarContent (C.contents.answers far.old) size name.now) }
+    ensures content { IfOk result (λ found. IfSome found (IsContent size name.now)) }
+    ensures stops { IfErr result (StopsFor C.contents far.old far.new name.now) }
+    ensures keeps { KeepsContents C.contents far.old far.new }
+{
+    let Some(bytes) = far.find(alloc, name)? else {
+        return Ok(None);
+    };
+    if bytes.get().len() as u64 != u64::from(size) {
+        return Ok(None);
+    }
+    Ok(Some(bytes))
+}
+
+// The content, which isn't carried: that of the contents, and else the bytes of the file that stands at the path.
+fn content_elsewhere<T: TreeDisk, C: Contents>(
+    alloc: Global,
+    root: &mut T,
+    far: &mut C,
+    planned: &Planned,
+    size: u32,
+    name: &[u8; 20],
+) -> Result<Option<Bytes>, Stop>
+    requires { IsTrue T.disk.tells → IsSeenPlan (T.disk.reads root.old) planned.now }
+    ensures gathers { Gathers T.disk C.contents (λ tree found. FindsElsewhere (C.contents.answers far.old) tree planned.now size name.now found) no_refusal
+        root.old root.new far.old far.new result }
+    ensures content { IfOk result (λ found. IfSome found (IsContent size name.now)) }
+    ensures stops { IfErr result IsSearchStop }
+{
+    let found = far_content(alloc, far, size, name)?;
+    if found.is_some() {
+        return Ok(found);
+    }
+    let standing = standing_content(alloc, root, planned, size, name)?;
+    Ok(standing)
+}
+
+/// The content of this size and SHA-1 for a planned path: the carried one, else that of the contents, else the bytes of the file
+/// that stands at the path, if it is one of this size and SHA-1. Only where there is none of the former the next is asked.
+pub(crate) fn find_content<T: TreeDisk, C: Contents>(
+    alloc: Global,
+    root: &mut T,
+    far: &mut C,
+    carried: &[Carried],
+    planned: &Planned,
+    size: u32,
+    name: &[u8; 20],
+) -> Result<Option<Bytes>, Stop>
+    requires hash { All (λ (content : declared.Carried). content.name ≡ sha1 content.bytes) carried.now }
+    requires rising { IsStrictlySortedBy content_cmp carried.now }
+    requires seen { IsTrue T.disk.tells → IsSeenPlan (T.disk.reads root.old) planned.now }
+    ensures gathers { Gathers T.disk C.contents (λ tree found. Finds carried.now (C.contents.answers far.old) tree planned.now size name.now found) no_refusal
+        root.old root.new far.old far.new result }
+    ensures content { IfOk result (λ found. IfSome found (IsContent size name.now)) }
+    ensures stops { IfErr result IsSearchStop }
+{
+    if let Some(bytes) = carried_content(carried, size, name) {
+        let bytes = Bytes::new(alloc, bytes)?;
+        return Ok(Some(bytes));
+    }
+    content_elsewhere(alloc, root, far, planned, size, name)
+}
