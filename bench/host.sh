@@ -65,6 +65,11 @@ waits() {
     awk '$NF == "fsync" || $NF == "fdatasync" || $NF == "sync" { count += $4 } END { print count + 0 }' "$work/calls"
 }
 
+# A number of waits, and how many these are for each of so many files or packages.
+for_each() {
+    awk -v waits="$1" -v count="$2" 'BEGIN { if (waits ~ /^[0-9]+$/) printf "%d, %.1f for each", waits, waits / count; else printf "%s", waits }'
+}
+
 "$top/conary" install </dev/null >/dev/null 2>&1 || true # builds the program, where it isn't built
 [ $# -gt 0 ] || set -- 1000 5000 20000
 for count in "$@"; do
@@ -77,7 +82,7 @@ for count in "$@"; do
     sync
     untarred=$(time_of untar)
     ratio=$(awk -v a="$installed" -v b="$untarred" 'BEGIN { printf "%.1f", a / (b > 0 ? b : 1) }')
-    echo "$count files: installed $installed ms, tar -x and sync $untarred ms, ratio $ratio; waits for the disk: $(waits)"
+    echo "$count files: installed $installed ms, tar -x and sync $untarred ms, ratio $ratio; waits for the disk: $(for_each "$(waits)" "$count")"
 done
 
 # A manifest of a package of this number, with 50 files.
@@ -124,7 +129,7 @@ for count in 20 50 100; do
     sync
     untarred=$(time_of untar)
     ratio=$(awk -v a="$cooked" -v b="$untarred" 'BEGIN { printf "%.1f", a / (b > 0 ? b : 1) }')
-    echo "$count packages of 50 files: cooked $cooked ms, tar -x and sync of their contents $untarred ms, ratio $ratio; waits for the disk: $(cook_waits "$count")"
+    echo "$count packages of 50 files: cooked $cooked ms, tar -x and sync of their contents $untarred ms, ratio $ratio; waits for the disk: $(for_each "$(cook_waits "$count")" "$count")"
 done
 
 if [ -x /usr/bin/time ] && /usr/bin/time -f %M -o "$work/peak" true 2>/dev/null; then

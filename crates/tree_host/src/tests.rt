@@ -74,6 +74,41 @@ sync /|o
 remove /m|o
 look /m|-";
 
+// `waits` tells how many names the next sync waits for.
+const WAITS: &str = "\
+dir /d 0755|o
+append /d/f x|o
+link /d/l f|o
+waits /|4
+sync /|o
+waits /|0
+read /d/f 0|x
+look /d/l|l:f
+waits /|4
+sync /|o
+waits /|0";
+
+const WAITS_JOURNALED: &str = "\
+look /d/f|f0600:1
+look /d/l|l:f
+waits /|4
+sync /|o
+look /d/f|f0600:1
+read /d/f 0|x
+look /d/l|l:f
+waits /|0
+look /d|d0755
+waits /|2
+look /d/none|-
+list /d|f,l,
+waits /|3
+append /d/f y|o
+waits /|4
+rename /d/f /d/g|o
+waits /|5
+sync /|o
+waits /|0";
+
 const OTHERS: &str = "\
 append /f bytes|o
 outside /f /g|o
@@ -222,6 +257,13 @@ fn outside(rt: &HostRuntime, dir: &str, path: &str, word: &str) -> Result<String
     Ok(String::from_str(rt.alloc(), "o")?)
 }
 
+// How many names the next sync waits for.
+fn waits(alloc: Global, disk: &Tree<'_>) -> Result<String, Fail> {
+    let mut text = String::new(alloc);
+    write!(text, "{}", disk.touched.paths.len())?;
+    Ok(text)
+}
+
 fn at_path(
     alloc: Global,
     disk: &mut Tree<'_>,
@@ -236,6 +278,7 @@ fn at_path(
         "list" => list(alloc, disk, &path),
         "many" => make_many(alloc, disk, &path, word),
         "count" => count(alloc, disk, &path),
+        "waits" => waits(alloc, disk),
         _ => change(alloc, disk, name, &path, word),
     }
 }
@@ -253,9 +296,18 @@ fn answer(rt: &HostRuntime, disk: &mut Tree<'_>, dir: &str, call: &str) -> Resul
 // The first line whose answer is another one.
 fn first_wrong(rt: &HostRuntime, dir: &str, script: &'static str) -> Result<&'static str, Fail> {
     let mut disk = disk(rt, dir)?;
+    first_wrong_over(rt, &mut disk, dir, script)
+}
+
+fn first_wrong_over(
+    rt: &HostRuntime,
+    disk: &mut Tree<'_>,
+    dir: &str,
+    script: &'static str,
+) -> Result<&'static str, Fail> {
     for line in script.lines() {
         let (call, wanted) = line.split_once('|').unwrap_or((line, ""));
-        if answer(rt, &mut disk, dir, call)?.as_str() != wanted {
+        if answer(rt, disk, dir, call)?.as_str() != wanted {
             return Ok(line);
         }
     }
@@ -282,6 +334,20 @@ fn files_and_directories(rt: HostRuntime) -> Result<(), Fail> {
 #[test]
 fn links_are_not_followed(rt: HostRuntime) -> Result<(), Fail> {
     assert_eq!(rt; wrong_in_new_dir(&rt, "links", LINKS)?, "");
+    Ok(())
+}
+
+#[test]
+fn what_a_sync_waits_for(rt: HostRuntime) -> Result<(), Fail> {
+    let dir = new_dir(&rt, "waits")?;
+    assert_eq!(rt; first_wrong(&rt, dir.as_str(), WAITS)?, "");
+    let text = Text::new(rt.alloc(), dir.as_str())?;
+    let mut disk = HostTree::journaled(rt.alloc(), &rt, text);
+    assert_eq!(rt;
+        first_wrong_over(&rt, &mut disk, dir.as_str(), WAITS_JOURNALED)?,
+        ""
+    );
+    fs::remove_dir_all(&rt, dir.as_str())?;
     Ok(())
 }
 

@@ -11,16 +11,33 @@ const MOST_NAMES: usize = 1_024;
 
 /// The paths that were looked at or changed since the last sync, with all above them: what an earlier process left unsynced at a
 /// name is kept too, once the name was looked at.
+///
+/// Where the directory is changed through a journal alone, a file or link that stands behind the first sync needs no further one
+/// for being looked at: its writer waited for it before it let the commit flag go, and as long as the flag is set, the recovery
+/// writes it again. A name at which nothing or a directory stands does, since a recovery leaves it as it is.
 #[derive(Drop)]
 pub(crate) struct Touched {
-    paths: BTreeSet<Path>,
+    pub(crate) paths: BTreeSet<Path>,
+    journaled: bool,
+    synced: bool,
 }
 
 impl Touched {
-    pub(crate) fn new(alloc: Global) -> Self {
+    /// Nothing is touched yet. Whether the directory is changed through a journal alone.
+    pub(crate) fn new(alloc: Global, journaled: bool) -> Self {
         Touched {
             paths: BTreeSet::new(alloc),
+            journaled,
+            synced: false,
         }
+    }
+
+    /// Adds a path at which a file or link stands that was only looked at, and all above it, where it may be unsynced.
+    pub(crate) fn note_standing(&mut self, alloc: Global, path: &Path) -> Result<(), OutOfMemory> {
+        if self.journaled && self.synced {
+            return Ok(());
+        }
+        self.note(alloc, path)
     }
 
     /// Adds a path and all above it.
@@ -62,6 +79,7 @@ impl Touched {
             host.sync_at(alloc, path)?;
         }
         self.paths = BTreeSet::new(alloc);
+        self.synced = true;
         Ok(())
     }
 }

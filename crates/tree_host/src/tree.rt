@@ -18,11 +18,11 @@ use tree_disk::{DiskStop, Look, TreeDisk};
 /// No path is reached through a link but the directory itself. Each error of the host is a fault, and so is what no tree
 /// holds: a name, a path or a target that isn't in its grammar, a node that is no directory, file or link; and a call that a
 /// tree doesn't allow. A sync waits for each name that was changed or looked at since the last one, so that what a process
-/// left unsynced that was killed is kept by the next one that looks there.
+/// left unsynced that was killed is kept by the next one that looks there; `journaled` says where less is enough.
 #[derive(Drop)]
 pub struct HostTree<'a, R> {
     host: Host<'a, R>,
-    touched: Touched,
+    pub(crate) touched: Touched,
     faults: u64,
 }
 
@@ -41,7 +41,20 @@ impl<'a, R: Files> HostTree<'a, R> {
     {
         HostTree {
             host: Host { rt, dir },
-            touched: Touched::new(alloc),
+            touched: Touched::new(alloc, false),
+            faults: 0,
+        }
+    }
+
+    /// The directory of this name as a disk for programs that change it through a journal alone (`docs/CRASH_SAFETY.md`, *What
+    /// a killed process leaves*), and begin with its recovery. Behind its first sync, no sync waits for a file or a link that
+    /// was only looked at. It isn't looked at yet.
+    pub fn journaled(alloc: Global, rt: &'a R, dir: Text) -> HostTree<'a, R>
+        ensures { result ≡ 0 }
+    {
+        HostTree {
+            host: Host { rt, dir },
+            touched: Touched::new(alloc, true),
             faults: 0,
         }
     }
@@ -70,14 +83,36 @@ impl<'a, R: Files> HostTree<'a, R> {
     {
         self.touched.note(alloc, path)
     }
+
+    // The path will be synced, where that is needed at a file or link that stands.
+    fn note_standing(&mut self, alloc: Global, path: &Path) -> Result<(), OutOfMemory>
+        ensures { self.new ≡ self.old }
+    {
+        self.touched.note_standing(alloc, path)
+    }
+
+    // The path will be synced, where that is needed at what was seen there.
+    fn note_seen(
+        &mut self,
+        alloc: Global,
+        path: &Path,
+        seen: &Result<Look, HostStop>,
+    ) -> Result<(), OutOfMemory>
+        ensures { self.new ≡ self.old }
+    {
+        match seen {
+            Ok(Look::File { .. } | Look::Link { .. }) => self.note_standing(alloc, path),
+            _ => self.note(alloc, path),
+        }
+    }
 }
 
 impl<R: Files> TreeDisk for HostTree<'_, R> {
     ghost disk = { untold (λ faults. faults) };
 
     fn look(&mut self, alloc: Global, path: &Path) -> Result<Look, DiskStop> {
-        self.note(alloc, path)?;
         let answer = self.host.look(alloc, path);
+        self.note_seen(alloc, path, &answer)?;
         self.answer(answer)
     }
 
@@ -88,7 +123,7 @@ impl<R: Files> TreeDisk for HostTree<'_, R> {
         at: u64,
         buf: &mut [u8],
     ) -> Result<usize, DiskStop> {
-        self.note(alloc, path)?;
+        self.note_standing(alloc, path)?;
         let answer = self.host.read_at(alloc, path, at, buf);
         self.answer(answer)
     }
