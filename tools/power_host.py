@@ -346,10 +346,12 @@ def main():
         disk = Disk(folder / "template")
         disk.folder = os.fsencode(str(room))
         disk.record(folder / "trace")
-        print(f"a whole cook under strace: status {status}, {taken * 1000:.0f} ms, {disk.syncs} waits")
+        print(f"a whole cook under strace: status {status}, {taken * 1000:.0f} ms, {disk.syncs} waits", flush=True)
         counts = {"rounds": 0, "killed": 0, "names left unsynced": 0, "more than was told of": 0}
-        for _ in range(rounds):
+        for number in range(rounds):
             round_of(program, folder, taken, counts)
+            if number % 25 == 24:
+                print(f"after {number + 1} rounds: {counts['killed']} killed", file=sys.stderr, flush=True)
         print(", ".join(f"{name} {count}" for name, count in counts.items()))
         if rounds and not counts["killed"]:
             sys.exit("no run was cut off")
