@@ -6,3 +6,7 @@ pub mod Filtered
 pub mod NewestJob
 pub mod OneRecord
 pub mod OneUndone
+pub mod Mapped
+pub mod TakingJobs
+pub mod TakenBack
+pub mod Finding

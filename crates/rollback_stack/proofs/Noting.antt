@@ -29,7 +29,7 @@ none_of_none (suc below) newest ends none = omega (arith, none)
 
 -- ---- one record more
 
-records_push : (f : Format) (x : Tree) (number : ℕ) (after middle before : List TroveParts) (good : List (List state.Entry)) (es : List state.Entry)
+pub records_push : (f : Format) (x : Tree) (number : ℕ) (after middle before : List TroveParts) (good : List (List state.Entry)) (es : List state.Entry)
     → HoldsRecords f x number after good middle → HoldsRecord f x (number - length good) middle before es → HoldsRecords f x number after (good ++ es ∷ []) before
 records_push f x number after middle before [] es held here =
     let same : number - 0 ≡ number = omega arith in

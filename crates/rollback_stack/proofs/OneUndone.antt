@@ -14,7 +14,7 @@ use Rattle.saved_contents.specs.declared.entry.Entry.{Entry}
 use Rattle.saved_contents.specs.Old.{is_staged}
 use Rattle.trove_stream.specs.declared.parts.TroveParts.{TroveParts}
 use Rattle.undo_check.specs.Marks.{CanUndo, marks_of}
-use Rattle.undo_check.specs.JobLaws.{none_found}
+use Rattle.undo_check.proofs.JobLaws.{none_found}
 use Rattle.undo_check.specs.Outcome.{AreUndone, CanUndoNext, IsUndoStop}
 use Rattle.undo_check.specs.Seen.{FoundMarks}
 use Rattle.job_undo.specs.Undo.{AreEntries, entries_of, entry_of}
@@ -39,8 +39,11 @@ can_first x found changes es none same can = subst (λ (l : List state.Entry). C
 pub stop_first : (told : Bool) (x : Tree) (found : FoundMarks) (changes es : List state.Entry) (rose : Type 0) (e : Stop) → found.entries ≡ [] → changes ≡ es → IsUndoStop told x found changes rose e → IsInverseStop told x es rose e
 stop_first told x found changes es rose stop.Failed none same is = is
 stop_first told x found changes es rose stop.Memory none same is = tt
-stop_first told x found changes es rose (stop.Refused why) none same is = λ tells.
-    subst (λ (l : List state.Entry). Rattle.undo_check.specs.Marks.IsUndoRefusal l (marks_of x) why) same (is tells 0 [] (none_undone x found none))
+stop_first told x found changes es rose (stop.Refused why) none same is = (
+  is.0,
+  λ tells.
+      subst (λ (l : List state.Entry). Rattle.undo_check.specs.Marks.IsUndoRefusal l (marks_of x) why) same (is.1 tells 0 [] (none_undone x found none)),
+)
 stop_first told x found changes es rose (stop.Damaged path) none same is = is
 stop_first told x found changes es rose stop.FarFailed none same is = is
 stop_first told x found changes es rose (stop.FarDamaged path) none same is = is

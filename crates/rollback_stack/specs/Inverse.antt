@@ -21,6 +21,7 @@ use Rattle.local_db.specs.declared.db.Db.{Db}
 use Rattle.saved_contents.specs.Old.{HasMark, IsDamagedOld, IsSaved}
 use Rattle.undo_check.specs.Marks.{IsUndoRefusal, marks_of}
 use Rattle.undo_check.specs.Jobs.{CanUndoAll, oldest_with, undone_all}
+use Rattle.undo_check.specs.Outcome.{IsUndoKind}
 use Rattle.job_records.specs.Reading.{HoldsNoRecord, HoldsRecord, HoldsRecords}
 use Rattle.job_undo.specs.declared.undo.Back.{Back}
 use Rattle.job_undo.specs.declared.undo.Undo.{Undo}
@@ -40,7 +41,7 @@ pub record IsBack (undo : Undo) (db : Db) (back : Back) : Type 0 where
 abbrev pub IsInverseStop : Bool → Tree → List state.Entry → Type 0 → Stop → Type 0
 IsInverseStop told x es rose stop.Failed = rose
 IsInverseStop told x es rose stop.Memory = Unit {0}
-IsInverseStop told x es rose (stop.Refused why) = IsTrue told → IsUndoRefusal es (marks_of x) why
+IsInverseStop told x es rose (stop.Refused why) = IsUndoKind why × (IsTrue told → IsUndoRefusal es (marks_of x) why)
 IsInverseStop told x es rose (stop.Damaged path) = ⊥
 IsInverseStop told x es rose stop.FarFailed = ⊥
 IsInverseStop told x es rose (stop.FarDamaged path) = ⊥
@@ -116,7 +117,7 @@ pub record IsRefusedJob (x : Tree) (db : Db) (number : ℕ) (why : Refusal) : Ty
 abbrev pub IsBackRefusal : Bool → Tree → Db → ℕ → Refusal → Type 0
 IsBackRefusal told x db number StackEmpty = db.newest ≡ 0
 IsBackRefusal told x db number (NoJob n) = (n ≡ number) × (db.newest ≢ 0) × ((number < db.oldest) ⊎ (db.newest < number))
-IsBackRefusal told x db number why = IsTrue told → IsRefusedJob x db number why
+IsBackRefusal told x db number why = IsUndoKind why × (IsTrue told → IsRefusedJob x db number why)
 
 -- the path of the first record that the tree doesn't hold, once the newer jobs can be taken back
 pub record IsDamagedJob (x : Tree) (db : Db) (number : ℕ) (path : Name) : Type 0 where

@@ -2,3 +2,5 @@ pub mod Numbers
 pub mod Lists
 pub mod Reading
 pub mod Inverse
+pub mod Taking
+pub mod Wanting

@@ -2,9 +2,12 @@
 //! newest down, and taken back in that order.
 #![tactic(auto)]
 
+mod back;
+mod jobs;
 mod laws;
 mod numbers;
 mod stack;
+mod taking_back;
 mod troves;
 mod undoing;
 
@@ -13,4 +16,5 @@ pub use laws::one_record;
 pub use numbers::next_number;
 pub use saved_contents::{Entries, Entry, stashable};
 pub use stack::{all, newest};
+pub use taking_back::inverse_to;
 pub use undoing::inverse;

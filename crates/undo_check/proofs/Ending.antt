@@ -8,7 +8,7 @@ use Rattle.tree_disk.specs.Disk.{DiskModel, IsDisk, Reads}
 use Rattle.tree_disk.specs.Steps.{Found, Tests}
 use Rattle.tree_disk.specs.Tree.{Tree, WellFormed}
 use Rattle.system_state.specs.Record.{Entry, entry_cmp}
-use Rattle.undo_check.specs.Outcome.{CanUndoNext, IsUndoStop}
+use Rattle.undo_check.specs.Outcome.{CanUndoNext, IsTestStop, IsUndoStop}
 use Rattle.undo_check.specs.Seen.{FoundMarks, undo_tested}
 use Rattle.undo_check.proofs.Meaning.{can_undo, undo_refused}
 use Rattle.undo_check.proofs.Undone.{each_of}
@@ -18,14 +18,14 @@ module _ (found : FoundMarks) (es : List Entry) (rising : IsStrictlySortedBy ent
   can_by told (Ok done) a b tells ended = λ newest jobs undone. can_undo x newest jobs found undone.found_are well es (each_of es rising) undone.can (ended tells)
   can_by told (Err stop) a b tells ended = tt
 
-  stop_by : (told : Bool) (r : Result Unit Stop) (a b : ℕ) → Found (λ (done : Unit {0}). done) told (undo_tested found es x) r a b → IfErr r (IsUndoStop told x found es (Rose a b))
-  stop_by told (Ok done) a b ended = tt
-  stop_by told (Err (Refused why)) a b ended = λ tells newest jobs undone. undo_refused x newest jobs found undone.found_are well es (each_of es rising) undone.can rising why (ended tells)
-  stop_by told (Err Failed) a b ended = ended
-  stop_by told (Err Memory) a b ended = tt
-  stop_by told (Err (Damaged path)) a b ended = ended
-  stop_by told (Err FarFailed) a b ended = ended
-  stop_by told (Err (FarDamaged path)) a b ended = ended
+  stop_by : (told : Bool) (r : Result Unit Stop) (a b : ℕ) → IfErr r IsTestStop → Found (λ (done : Unit {0}). done) told (undo_tested found es x) r a b → IfErr r (IsUndoStop told x found es (Rose a b))
+  stop_by told (Ok done) a b kind ended = tt
+  stop_by told (Err (Refused why)) a b kind ended = (kind, λ tells newest jobs undone. undo_refused x newest jobs found undone.found_are well es (each_of es rising) undone.can rising why (ended tells))
+  stop_by told (Err Failed) a b kind ended = ended
+  stop_by told (Err Memory) a b kind ended = tt
+  stop_by told (Err (Damaged path)) a b kind ended = ended
+  stop_by told (Err FarFailed) a b kind ended = ended
+  stop_by told (Err (FarDamaged path)) a b kind ended = ended
 
 module _ {D : Type 0} {disk : DiskModel D} (laws : IsDisk disk) where
   pub can_from : (found : FoundMarks) (es : List Entry) → IsStrictlySortedBy entry_cmp es → (old new : D) (r : Result Unit Stop)
@@ -37,5 +37,5 @@ module _ {D : Type 0} {disk : DiskModel D} (laws : IsDisk disk) where
   }
 
   pub stop_from : (found : FoundMarks) (es : List Entry) → IsStrictlySortedBy entry_cmp es → (old new : D) (r : Result Unit Stop)
-      → Tests disk (λ (done : Unit {0}). done) (λ tree. undo_tested found es tree) old new r → IfErr r (IsUndoStop disk.tells (disk.reads old) found es (Rose (disk.faults old) (disk.faults new)))
-  stop_from found es rising old new r tested = stop_by found es rising (disk.reads old) (laws.reads_well_formed old) disk.tells r (disk.faults old) (disk.faults new) tested.found
+      → IfErr r IsTestStop → Tests disk (λ (done : Unit {0}). done) (λ tree. undo_tested found es tree) old new r → IfErr r (IsUndoStop disk.tells (disk.reads old) found es (Rose (disk.faults old) (disk.faults new)))
+  stop_from found es rising old new r kind tested = stop_by found es rising (disk.reads old) (laws.reads_well_formed old) disk.tells r (disk.faults old) (disk.faults new) kind tested.found

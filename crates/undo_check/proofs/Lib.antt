@@ -1,3 +1,4 @@
+pub mod JobLaws
 pub mod Searching
 pub mod Order
 pub mod Undone

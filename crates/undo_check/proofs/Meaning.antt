@@ -29,7 +29,7 @@ use Rattle.tree_scan.specs.declared.mark.Mark.TheVariants as mark
 use Rattle.system_state.specs.Record.{Entry, entry_cmp}
 use Rattle.undo_check.specs.declared.found.FoundMark.{FoundMark}
 use Rattle.undo_check.specs.Jobs.{AreFound, CanUndoAll, undone_all}
-use Rattle.undo_check.specs.JobLaws.{seen_is, undone_other, undone_same}
+use Rattle.undo_check.proofs.JobLaws.{seen_is, undone_other, undone_same}
 use Rattle.undo_check.specs.Marks.{CanUndo, HasForeignEntry, IsEdited, IsFirstEdited, IsFirstOrphan, IsOrphan, IsUndoRefusal, Marks, is_path_of, marks_of, undone}
 use Rattle.undo_check.specs.Seen.{FoundMarks, edited_or, first_edited, first_orphan, undo_tested, has_foreign, has_foreign_on_disk, has_foreign_put, is_dir_after, is_edited, is_foreign, is_foreign_put, is_orphan, makes_dir, mark_or, mark_seen, stays}
 use Rattle.undo_check.proofs.Order.{name_cmp, child_parent, more_other, not_both_less, not_less_itself}

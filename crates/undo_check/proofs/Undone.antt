@@ -17,7 +17,7 @@ use Rattle.system_state.specs.Record.{Entry, entry_cmp}
 use Rattle.undo_check.specs.declared.found.FoundMark.{FoundMark}
 use Rattle.undo_check.specs.Marks.{Marks, undone, is_path_of}
 use Rattle.undo_check.specs.Jobs.{AreFound, found_mark, noted, noted_all, oldest_with, undone_all}
-use Rattle.undo_check.specs.JobLaws.{oldest_more, undone_more, undone_other}
+use Rattle.undo_check.proofs.JobLaws.{oldest_more, undone_more, undone_other}
 use Rattle.undo_check.specs.Seen.{FoundMarks}
 use Rattle.undo_check.proofs.Order.{less_other, more_other, same_sym}
 

@@ -2,5 +2,4 @@ pub mod Marks
 pub mod Jobs
 pub mod Seen
 pub mod Outcome
-pub mod JobLaws
 pub mod Entries

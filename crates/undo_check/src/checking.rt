@@ -4,7 +4,7 @@ ghost use Rattle.std.specs.List.Sorted.{IsStrictlySortedBy};
 ghost use Rattle.cny_base.specs.Count.{Rose};
 ghost use Rattle.tree_disk.specs.Disk.{Reads};
 ghost use Rattle.tree_disk.specs.Steps.{Tests};
-ghost use Rattle.undo_check.specs.Outcome.{CanUndoNext, IsUndoStop};
+ghost use Rattle.undo_check.specs.Outcome.{CanUndoNext, IsTestStop, IsUndoStop};
 ghost use Rattle.system_state.specs.Record.{entry_cmp};
 ghost use Rattle.undo_check.specs.Seen.{undo_tested};
 
@@ -24,9 +24,11 @@ fn test_undo<D: TreeDisk>(
     changes: &[Change],
 ) -> Result<(), Stop>
     requires { IsStrictlySortedBy entry_cmp changes.now }
-    ensures { Tests D.disk (λ done. done)
+    ensures tests { Tests D.disk (λ done. done)
         (λ tree. undo_tested found.now changes.now tree)
         disk.old disk.new result }
+    // On every disk, also where it tells nothing.
+    ensures kinds { IfErr result IsTestStop }
 {
     let edited = first_edited(alloc, disk, found, changes)?;
     if let Some(path) = edited {

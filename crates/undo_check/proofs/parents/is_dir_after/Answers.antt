@@ -5,7 +5,7 @@ use Rattle.tree_scan.specs.declared.mark.Mark.{Mark}
 use Rattle.undo_check.specs.Marks.{undone}
 use Rattle.system_state.specs.Record.{Entry}
 use Rattle.undo_check.specs.Seen.{mark_seen}
-use Rattle.undo_check.specs.JobLaws.{undone_other}
+use Rattle.undo_check.proofs.JobLaws.{undone_other}
 use Rattle.undo_check.proofs.Undone.{undone_at}
 use Rattle.undo_check.proofs.parents.is_dir_after.Goals as goal
 

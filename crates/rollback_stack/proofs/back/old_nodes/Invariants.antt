@@ -1,0 +1,16 @@
+use Rattle.std.proofs.Common.{◌≡◌, ◌≤◌, IsTrue, map}
+use Rattle.std.specs.BTreeMap.{IsOrdered}
+use Rattle.std.specs.Cmp.Lexicographic.{slice_cmp}
+use Rattle.std.specs.Map.Iter.{deref_pair}
+use Rattle.std.specs.Ordering.{nat_cmp}
+use Rattle.tree_disk.specs.Disk.{HasRead}
+use Rattle.rollback_stack.proofs.Finding.{AreWantedTo}
+use Rattle.rollback_stack.proofs.back.old_nodes.Given as goal
+
+abbrev pub invariant-loop-path : goal.invariant-loop-path
+invariant-loop-path g l = let disk = g.D.TreeDisk.disk in record {
+  later : disk.faults l.fn.disk ≤ disk.faults l.disk;
+  read : IsTrue disk.tells → HasRead disk l.fn.disk l.disk (Unit {0});
+  ordered : IsOrdered (slice_cmp nat_cmp) l.wants;
+  wanted : IsTrue disk.tells → AreWantedTo (disk.reads l.fn.disk) l.found (map deref_pair l.yielded) l.wants;
+}

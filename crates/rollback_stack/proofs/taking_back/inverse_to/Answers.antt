@@ -1,0 +1,59 @@
+use Rattle.std.proofs.Common.{◌≡◌, ◌∙◌, List, ap, sym, subst}
+use Rattle.cny_base.specs.Count.{Rose}
+use Rattle.job_inverse.specs.Writes.{db_below}
+use Rattle.tree_disk.specs.Moments.{rose_before}
+use Rattle.tree_disk.specs.Tree.{Tree}
+use Rattle.trove_stream.specs.declared.parts.TroveParts.{TroveParts}
+use Rattle.rollback_stack.specs.Inverse.{IsBackStop}
+use Rattle.rollback_stack.specs.Wanting.{AreWanted}
+use Rattle.rollback_stack.proofs.Later.{read_as, read_then}
+use Rattle.rollback_stack.proofs.NewestJob.{if_err_from}
+use Rattle.rollback_stack.proofs.TakenBack.{back_to, content_stop, job_stop, no_job}
+use Rattle.rollback_stack.proofs.taking_back.inverse_to.Goals as goal
+
+pub returns-in_err-check_number-clause-stops : goal.returns-in_err-check_number-clause-stops
+returns-in_err-check_number-clause-stops g c =
+    let told = g.D.TreeDisk.disk.tells in
+    let x = g.D.TreeDisk.disk.reads c.args.disk.now in
+    let rose = Rose (g.D.TreeDisk.disk.faults c.args.disk.now) (g.D.TreeDisk.disk.faults c.args.disk.now) in
+    let e = c.in_err-check_number.field-0.0 in
+    if_err_from (IsBackStop told x c.args.db.now c.args.number rose) c.from_residual.result e c.from_residual.ensures.1
+    (no_job told x c.args.db.now c.args.number rose e c.in_err-check_number.ensures.stops)
+
+pub returns-in_err-back-clause-stops : goal.returns-in_err-back-clause-stops
+returns-in_err-back-clause-stops g c =
+    let told = g.D.TreeDisk.disk.tells in
+    let x = g.D.TreeDisk.disk.reads c.args.disk.now in
+    let rose = Rose (g.D.TreeDisk.disk.faults c.args.disk.now) (g.D.TreeDisk.disk.faults c.jobs_down_to.new.disk) in
+    let e = c.in_err-back.field-0.0 in
+    if_err_from (IsBackStop told x c.args.db.now c.args.number rose) c.from_residual-in_err-back.result e c.from_residual-in_err-back.ensures.1
+    (job_stop told x c.args.db.now c.args.number rose e c.in_ok-check_number.ensures.job c.in_err-back.ensures.stops)
+
+pub returns-in_err-wants-clause-stops : goal.returns-in_err-wants-clause-stops
+returns-in_err-wants-clause-stops g c =
+    let told = g.D.TreeDisk.disk.tells in
+    let faults = g.D.TreeDisk.disk.faults in
+    let x = g.D.TreeDisk.disk.reads c.args.disk.now in
+    let y = g.D.TreeDisk.disk.reads c.jobs_down_to.new.disk in
+    let back = c.in_ok-back.back in
+    let rose = Rose (faults c.jobs_down_to.new.disk) (faults c.old_nodes.new.disk) in
+    let later = Rose (faults c.args.disk.now) (faults c.old_nodes.new.disk) in
+    let e = c.in_err-wants.field-0.0 in
+    if_err_from (IsBackStop told x c.args.db.now c.args.number later) c.from_residual-in_err-wants.result e c.from_residual-in_err-wants.ensures.1
+    (content_stop told x y c.args.db.now c.args.number back.list.troves back.found rose later e c.in_ok-check_number.ensures.job (λ tells. (c.in_ok-back.ensures.value tells).answer)
+    (λ r. rose_before (faults c.args.disk.now) (faults c.jobs_down_to.new.disk) (faults c.old_nodes.new.disk) c.in_ok-back.ensures.later r)
+    (λ tells. (c.in_ok-back.ensures.value tells).same.reads) c.in_err-wants.ensures.stops)
+
+pub returns-clause-value : goal.returns-clause-value
+returns-clause-value g c tells =
+    let x = g.D.TreeDisk.disk.reads c.args.disk.now in
+    let db = c.args.db.now in
+    let n = c.args.number in
+    let back = c.in_ok-back.back in
+    let first = c.in_ok-back.ensures.value tells in
+    let second = c.in_ok-wants.ensures.value tells in
+    read_as (read_then g.met.D.TreeDisk.laws first second)
+    (back_to x db n back.list.troves back.found c.in_ok-wants.wants c.want_no_records.new.wants _ c.in_ok-check_number.ensures.job first.answer
+    (subst (λ (t : Tree). AreWanted t back.found c.in_ok-wants.wants) first.same.reads second.answer) c.in_ok-wants.ensures.ordered
+    c.in_ok-want_no_records.ensures c.in_ok-puts.ensures.ordered c.in_ok-puts.ensures.puts
+    (c.db_below-below.ensures ∙ ap (λ (l : List TroveParts). db_below db l n) c.in_ok-before.ensures))

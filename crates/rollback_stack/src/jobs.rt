@@ -1,0 +1,112 @@
+//! Jobs that are taken back, the newest first.
+ghost use Rattle.std.specs.Prelude.{◌≡◌, ◌≤◌, ◌+◌, ◌-◌, IfErr, IfOk, OnOk};
+ghost use Rattle.cny_base.specs.Count.{Rose};
+ghost use Rattle.job_records.specs.Entries.{entries_of};
+ghost use Rattle.system_state.specs.Formats.{AreEnds};
+ghost use Rattle.system_state.specs.Installed.{IsInstalled};
+ghost use Rattle.system_state.specs.Stores.{IsDatabase};
+ghost use Rattle.system_state.specs.declared.format.Format.TheVariants.{Two};
+ghost use Rattle.tree_disk.specs.Disk.{Reads};
+ghost use Rattle.rollback_stack.specs.Inverse.{IsOnStack};
+ghost use Rattle.rollback_stack.specs.Taking.{AreTaken, HasTakenJob, IsJobsStop, IsNoJobStop, IsTakeStop};
+
+use cny_base::{OutOfMemory, Refusal, Stop};
+use job_records::{Change as RecordChange, Job, read_job};
+use local_db::Db;
+use past_list::PastList;
+use std::alloc::Global;
+use std::collections::BTreeMap;
+use system_state::Format;
+use tree_disk::TreeDisk;
+use undo_check::{Change, FoundMarks, check_undo, take_back};
+
+/// What is known once jobs were taken back.
+#[derive(Drop)]
+pub(crate) struct TakenBack {
+    pub(crate) list: PastList,
+    pub(crate) found: FoundMarks,
+}
+
+/// Whether there is a job of this number.
+pub(crate) fn check_number(db: &Db, number: u32) -> Result<(), Stop>
+    requires { AreEnds db.now.oldest db.now.newest }
+    ensures job { OnOk result (IsOnStack db.now number) }
+    ensures stops { IfErr result (IsNoJobStop db.now number) }
+{
+    if db.newest == 0 {
+        return Err(Stop::Refused(Refusal::StackEmpty));
+    }
+    if number < db.oldest || db.newest < number {
+        return Err(Stop::Refused(Refusal::NoJob { number }));
+    }
+    Ok(())
+}
+
+// The changes as the test has them, which are those of the record.
+fn changes_of(alloc: Global, changes: Vec<RecordChange>) -> Result<Vec<Change>, OutOfMemory>
+    ensures { IfOk result (λ same. same.items ≡ entries_of changes.items) }
+{
+    let mut same = Vec::new(alloc);
+    for change in changes {
+        let RecordChange {
+            path,
+            before,
+            after,
+        } = change;
+        same.push(Change::new(path, before, after))?;
+    }
+    Ok(same)
+}
+
+// Reads the job of this number, and takes it back where that can be done.
+fn take_job<D: TreeDisk>(
+    alloc: Global,
+    disk: &mut D,
+    back: &mut TakenBack,
+    number: u32,
+) -> Result<(), Stop>
+    requires number { 1 ≤ number }
+    requires installed { IsInstalled back.old.list.troves }
+    requires format { back.old.list.format ≡ Two }
+    ensures value { Reads D.disk disk.old disk.new (OnOk result
+        (HasTakenJob (D.disk.reads disk.old) number back.old.list.troves back.new.list.troves back.old.found back.new.found)) }
+    // On every disk, also where it tells nothing.
+    ensures installed { OnOk result (IsInstalled back.new.list.troves) }
+    ensures format { OnOk result (back.new.list.format ≡ Two) }
+    ensures stops { IfErr result (IsTakeStop D.disk.tells (D.disk.reads disk.old) number back.old.list.troves back.old.found
+        (Rose (D.disk.faults disk.old) (D.disk.faults disk.new))) }
+    ensures later { D.disk.faults disk.old ≤ D.disk.faults disk.new }
+{
+    let job = read_job(alloc, disk, Format::Two, &mut back.list, number)?;
+    let Job { changes, .. } = job;
+    let changes = changes_of(alloc, changes)?;
+    let own = changes.as_slice();
+    check_undo(alloc, disk, &back.found, own)?;
+    take_back(&mut back.found, number, own)?;
+    Ok(())
+}
+
+/// All jobs from the newest down to this number, taken back one after the other.
+pub(crate) fn jobs_down_to<D: TreeDisk>(
+    alloc: Global,
+    disk: &mut D,
+    db: &Db,
+    number: u32,
+) -> Result<TakenBack, Stop>
+    requires db { IsDatabase Two db.now.installed db.now.oldest db.now.newest }
+    requires job { IsOnStack db.now number }
+    ensures value { Reads D.disk disk.old disk.new (IfOk result (λ back.
+        AreTaken (D.disk.reads disk.old) db.now (db.now.newest - number + 1) back.list.troves back.found)) }
+    ensures installed { IfOk result (λ back. IsInstalled back.list.troves) }
+    ensures stops { IfErr result (IsJobsStop D.disk.tells (D.disk.reads disk.old) db.now number (Rose (D.disk.faults disk.old) (D.disk.faults disk.new))) }
+    ensures later { D.disk.faults disk.old ≤ D.disk.faults disk.new }
+{
+    let list = PastList::of(alloc, Format::Two, &db.installed)?;
+    let found = BTreeMap::new(alloc);
+    let mut back = TakenBack { list, found };
+    let count = db.newest - number + 1;
+    for below in 0..count {
+        take_job(alloc, disk, &mut back, db.newest - below)?;
+    }
+    Ok(back)
+}
