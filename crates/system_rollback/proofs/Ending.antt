@@ -1,0 +1,171 @@
+-- How a rollback ends, by the system that the root stores.
+use Rattle.std.proofs.Common.{◌≡◌, ◌≢◌, ◌⊎◌, inl, inr, ⊎_elim, ℕ, ◌≤◌, Bool, true, false, IsTrue, List, [], ◌∷◌, ◌++◌, map, Option, Some, None, Result, Ok, Err, All, Contains, refl, sym, ◌∙◌, ap, subst, arith}
+use Rattle.std.proofs.lemmas.List.Elements.{All-contains, All-map, Contains-append_right, Contains-get_or}
+use Rattle.std.specs.FinMap.{get}
+use Rattle.cny_base.specs.declared.node.Node.{Node}
+use Rattle.cny_base.specs.declared.node.Node.TheVariants as node
+use Rattle.cny_base.specs.declared.refusal.Refusal.{Refusal}
+use Rattle.cny_base.specs.declared.refusal.Refusal.TheVariants.{Edited, Parent, StackEmpty}
+use Rattle.cny_base.specs.declared.stop.Stop.{Stop}
+use Rattle.cny_base.specs.declared.stop.Stop.TheVariants as stop
+use Rattle.cny_base.specs.Reserved.{is_reserved}
+use Rattle.tree_disk.specs.Disk.{DiskModel, HasRead}
+use Rattle.tree_disk.specs.Steps.{IsDiskStop}
+use Rattle.tree_disk.specs.Tree.{Name, Tree, WellFormed}
+use Rattle.tree_scan.specs.Marks.{fingerprint}
+use Rattle.local_db.specs.declared.db.Db.{Db}
+use Rattle.saved_contents.specs.Old.{IsDamagedOld}
+use Rattle.system_state.specs.Record as state
+use Rattle.system_state.specs.Stores.{HoldsDatabase, StoresIn}
+use Rattle.system_state.specs.SystemState.{IsFree, IsStackItem, StackItem, SystemState, is_listed, newest, oldest}
+use Rattle.system_state.specs.Steps.{after_rollback}
+use Rattle.system_state.specs.declared.format.Format.TheVariants.{Two}
+use Rattle.system_state.proofs.Sorted.{listed_in}
+use Rattle.undo_check.specs.Marks.{IsUndoRefusal, marks_of}
+use Rattle.rollback_stack.specs.Reading.{IsDamagedAt, IsDamagedNewest, IsFirstDamaged}
+use Rattle.system_rollback.specs.Preparing.{IsPreparingStop, IsRefusal}
+use Rattle.system_rollback.specs.Restoring.{IsException, IsUnedited, Restores}
+use Rattle.system_rollback.specs.Rollback.{EndsSo, HasCause, IsSystemRefusal, StopsSo, db_of}
+use Rattle.system_rollback.proofs.Restored.{is_restored, left_alone, put_into}
+use Rattle.system_rollback.proofs.Stepping.{edited, empty_stack, orphaned, some_job}
+use Rattle.system_rollback.proofs.Stored.{OneDatabase, OneRecord, SameParts, held, item, one_held, record_of, some_newest}
+use Rattle.system_rollback.proofs.Undoing.{told_at}
+
+-- ---- nothing is damaged
+
+-- a saved content that the job's record refers to isn't damaged
+not_damaged : (x : Tree) (s : SystemState) (stores : StoresIn Two x s) (o : StackItem) (olds : List StackItem) (stack : s.stack ≡ o ∷ olds) (n : ℕ) → n ≡ o.number → (p path : Name) → Contains o.paths p
+    → IsDamagedOld x n (fingerprint (get o.before p)) path → ⊥
+not_damaged x s stores o olds stack n number_is p path among damaged = at (get o.before p) refl (subst (λ (k : ℕ). IsDamagedOld x k (fingerprint (get o.before p)) path) number_is damaged)
+  where
+    at : (m : Option Node) → get o.before p ≡ m → IsDamagedOld x o.number (fingerprint m) path → ⊥
+    at None is h = h
+    at (Some (node.Dir mode)) is h = h
+    at (Some (node.File mode bytes)) is h = h.1 bytes (record { there = (held x s stores o olds stack).contents p mode bytes among is; content = record { long = refl; named = refl } })
+    at (Some (node.Link target)) is h = h
+
+-- the first of the entries that is damaged is one of the job's
+first_damaged : (x : Tree) (s : SystemState) (stores : StoresIn Two x s) (o : StackItem) (olds : List StackItem) (stack : s.stack ≡ o ∷ olds) (n : ℕ) → n ≡ o.number → (es : List state.Entry) → es ≡ state.entries_of o
+    → (path : Name) → IsFirstDamaged x n es path → ⊥
+first_damaged x s stores o olds stack n number_is es same path h =
+    All-contains (λ (e : state.Entry). IsDamagedOld x n e.was path → ⊥) es h.first
+    (subst (All (λ (e : state.Entry). IsDamagedOld x n e.was path → ⊥)) (sym same)
+    (All-map (λ (e : state.Entry). IsDamagedOld x n e.was path → ⊥) (told_at o) o.paths
+    (λ k d lt. not_damaged x s stores o olds stack n number_is (Rattle.std.proofs.Common.get_or o.paths k d) path (Contains-get_or o.paths k d lt))))
+    (subst (λ (l : List state.Entry). Contains l h.first) (sym h.split) (Contains-append_right h.front (h.first ∷ h.rest) h.first (0, omega arith, refl)))
+    h.damaged
+
+module _ (one_db : OneDatabase) (one_record : OneRecord) (x : Tree) (s : SystemState) (stores : StoresIn Two x s) (db : Db) (holds : HoldsDatabase Two x db.installed db.oldest db.newest) (well : WellFormed x) where
+  parts : SameParts db.installed s.installed db.oldest db.newest (oldest s.stack) (newest s.stack)
+  parts = one_held one_db x db.installed s.installed db.oldest db.newest (oldest s.stack) (newest s.stack) holds stores.list
+
+  none_damaged : (path : Name) → IsDamagedNewest x db path → ⊥
+  none_damaged path h = let n = some_newest s.stack (λ zero. h.0 (parts.highs ∙ zero)) in by n.job n.others n.stack_is h.1
+    where
+      by : (o : StackItem) (olds : List StackItem) → s.stack ≡ o ∷ olds → IsDamagedAt x db path → ⊥
+      by o olds stack (inl no_record) = no_record.1 o.list (state.entries_of o) (record_of x s stores o olds stack db.newest db.installed (parts.highs ∙ ap newest stack) parts.lists)
+      by o olds stack (inr content) =
+          let number_is = parts.highs ∙ ap newest stack in
+          first_damaged x s stores o olds stack db.newest number_is content.1
+          (one_record Two x db.newest db.installed content.0 o.list content.1 (state.entries_of o) content.2 (record_of x s stores o olds stack db.newest db.installed number_is parts.lists)).1
+          path content.3
+
+  -- ---- refusals
+
+  system_refusal : (why : Refusal) → IsRefusal x db why → IsSystemRefusal s why
+  system_refusal why (inl h) = subst (IsSystemRefusal s) (sym h.0) (empty_stack one_db one_record x s stores db holds well h.1)
+  system_refusal why (inr is) = at why refl is.refused
+    where
+      at : (m : Refusal) → why ≡ m → IsUndoRefusal is.es (marks_of x) m → IsSystemRefusal s m
+      at (Edited path) e h =
+          let n = some_newest s.stack (some_job one_db one_record x s stores db holds well why is) in
+          record { job = n.job; others = n.others; stack_is = n.stack_is; holds = edited one_db one_record x s stores db holds well why is n.job n.others n.stack_is path e }
+      at (Parent path) e h =
+          let n = some_newest s.stack (some_job one_db one_record x s stores db holds well why is) in
+          record { job = n.job; others = n.others; stack_is = n.stack_is; holds = orphaned one_db one_record x s stores db holds well why is n.job n.others n.stack_is path e }
+      at _ e h = absurd h
+
+  -- stopped before anything was written
+  pub unwritten : (told : Bool) (rose : Type 0) (left : Db) (e : Stop) → IsTrue told → IsPreparingStop told x db rose e → EndsSo s left (Err e)
+  unwritten told rose left stop.Failed tells is = tt
+  unwritten told rose left stop.Memory tells is = tt
+  unwritten told rose left (stop.Refused why) tells is = system_refusal why (is tells)
+  unwritten told rose left (stop.Damaged path) tells is = none_damaged path (is tells)
+  unwritten told rose left stop.FarFailed tells is = is
+  unwritten told rose left (stop.FarDamaged path) tells is = is
+
+-- stopped while it was written
+pub unfinished : (s : SystemState) (left : Db) (e : Stop) → IsDiskStop e → EndsSo s left (Err e)
+unfinished s left stop.Failed is = tt
+unfinished s left stop.Memory is = tt
+unfinished s left (stop.Refused why) is = absurd is
+unfinished s left (stop.Damaged path) is = is
+unfinished s left stop.FarFailed is = is
+unfinished s left (stop.FarDamaged path) is = is
+
+-- ---- what is restored
+
+module _ (x y : Tree) (s : SystemState) (stores : StoresIn Two x s) (left : Db) (o : StackItem) (olds : List StackItem) (stack : s.stack ≡ o ∷ olds) (formed : WellFormed o.before) (unedited : IsUnedited o s.tree) where
+  mine : IsStackItem o
+  mine = item x s stores o olds stack
+
+  same_job : (p : StackItem) (ps : List StackItem) → s.stack ≡ p ∷ ps → (p ≡ o) × (ps ≡ olds)
+  same_job p ps e = let both : p ∷ ps ≡ o ∷ olds = sym e ∙ stack in (cc both, cc both)
+
+  exception : (why : Refusal) → IsSystemRefusal s why → IsException o s.tree why
+  exception StackEmpty is = absurd (cc (sym is ∙ stack))
+  exception (Edited path) is = put_into o mine formed s.tree unedited path (subst (λ (p : StackItem). Rattle.system_rollback.specs.Tests.IsFirstEdited p s.tree path) (same_job is.job is.others is.stack_is).0 is.holds)
+  exception (Parent path) is = left_alone o mine formed s.tree unedited stores.system.tree path (subst (λ (p : StackItem). Rattle.system_rollback.specs.Tests.IsFirstOrphan p s.tree path) (same_job is.job is.others is.stack_is).0 is.holds)
+  exception _ is = absurd is
+
+  outer : (q : Name) → is_listed o.paths q ≡ true → is_reserved q ≡ false
+  outer q own = (All-contains IsFree o.paths q mine.free (listed_in o.paths q own)).not_reserved
+
+  pub restores_err : (e : Stop) → EndsSo s left (Err e) → Restores o s.tree left y (Err e)
+  restores_err stop.Failed is = tt
+  restores_err stop.Memory is = tt
+  restores_err (stop.Refused why) is = exception why is
+  restores_err (stop.Damaged path) is = is
+  restores_err stop.FarFailed is = is
+  restores_err (stop.FarDamaged path) is = is
+
+  pub restores_ok : (number : ℕ) (p : StackItem) (ps : List StackItem) → s.stack ≡ p ∷ ps → StoresIn Two y (after_rollback p ps s) → left ≡ db_of (after_rollback p ps s) → Restores o s.tree left y (Ok number)
+  restores_ok number p ps e after is =
+      let same = same_job p ps e in
+      is_restored o olds s left y mine outer
+      (subst (λ (t : SystemState). StoresIn Two y t) (λ i. after_rollback (same.0 i) (same.1 i) s) after)
+      (is ∙ (λ i. db_of (after_rollback (same.0 i) (same.1 i) s)))
+
+-- ---- on each root
+
+pub stops_so : {D A : Type 0} (disk : DiskModel D) (db : Db) (old mid : D) (rose : Type 0) (e : Stop) → IsTrue disk.tells → HasRead disk old mid A → IsPreparingStop disk.tells (disk.reads old) db rose e → StopsSo disk db old mid e
+stops_so disk db old mid rose stop.Failed tells run is = tt
+stops_so disk db old mid rose stop.Memory tells run is = tt
+stops_so disk db old mid rose (stop.Refused why) tells run is = record { answer = is tells; same = run.same; time = run.time }
+stops_so disk db old mid rose (stop.Damaged path) tells run is = record { answer = is tells; same = run.same; time = run.time }
+stops_so disk db old mid rose stop.FarFailed tells run is = is
+stops_so disk db old mid rose (stop.FarDamaged path) tells run is = is
+
+pub written_so : {D : Type 0} (disk : DiskModel D) (db : Db) (old new : D) (e : Stop) → IsDiskStop e → StopsSo disk db old new e
+written_so disk db old new stop.Failed is = tt
+written_so disk db old new stop.Memory is = tt
+written_so disk db old new (stop.Refused why) is = absurd is
+written_so disk db old new (stop.Damaged path) is = absurd is
+written_so disk db old new stop.FarFailed is = is
+written_so disk db old new (stop.FarDamaged path) is = is
+
+pub cause_before : (told : Bool) (x : Tree) (db : Db) (rose : Type 0) (e : Stop) → IsPreparingStop told x db rose e → HasCause rose e
+cause_before told x db rose stop.Failed is = is
+cause_before told x db rose stop.Memory is = tt
+cause_before told x db rose (stop.Refused why) is = tt
+cause_before told x db rose (stop.Damaged path) is = tt
+cause_before told x db rose stop.FarFailed is = is
+cause_before told x db rose (stop.FarDamaged path) is = is
+
+pub cause_written : (rose : Type 0) (e : Stop) → IsDiskStop e → (e ≡ stop.Failed → rose) → HasCause rose e
+cause_written rose stop.Failed is failed = failed refl
+cause_written rose stop.Memory is failed = tt
+cause_written rose (stop.Refused why) is failed = tt
+cause_written rose (stop.Damaged path) is failed = tt
+cause_written rose stop.FarFailed is failed = is
+cause_written rose (stop.FarDamaged path) is failed = is

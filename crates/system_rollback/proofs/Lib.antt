@@ -1,0 +1,12 @@
+pub mod Inserted
+pub mod Numbers
+pub mod Outer
+pub mod Undoing
+pub mod Prepared
+pub mod Putting
+pub mod Stored
+pub mod Stepping
+pub mod Restored
+pub mod Moving
+pub mod Ending
+pub mod Finished

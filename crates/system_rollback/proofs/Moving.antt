@@ -1,0 +1,65 @@
+-- From a system that a root stores to the next one, at every moment.
+use Rattle.std.proofs.Common.{◌≡◌, inl, inr, ⊎_elim, ℕ, ◌≤◌, false, List, Result, sym, ◌∙◌, ap, subst}
+use Rattle.std.specs.Prelude.{OnOk}
+use Rattle.std.specs.FinMap.{get}
+use Rattle.cny_base.specs.Reserved.{private_directory, is_reserved}
+use Rattle.cny_base.specs.declared.stop.Stop.{Stop}
+use Rattle.journal_log.specs.declared.put.Put.{Put}
+use Rattle.journal_log.specs.Targets.{is_target}
+use Rattle.tree_disk.specs.Disk.{DiskModel, HasRead, IsDisk}
+use Rattle.tree_disk.specs.Confined.{LeavesOnly}
+use Rattle.tree_disk.specs.ConfinedLaws.{confined_read, leaves_then, leaves_weaker}
+use Rattle.tree_disk.specs.Laws.{same_tree}
+use Rattle.tree_disk.specs.Moments.{shows_weaker}
+use Rattle.tree_disk.specs.Tree.{Name, Tree}
+use Rattle.tree_disk.specs.Unfailed.{UnlessFailed, unfailed_then}
+use Rattle.tree_journal.specs.Recovery.{is_committed}
+use Rattle.local_db.specs.declared.db.Db.{Db}
+use Rattle.system_state.specs.Stores.{RecoversToSystem, StoresIn}
+use Rattle.system_state.specs.SystemState.{SystemState, is_listed}
+use Rattle.system_state.specs.declared.format.Format.TheVariants.{Two}
+use Rattle.system_state.proofs.Together.{at_rest_stores}
+use Rattle.root_writing.specs.Writing.{Goes, RestsAt, ShowsEither}
+use Rattle.system_rollback.specs.Rollback.{EndsSo, IsReadyWith, RollsBack, newest_paths, rolled_back}
+
+recovers : (x : Tree) (s : SystemState) → is_committed private_directory x ≡ false → StoresIn Two x s → RecoversToSystem x s
+recovers x s clear stores = (at_rest_stores x s clear).1 (inr stores)
+
+module _ {D : Type 0} (disk : DiskModel D) (laws : IsDisk disk) (s : SystemState) (db_old : Db) (old : D) (ready : IsReadyWith disk db_old old) (stores : StoresIn Two (disk.reads old) s) where
+  now : RecoversToSystem (disk.reads old) s
+  now = recovers (disk.reads old) s ready.flag_clear stores
+
+  module _ {A : Type 0} {mid : D} (run : HasRead disk old mid A) where
+    -- a crash leaves a tree that recovers to the system
+    read_images : LeavesOnly disk old mid (λ image. RecoversToSystem image s)
+    read_images = leaves_weaker
+        (λ image differs. subst (λ (y : Tree). RecoversToSystem y s) (sym (same_tree image (disk.reads old)
+        (λ q. differs.agrees q (λ h. ⊎_elim (λ un. absurd (cc (un, ready.synced q))) (λ (never : ⊥). never) h)))) now)
+        (confined_read laws (λ (q : Name). ⊥) run).images
+
+    read_shows : (t : SystemState) → UnlessFailed disk old mid (ShowsEither s t)
+    read_shows t none = shows_weaker (λ u is q out. inl (ap (λ (v : Tree). get v q) is ∙ stores.managed q out)) run.same.visible
+
+    -- nothing was written
+    pub still : (db : Db) (r : Result ℕ Stop) → EndsSo s db r → OnOk r (RestsAt disk Two (rolled_back s) mid) → RollsBack disk s db old mid r
+    still db r ends rests = record {
+      ends = ends;
+      images = leaves_weaker (λ image h. inl h) read_images;
+      reads = inl (subst (λ (y : Tree). RecoversToSystem y s) (sym run.same.reads) now);
+      rests = rests;
+      shown = read_shows (rolled_back s);
+      others = λ q out other. ap (λ (v : Tree). get v q) run.same.reads;
+    }
+
+    -- the write set was put, or was to be put
+    pub moved : (puts : List Put) (new : D) (w : Result (Unit {0}) Stop) → Goes disk Two s (rolled_back s) puts mid new w → disk.faults old ≤ disk.faults mid → disk.faults mid ≤ disk.faults new
+        → ((q : Name) → is_reserved q ≡ false → is_listed (newest_paths s.stack) q ≡ false → is_target puts q ≡ false)
+        → (db : Db) (r : Result ℕ Stop) → EndsSo s db r → OnOk r (RestsAt disk Two (rolled_back s) new) → RollsBack disk s db old new r
+    moved puts new w goes early late outside db r ends rests = record {
+      ends = ends;
+      images = leaves_then (leaves_weaker (λ image h. inl h) read_images) goes.images;
+      reads = goes.reads;
+      rests = rests;
+      shown = unfailed_then early late (read_shows (rolled_back s)) goes.shown;
+      others = λ q out other. goes.others q out (outside q out other) ∙ ap (λ (v : Tree). get v q) run.same.reads;
+    }

@@ -1,0 +1,30 @@
+-- The write of a database.
+use Rattle.std.specs.Prelude.{ℕ, IsTrue, List}
+use Rattle.std.specs.List.{list_all}
+use Rattle.journal_log.specs.declared.put.Put.{Put}
+use Rattle.journal_log.specs.declared.put.Want.TheVariants as want
+use Rattle.local_db.specs.declared.db.Db.{Db}
+use Rattle.tree_disk.specs.Tree.{is_byte}
+use Rattle.system_state.specs.declared.format.Format.TheVariants.{Two}
+use Rattle.system_state.specs.Formats.{Fits, database_bytes}
+use Rattle.system_state.specs.Names.{database}
+
+-- the mode of the database's file, 0644
+abbrev pub file_mode : ℕ
+file_mode = 420
+
+-- the bytes of the database, in format 2
+abbrev pub bytes_of : Db → List ℕ
+bytes_of db = database_bytes Two db.installed db.oldest db.newest
+
+-- the database's file
+abbrev pub put_of_db : Db → Put
+put_of_db db = record { path = database; want = want.File file_mode (bytes_of db) }
+
+-- its bytes are within the limit
+abbrev pub HasRoom : Db → Type 0
+HasRoom db = Fits Two db.installed
+
+-- each number of its text is a byte
+abbrev pub HasBytes : Db → Type 0
+HasBytes db = IsTrue (list_all is_byte (bytes_of db))

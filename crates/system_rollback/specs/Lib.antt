@@ -1,0 +1,5 @@
+pub mod Tests
+pub mod Preparing
+pub mod Inserting
+pub mod Rollback
+pub mod Restoring

@@ -1,0 +1,112 @@
+-- How a rollback ends on a root.
+use Rattle.std.specs.Prelude.{◌≡◌, ℕ, false, List, [], ◌∷◌, Result, Ok, Err, OnOk}
+use Rattle.std.specs.FinMap.{get}
+use Rattle.cny_base.specs.Reserved.{private_directory, is_reserved}
+use Rattle.cny_base.specs.declared.refusal.Refusal.{Refusal}
+use Rattle.cny_base.specs.declared.refusal.Refusal.TheVariants.{Edited, Parent, StackEmpty}
+use Rattle.cny_base.specs.declared.stop.Stop.{Stop}
+use Rattle.cny_base.specs.declared.stop.Stop.TheVariants as stop
+use Rattle.tree_disk.specs.Tree.{Name, Tree}
+use Rattle.tree_disk.specs.Disk.{DiskModel, HasRead}
+use Rattle.tree_disk.specs.Confined.{IsSynced, LeavesOnly}
+use Rattle.tree_disk.specs.Unfailed.{UnlessFailed}
+use Rattle.tree_journal.specs.Recovery.{is_committed}
+use Rattle.local_db.specs.declared.db.Db.{Db}
+use Rattle.system_state.specs.declared.format.Format.TheVariants.{Two}
+use Rattle.system_state.specs.SystemState.{StackItem, SystemState, newest, oldest, is_listed}
+use Rattle.system_state.specs.Steps.{CanRollBack, after_rollback}
+use Rattle.system_state.specs.Stores.{HoldsDatabase}
+use Rattle.root_writing.specs.Writing.{RecoversToEither, RestsAt, ShowsEither}
+use Rattle.rollback_stack.specs.Reading.{IsDamagedNewest}
+use Rattle.system_rollback.specs.Preparing.{IsRefusal}
+use Rattle.system_rollback.specs.Tests.{IsFirstEdited, IsFirstOrphan}
+
+-- A root that is made ready, with its database: its commit flag isn't set, a crash leaves just what it reads, and this is the
+-- database of its tree, in format 2.
+pub record IsReadyWith {D : Type 0} (disk : DiskModel D) (db : Db) (d : D) : Type 0 where
+  pub flag_clear : is_committed private_directory (disk.reads d) ≡ false
+  pub synced : IsSynced disk d
+  pub holds : HoldsDatabase Two (disk.reads d) db.installed db.oldest db.newest
+
+-- the database of a system
+abbrev pub db_of : SystemState → Db
+db_of s = record { installed = s.installed; oldest = oldest s.stack; newest = newest s.stack }
+
+-- ---- by a system that the root stores
+
+-- the system once its newest job is taken back; with an empty stack, the system itself
+abbrev pub without_newest : List StackItem → SystemState → SystemState
+without_newest [] s = s
+without_newest (o ∷ olds) s = after_rollback o olds s
+
+abbrev pub rolled_back : SystemState → SystemState
+rolled_back s = without_newest s.stack s
+
+-- the paths of the newest job
+abbrev pub newest_paths : List StackItem → List Name
+newest_paths [] = []
+newest_paths (o ∷ olds) = o.paths
+
+-- There is a newest job, and this holds of it and of those below it.
+pub record OfNewest (s : SystemState) (P : StackItem → List StackItem → Type 0) : Type 0 where
+  pub job : StackItem
+  pub others : List StackItem
+  pub stack_is : s.stack ≡ job ∷ others
+  pub holds : P job others
+
+-- the job, of this number, could be taken back, and this is the database afterwards
+pub record IsTakenBack (s : SystemState) (number : ℕ) (db : Db) (o : StackItem) (olds : List StackItem) : Type 0 where
+  pub number_is : number ≡ o.number
+  pub can : CanRollBack o s
+  pub db_is : db ≡ db_of (after_rollback o olds s)
+
+-- Why a system's newest job isn't taken back.
+abbrev pub IsSystemRefusal : SystemState → Refusal → Type 0
+IsSystemRefusal s StackEmpty = s.stack ≡ []
+IsSystemRefusal s (Edited path) = OfNewest s (λ o olds. IsFirstEdited o s.tree path)
+IsSystemRefusal s (Parent path) = OfNewest s (λ o olds. IsFirstOrphan o s.tree path)
+IsSystemRefusal s _ = ⊥
+
+-- Nothing of a root that stores a system is damaged.
+abbrev pub EndsSo : SystemState → Db → Result ℕ Stop → Type 0
+EndsSo s db (Ok number) = OfNewest s (IsTakenBack s number db)
+EndsSo s db (Err (stop.Refused why)) = IsSystemRefusal s why
+EndsSo s db (Err stop.Failed) = Unit {0}
+EndsSo s db (Err stop.Memory) = Unit {0}
+EndsSo s db (Err (stop.Damaged path)) = ⊥
+EndsSo s db (Err stop.FarFailed) = ⊥
+EndsSo s db (Err (stop.FarDamaged path)) = ⊥
+
+-- outside the private directory each name that isn't a path of the newest job reads as before
+abbrev pub KeepsOtherPaths : SystemState → Tree → Tree → Type 0
+KeepsOtherPaths s before now = (q : Name) → is_reserved q ≡ false → is_listed (newest_paths s.stack) q ≡ false → get now q ≡ get before q
+
+-- From a system that the root stores to the one with its newest job taken back: at every moment a crash leaves a tree that
+-- recovers to one of the two, and so does what the disk reads at the end; after Ok it rests at the second, with its database.
+pub record RollsBack {D : Type 0} (disk : DiskModel D) (s : SystemState) (db : Db) (old new : D) (result : Result ℕ Stop) : Type 0 where
+  pub ends : EndsSo s db result
+  pub images : LeavesOnly disk old new (RecoversToEither s (rolled_back s))
+  pub reads : RecoversToEither s (rolled_back s) (disk.reads new)
+  pub rests : OnOk result (RestsAt disk Two (rolled_back s) new)
+  pub shown : UnlessFailed disk old new (ShowsEither s (rolled_back s))
+  pub others : KeepsOtherPaths s (disk.reads old) (disk.reads new)
+
+-- ---- on each root
+
+-- A refusal and a damaged file change nothing.
+abbrev pub StopsSo : {D : Type 0} → DiskModel D → Db → D → D → Stop → Type 0
+StopsSo disk db old new (stop.Refused why) = HasRead disk old new (IsRefusal (disk.reads old) db why)
+StopsSo disk db old new (stop.Damaged path) = HasRead disk old new (IsDamagedNewest (disk.reads old) db path)
+StopsSo disk db old new stop.Failed = Unit {0}
+StopsSo disk db old new stop.Memory = Unit {0}
+StopsSo disk db old new stop.FarFailed = ⊥
+StopsSo disk db old new (stop.FarDamaged path) = ⊥
+
+-- on every disk: a fault only where the count rose, and none of another disk
+abbrev pub HasCause : Type 0 → Stop → Type 0
+HasCause rose stop.Failed = rose
+HasCause rose stop.Memory = Unit {0}
+HasCause rose (stop.Refused why) = Unit {0}
+HasCause rose (stop.Damaged path) = Unit {0}
+HasCause rose stop.FarFailed = ⊥
+HasCause rose (stop.FarDamaged path) = ⊥
