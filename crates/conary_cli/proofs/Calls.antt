@@ -12,9 +12,9 @@ use Rattle.cli_call.specs.Report.{End, Reports}
 use Rattle.cli_call.specs.State.{Meaning}
 use Rattle.cli_call.specs.Store.{IsStore}
 use Rattle.cli_call.specs.Stores.{repository_store}
-use Rattle.conary_cli.specs.declared.words.Command.{Command}
+use Rattle.cli_words.specs.declared.words.Command.{Command}
 use Rattle.conary_cli.specs.Commands.{meaning, RunsWords, IsWholeCall}
-use Rattle.conary_cli.specs.Words.{ReadsWords}
+use Rattle.cli_words.specs.Words.{ReadsWords}
 
 module _ {T P : Type 0} {root_disk : DiskModel T} {repo_disk : DiskModel P} (m : Meaning) (takes : Bool) (old new : SourceState) where
   -- the input wasn't read

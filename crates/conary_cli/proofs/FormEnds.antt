@@ -16,8 +16,8 @@ use Rattle.cli_call.specs.Input.{input_limit, within_limit}
 use Rattle.cli_call.specs.Reading.{given}
 use Rattle.cli_call.specs.State.{State, Effect, Meaning, tree_of, Then}
 use Rattle.cli_call.specs.WholeCall.{Outcome, IsAnswered}
-use Rattle.conary_cli.specs.declared.words.Command.{Command}
-use Rattle.conary_cli.specs.declared.words.Command.TheVariants as command
+use Rattle.cli_words.specs.declared.words.Command.{Command}
+use Rattle.cli_words.specs.declared.words.Command.TheVariants as command
 use Rattle.conary_cli.specs.declared.manifest.types.Manifest.{Manifest}
 use Rattle.conary_cli.specs.declared.manifest.fault.Unread.{Unread}
 use Rattle.conary_cli.specs.declared.manifest.fault.Unread.TheVariants as unread
@@ -101,4 +101,6 @@ module _ {T P : Type 0} (root_disk : DiskModel T) (repo_disk : DiskModel P) (bef
   form_decides one (Ok (command.Cook next)) call = tt
   form_decides one (Ok command.Commit) call = tt
   form_decides one (Ok (command.ListCommitted name)) call = tt
+  form_decides one (Ok (command.SendChanges from to)) call = tt
+  form_decides one (Ok (command.Move way label given)) call = tt
   form_decides one (Err e) call = tt

@@ -11,8 +11,10 @@ use Rattle.cli_call.specs.WholeCall.{IsCallOf, IsNoCall}
 use Rattle.repo_commands.specs.Commit.{commit}
 use Rattle.repo_commands.specs.Cook.{cook}
 use Rattle.repo_commands.specs.Listing.{list_committed}
-use Rattle.conary_cli.specs.declared.words.Command.{Command}
-use Rattle.conary_cli.specs.declared.words.Command.TheVariants as command
+use Rattle.spec_commands.specs.Sending.{changeset}
+use Rattle.move_commands.specs.Moving.{move}
+use Rattle.cli_words.specs.declared.words.Command.{Command}
+use Rattle.cli_words.specs.declared.words.Command.TheVariants as command
 use Rattle.conary_cli.specs.Install.{install}
 use Rattle.conary_cli.specs.ShowChangeSet.{show_change_set}
 
@@ -22,6 +24,8 @@ meaning command.ShowChangeSet = show_change_set
 meaning (command.Cook next) = cook next
 meaning command.Commit = commit
 meaning (command.ListCommitted name) = list_committed name
+meaning (command.SendChanges from to) = changeset from to
+meaning (command.Move way label given) = move way label given
 
 module _ {T P : Type 0} (root_disk : DiskModel T) (repo_disk : DiskModel P) where
   -- The words are a command, and it was called; or they are none, and nothing was done.

@@ -15,8 +15,8 @@ use Rattle.cli_call.specs.Input.{input_limit}
 use Rattle.cli_call.specs.State.{State, tree_of}
 use Rattle.cli_call.specs.WholeCall.{FromStates, ForInput, IsAnswered, IsRefused}
 use Rattle.repo_commands.specs.SetInput.{IsNoSetStream}
-use Rattle.conary_cli.specs.declared.words.Command.{Command}
-use Rattle.conary_cli.specs.declared.words.Command.TheVariants as command
+use Rattle.cli_words.specs.declared.words.Command.{Command}
+use Rattle.cli_words.specs.declared.words.Command.TheVariants as command
 use Rattle.conary_cli.specs.declared.manifest.types.Manifest.{Manifest}
 use Rattle.conary_cli.specs.Install.{install, installs, on_both}
 use Rattle.conary_cli.specs.ManifestForm.{IsManifest, IsManifestText, spelling}
@@ -51,4 +51,6 @@ module _ {T P : Type 0} (root_disk : DiskModel T) (repo_disk : DiskModel P) wher
   FormDecides (Ok (command.Cook next)) before now err err' status = Unit {0}
   FormDecides (Ok command.Commit) before now err err' status = Unit {0}
   FormDecides (Ok (command.ListCommitted name)) before now err err' status = Unit {0}
+  FormDecides (Ok (command.SendChanges from to)) before now err err' status = Unit {0}
+  FormDecides (Ok (command.Move way label given)) before now err err' status = Unit {0}
   FormDecides (Err e) before now err err' status = Unit {0}

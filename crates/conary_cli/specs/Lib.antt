@@ -1,4 +1,3 @@
-pub mod Words
 pub mod ManifestForm
 pub mod ManifestReading
 pub mod ReadManifest

@@ -5,10 +5,12 @@ ghost use Rattle.conary_cli.specs.Commands.{meaning};
 
 use crate::install::install;
 use crate::show::show_change_set;
-use crate::words::Command;
 use cli_call::{Failure, Opened};
-use cny_base::Text;
+use cli_words::Command;
+use cny_base::{Bytes, Text};
+use move_commands::commit_moved;
 use repo_commands::{commit_input, cook_manifest, list_committed};
+use spec_commands::send_changes;
 use std::alloc::Global;
 use tree_disk::TreeDisk;
 
@@ -22,6 +24,18 @@ pub fn takes_input(command: &Command) -> bool
         Command::Cook { .. } => true,
         Command::Commit => true,
         Command::ListCommitted { .. } => false,
+        Command::SendChanges { .. } => false,
+        Command::Move { .. } => false,
+    }
+}
+
+// What a command answers, as bytes.
+fn as_bytes(answered: Result<Text, Failure>) -> Result<Bytes, Failure>
+    ensures { result ≡ answered }
+{
+    match answered {
+        Ok(text) => Ok(Bytes::from_vec(text.into_string().into_bytes())),
+        Err(failure) => Err(failure),
     }
 }
 
@@ -33,15 +47,23 @@ pub fn perform<T: TreeDisk, P: TreeDisk>(
     opened: &mut Opened,
     repo: &mut P,
     root: &mut T,
-) -> Result<Text, Failure>
+) -> Result<Bytes, Failure>
     requires { AreReady T.disk P.disk (disks root.old repo.old opened.old) }
     ensures { Performs T.disk P.disk (meaning command.now) input.now (disks root.old repo.old opened.old) (disks root.new repo.new opened.new) result }
 {
     match command {
-        Command::Install => install(alloc, input, opened, repo, root),
-        Command::ShowChangeSet => show_change_set(alloc, input, opened, repo, root),
-        Command::Cook { next } => cook_manifest(alloc, *next, input, opened, repo, root),
-        Command::Commit => commit_input(alloc, input, opened, repo, root),
-        Command::ListCommitted { name } => list_committed(alloc, name, opened, repo, root),
+        Command::Install => as_bytes(install(alloc, input, opened, repo, root)),
+        Command::ShowChangeSet => { as_bytes(show_change_set(alloc, input, opened, repo, root)) }
+        Command::Cook { next } => {
+            as_bytes(cook_manifest(alloc, *next, input, opened, repo, root))
+        }
+        Command::Commit => as_bytes(commit_input(alloc, input, opened, repo, root)),
+        Command::ListCommitted { name } => {
+            as_bytes(list_committed(alloc, name, opened, repo, root))
+        }
+        Command::SendChanges { from, to } => send_changes(alloc, from, to, opened, repo, root),
+        Command::Move { way, label, given } => {
+            as_bytes(commit_moved(alloc, *way, label, given, opened, repo, root))
+        }
     }
 }

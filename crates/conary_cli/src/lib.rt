@@ -6,6 +6,5 @@ mod install;
 mod manifest;
 mod program;
 mod show;
-mod words;
 
 pub use program::run;

@@ -1,17 +1,19 @@
 //! A whole call of the program.
-ghost use Rattle.std.specs.Prelude.{◌≡◌, string_bytes, map};
+ghost use Rattle.std.specs.Prelude.{◌≡◌, string_bytes, map, Result};
+ghost use Rattle.cli_call.specs.declared.failure.Failure.{Failure};
+ghost use Rattle.cli_words.specs.declared.words.Command.{Command};
 ghost use Rattle.cny_flow.specs.Flow.{sink_state, source_state};
 ghost use Rattle.cli_call.specs.Call.{call_state, RunsCall, RunsOpen};
 ghost use Rattle.cli_call.specs.Command.{disks, AreReady};
 ghost use Rattle.cli_call.specs.Line.{moment, RunsLine};
 ghost use Rattle.conary_cli.specs.Commands.{meaning, IsWholeCall, RunsWords};
 ghost use Rattle.conary_cli.specs.FormDecides.{FormDecides};
-ghost use Rattle.conary_cli.specs.Words.{command_of};
+ghost use Rattle.cli_words.specs.Words.{AreWords};
 
 use crate::commands::{perform, takes_input};
-use crate::words::{Command, read_words};
 use change_set::unique_set;
 use cli_call::{Failure, Opened, open_disks, read_given, report, store_laws, write_answer};
+use cli_words::{Command, read_words};
 use cny_flow::{Sink, Source};
 use std::alloc::Global;
 use tree_disk::TreeDisk;
@@ -75,7 +77,7 @@ fn run_words<I: Source, O: Sink, T: TreeDisk, P: TreeDisk>(
     repo: &mut P,
     root: &mut T,
 ) -> Result<(), Failure>
-    ensures { RunsWords T.disk P.disk (command_of (map string_bytes words.now)) (call_state I.source O.sink input.old out.old root.old repo.old)
+    ensures { (expected : Result Command Failure) → AreWords (map string_bytes words.now) expected → RunsWords T.disk P.disk expected (call_state I.source O.sink input.old out.old root.old repo.old)
         (call_state I.source O.sink input.new out.new root.new repo.new) result }
 {
     let command = read_words(alloc, words)?;
@@ -93,12 +95,12 @@ pub fn run<I: Source, O: Sink, E: Sink, P: TreeDisk, T: TreeDisk>(
     root: &mut T,
 ) -> u8
     // All that a call promises, by the command that the words are.
-    ensures call { IsWholeCall T.disk P.disk (command_of (map string_bytes words.now))
+    ensures call { (expected : Result Command Failure) → AreWords (map string_bytes words.now) expected → IsWholeCall T.disk P.disk expected
         (call_state I.source O.sink input.old out.old root.old repo.old) (call_state I.source O.sink input.new out.new root.new repo.new)
         (sink_state E.sink err.old) (sink_state E.sink err.new) result }
     // `install` refuses an input for its form exactly where it is no manifest's text, and `showcs` describes exactly the inputs
     // that are change sets.
-    ensures form { FormDecides T.disk P.disk (command_of (map string_bytes words.now))
+    ensures form { (expected : Result Command Failure) → AreWords (map string_bytes words.now) expected → FormDecides T.disk P.disk expected
         (call_state I.source O.sink input.old out.old root.old repo.old) (call_state I.source O.sink input.new out.new root.new repo.new)
         (sink_state E.sink err.old) (sink_state E.sink err.new) result }
 {

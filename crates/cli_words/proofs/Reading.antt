@@ -1,0 +1,48 @@
+-- How reading words ends, by how the reading of their parts ends.
+use Rattle.std.proofs.Common.{◌≡◌, List, ℕ, Result, Ok, Err, sym, ap, subst}
+use Rattle.std.specs.Prelude.{IsErrAnd}
+use Rattle.cli_call.specs.declared.failure.Failure.{Failure}
+use Rattle.cli_call.specs.declared.failure.Failure.TheVariants as failure
+use Rattle.cli_words.specs.declared.words.Command.{Command}
+use Rattle.cli_words.specs.declared.words.Form.{Form}
+use Rattle.cli_words.specs.Words.{ReadsOnly, IsOrUsage, ReadsWords, AreOfForm, AreWords, form_of}
+
+-- an error that was passed on by `?`
+pub err_is : {X E : Type 0} (P : Result X E → Type 0) (s : Result X E) (f : E) → IsErrAnd s (λ e. e ≡ f) → P (Err f) → P s
+err_is P (Ok x) f is h = absurd is
+err_is P (Err e) f is h = subst (λ x. P (Err x)) (sym is) h
+
+-- where a part is none, the whole is none
+pub passed_on : {A B : Type 0} (Is : A → Type 0) (Has : B → Type 0) → ((whole : B) → Has whole → (part : A) × Is part) → (e : Failure) → ReadsOnly Is (Err e) → ReadsOnly Has (Err e)
+passed_on Is Has part_of failure.Usage reads = record { none = λ whole has. let part = part_of whole has in reads.none part.0 part.1 }
+passed_on Is Has part_of failure.Memory reads = tt
+passed_on Is Has part_of (failure.Refused r) reads = absurd reads
+passed_on Is Has part_of failure.InputFault reads = absurd reads
+passed_on Is Has part_of failure.OutputFault reads = absurd reads
+passed_on Is Has part_of failure.RootFault reads = absurd reads
+passed_on Is Has part_of failure.RepositoryFault reads = absurd reads
+passed_on Is Has part_of (failure.Damaged path) reads = absurd reads
+
+as_read : (c d : Command) → c ≡ d → ◌≡◌ {A = Result Command Failure} (Ok d) (Ok c)
+as_read c d same = ap (λ (x : Command). Ok x) (sym same)
+
+as_usage : (e : Failure) → e ≡ failure.Usage → ◌≡◌ {A = Result Command Failure} (Err e) (Err failure.Usage)
+as_usage e same = ap (λ (x : Failure). Err x) same
+
+-- the only such command, or usage, is what the words are
+pub reads_words : (Is : Command → Type 0) (r : Result Command Failure) → ReadsOnly Is r → (expected : Result Command Failure) → IsOrUsage Is expected → ReadsWords expected r
+reads_words Is (Ok c) reads (Ok d) is = as_read c d (reads.only d is)
+reads_words Is (Ok c) reads (Err e) is = absurd (is.1.none c reads.is)
+reads_words Is (Err failure.Usage) reads (Ok d) is = absurd (reads.none d is)
+reads_words Is (Err failure.Usage) reads (Err e) is = as_usage e is.0
+reads_words Is (Err failure.Memory) reads expected is = tt
+reads_words Is (Err (failure.Refused r)) reads expected is = absurd reads
+reads_words Is (Err failure.InputFault) reads expected is = absurd reads
+reads_words Is (Err failure.OutputFault) reads expected is = absurd reads
+reads_words Is (Err failure.RootFault) reads expected is = absurd reads
+reads_words Is (Err failure.RepositoryFault) reads expected is = absurd reads
+reads_words Is (Err (failure.Damaged path)) reads expected is = absurd reads
+
+-- the words are of this form
+pub of_form : (words : List (List ℕ)) (form : Form) → form_of words ≡ form → (expected : Result Command Failure) → AreWords words expected → AreOfForm form words expected
+of_form words form is expected are = subst (λ (f : Form). AreOfForm f words expected) is are

@@ -1,0 +1,170 @@
+-- The words of the command line: which lists of them are commands.
+use Rattle.std.specs.Prelude.{◌≡◌, IsTrue, Option, List, [], ◌∷◌, ℕ, length, nat_le, Bool, true, false, Some, None, Result, Ok, Err, if◌then◌else◌, codes}
+use Rattle.std.specs.List.{list_any}
+use Rattle.std.specs.Str.{bytes_eq}
+use Rattle.cny_base.specs.Name.{is_name}
+use Rattle.cny_version.specs.Label.{LabelParts, label_text, is_label}
+use Rattle.trove_spec.specs.Spec.{IsSpecText}
+use Rattle.repo_shadow.specs.declared.way.Way.{Way}
+use Rattle.repo_shadow.specs.declared.way.Way.TheVariants as way
+use Rattle.spec_commands.specs.declared.given.GivenSpec.{GivenSpec}
+use Rattle.cny_base.specs.declared.refusal.Refusal.TheVariants.{NotBuilt}
+use Rattle.cli_call.specs.declared.failure.Failure.{Failure}
+use Rattle.cli_call.specs.declared.failure.Failure.TheVariants as failure
+use Rattle.cli_words.specs.declared.words.Command.{Command}
+use Rattle.cli_words.specs.declared.words.Command.TheVariants as command
+use Rattle.cli_words.specs.declared.words.Form.{Form}
+use Rattle.cli_words.specs.declared.words.Form.TheVariants as form
+
+abbrev pub is_among : List (List ℕ) → List ℕ → Bool
+is_among words word = list_any (bytes_eq word) words
+
+-- the commands that aren't built yet
+abbrev pub planned_commands : List (List ℕ)
+planned_commands =
+    codes "update"
+    ∷ codes "erase" ∷ codes "rollback" ∷ codes "rblist" ∷ codes "q" ∷ codes "verify" ∷ codes "localcs" ∷ codes "batch" ∷ codes "demo" ∷ []
+
+-- the options of `install` that aren't built yet
+abbrev pub planned_options : List (List ℕ)
+planned_options = codes "--replace" ∷ codes "--keep" ∷ []
+
+unfoldable pub is_planned_command : List ℕ → Bool
+is_planned_command word = is_among planned_commands word
+
+unfoldable pub is_planned_option : List ℕ → Bool
+is_planned_option word = is_among planned_options word
+
+abbrev pub not_built : List ℕ → Failure
+not_built word = failure.Refused (NotBuilt word)
+
+-- `install`: each option stands directly after it. The first that isn't built decides, whatever follows, and any other word is usage.
+abbrev pub install_of : List (List ℕ) → Result Command Failure
+install_of [] = Ok command.Install
+install_of (word ∷ words) = if is_planned_option word then Err (not_built word) else Err failure.Usage
+
+-- `showcs` stands alone
+abbrev pub show_of : List (List ℕ) → Result Command Failure
+show_of [] = Ok command.ShowChangeSet
+show_of (word ∷ words) = Err failure.Usage
+
+-- `cook` stands alone, or with `--next` behind it
+abbrev pub cook_of : List (List ℕ) → Result Command Failure
+cook_of [] = Ok (command.Cook false)
+cook_of (word ∷ []) = if bytes_eq word (codes "--next") then Ok (command.Cook true) else Err failure.Usage
+cook_of (word ∷ other ∷ words) = Err failure.Usage
+
+-- `commit` stands alone
+abbrev pub commit_of : List (List ℕ) → Result Command Failure
+commit_of [] = Ok command.Commit
+commit_of (word ∷ words) = Err failure.Usage
+
+-- `rq`: all committed troves, or those of a name; another word is usage
+abbrev pub list_of : List (List ℕ) → Result Command Failure
+list_of [] = Ok (command.ListCommitted None)
+list_of (word ∷ []) = if is_name word then Ok (command.ListCommitted (Some word)) else Err failure.Usage
+list_of (word ∷ other ∷ words) = Err failure.Usage
+
+-- The command that words are whose first one isn't `changeset`, `shadow` or `branch`. The first word alone decides whether it isn't built yet; all else is usage.
+abbrev pub command_of : List (List ℕ) → Result Command Failure
+command_of [] = Err failure.Usage
+command_of (word ∷ words) =
+    if bytes_eq word (codes "install") then install_of words
+    else if bytes_eq word (codes "showcs") then show_of words
+    else if bytes_eq word (codes "cook") then cook_of words
+    else if bytes_eq word (codes "commit") then commit_of words
+    else if bytes_eq word (codes "rq") then list_of words
+    else if is_planned_command word then Err (not_built word)
+    else Err failure.Usage
+
+-- ---- the commands that take specifications
+
+-- a word that may be a specification
+abbrev pub is_short_word : List ℕ → Bool
+is_short_word word = nat_le (length word) 4096
+
+-- the word is the text of a specification, which is kept with it
+pub record IsGiven (word : List ℕ) (given : GivenSpec) : Type 0 where
+  pub short : IsTrue (is_short_word word)
+  pub spelled : IsSpecText word given.spec
+  pub text_is : given.text ≡ word
+
+-- the word is the text of a label
+pub record IsLabelWord (word : List ℕ) (label : LabelParts) : Type 0 where
+  pub valid : IsTrue (is_label label)
+  pub spelled : word ≡ label_text label
+
+-- behind `changeset`: one specification, or two
+abbrev pub AreSpecs : List (List ℕ) → Option GivenSpec → GivenSpec → Type 0
+AreSpecs (word ∷ []) None to = IsGiven word to
+AreSpecs (word ∷ other ∷ []) (Some from) to = IsGiven word from × IsGiven other to
+AreSpecs _ _ _ = ⊥
+
+abbrev pub IsSend : List (List ℕ) → Command → Type 0
+IsSend words (command.SendChanges from to) = AreSpecs words from to
+IsSend words _ = ⊥
+
+-- behind `shadow` and `branch`: a label and a specification
+abbrev pub AreLabelAndSpec : List (List ℕ) → LabelParts → GivenSpec → Type 0
+AreLabelAndSpec (word ∷ other ∷ []) label given = IsLabelWord word label × IsGiven other given
+AreLabelAndSpec _ _ _ = ⊥
+
+abbrev pub IsMove : Way → List (List ℕ) → Command → Type 0
+IsMove onto words (command.Move made label given) = (made ≡ onto) × AreLabelAndSpec words label given
+IsMove onto words _ = ⊥
+
+-- there is none of these
+pub record HasNone {A : Type 0} (Is : A → Type 0) : Type 0 where
+  pub none : (other : A) → Is other → ⊥
+
+-- such a command; and where there is none, usage
+abbrev pub IsOrUsage : (Command → Type 0) → Result Command Failure → Type 0
+IsOrUsage Is (Ok c) = Is c
+IsOrUsage Is (Err e) = (e ≡ failure.Usage) × HasNone Is
+
+-- ---- all words
+
+-- what the first word says of the words behind it
+abbrev pub form_of : List (List ℕ) → Form
+form_of [] = form.Others
+form_of (word ∷ words) =
+    if bytes_eq word (codes "changeset") then form.Specs
+    else if bytes_eq word (codes "shadow") then form.LabelAndSpec way.Shadow
+    else if bytes_eq word (codes "branch") then form.LabelAndSpec way.Branch
+    else form.Others
+
+-- the words behind the first one
+abbrev pub behind : List (List ℕ) → List (List ℕ)
+behind [] = []
+behind (word ∷ words) = words
+
+abbrev pub AreOfForm : Form → List (List ℕ) → Result Command Failure → Type 0
+AreOfForm form.Specs words expected = IsOrUsage (IsSend (behind words)) expected
+AreOfForm (form.LabelAndSpec onto) words expected = IsOrUsage (IsMove onto (behind words)) expected
+AreOfForm form.Others words expected = expected ≡ command_of words
+
+-- the words are this command, or none, for this reason
+abbrev pub AreWords : List (List ℕ) → Result Command Failure → Type 0
+AreWords words expected = AreOfForm (form_of words) words expected
+
+-- ---- how reading ends
+
+-- this is one, and the only one
+pub record IsOnly {A : Type 0} (Is : A → Type 0) (one : A) : Type 0 where
+  pub is : Is one
+  pub only : (other : A) → Is other → one ≡ other
+
+-- The only one was read; there is none, and so it is usage; or memory ran out.
+abbrev pub ReadsOnly : {A : Type 0} → (A → Type 0) → Result A Failure → Type 0
+ReadsOnly Is (Ok one) = IsOnly Is one
+ReadsOnly Is (Err failure.Usage) = HasNone Is
+ReadsOnly Is (Err failure.Memory) = Unit {0}
+ReadsOnly Is (Err _) = ⊥
+
+-- The words were read as this, or memory ran out.
+abbrev pub ReadsWords : Result Command Failure → Result Command Failure → Type 0
+ReadsWords expected (Ok c) = expected ≡ Ok c
+ReadsWords expected (Err failure.Memory) = Unit {0}
+ReadsWords expected (Err failure.Usage) = expected ≡ Err failure.Usage
+ReadsWords expected (Err (failure.Refused r)) = expected ≡ Err (failure.Refused r)
+ReadsWords expected (Err _) = ⊥
