@@ -73,6 +73,23 @@ next_any IsOutcome s next before now (Err failure.Memory) h = h
 next_any IsOutcome s next before now (Err failure.Usage) h = absurd h
 next_any IsOutcome s next before now (Err (failure.Damaged path)) h = absurd h
 
+-- no file is damaged where the disks recover to states
+end_undamaged : (IsOutcome : Result Effect Refusal → Type 0) (s next : State) (before now : SinkState) (end : End) → CallEnds IsOutcome s next before now end → status_of end ≤ 7
+end_undamaged IsOutcome s next before now (Ok x) h = omega arith
+end_undamaged IsOutcome s next before now (Err (failure.Refused r)) h = omega arith
+end_undamaged IsOutcome s next before now (Err failure.InputFault) h = omega arith
+end_undamaged IsOutcome s next before now (Err failure.OutputFault) h = omega arith
+end_undamaged IsOutcome s next before now (Err failure.RootFault) h = omega arith
+end_undamaged IsOutcome s next before now (Err failure.RepositoryFault) h = omega arith
+end_undamaged IsOutcome s next before now (Err failure.Memory) h = omega arith
+end_undamaged IsOutcome s next before now (Err failure.Usage) h = absurd h
+end_undamaged IsOutcome s next before now (Err (failure.Damaged path)) h = absurd h
+
+status_undamaged : (end : End) (err err' : SinkState) (status : ℕ) → Reports end err err' status → status_of end ≤ 7 → status ≡ 8 → ⊥
+status_undamaged (Ok x) err err' status h le eight = let none : status ≡ 0 = h.0 in omega (arith, none, eight)
+status_undamaged (Err e) err err' status (inl tells) le eight = let is : status ≡ status_of (Err e) = tells.answered in omega (arith, is, le, eight)
+status_undamaged (Err e) err err' status (inr want) le eight = let seven : status ≡ 7 = want.1.answered in omega (arith, seven, eight)
+
 -- what is left of an input within its limit
 nothing_left : (input bytes : List ℕ) (b : Bool) → nat_lt input_limit (length input) ≡ b → cond b (Err (TooLarge Input (input_limit + 1))) (Ok input) ≡ Ok bytes → left_after_reading input ≡ []
 nothing_left input bytes true is h = absurd (cc h)
@@ -188,7 +205,7 @@ module _ {T P : Type 0} (root_disk : DiskModel T) (repo_disk : DiskModel P) (m :
   call_end (Err failure.RootFault) facts from (inl tells) = root_fault tells.answered (record { rose = facts.cause.0; cut = record { short = cut (Err failure.RootFault) facts from; out = facts.cause.1 } })
   call_end (Err failure.RepositoryFault) facts from (inl tells) = repository_fault tells.answered (record { rose = facts.cause.0; cut = record { short = cut (Err failure.RepositoryFault) facts from; out = facts.cause.1 } })
   call_end (Err failure.Memory) facts from (inl tells) = no_memory tells.answered (record { short = cut (Err failure.Memory) facts from; out = facts.cause })
-  call_end (Err (failure.Damaged path)) facts from (inl tells) = damaged tells.answered (record { path = path; damage = facts.cause.0; out = facts.cause.1; line = tells })
+  call_end (Err (failure.Damaged path)) facts from (inl tells) = damaged tells.answered (record { path = path; damage = facts.cause.0; kept = facts.kept tt; out = facts.cause.1; line = tells })
   call_end (Err failure.Usage) facts from (inl tells) = absurd facts.cause
   call_end (Err failure.Usage) facts from (inr want) = absurd facts.cause
   call_end (Err failure.InputFault) facts from (inr want) = absurd want.0
@@ -341,6 +358,9 @@ whole_call {root_disk = root_disk} {repo_disk = repo_disk} root_laws repo_laws s
       repository_fault = end_repository root_disk repo_disk m before now err err' status how;
       memory = end_memory root_disk repo_disk m before now err err' status how;
       damaged = end_damage root_disk repo_disk m before now err err' status how;
+      undamaged = λ root repo s recovers input is eight.
+          let f = from root repo s recovers in
+          status_undamaged end err err' status reports (end_undamaged (Outcome m s input) s f.next before.out now.out end (f.ends input is)) eight;
       statuses = end_known root_disk repo_disk m before now err err' status how;
       error_line = reported end err err' status reports;
     }

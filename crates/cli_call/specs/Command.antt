@@ -52,6 +52,7 @@ end_of (Err e) = Err e
 abbrev pub ChangesNothing : End → Type 0
 ChangesNothing (Err (failure.Refused r)) = Unit {0}
 ChangesNothing (Err failure.InputFault) = Unit {0}
+ChangesNothing (Err (failure.Damaged path)) = Unit {0}
 ChangesNothing _ = ⊥
 
 -- ---- by a state that the disks store

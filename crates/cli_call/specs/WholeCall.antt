@@ -198,10 +198,11 @@ module _ {T P : Type 0} (root_disk : DiskModel T) (repo_disk : DiskModel P) wher
       ((now.input ≡ before.input) × (MeetsDamage root_store root_disk before.root now.root path ⊎ MeetsDamage repository_store repo_disk before.repo now.repo path))
       ⊎ ((IsTrue root_disk.tells → HasDamagedFile root_store (root_disk.reads now.root) path) ⊎ (IsTrue repo_disk.tells → HasDamagedFile repository_store (repo_disk.reads now.repo) path))
 
-  -- status 8: the line names the file, and nothing was written
+  -- status 8: the line names the file, both disks are kept, and nothing was written
   pub record HasDamage (before now : CallState T P) (err err' : SinkState) (status : ℕ) : Type 0 where
     pub path : Name
     pub damage : IsDamage before now path
+    pub kept : AreKept before now
     pub out : Keeps before.out.written now.out.written
     pub line : Tells (failure.Damaged path) err err' status
 
@@ -262,6 +263,8 @@ module _ {T P : Type 0} (root_disk : DiskModel T) (repo_disk : DiskModel P) wher
     pub repository_fault : status ≡ 6 → HasRepositoryFault m before now
     pub memory : status ≡ 7 → IsCut m before now
     pub damaged : status ≡ 8 → HasDamage before now err err' status
+    -- Where both disks recover to states, no file is damaged.
+    pub undamaged : FromStates before (λ s. ForInput m before (λ input. status ≡ 8 → ⊥))
     pub statuses : status ≤ 8
     -- the bytes on the standard error, by the status
     pub error_line : ErrorLine err err' status

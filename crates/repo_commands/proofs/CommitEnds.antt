@@ -221,7 +221,7 @@ module _ {T P : Type 0} {root_disk : DiskModel T} {repo_disk : DiskModel P} (roo
   damaged_so : (path : Name) → Committing repo_disk set old.opened.catalogue c' old.repo new.repo (Err (stop.Damaged path)) → Performs root_disk repo_disk (commit_of set) input old new (Err (failure.Damaged path))
   damaged_so path done = performs_on_repository root_disk_laws root_laws (commit_of set) input old new (Err (failure.Damaged path)) ready root_same done.later (inr (damaged_file path done))
       (λ le told. absurd (omega (arith, le)))
-      (λ none told. absurd none)
+      (λ none told. (done.ends told).0.same.reads)
       (λ told s stands. absurd (never_damaged path done told s stands))
 
   pub commit_stopped : (e : Stop) → Committing repo_disk set old.opened.catalogue c' old.repo new.repo (Err e) → Performs root_disk repo_disk (commit_of set) input old new (Err (repository_failure e))

@@ -274,7 +274,7 @@ module _ {T P : Type 0} {root_disk : DiskModel T} {repo_disk : DiskModel P} (roo
   root_same (Err failure.InputFault) acted none told = absurd acted
   root_same (Err failure.OutputFault) acted none told = absurd none
   root_same (Err failure.RepositoryFault) acted none told = absurd none
-  root_same (Err (failure.Damaged path)) acted none told = absurd none
+  root_same (Err (failure.Damaged path)) acted none told = absurd acted
 
   pub installed : Performs root_disk repo_disk install input old new result
   installed = record {
