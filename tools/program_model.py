@@ -26,7 +26,7 @@ class Ended(Exception):
 
 # ---- the words
 
-PLANNED_COMMANDS = b"shadow branch changeset update erase rollback rblist q verify localcs batch demo".split()
+PLANNED_COMMANDS = b"update erase rollback rblist q verify localcs batch demo".split()
 PLANNED_OPTIONS = {b"install": (b"--replace", b"--keep")}
 OPTIONS = {b"cook": (b"--next",)}
 LONGEST_WORD, MOST_WORDS = 4096, 1024
