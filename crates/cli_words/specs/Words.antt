@@ -100,18 +100,24 @@ AreSpecs (word ∷ []) None to = IsGiven word to
 AreSpecs (word ∷ other ∷ []) (Some from) to = IsGiven word from × IsGiven other to
 AreSpecs _ _ _ = ⊥
 
-abbrev pub IsSend : List (List ℕ) → Command → Type 0
-IsSend words (command.SendChanges from to) = AreSpecs words from to
-IsSend words _ = ⊥
+-- such words make this command
+pub record IsSend (words : List (List ℕ)) (c : Command) : Type 0 where
+  pub from : Option GivenSpec
+  pub to : GivenSpec
+  pub is : c ≡ command.SendChanges from to
+  pub specs : AreSpecs words from to
 
 -- behind `shadow` and `branch`: a label and a specification
 abbrev pub AreLabelAndSpec : List (List ℕ) → LabelParts → GivenSpec → Type 0
 AreLabelAndSpec (word ∷ other ∷ []) label given = IsLabelWord word label × IsGiven other given
 AreLabelAndSpec _ _ _ = ⊥
 
-abbrev pub IsMove : Way → List (List ℕ) → Command → Type 0
-IsMove onto words (command.Move made label given) = (made ≡ onto) × AreLabelAndSpec words label given
-IsMove onto words _ = ⊥
+-- such words make this command
+pub record IsMove (onto : Way) (words : List (List ℕ)) (c : Command) : Type 0 where
+  pub label : LabelParts
+  pub given : GivenSpec
+  pub is : c ≡ command.Move onto label given
+  pub both : AreLabelAndSpec words label given
 
 -- there is none of these
 pub record HasNone {A : Type 0} (Is : A → Type 0) : Type 0 where

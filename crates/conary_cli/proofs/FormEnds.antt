@@ -15,13 +15,13 @@ use Rattle.cli_call.specs.FixedDirs.{◌>>=◌, fixed_dirs}
 use Rattle.cli_call.specs.Input.{input_limit, within_limit}
 use Rattle.cli_call.specs.Reading.{given}
 use Rattle.cli_call.specs.State.{State, Effect, Meaning, tree_of, Then}
-use Rattle.cli_call.specs.WholeCall.{Outcome, IsAnswered}
+use Rattle.cli_call.specs.WholeCall.{Outcome, IsAnswered, IsCallOf}
 use Rattle.cli_words.specs.declared.words.Command.{Command}
 use Rattle.cli_words.specs.declared.words.Command.TheVariants as command
 use Rattle.conary_cli.specs.declared.manifest.types.Manifest.{Manifest}
 use Rattle.conary_cli.specs.declared.manifest.fault.Unread.{Unread}
 use Rattle.conary_cli.specs.declared.manifest.fault.Unread.TheVariants as unread
-use Rattle.conary_cli.specs.Commands.{IsWholeCall}
+use Rattle.conary_cli.specs.Commands.{meaning, IsWholeCall}
 use Rattle.conary_cli.specs.FormDecides.{IsFormRefusal, DecidesForm, DecidesSet, FormDecides}
 use Rattle.conary_cli.specs.Install.{install, install_outcome, installs, on_both}
 use Rattle.conary_cli.specs.ManifestForm.{IsManifest, IsManifestText, spelling, max_items}
@@ -93,14 +93,14 @@ module _ {T P : Type 0} (root_disk : DiskModel T) (repo_disk : DiskModel P) (bef
     refused = λ none. (r, is.0, answered);
   }
 
+  -- the words are this command
+  call_of : (words : Result Command Failure) (c : Command) → words ≡ Ok c → IsWholeCall root_disk repo_disk words before now err err' status → IsCallOf root_disk repo_disk (meaning c) before now err err' status
+  call_of words c is call = subst (λ (w : Result Command Failure). IsWholeCall root_disk repo_disk w before now err err' status) is call
+
   pub form_decides : OneSet → (words : Result Command Failure) → IsWholeCall root_disk repo_disk words before now err err' status → FormDecides root_disk repo_disk words before now err err' status
-  form_decides one (Ok command.Install) call = λ root repo s recovers input is dirs le small.
-      let a = call.answers small root repo s recovers input is in decides input s a.0 a.1 a.2 dirs le
-  form_decides one (Ok command.ShowChangeSet) call = λ root repo s recovers input is dirs le small.
-      let a = call.answers small root repo s recovers input is in shown_as one input s a.0 (own_outcome show_change_set s input a.0 refl dirs le a.1) a.2
-  form_decides one (Ok (command.Cook next)) call = tt
-  form_decides one (Ok command.Commit) call = tt
-  form_decides one (Ok (command.ListCommitted name)) call = tt
-  form_decides one (Ok (command.SendChanges from to)) call = tt
-  form_decides one (Ok (command.Move way label given)) call = tt
-  form_decides one (Err e) call = tt
+  form_decides one words call = record {
+    manifest = λ is root repo s recovers input given dirs le small.
+        let a = (call_of words command.Install is call).answers small root repo s recovers input given in decides input s a.0 a.1 a.2 dirs le;
+    set = λ is root repo s recovers input given dirs le small.
+        let a = (call_of words command.ShowChangeSet is call).answers small root repo s recovers input given in shown_as one input s a.0 (own_outcome show_change_set s input a.0 refl dirs le a.1) a.2;
+  }

@@ -42,15 +42,9 @@ module _ {T P : Type 0} (root_disk : DiskModel T) (repo_disk : DiskModel P) wher
     pub refused : IsNoSetStream input → (r : Refusal) × IsFirstFault input r × IsRefused root_disk repo_disk r before now err err' status
 
   -- Where the disks and the input are told, the fixed directories stand and the input is within its limit, a status up to 2 of
-  -- a command is decided by the form.
-  abbrev pub FormDecides : Result Command Failure → CallState T P → CallState T P → SinkState → SinkState → ℕ → Type 0
-  FormDecides (Ok command.Install) before now err err' status = FromStates root_disk repo_disk before (λ s. ForInput root_disk repo_disk install before (λ input.
-      fixed_dirs (tree_of s.root) ≡ Ok tt → length input ≤ input_limit → status ≤ 2 → DecidesForm input s before now err err' status))
-  FormDecides (Ok command.ShowChangeSet) before now err err' status = FromStates root_disk repo_disk before (λ s. ForInput root_disk repo_disk show_change_set before (λ input.
-      fixed_dirs (tree_of s.root) ≡ Ok tt → length input ≤ input_limit → status ≤ 2 → DecidesSet input s before now err err' status))
-  FormDecides (Ok (command.Cook next)) before now err err' status = Unit {0}
-  FormDecides (Ok command.Commit) before now err err' status = Unit {0}
-  FormDecides (Ok (command.ListCommitted name)) before now err err' status = Unit {0}
-  FormDecides (Ok (command.SendChanges from to)) before now err err' status = Unit {0}
-  FormDecides (Ok (command.Move way label given)) before now err err' status = Unit {0}
-  FormDecides (Err e) before now err err' status = Unit {0}
+  -- these commands is decided by the form.
+  pub record FormDecides (expected : Result Command Failure) (before now : CallState T P) (err err' : SinkState) (status : ℕ) : Type 0 where
+    pub manifest : expected ≡ Ok command.Install → FromStates root_disk repo_disk before (λ s. ForInput root_disk repo_disk install before (λ input.
+        fixed_dirs (tree_of s.root) ≡ Ok tt → length input ≤ input_limit → status ≤ 2 → DecidesForm input s before now err err' status))
+    pub set : expected ≡ Ok command.ShowChangeSet → FromStates root_disk repo_disk before (λ s. ForInput root_disk repo_disk show_change_set before (λ input.
+        fixed_dirs (tree_of s.root) ≡ Ok tt → length input ≤ input_limit → status ≤ 2 → DecidesSet input s before now err err' status))
