@@ -71,7 +71,7 @@ fn make_targets<T: TreeDisk, C: Contents>(
 /// The tests, in this order: `MissingContent` for the first path at which a file is to stand whose content is found neither among
 /// the carried ones, nor in the contents, nor as the bytes of the file that stands there, each with the recorded size and SHA-1; the
 /// first of the three that has one gives the bytes, and the next isn't asked. `TooLarge` with the size of the first file of more
-/// than 16,777,216 bytes that is to be replaced. `Collision` for the first path whose old bytes have the SHA-1 of other old bytes of
+/// than 16,777,216 bytes that is to be replaced or removed. `Collision` for the first path whose old bytes have the SHA-1 of other old bytes of
 /// an earlier path, with the first place at which they differ.
 ///
 /// The plan is one over the root, its paths rise, and the carried contents have their SHA-1 as their names, which rise. `Failed`
