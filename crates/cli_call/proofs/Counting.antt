@@ -1,5 +1,5 @@
 -- What a repository's store keeps to.
-use Rattle.std.proofs.Common.{◌≡◌, ⊎_elim, false, List, ℕ, length, Some, Option, sym, ap, ◌∙◌, subst}
+use Rattle.std.proofs.Common.{◌≡◌, ⊎_elim, false, List, ℕ, length, Some, Option, ap, ◌∙◌, subst}
 use Rattle.std.specs.Prelude.{IsTrue}
 use Rattle.std.specs.FinMap.{get}
 use Rattle.tree_disk.specs.Tree.{Name, Tree}

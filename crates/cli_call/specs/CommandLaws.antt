@@ -13,7 +13,7 @@ use Rattle.tree_disk.specs.Unfailed.{UnlessFailed, unfailed_confined, unfailed_w
 use Rattle.tree_journal.specs.Recovery.{is_committed}
 use Rattle.cli_call.specs.declared.failure.Failure.{Failure}
 use Rattle.cli_call.specs.declared.failure.Failure.TheVariants as failure
-use Rattle.cli_call.specs.Command.{Disks, AreReady, ChangesNothing, Rest, ReadsSame, StandsFor, HasCause, Goes, Answers, IsLeft, IsShown, KeepsOthers, Performs, PerformsFrom, end_of}
+use Rattle.cli_call.specs.Command.{Disks, AreReady, ChangesNothing, Rest, ReadsSame, StandsFor, HasCause, Goes, Answers, IsShown, Performs, PerformsFrom, end_of}
 use Rattle.cli_call.specs.Report.{End, status_of}
 use Rattle.repo_state.specs.State.{RepositoryState}
 use Rattle.cli_call.specs.State.{State, nothing, Effect, IsNext, Meaning, Takes}

@@ -36,16 +36,9 @@ no_given word long = record { none = λ given is. false≢true (sym long ∙ is.
 same_send : (from from' : Option GivenSpec) (to to' : GivenSpec) → from ≡ from' → to ≡ to' → command.SendChanges from to ≡ command.SendChanges from' to'
 same_send from from' to to' f t = ap (λ (x : Option GivenSpec). command.SendChanges x to) f ∙ ap (λ (x : GivenSpec). command.SendChanges from' x) t
 
-no_specs : (from : Option GivenSpec) (to : GivenSpec) → AreSpecs [] from to → ⊥
-no_specs None to are = are
-no_specs (Some from) to are = are
-
 no_specs_of_more : (word other more : List ℕ) (words : List (List ℕ)) (from : Option GivenSpec) (to : GivenSpec) → AreSpecs (word ∷ other ∷ more ∷ words) from to → ⊥
 no_specs_of_more word other more words None to are = are
 no_specs_of_more word other more words (Some from) to are = are
-
-pub no_empty_send : HasNone (IsSend [])
-no_empty_send = record { none = λ c sends. no_specs sends.from sends.to sends.specs }
 
 pub no_long_send : (words : List (List ℕ)) → 3 ≤ length words → HasNone (IsSend words)
 no_long_send [] long = absurd (omega arith)
@@ -103,13 +96,6 @@ move_only onto word other label given first second = record {
   is = record { label = label; given = given; is = refl; both = (first.is, second.is) };
   only = λ c moves. same_move onto label moves.label given moves.given (first.only moves.label moves.both.0) (second.only moves.given moves.both.1) ∙ sym moves.is;
 }
-
--- other numbers of words
-pub no_empty_move : (onto : Way) → HasNone (IsMove onto [])
-no_empty_move onto = record { none = λ c moves. moves.both }
-
-pub no_short_move : (onto : Way) (word : List ℕ) → HasNone (IsMove onto (word ∷ []))
-no_short_move onto word = record { none = λ c moves. moves.both }
 
 pub no_long_move : (onto : Way) (words : List (List ℕ)) → 3 ≤ length words → HasNone (IsMove onto words)
 no_long_move onto [] long = absurd (omega arith)
