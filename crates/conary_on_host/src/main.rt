@@ -1,14 +1,26 @@
-//! What the program does, and then a look past it at the directory `root`: its names, its nodes outside `var`, and the bytes of the files.
+//! What the program does, and then a look past it at the directory `root`: its names, its nodes outside `var`, and the bytes of the
+//! file. It ends with the program's status.
 //!
 //! Its stored run installs a component into directories of the host.
 #![tactic(auto)]
 
 use conary_entry::start;
+use std::fs::{self, Metadata};
+use std::io::{self, Write};
 use std::os::unix::fs::PermissionsExt;
-use std::{fs, io};
+use std::process::ExitCode;
 
-// The bits of a mode that say who may do what.
-const PERMISSION_BITS: u32 = 0o7777;
+// Adds a word and a space behind it.
+fn add_word(text: &mut Vec<u8>, word: &str) -> io::Result<()> {
+    text.extend_from_slice(word.as_bytes())?;
+    Ok(text.push(b' ')?)
+}
+
+// Adds what a line ends with, and the line's end.
+fn end_line(text: &mut Vec<u8>, rest: &[u8]) -> io::Result<()> {
+    text.extend_from_slice(rest)?;
+    Ok(text.push(b'\n')?)
+}
 
 // The names in a directory, in the order of their bytes.
 fn names_in(rt: &HostRuntime, dir: &str) -> io::Result<Vec<String>> {
@@ -21,33 +33,66 @@ fn names_in(rt: &HostRuntime, dir: &str) -> io::Result<Vec<String>> {
     Ok(names)
 }
 
-fn show_names(rt: &HostRuntime, dir: &str) -> io::Result<()> {
-    for name in &names_in(rt, dir)? {
-        println!(rt; "{dir}: {name}")?;
+fn add_names(rt: &HostRuntime, text: &mut Vec<u8>, dir: &str) -> io::Result<()> {
+    let names = names_in(rt, dir)?;
+    for name in &names {
+        add_word(text, dir)?;
+        end_line(text, name.as_bytes())?;
     }
     Ok(())
 }
 
-fn show_mode(rt: &HostRuntime, path: &str) -> io::Result<()> {
-    let metadata = fs::symlink_metadata(rt, path)?;
-    let kind = if metadata.is_dir() {
+fn kind_of(metadata: &Metadata) -> &'static str {
+    if metadata.is_dir() {
         "directory"
     } else if metadata.is_file() {
         "file"
     } else {
         "other"
-    };
-    let mode = metadata.permissions().mode() & PERMISSION_BITS;
-    println!(rt; "{path}: {kind} {mode:04o}")
+    }
 }
 
-fn main(rt: HostRuntime) -> io::Result<()> {
+// Adds the last four octal digits of a mode, and the line's end.
+fn add_mode(text: &mut Vec<u8>, mode: u32) -> io::Result<()> {
+    for place in [512u32, 64, 8, 1] {
+        let digit = (mode / place % 8) as u8;
+        text.push(b'0' + digit)?;
+    }
+    Ok(text.push(b'\n')?)
+}
+
+fn add_node(rt: &HostRuntime, text: &mut Vec<u8>, path: &str) -> io::Result<()> {
+    let metadata = fs::symlink_metadata(rt, path)?;
+    add_word(text, path)?;
+    add_word(text, kind_of(&metadata))?;
+    add_mode(text, metadata.permissions().mode())
+}
+
+fn add_bytes(rt: &HostRuntime, text: &mut Vec<u8>, path: &str) -> io::Result<()> {
+    let bytes = fs::read(rt, path)?;
+    add_word(text, path)?;
+    end_line(text, bytes.as_slice())
+}
+
+fn look(rt: &HostRuntime) -> io::Result<Vec<u8>> {
+    let mut text = Vec::new(rt.alloc());
+    add_names(rt, &mut text, "root")?;
+    add_names(rt, &mut text, "root/etc")?;
+    add_node(rt, &mut text, "root/etc")?;
+    add_node(rt, &mut text, "root/etc/foo")?;
+    add_bytes(rt, &mut text, "root/etc/foo")?;
+    Ok(text)
+}
+
+fn show(rt: &HostRuntime) -> io::Result<()> {
+    let text = look(rt)?;
+    rt.stdout().write_all(text.as_slice())
+}
+
+fn main(rt: HostRuntime) -> ExitCode {
     let status = start(&rt);
-    println!(rt; "status {status}")?;
-    show_names(&rt, "root")?;
-    show_names(&rt, "root/etc")?;
-    show_mode(&rt, "root/etc")?;
-    show_mode(&rt, "root/etc/foo")?;
-    let text = fs::read_to_string(&rt, "root/etc/foo")?;
-    println!(rt; "root/etc/foo: {text}")
+    match show(&rt) {
+        Ok(()) => ExitCode::from(status),
+        Err(_) => ExitCode::FAILURE,
+    }
 }
