@@ -1,6 +1,6 @@
 #!/usr/bin/env python3
 """Lines of calls on fingerprints and plans, and the answers, made from the rules of docs/MODEL.md; how often a plan looks at the
-disk and reads it, from what docs/ARCHITECTURE.md says of its cost.
+disk and reads it, and how often a write set asks for contents and files, from what docs/ARCHITECTURE.md says of their cost.
 
 Usage: plan_vectors.py stdin|stdout
 """
@@ -21,7 +21,9 @@ def contents(text):
         return b''
     out = b''
     for piece in text.split('+'):
-        if '*' in piece:
+        if piece.startswith('#'):
+            out += bytes.fromhex(piece[1:])
+        elif '*' in piece:
             count, byte = piece.split('*', 1)
             out += byte[:1].encode() * int(count)
         else:
@@ -148,6 +150,17 @@ def plan(tree, old, fresh, options):
 
 def plan_and_calls(tree, old, fresh, options):
     """The answer of a plan, and how often the disk is asked where it isn't refused."""
+    refusal, changes = plan_changes(tree, old, fresh, options)
+    if refusal:
+        return refusal, None
+    out = 'ok'
+    for p in sorted(changes, key=key):
+        out += f'\t{p}: {mark_text(mark(tree.get(p)))} -> {want_text(changes[p])}'
+    return out, calls(tree, old, fresh, changes)
+
+
+def plan_changes(tree, old, fresh, options):
+    """The refusal of a plan, or what it makes of the paths that it changes."""
     paths = sorted({p for troves in (old, fresh) for files in troves.values() for p in files}, key=key)
     for p in paths:
         two = owned(fresh, p)
@@ -174,10 +187,7 @@ def plan_and_calls(tree, old, fresh, options):
     for p in sorted(result, key=key):
         if p != '/' and (result.get(parent(p)) or ('nothing',))[0] != 'dir':
             return f'parent {p}', None
-    out = 'ok'
-    for p in sorted(changes, key=key):
-        out += f'\t{p}: {mark_text(mark(tree.get(p)))} -> {want_text(changes[p])}'
-    return out, calls(tree, old, fresh, changes)
+    return None, changes
 
 
 def compared(old, fresh):
@@ -584,6 +594,225 @@ def verify_lines():
         names = [n for n in ('c:lib', 'a:lib', 'b:lib', 'd:lib') if rng.random() < 0.3]
         yield verify_line(made, lists, names, rng.choice([[], ['aa'], ['abc', 'aa']]))
 
+# ---- write sets
+
+LIMIT = 16777216
+
+
+def sha1(data):
+    return hashlib.sha1(data).hexdigest()
+
+
+def checksum(data):
+    """Of the first 4,096 bytes."""
+    total = 0
+    for byte in data[:4096]:
+        total = (total * 31 + byte) % 2**32
+    return total
+
+
+def node_mark_text(node):
+    """What stands or is to stand: its fingerprint, and of a file the checksum of its bytes."""
+    if node is None or node[0] != 'file':
+        return mark_text(node or ('nothing',))
+    return f'file {node[1]} {len(node[2])} {sha1(node[2])} {checksum(node[2])}'
+
+
+def with_bytes(node):
+    return ('file', node[1], contents(node[2])) if node and node[0] == 'file' else node
+
+
+class Refused(Exception):
+    pass
+
+
+def targets(tree, changes, now, carried, far, options):
+    """The answer of a write set, where `now` stands: the tests in their order."""
+    asked = {'finds': 0, 'files': 0}
+
+    def read(path):
+        if 'fail' in options:
+            raise Refused('failed')
+        asked['files'] += 1
+        return contents(now[path][2])
+
+    def content(path, rec):
+        wanted = contents(rec[3])
+        size, name = len(wanted), sha1(wanted)
+        for data in carried:
+            if sha1(data) == name and len(data) == size:
+                return data
+        asked['finds'] += 1
+        if 'far-fails' in options:
+            raise Refused('far failed')
+        if 'far-damaged' in options:
+            raise Refused('far damaged /c/damaged')
+        for data in far:
+            if sha1(data) == name and len(data) == size:
+                return data
+        was = mark(tree.get(path))
+        if was[0] == 'file' and was[2:] == (size, name):
+            data = read(path)
+            if len(data) == size and sha1(data) == name:
+                return data
+        raise Refused(f'missing content {name}')
+
+    paths = sorted(changes, key=key)
+    wants = {}
+    try:
+        for p in paths:
+            rec = changes[p]
+            wants[p] = ('file', rec[1], content(p, rec)) if rec and rec[0] == 'file' else rec
+        for p in paths:
+            was = mark(tree.get(p))
+            if was[0] == 'file' and was[2] > LIMIT:
+                raise Refused(f'too large: local {was[2]}')
+        stood = {}
+        for p in paths:
+            node = tree.get(p)
+            if node and node[0] == 'file':
+                data = read(p)
+                if len(data) > LIMIT:
+                    raise Refused(f'too large: local {LIMIT + 1}')
+                node = ('file', node[1], data)
+            stood[p] = node
+        kept = {}
+        for p in paths:
+            if stood[p] and stood[p][0] == 'file':
+                data = stood[p][2]
+                other = kept.setdefault(sha1(data), data)
+                if other != data:
+                    at = next((i for i, (x, y) in enumerate(zip(other, data)) if x != y), min(len(other), len(data)))
+                    raise Refused(f'collision {sha1(data)} at {at}')
+    except Refused as why:
+        return str(why)
+    out = 'ok'
+    for p in paths:
+        m = mark_text(mark_of_record(changes[p])) if changes[p] else 'nothing'
+        out += f'\t{p}: {node_mark_text(stood[p])} -> {node_mark_text(wants[p])} ({m})'
+    return out + f'\t{asked["finds"]} finds, {asked["files"]} files'
+
+
+def targets_line(options, tree, old, fresh, carried, far, now=None):
+    tree = dict(tree)
+    tree.setdefault('/', D)
+    by_name = sorted(set(carried), key=lambda text: sha1(contents(text)))
+    # a hyphen stands for no contents
+    field = lambda texts: ';'.join('0*x' if text == '-' else text for text in texts) or '-'
+    line = '\t'.join(['targets', ' '.join(options) or '-', tree_field(tree), troves_field(old), troves_field(fresh),
+                      '=' if now is None else tree_field(now), field(by_name), field(far)])
+    refusal, changes = plan_changes(tree, old, fresh, options)
+    if refusal:
+        return line, refusal
+    return line, targets(tree, changes, now or tree, [contents(c) for c in carried], [contents(c) for c in far], options)
+
+
+# Two contents of one SHA-1, published by M. Stevens and others in 2017.
+COLLIDING = [
+    '#255044462d312e330a25e2e3cfd30a0a0a312030206f626a0a3c3c2f57696474682032203020522f4865696768742033203020522f547970'
+    '652034203020522f537562747970652035203020522f46696c7465722036203020522f436f6c6f7253706163652037203020522f4c656e67'
+    '74682038203020522f42697473506572436f6d706f6e656e7420383e3e0a73747265616d0affd8fffe00245348412d312069732064656164'
+    '2121212121852fec092339759c39b1a1c63c4c97e1fffe01' + rest for rest in (
+        '7f46dc93a6b67e013b029aaa1db2560b45ca67d688c7f84b8c4c791fe02b3df6'
+        '14f86db1690901c56b45c1530afedfb76038e972722fe7ad728f0e4904e046c230570fe9d41398abe12ef5bc942be33542a4802d98b5d70f'
+        '2a332ec37fac3514e74ddc0f2cc1a874cd0c78305a21566461309789606bd0bf3f98cda8044629a1',
+        '7346dc9166b67e118f029ab621b2560ff9ca67cca8c7f85ba84c79030c2b3de2'
+        '18f86db3a90901d5df45c14f26fedfb3dc38e96ac22fe7bd728f0e45bce046d23c570feb141398bb552ef5a0a82be331fea48037b8b5d71f'
+        '0e332edf93ac3500eb4ddc0decc1a864790c782c76215660dd309791d06bd0af3f98cda4bc4629b1')]
+
+
+def targets_lines():
+    one, other = COLLIDING
+    rec = lambda text, mode='0644', flags='': ('file', mode, flags, text)
+    node = lambda text, mode='0644': ('file', mode, text)
+    lib = lambda files: {'a:lib': files}
+    # each source of bytes, and that the first one gives them
+    for carried, far in itertools.product(([], ['new'], ['newer'], ['x', 'new', 'y']), ([], ['new'], ['x', 'y'], ['other', 'new'])):
+        yield targets_line([], {}, {}, lib({'/f': rec('new')}), carried, far)
+        yield targets_line([], {'/f': node('old')}, lib({'/f': rec('old')}), lib({'/f': rec('new')}), carried, far)
+        # the mode alone differs
+        yield targets_line([], {'/f': node('new')}, lib({'/f': rec('new')}), lib({'/f': rec('new', '0755')}), carried, far)
+        yield targets_line(['replace'], {'/f': node('new', '0600')}, {}, lib({'/f': rec('new', '0755')}), carried, far)
+    # bytes of one SHA-1 that differ: the carried ones come before those of the contents, and these before what stands
+    for carried, far in itertools.product(([], [one], [other]), repeat=2):
+        for stands in (one, other):
+            yield targets_line([], {'/f': node(stands)}, lib({'/f': rec(one)}), lib({'/f': rec(one, '0755')}), carried, far)
+        yield targets_line([], {}, {}, lib({'/f': rec(one), '/g': rec(other)}), carried, far)
+    # contents that fail or are damaged: not asked where a content is carried
+    for words, carried in itertools.product(([], ['far-fails'], ['far-damaged'], ['fail']), ([], ['new'], ['new', 'n'])):
+        yield targets_line(words, {'/f': node('old'), '/g': node('n')}, lib({'/f': rec('old'), '/g': rec('n')}), lib({'/f': rec('new'), '/g': rec('n', '0755')}), carried, ['new', 'n'])
+        yield targets_line(words, {'/g': node('n')}, lib({'/g': rec('n')}), lib({'/g': rec('n', '0755')}), carried, [])
+        yield targets_line(words, {}, {}, lib({'/d': D, '/l': ('link', 'x')}), carried, [])
+        yield targets_line(words, {'/f': node('old')}, lib({'/f': rec('old')}), {}, carried, [])
+    # the first missing content, in path order
+    every = {'/a': rec('a'), '/b': rec('b'), '/c': rec('c'), '/d': D, '/d/a': rec('a'), '/e': rec('-')}
+    for carried in ([], ['a'], ['a', 'b'], ['a', 'b', 'c'], ['b', 'c', '-'], ['a', 'b', 'c', '-']):
+        for far in ([], ['-'], ['c', 'b']):
+            yield targets_line([], {}, {}, lib(every), carried, far)
+    # all kinds, before and after
+    stand = [None, D, ('dir', '0700'), node('s'), node('-'), node('s', '0600'), ('link', 'a'), ('link', 'b')]
+    after = [None, D, rec('s'), rec('n'), rec('-'), ('link', 'a')]
+    for t, n in itertools.product(stand, after):
+        for words in (['replace'], ['replace', 'fail']):
+            old = {'/z': rec('z')}
+            if n is None:
+                old['/p'] = rec('s') if t != D else D
+            fresh = {'/p': n} if n else {}
+            yield targets_line(words, {'/p': t, '/z': node('z')} if t else {'/z': node('z')}, lib(old), lib(dict(fresh, **{'/z': rec('zz')})), ['n', 'zz'], ['-', 's'])
+    # paths in byte order, which isn't that of subtrees
+    deep = {'/a': D, '/a-b': rec('1'), '/a/b': D, '/a/b/c': rec('2'), '/a0': ('link', 'a')}
+    stands = {'/a': D, '/a-b': node('1'), '/a/b': D, '/a/b/c': node('2'), '/a0': ('link', 'a')}
+    yield targets_line([], {}, {}, lib(deep), ['1', '2'], [])
+    yield targets_line([], stands, lib(deep), {}, [], [])
+    yield targets_line([], stands, lib(deep), lib({'/a': rec('3')}), ['3'], [])
+    yield targets_line([], {}, {}, {}, ['1'], [])
+    # sizes at the limit, and that a missing content comes first
+    for size in (LIMIT, LIMIT + 1):
+        yield targets_line(['replace'], {'/p': node(f'{size}*a')}, {}, lib({'/p': rec('n')}), ['n'], [])
+    stands = {'/a': node('a'), '/m': node(f'{LIMIT + 3}*m'), '/p': node(f'{LIMIT + 1}*a')}
+    yield targets_line(['replace'], stands, {}, lib({'/a': ('link', 'x'), '/m': D, '/p': D}), [], [])
+    stands = {'/a': node('a'), '/p': node(f'{LIMIT + 1}*a')}
+    yield targets_line(['replace'], stands, {}, lib({'/a': rec('n'), '/p': D, '/z': rec('z')}), ['n'], [])
+    # equal old contents, and different ones of one SHA-1
+    for texts in itertools.product(('o', one, other), repeat=3):
+        paths = ('/a', '/b', '/c')
+        stands = {p: node(text) for p, text in zip(paths, texts)}
+        yield targets_line(['replace'], stands, lib({p: rec(text) for p, text in zip(paths, texts)}), {}, [], [])
+    collide = {'/a': node(one), '/b': node(other), '/c': node('c')}
+    removed = lib({p: rec(t[2]) for p, t in collide.items()})
+    yield targets_line([], collide, removed, lib({'/d': rec('d')}), [], [])
+    yield targets_line(['replace'], dict(collide, **{'/c': node(f'{LIMIT + 1}*c')}), removed, {}, [], [])
+    yield targets_line([], collide, removed, lib({'/b': rec(other)}), [], [])
+    yield targets_line([], collide, removed, lib({'/b': ('link', 'x')}), [], [])
+    # edits between the plan and its write set, which a disk that tells nothing may show
+    before = {'/f': node('new'), '/g': node('g')}
+    mode_alone = lib({'/f': rec('new', '0755')})
+    for text in ('new', 'nev', 'newer', '-', one):
+        yield targets_line([], before, lib({'/f': rec('new'), '/g': rec('g')}), mode_alone, [], [], dict(before, **{'/f': node(text)}))
+        yield targets_line([], before, lib({'/f': rec('new'), '/g': rec('g')}), mode_alone, ['new'], [], dict(before, **{'/f': node(text)}))
+        yield targets_line([], before, lib({'/f': rec('new'), '/g': rec('g')}), {}, [], [], dict(before, **{'/g': node(text, '0600')}))
+    yield targets_line([], before, lib({'/f': rec('new'), '/g': rec('g')}), {}, [], [], dict(before, **{'/g': node(f'{LIMIT + 5}*g')}))
+    # small trees by chance
+    rng = random.Random(32)
+    names = ['/a', '/a-b', '/a/b', '/a/c', '/b']
+    texts = ['x', 'y', '-', one, other]
+    for _ in range(150):
+        stands = {'/': D}
+        for p in names:
+            if stands.get(parent(p), ('nothing',))[0] == 'dir' and rng.random() < 0.8:
+                stands[p] = rng.choice([D, D, node(rng.choice(texts)), node(rng.choice(texts), '0600'), ('link', 'a')])
+        record_ = lambda: rng.choice([D, D, rec(rng.choice(texts)), rec(rng.choice(texts), '0600'), ('link', 'b')])
+        old = {p: record_() for p in names if rng.random() < 0.5}
+        fresh = {p: record_() for p in names if rng.random() < 0.6}
+        if '/a/b' in fresh or '/a/c' in fresh:
+            fresh['/a'] = D
+        some = lambda share: [t for t in texts if rng.random() < share]
+        carried, far = some(0.5), some(0.6)
+        for list_ in (carried, far):
+            if one in list_ and other in list_:
+                list_.remove(rng.choice([one, other]))
+        yield targets_line(['replace'] + rng.choice([[], [], [], ['fail'], ['far-fails']]), stands, lib(old), lib(fresh), carried, far)
+
 
 def lines():
     yield from named_lines()
@@ -595,6 +824,7 @@ def lines():
     yield from mark_lines()
     yield from differing_lines()
     yield from verify_lines()
+    yield from targets_lines()
 
 
 def main():

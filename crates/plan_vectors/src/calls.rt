@@ -3,6 +3,7 @@ use crate::answers::{mark_text, plan_text, stop_text, word};
 use crate::nodes::{disk_of, record_of};
 use crate::quiet::Quiet;
 use crate::stop::Stop;
+use crate::targets::targets;
 use crate::troves::troves_of;
 use crate::verification::verified_tree;
 use crate::words::{contents_at, mode_at, parts_of, path_at, text_at};
@@ -98,8 +99,8 @@ fn differing_bytes(alloc: Global, parts: &[String]) -> Result<String, Stop> {
     }
 }
 
-// Whether a word is one of those of a text, with a space between two.
-fn has_word(text: &str, wanted: &str) -> bool {
+/// Whether a word is one of those of a text, with a space between two.
+pub fn has_word(text: &str, wanted: &str) -> bool {
     for word in text.split(' ') {
         if word == wanted {
             return true;
@@ -108,7 +109,8 @@ fn has_word(text: &str, wanted: &str) -> bool {
     false
 }
 
-fn options_of(words: &str) -> Options {
+/// The options that these words name.
+pub fn options_of(words: &str) -> Options {
     Options {
         replace: has_word(words, "replace"),
         keep: has_word(words, "keep"),
@@ -194,6 +196,7 @@ pub fn answer_to(alloc: Global, line: &str) -> Result<String, Stop> {
         "alike" => alike(alloc, &parts),
         "differing" => differing_bytes(alloc, &parts),
         "plan" => planned(alloc, &parts),
+        "targets" => targets(alloc, &parts),
         "verified" => verified(alloc, &parts),
         "verify" => verified_tree(alloc, &parts),
         _ => Err(Stop::Unreadable),

@@ -1,13 +1,15 @@
-//! Answers calls on fingerprints and plans over trees in memory. A line of standard input is the name of a call and its arguments,
+//! Answers calls on fingerprints, plans and their write sets over trees in memory. A line of standard input is the name of a call and its arguments,
 //! a tab before each; the line of standard output with its number is what the call answers. Input and wanted output come from
 //! tools/plan_vectors.py, which is made from the rules of docs/MODEL.md alone.
 #![tactic(auto)]
 
 mod answers;
 mod calls;
+mod far;
 mod nodes;
 mod quiet;
 mod stop;
+mod targets;
 mod troves;
 mod verification;
 mod words;

@@ -35,14 +35,28 @@ pub fn mode_at(parts: &[String], place: usize) -> Result<Mode, Stop> {
 
 // Appends a byte so many times.
 fn push_times(bytes: &mut Vec<u8>, count: u32, byte: u8) -> Result<(), Stop> {
-    for _ in 0..count {
-        bytes.push(byte)?;
-    }
+    let more = vec![in *bytes.allocator(); byte; count as usize]?;
+    bytes.extend_from_slice(&more)?;
     Ok(())
 }
 
-// Appends the bytes of a piece of contents: `COUNT*TEXT` is the first byte of a text so many times, any other text itself.
+// Appends bytes that are written as hexadecimal digits.
+fn push_digits(bytes: &mut Vec<u8>, digits: &str) -> Result<(), Stop> {
+    match hex::decode(*bytes.allocator(), digits) {
+        Ok(more) => {
+            bytes.extend_from_slice(&more)?;
+            Ok(())
+        }
+        Err(_) => Err(Stop::Unreadable),
+    }
+}
+
+// Appends the bytes of a piece of contents: `COUNT*TEXT` is the first byte of a text so many times, `#DIGITS` the bytes that these
+// hexadecimal digits give, any other text itself.
 fn push_piece(bytes: &mut Vec<u8>, piece: &str) -> Result<(), Stop> {
+    if let Some(digits) = piece.strip_prefix('#') {
+        return push_digits(bytes, digits);
+    }
     match piece.split_once('*') {
         None => {
             bytes.extend_from_slice(piece.as_bytes())?;
