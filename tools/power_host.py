@@ -2,10 +2,11 @@
 
 Each round begins with a repository of three commits and an empty root, all synced. One to five commands run on them one after the
 other, each a cook or a commit that adds a trove, an installation of it, one of these again, or `rq`; all but some are killed by
-SIGKILL at a random moment. The calls
-of each are recorded by strace, and from them it is told of each file and each directory what its last fsync has kept. Then the power
-is cut: in a new directory each name that was changed since the last fsync of its directory is, by chance, as it was kept or as it was
-read; and each file that was changed since its own last fsync is as it was kept, as it was read, or holds three bytes EE.
+SIGKILL before a call to the host that is picked at random, half of them among the first or the last calls of a command. The calls of
+each are recorded by strace, and from them it is told of each file and each directory what its last fsync has kept. Then the power
+is cut, four times, each from where the commands have ended: in a new directory each name that was changed since the last fsync of its
+directory is, by chance, as it was kept or as it was read; and each file that was changed since its own last fsync is as it was kept,
+as it was read, or holds three bytes EE.
 
 What then stands must be a repository: `rq` lists the first three troves and every one of which a command of the round had told, that
 it was committed, that it exists or in a list, and perhaps others of the round; each trove that is listed has all its contents. The
@@ -18,7 +19,6 @@ import pathlib
 import random
 import re
 import shutil
-import signal
 import subprocess
 import sys
 import tempfile
@@ -30,6 +30,7 @@ from repository_vectors import component
 
 FILES = 6
 TORN = b"\xee" * 3
+CUTS = 4
 CALLS = "open,openat,creat,write,writev,pwrite64,fchmod,chmod,fchmodat,?fchmodat2,mkdir,mkdirat,symlink,symlinkat,link,linkat,unlink,unlinkat,rmdir,rename,renameat,renameat2,ftruncate,fsync,fdatasync,close"
 
 
@@ -218,33 +219,27 @@ class Disk:
 
 # ---- rounds
 
-def start(program, room, word, input_, trace=None):
+def start(program, room, word, trace=None, kill_at=None):
     words = [program, "--disk", room / "root", room / "repo", word]
     if trace:
-        words = ["strace", "-D", "-f", "--seccomp-bpf", "-xx", "-s", "10000000", "-e", f"trace={CALLS}", "-o", trace, *words]
+        # where a call is to be killed, strace sees each call of the process itself
+        how = ["-e", f"inject={kill_at[0]}:signal=SIGKILL:when={kill_at[1]}"] if kill_at else ["-D", "--seccomp-bpf"]
+        words = ["strace", *how, "-f", "-xx", "-s", "10000000", "-e", f"trace={CALLS}", "-o", trace, *words]
     return subprocess.Popen(words, stdin=subprocess.PIPE, stdout=subprocess.PIPE, stderr=subprocess.PIPE)
 
 
 def run(program, room, word, input_):
-    child = start(program, room, word, input_)
+    child = start(program, room, word)
     out, err = child.communicate(input_)
     return child.returncode, out, err
 
 
-def run_traced(program, room, word, input_, trace, kill_after):
+def run_traced(program, room, word, input_, trace, kill_at):
     """Runs a command under strace, and answers its status (negative where it was killed) and what it wrote."""
     trace.unlink(missing_ok=True)
-    child = start(program, room, word, input_, trace)
+    child = start(program, room, word, trace, kill_at)
     try:
-        if kill_after is None:
-            out, _ = child.communicate(input_)
-        else:
-            child.stdin.write(input_)
-            child.stdin.close()
-            time.sleep(kill_after)
-            child.send_signal(signal.SIGKILL)
-            out = child.stdout.read()
-            child.stderr.read()
+        out, _ = child.communicate(input_)
     except BrokenPipeError:
         out = b""
     status = child.wait()
@@ -254,6 +249,17 @@ def run_traced(program, room, word, input_, trace, kill_after):
             return status, out
         time.sleep(0.01)
     return status, out
+
+
+def calls_in(trace):
+    """Each call of a recorded run: its name, and how often it was called by then."""
+    found, counts = [], {}
+    for line in trace.read_text().splitlines():
+        call = re.match(r"\d+ +(\w+)\(", line)
+        if call:
+            counts[call[1]] = counts.get(call[1], 0) + 1
+            found.append((call[1], counts[call[1]]))
+    return found
 
 
 def listed_in(out):
@@ -281,37 +287,12 @@ def check_root(room, installed, tried, story):
             sys.exit(f"in the root {path} isn't as it was installed: {story}")
 
 
-def round_of(program, folder, taken, counts):
-    room, after, trace = folder / "room", folder / "after", folder / "trace"
-    for it in (room, after):
-        shutil.rmtree(it, ignore_errors=True)
-    shutil.copytree(folder / "template", room)
-    disk = Disk(room)
-    done, installed, tried, story = [1, 2, 3], [], [4], []
-    for _ in range(random.randint(1, 5)):
-        word = random.choice(("cook", "cook", "commit", "rq", "install", "install"))
-        number = random.choice((tried[-1], tried[-1] + 1))
-        tried.append(number)
-        input_ = {"cook": manifest, "commit": change_set, "install": manifest, "rq": lambda _: b""}[word](number)
-        kill_after = random.choice((None, random.uniform(0, taken), random.uniform(0, taken), random.uniform(0, taken)))
-        status, out = run_traced(program, room, word, input_, trace, kill_after)
-        story.append((word, number, status, out))
-        counts["killed"] += status < 0
-        # what is told of is kept: what was committed, what exists already, and what is listed
-        if word == "rq":
-            done += listed_in(out)
-        elif word == "install":
-            installed += [number] if out else []
-        elif out or status == 1:
-            done.append(number)
-        if status > 1:
-            sys.exit(f"a command ends with status {status}: {story}")
-        disk.record(trace)
-    counts["names left unsynced"] += disk.cut(after) > 0
+def check_after(program, after, done, installed, tried, story, counts):
+    """Whether all of which a command has told stands behind a power failure, and of the rest all or nothing."""
     status, out, err = run(program, after, "rq", b"")
     listed = listed_in(out)
     if status or set(done) - set(listed) or listed != sorted(set(listed)) or set(listed) - {1, 2, 3, *tried}:
-        keep = folder.parent / "power_host_failed"
+        keep = after.parent.parent / "power_host_failed"
         shutil.rmtree(keep, ignore_errors=True)
         shutil.copytree(after, keep)
         sys.exit(f"rq: status {status}, listed {listed}, done {done}: {err.decode()}: {story}; the tree is kept in {keep}")
@@ -324,6 +305,38 @@ def round_of(program, folder, taken, counts):
     status, out, err = run(program, after, "cook", manifest(last))
     if (status, out) != (0, b"committed " + trove(last) + b"\n") or lacking(after, last):
         sys.exit(f"a further cook: status {status}: {err.decode()}: {story}")
+
+
+def round_of(program, folder, calls, counts):
+    room, after, trace = folder / "room", folder / "after", folder / "trace"
+    shutil.rmtree(room, ignore_errors=True)
+    shutil.copytree(folder / "template", room)
+    disk = Disk(room)
+    done, installed, tried, story = [1, 2, 3], [], [4], []
+    for _ in range(random.randint(1, 5)):
+        word = random.choice(("cook", "cook", "commit", "rq", "install", "install"))
+        number = random.choice((tried[-1], tried[-1] + 1))
+        tried.append(number)
+        input_ = {"cook": manifest, "commit": change_set, "install": manifest, "rq": lambda _: b""}[word](number)
+        kill_at = random.choice((None, *(random.choice(part) for part in (calls, calls, calls[:60], calls[-50:]))))
+        status, out = run_traced(program, room, word, input_, trace, kill_at)
+        story.append((word, number, kill_at, status, out))
+        counts["killed"] += status < 0
+        # what is told of is kept: what was committed, what exists already, and what is listed
+        if word == "rq":
+            done += listed_in(out)
+        elif word == "install":
+            installed += [number] if out else []
+        elif out or status == 1:
+            done.append(number)
+        if status > 1:
+            sys.exit(f"a command ends with status {status}: {story}")
+        disk.record(trace)
+    for _ in range(CUTS):
+        shutil.rmtree(after, ignore_errors=True)
+        counts["power failures"] += 1
+        counts["with names unsynced"] += disk.cut(after) > 0
+        check_after(program, after, done, installed, tried, story, counts)
     counts["rounds"] += 1
 
 
@@ -340,16 +353,15 @@ def main():
                 sys.exit(f"commit {number}: status {status}: {err.decode()}")
         room = folder / "room"
         shutil.copytree(folder / "template", room)
-        begun = time.monotonic()
         status, _ = run_traced(program, room, "cook", manifest(4), folder / "trace", None)
-        taken = time.monotonic() - begun
+        calls = calls_in(folder / "trace")
         disk = Disk(folder / "template")
         disk.folder = os.fsencode(str(room))
         disk.record(folder / "trace")
-        print(f"a whole cook under strace: status {status}, {taken * 1000:.0f} ms, {disk.syncs} waits", flush=True)
-        counts = {"rounds": 0, "killed": 0, "names left unsynced": 0, "more than was told of": 0}
+        print(f"a whole cook under strace: status {status}, {len(calls)} calls, {disk.syncs} waits", flush=True)
+        counts = {"rounds": 0, "killed": 0, "power failures": 0, "with names unsynced": 0, "more than was told of": 0}
         for number in range(rounds):
-            round_of(program, folder, taken, counts)
+            round_of(program, folder, calls, counts)
             if number % 25 == 24:
                 print(f"after {number + 1} rounds: {counts['killed']} killed", file=sys.stderr, flush=True)
         print(", ".join(f"{name} {count}" for name, count in counts.items()))

@@ -1,6 +1,7 @@
 #!/bin/sh
-# Kills cooks and commits over directories of the host at random moments, and then plays a power failure: what was changed and not
-# synced is by chance as before, as written, or torn. Says whether the repository still has all of which a command has told.
+# Kills cooks, commits and installations over directories of the host, each before a call that is picked at random, and then plays
+# power failures: what was changed and not synced is by chance as before, as written, or torn. Says whether all of which a command
+# has told still stands.
 # Usage: tools/power_host.sh [ROUNDS [SEED]]
 # It needs strace, and is no part of the gate. It ends with status 1 where something is lost, where a command doesn't end as it is to,
 # or where no run was cut off.
