@@ -1,0 +1,352 @@
+#!/usr/bin/env python3
+"""Prints the calls that the program rollback_vectors is run on, or the answers that it has to give.
+
+Usage: tools/rollback_vectors.py stdin >crates/rollback_vectors/stdin
+       tools/rollback_vectors.py stdout >crates/rollback_vectors/stdout
+
+A line of the calls is the name of a call and its arguments, with a tab before each. The roots are laid out as files: databases and
+records are written by tools/state_vectors.py and tools/record_model.py. What a rollback does is taken here from docs/FORMATS.md and
+docs/MODEL.md alone, with the whole trees and lists of each job kept beside the root; nothing is shared with the program that is
+tested.
+"""
+import sys
+from collections import namedtuple
+from hashlib import sha1
+
+# So that a run leaves nothing behind in tools/.
+sys.dont_write_bytecode = True
+
+from record_model import CAME, LISTED, NOTHING, TURNED, WAS, Record, record_bytes
+from rel_vectors import relative_of
+from state_vectors import database_bytes
+from stream_model import Id, Trove, directory, id_text, link, regular
+
+BASE = b"/var/lib/conarydb"
+DATABASE = BASE + b"/db"
+PINNED = {b"/var": ("d", 0o755, b""), b"/var/lib": ("d", 0o755, b"")}
+
+# A job that is on the stack: the tree outside the private directory before and after it, the list before it, and its paths.
+Job = namedtuple("Job", "number before after troves paths")
+
+
+def record_path(number):
+    return BASE + b"/r.%d" % number
+
+
+def saved_path(number):
+    return BASE + b"/s.%d" % number
+
+
+def parent(path):
+    return path.rpartition(b"/")[0] or b"/"
+
+
+def mark_of(node):
+    if node is None:
+        return NOTHING
+    kind, mode, data = node
+    return ("d", mode) if kind == "d" else ("l", data) if kind == "l" else ("f", mode, len(data), sha1(data).digest())
+
+
+# ---- a root, with the history that its files tell
+
+
+def mark_of_record(record):
+    if record.kind == "d":
+        return ("d", record.mode)
+    return ("f", record.mode, record.size, record.name) if record.kind == "f" else ("l", record.target)
+
+
+def recorded(troves, path):
+    return next((mark_of_record(record) for trove in troves for other, record in trove.files if other == path), None)
+
+
+def told(mark, of_list):
+    return LISTED if of_list == mark else mark
+
+
+def delta(now, was):
+    if was is None:
+        return CAME, now.identity
+    return (WAS, was) if now is None or now.identity == was.identity else (TURNED, relative_of(now, was))
+
+
+class Root:
+    def __init__(self):
+        self.outer, self.own, self.troves, self.jobs = dict(PINNED), {}, [], []
+
+    def copy(self):
+        root = Root()
+        root.outer, root.own, root.troves, root.jobs = dict(self.outer), dict(self.own), self.troves, list(self.jobs)
+        return root
+
+    def edit(self, path, node):
+        root = self.copy()
+        tree = root.own if path.startswith(BASE) else root.outer
+        tree.pop(path, None)
+        if node is not None:
+            tree[path] = node
+        return root
+
+    def with_troves(self, troves):
+        root = self.copy()
+        root.troves = troves
+        return root
+
+    def numbers(self):
+        return (self.jobs[0].number, self.jobs[-1].number) if self.jobs else (0, 0)
+
+    def with_database(self):
+        self.own[BASE] = self.own.get(BASE, ("d", 0o755, b""))
+        self.own[DATABASE] = ("f", 0o644, database_bytes(2, self.troves, *self.numbers()))
+        return self
+
+    def job(self, troves, targets, number=None):
+        """The root after a job with this list and these targets."""
+        root = self.copy()
+        troves = sorted(troves, key=lambda trove: trove.identity.name)
+        number = self.numbers()[1] + 1 if number is None else number
+        paths = sorted(path for path in targets if self.outer.get(path) != targets[path])
+        for path in paths:
+            root.outer.pop(path, None)
+            if targets[path] is not None:
+                root.outer[path] = targets[path]
+            node = self.outer.get(path)
+            if node is not None and node[0] == "f":
+                root.own[saved_path(number)] = ("d", 0o755, b"")
+                root.own[saved_path(number) + b"/" + sha1(node[2]).hexdigest().encode()] = ("f", 0o600, node[2])
+        root.jobs.append(Job(number, self.outer, root.outer, self.troves, paths))
+        root.troves = troves
+        was = {trove.identity.name: trove for trove in self.troves}
+        now = {trove.identity.name: trove for trove in troves}
+        names = sorted(name for name in was.keys() | now.keys() if was.get(name) != now.get(name))
+        entries = [
+            (path, told(mark_of(self.outer.get(path)), recorded(self.troves, path)), told(mark_of(root.outer.get(path)), recorded(troves, path)))
+            for path in paths
+        ]
+        record = Record(number, [delta(now.get(name), was.get(name)) for name in names], entries)
+        root.own[record_path(number)] = ("f", 0o644, record_bytes(record, 2))
+        return root.with_database()
+
+    def nodes(self):
+        return {**self.outer, **self.own}
+
+    def db_text(self):
+        ids = "".join(" " + id_text(trove.identity).decode() for trove in self.troves)
+        return "%d %d%s" % (*self.numbers(), ids)
+
+    # ---- the newest job taken back
+
+    def refusal(self):
+        """Why the newest job isn't taken back."""
+        if not self.jobs:
+            return "stack empty"
+        job = self.jobs[-1]
+        for path in job.paths:
+            before, after = job.before.get(path, ("n",)), job.after.get(path, ("n",))
+            foreign = any(parent(other) == path and other not in job.paths for other in self.outer)
+            if mark_of(self.outer.get(path)) != mark_of(job.after.get(path)) or (before[0] != "d" and after[0] == "d" and foreign):
+                return "edited " + path.decode()
+        tree = self.restored()
+        for path in sorted(tree):
+            if parent(path) != b"/" and tree.get(parent(path), ("n",))[0] != "d":
+                return "parent " + path.decode()
+        return None
+
+    def restored(self):
+        job = self.jobs[-1]
+        tree = {path: node for path, node in self.outer.items() if path not in job.paths}
+        return {**tree, **{path: job.before[path] for path in job.paths if path in job.before}}
+
+    def taken_back(self):
+        """The root and the answer after a rollback."""
+        why = self.refusal()
+        if why is not None:
+            return self, "%s [%s]" % (why, self.db_text())
+        root, job = self.copy(), self.jobs[-1]
+        root.outer, root.troves, root.jobs = self.restored(), job.troves, self.jobs[:-1]
+        del root.own[record_path(job.number)]
+        root.with_database()
+        return root, "r.%d [%s]" % (job.number, root.db_text())
+
+
+# ---- texts
+
+
+def node_text(path, node):
+    kind, mode, data = node
+    if kind == "l":
+        return "link %s %s" % (data.decode(), path.decode())
+    return ("dir %04o %s" % (mode, path.decode())) if kind == "d" else "file %04o %s %s" % (mode, data.hex() or "-", path.decode())
+
+
+def input_text(tree):
+    return ";".join(node_text(path, tree[path]) for path in sorted(tree))
+
+
+def standing(tree):
+    """What stands at each path, those nearer the root first."""
+    paths = sorted(tree, key=lambda path: (path.count(b"/"), path.split(b"/")))
+    return "".join(";" + node_text(path, tree[path]) for path in paths)
+
+
+def rollback_line(root, count=1):
+    call = "rollback\t%s\t%d" % (input_text(root.nodes()), count)
+    answers = []
+    for _ in range(count):
+        root, said = root.taken_back()
+        answers.append(said)
+    return call, "\t".join(answers + [root.db_text(), standing(root.nodes())])
+
+
+def damaged_line(root, path):
+    answer = "damaged %s [%s]" % (path.decode(), root.db_text())
+    return "rollback\t%s\t1" % input_text(root.nodes()), "\t".join([answer, root.db_text(), standing(root.nodes())])
+
+
+def recovered(root):
+    name = sha1(standing(root.nodes()).encode()).hexdigest()
+    return "%s, %s, again %s" % (root.db_text(), name, root.taken_back()[1])
+
+
+def stop_line(root, pick):
+    after, _ = root.taken_back()
+    texts = ["stopped", recovered(root)] + ([recovered(after)] if after is not root else [])
+    return "stop\t%s\t%d" % (input_text(root.nodes()), pick), "\t".join(texts)
+
+
+def fail_line(root):
+    after, said = root.taken_back()
+    texts = ["failed", "failed, " + recovered(root), "failed [%s], %s" % (root.db_text(), recovered(root))]
+    if after is not root:
+        texts.append("failed [%s], %s" % (root.db_text(), recovered(after)))
+    return "fail\t" + input_text(root.nodes()), "\t".join(texts + ["%s, %s" % (said, recovered(after))])
+
+
+# ---- the lines
+
+V1 = b"/conary.example.com@ex:devel/1.0-1-1"
+V2 = b"/conary.example.com@ex:devel/2.0-1-1"
+
+
+def of(text):
+    return regular(0o644, 0, len(text), sha1(text).digest())
+
+
+def trove(name, *files, version=V1):
+    return Trove(Id(name, version, b""), list(files), [], [], [])
+
+
+def dir_(mode=0o755):
+    return ("d", mode, b"")
+
+
+def file_(text, mode=0o644):
+    return ("f", mode, text)
+
+
+def link_(target):
+    return ("l", 0, target)
+
+
+ETC = (b"/etc", directory(0o755))
+FOO = trove(b"foo:runtime", ETC, (b"/etc/foo", of(b"abc")))
+FOO_2 = trove(b"foo:runtime", ETC, (b"/etc/foo", of(b"abcd")), version=V2)
+BAR = trove(b"bar:runtime", ETC, (b"/etc/bar", link(b"foo")))
+KINDS = trove(b"one:runtime", (b"/d", directory(0o755)), (b"/d/f", of(b"1")), (b"/x", of(b"x")))
+KINDS_2 = trove(b"one:runtime", (b"/d", link(b"x")), (b"/x", directory(0o711)), (b"/x/y", of(b"1")), version=V2)
+
+INSTALLED = Root().job([FOO], {b"/etc": dir_(), b"/etc/foo": file_(b"abc")})
+# An edit that an update replaced.
+REPLACED = INSTALLED.edit(b"/etc/foo", file_(b"abX", 0o600)).job([FOO_2], {b"/etc/foo": file_(b"abcd")})
+# A file that stood before its package came.
+FOREIGN = Root().edit(b"/etc", dir_()).edit(b"/etc/foo", file_(b"mine"))
+OWNED = FOREIGN.job([FOO], {b"/etc/foo": file_(b"abc")})
+ERASED = REPLACED.job([], {b"/etc/foo": None, b"/etc": None})
+TURNED_KINDS = Root().job([KINDS], {b"/d": dir_(), b"/d/f": file_(b"1"), b"/x": file_(b"x")}).job(
+    [KINDS_2], {b"/d": link_(b"x"), b"/d/f": None, b"/x": dir_(0o711), b"/x/y": file_(b"1")}
+)
+THREE = REPLACED.job([BAR, FOO_2], {b"/etc/bar": link_(b"foo")})
+LIST_ALONE = INSTALLED.job([], {})
+IN_PLACE = Root().edit(b"/srv", dir_()).job([BAR], {b"/srv/bar": file_(b"b")})
+TAKEN = Root().edit(b"/srv", dir_()).edit(b"/srv/bar", file_(b"b")).job([], {b"/srv/bar": None})
+
+
+def roots():
+    """Roots whose newest job can be taken back."""
+    yield INSTALLED
+    yield REPLACED
+    yield OWNED
+    yield ERASED
+    yield TURNED_KINDS
+    yield THREE
+    yield LIST_ALONE
+    yield IN_PLACE
+    yield TAKEN
+    # edits at other paths stay
+    yield INSTALLED.edit(b"/etc2", dir_()).edit(b"/etc2/new", file_(b"new"))
+    yield REPLACED.edit(b"/etc/new", file_(b"new")).edit(b"/home", link_(b"elsewhere"))
+    yield IN_PLACE.edit(b"/srv", dir_(0o700))
+    # other files of the program stay, and what an edit left of a mode of its own
+    yield REPLACED.edit(BASE + b"/r.7", file_(b"junk")).edit(BASE + b"/s.7", dir_()).edit(BASE, dir_(0o700))
+
+
+def refused():
+    """Edits that keep the newest job from being taken back."""
+    # at a path of the job: other bytes, another mode, another kind, nothing
+    for node in (file_(b"abY"), file_(b"abcd", 0o600), dir_(), link_(b"foo"), None):
+        yield REPLACED.edit(b"/etc/foo", node)
+    yield INSTALLED.edit(b"/etc", dir_(0o700))
+    yield INSTALLED.edit(b"/etc/foo", None)
+    yield ERASED.edit(b"/etc", dir_())
+    yield ERASED.edit(b"/etc", dir_()).edit(b"/etc/foo", file_(b"abcd"))
+    # the first of two
+    yield INSTALLED.edit(b"/etc", dir_(0o700)).edit(b"/etc/foo", file_(b"x"))
+    # into a directory that the job made, also in place of a file
+    yield INSTALLED.edit(b"/etc/new", file_(b"new"))
+    yield TURNED_KINDS.edit(b"/x/new", dir_())
+    yield INSTALLED.edit(b"/etc/new", dir_()).edit(b"/etc/foo", file_(b"x"))
+    # the directory of a path that the job took away is gone, or another kind
+    yield TAKEN.edit(b"/srv", None)
+    yield TAKEN.edit(b"/srv", file_(b"no directory"))
+    yield TAKEN.edit(b"/srv", link_(b"elsewhere"))
+
+
+def damaged():
+    yield INSTALLED.edit(record_path(1), None), record_path(1)
+    yield INSTALLED.edit(record_path(1), dir_()), record_path(1)
+    yield INSTALLED.edit(record_path(1), file_(b"junk")), record_path(1)
+    yield REPLACED.edit(record_path(2), REPLACED.own[record_path(1)]), record_path(2)
+    name = saved_path(2) + b"/" + sha1(b"abX").hexdigest().encode()
+    for node in (None, dir_(), file_(b"abY"), file_(b"")):
+        yield REPLACED.edit(name, node), name
+    # before the tests of the paths
+    yield REPLACED.edit(b"/etc/foo", file_(b"abY")).edit(name, None), name
+
+
+def lines():
+    yield rollback_line(Root())
+    yield rollback_line(Root().edit(BASE, dir_()).edit(DATABASE, file_(database_bytes(2, [FOO], 0, 0))).with_troves([FOO]))
+    for root in roots():
+        yield rollback_line(root)
+        yield rollback_line(root, len(root.jobs) + 1)
+    for root in refused():
+        yield rollback_line(root)
+    for root, path in damaged():
+        yield damaged_line(root, path)
+    for root in (INSTALLED, REPLACED, ERASED, TURNED_KINDS, LIST_ALONE):
+        for pick in (0, 1, 4_294_967_295):
+            yield stop_line(root, pick)
+        yield fail_line(root)
+    refusing = REPLACED.edit(b"/etc/foo", file_(b"abY"))
+    yield stop_line(refusing, 0)
+    yield fail_line(refusing)
+
+
+def main():
+    column = {"stdin": 0, "stdout": 1}[sys.argv[1]]
+    for line in lines():
+        print(line[column])
+
+
+main()
