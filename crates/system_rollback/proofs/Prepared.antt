@@ -122,7 +122,7 @@ inverse_stop told x y db undo rose later (stop.Refused why) rises same newest is
   before = (newest tells).before;
   es = entries_of undo.entries;
   holds = subst (λ (n : ℕ). HoldsRecord Two x n db.installed (newest tells).before (entries_of undo.entries)) (newest tells).leads.newest (newest tells).holds;
-  refused = subst (λ (t : Tree). IsUndoRefusal (entries_of undo.entries) (marks_of t) why) (same tells) (is tells);
+  refused = subst (λ (t : Tree). IsUndoRefusal (entries_of undo.entries) (marks_of t) why) (same tells) (is.1 tells);
 })
 inverse_stop told x y db undo rose later stop.FarFailed rises same newest is = is
 inverse_stop told x y db undo rose later (stop.FarDamaged path) rises same newest is = is

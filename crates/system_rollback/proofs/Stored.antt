@@ -33,7 +33,7 @@ use Rattle.system_state.proofs.Other.{checks_law}
 use Rattle.system_state.proofs.Sorted.{listed_in}
 use Rattle.system_state.proofs.Systems.{listed_backs, rising_backs}
 use Rattle.system_state.proofs.Writes.{contains_rest, not_both, with_targets_outside}
-use Rattle.undo_check.specs.JobLaws.{undone_other}
+use Rattle.undo_check.proofs.JobLaws.{undone_other}
 use Rattle.undo_check.specs.Marks as undo
 use Rattle.undo_check.specs.Marks.{CanUndo, is_path_of, marks_of, undone}
 use Rattle.job_records.specs.Reading.{HoldsRecord}
