@@ -9,6 +9,7 @@ records from tools/record_model.py; none of them shares anything with the progra
 """
 import hashlib
 import sys
+from random import Random
 
 sys.dont_write_bytecode = True
 
@@ -404,9 +405,92 @@ def saved_lines():
         yield f"old {fails} {tree_text(good)} 4294967295 {records.mark_text(mark)}", "failed"
 
 
+# ---- jobs taken back
+
+
+def mark_of(node):
+    return NOTHING if node is None else file_mark(node[2], node[1]) if node[0] == "f" else node
+
+
+def above(path):
+    return path.rpartition(b"/")[0] or b"/"
+
+
+# The jobs, the newest first, are lists of a path, what the job found there and the fingerprint of what it left.
+def undo(tree, newest, jobs):
+    marks = {path: mark_of(node) for path, node in tree.items()}
+    found = {}
+    for number, job in zip(range(newest, 0, -1), jobs):
+        own = {path for path, _, _ in job}
+        for path, was, now in job:
+            made = now[0] == "d" and (was is None or was[0] != "d")
+            foreign = any(above(other) == path for other in marks if other not in own)
+            if marks.get(path, NOTHING) != now or (made and foreign):
+                return f"{number} edited {path.decode()}"
+        for path, was, _ in job:
+            marks.pop(path, None)
+            if was is not None:
+                marks[path] = mark_of(was)
+            found[path] = number, was
+        for path in sorted(marks):
+            if marks.get(above(path), NOTHING)[0] != "d":
+                return f"{number} parent {path.decode()}"
+    return " ".join(["ok"] + [f"{path.decode()}={number}:{'n' if was is None else was[0]}" for path, (number, was) in sorted(found.items())])
+
+
+UNDO_NAMES = [b"/a", b"/a-b", b"/a/x", b"/a/x/y", b"/a.b", b"/a/x-y", b"/ab", b"/ab/x", b"/b", b"/b/x"]
+
+
+# The tree with other nodes at some of the names; below what is no directory nothing stands.
+def turned(random, tree, count):
+    tree = dict(tree)
+    for name in random.sample(UNDO_NAMES, count):
+        tree[name] = random.choice([None, None, ("d", 0o755), ("d", 0o755), ("d", 0o755), ("f", 0o644, b""), ("f", 0o644, b"a"), ("l", b"t")])
+    kept = {}
+    for path in sorted(name for name in tree if tree[name] is not None):
+        if path in FIXED or kept.get(above(path), ("d",))[0] == "d" and (above(path) == b"/" or above(path) in kept):
+            kept[path] = tree[path]
+    return kept
+
+
+FIXED = {path: ("d", 0o755) for path in (b"/", b"/var", b"/var/lib", b"/var/lib/conarydb")}
+
+
+def jobs_text(jobs):
+    return "".join(" " + (";".join(f"{path.decode()},{node_text(was)},{records.mark_text(now)}" for path, was, now in job) or "-") for job in jobs)
+
+
+def undo_lines():
+    random = Random(12)
+    for case in range(120):
+        tree = turned(random, FIXED, random.randrange(8))
+        jobs = []
+        for _ in range(random.randrange(1, 4)):
+            later = turned(random, tree, random.randrange(1, 6))
+            paths = sorted(path for path in set(tree) | set(later) if tree.get(path) != later.get(path))
+            jobs.insert(0, [(path, tree.get(path), mark_of(later.get(path))) for path in paths])
+            tree = later
+        if case % 3:
+            tree = turned(random, tree, case % 3)
+        if case % 5 == 4 and jobs[-1]:
+            jobs[-1].pop(random.randrange(len(jobs[-1])))
+        newest = random.choice([len(jobs), 7, 4_294_967_295])
+        yield f"undo 0 {tree_text(tree)} {newest}{jobs_text(jobs)}", undo({**FIXED, **tree}, newest, jobs)
+    # a job takes names away, and then an edit the directories of some of them
+    pairs = [(b"/a", b"/a/x"), (b"/ab", b"/ab/x"), (b"/b", b"/b/x")]
+    for case in range(16):
+        gone = [low for at, (_, low) in enumerate(pairs) if case & 1 << at or at == 2]
+        tree = {**FIXED, **{dir_: ("d", 0o755) for at, (dir_, _) in enumerate(pairs) if not (case >> 1) + case & 1 << at}}
+        job = [(low, ("l", b"t"), NOTHING) for low in gone]
+        yield f"undo 0 {tree_text(tree)} 1{jobs_text([job])}", undo(tree, 1, [job])
+    made = [[(b"/a", None, ("d", 0o755))]]
+    for fails in (1, 2):
+        yield f"undo {fails} {tree_text({b'/a': ('d', 0o755)})} 1{jobs_text(made)}", "1 failed"
+
+
 def main():
     part = sys.argv[1]
-    made = list(lines()) + list(record_lines()) + list(saved_lines())
+    made = list(lines()) + list(record_lines()) + list(saved_lines()) + list(undo_lines())
     assert RECORD_BY_HAND == record_bytes(next(good_records())[1], 2)
     assert made[0][1] != "bad" and BY_HAND_2 == database_bytes(2, [FOO], 1, 1)
     for call, answer in made:

@@ -41,7 +41,7 @@ stays_means x p f is =
     let both = both_true (is_nothing f.mark) (sees_nothing (look_of x p)) is in
     (nothing_is f.mark both.0, nothing_seen x p both.1)
 
-none_seen : (x : Tree) (p : Name) → tree.get x p ≡ None → sees_nothing (look_of x p) ≡ true
+pub none_seen : (x : Tree) (p : Name) → tree.get x p ≡ None → sees_nothing (look_of x p) ≡ true
 none_seen x p none = empty_seen x p ∙ ap (λ o. not (is_some o)) none
 
 -- what isn't to be left as it is

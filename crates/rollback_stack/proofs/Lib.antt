@@ -10,3 +10,7 @@ pub mod Mapped
 pub mod TakingJobs
 pub mod TakenBack
 pub mod Finding
+pub mod Doubling
+pub mod Holding
+pub mod Rewriting
+pub mod Migrating

@@ -4,3 +4,4 @@ pub mod Reading
 pub mod Inverse
 pub mod Taking
 pub mod Wanting
+pub mod Migrated

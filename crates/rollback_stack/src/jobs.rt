@@ -2,7 +2,7 @@
 ghost use Rattle.std.specs.Prelude.{◌≡◌, ◌≤◌, ◌+◌, ◌-◌, IfErr, IfOk, OnOk};
 ghost use Rattle.cny_base.specs.Count.{Rose};
 ghost use Rattle.job_records.specs.Entries.{entries_of};
-ghost use Rattle.system_state.specs.Formats.{AreEnds};
+ghost use Rattle.system_state.specs.Formats.{AreEnds, Fits};
 ghost use Rattle.system_state.specs.Installed.{IsInstalled};
 ghost use Rattle.system_state.specs.Stores.{IsDatabase};
 ghost use Rattle.system_state.specs.declared.format.Format.TheVariants.{Two};
@@ -72,6 +72,7 @@ fn take_job<D: TreeDisk>(
         (HasTakenJob (D.disk.reads disk.old) number back.old.list.troves back.new.list.troves back.old.found back.new.found)) }
     // On every disk, also where it tells nothing.
     ensures installed { OnOk result (IsInstalled back.new.list.troves) }
+    ensures fits { OnOk result (Fits Two back.new.list.troves) }
     ensures format { OnOk result (back.new.list.format ≡ Two) }
     ensures stops { IfErr result (IsTakeStop D.disk.tells (D.disk.reads disk.old) number back.old.list.troves back.old.found
         (Rose (D.disk.faults disk.old) (D.disk.faults disk.new))) }
@@ -98,6 +99,7 @@ pub(crate) fn jobs_down_to<D: TreeDisk>(
     ensures value { Reads D.disk disk.old disk.new (IfOk result (λ back.
         AreTaken (D.disk.reads disk.old) db.now (db.now.newest - number + 1) back.list.troves back.found)) }
     ensures installed { IfOk result (λ back. IsInstalled back.list.troves) }
+    ensures fits { IfOk result (λ back. Fits Two back.list.troves) }
     ensures stops { IfErr result (IsJobsStop D.disk.tells (D.disk.reads disk.old) db.now number (Rose (D.disk.faults disk.old) (D.disk.faults disk.new))) }
     ensures later { D.disk.faults disk.old ≤ D.disk.faults disk.new }
 {

@@ -5,6 +5,7 @@
 mod back;
 mod jobs;
 mod laws;
+mod migration;
 mod numbers;
 mod stack;
 mod taking_back;
@@ -13,6 +14,7 @@ mod undoing;
 
 pub use job_undo::{Back, Note, Notes, TroveIds, Undo};
 pub use laws::one_record;
+pub use migration::migrated;
 pub use numbers::next_number;
 pub use saved_contents::{Entries, Entry, stashable};
 pub use stack::{all, newest};

@@ -1,10 +1,11 @@
 //! Several jobs taken back at once: the writes, and the database afterwards.
-ghost use Rattle.std.specs.Prelude.{◌≤◌, IfErr, IfOk};
+ghost use Rattle.std.specs.Prelude.{◌≤◌, IfErr, IfOk, OnOk};
 ghost use Rattle.cny_base.specs.Count.{Rose};
 ghost use Rattle.system_state.specs.declared.format.Format.TheVariants.{Two};
+ghost use Rattle.system_state.specs.Formats.{Fits};
 ghost use Rattle.system_state.specs.Stores.{IsDatabase};
 ghost use Rattle.tree_disk.specs.Disk.{Reads};
-ghost use Rattle.rollback_stack.specs.Inverse.{IsBackStop, IsBackTo};
+ghost use Rattle.rollback_stack.specs.Inverse.{IsBackStop, IsBackTo, IsOnStack};
 
 use crate::back::{old_nodes, puts_of, want_no_records};
 use crate::jobs::{TakenBack, check_number, jobs_down_to};
@@ -22,7 +23,7 @@ use tree_disk::TreeDisk;
 /// `StackEmpty` exactly where there is no job; `NoJob` where there are jobs and none of this number. The jobs are read and taken
 /// back one after the other, the newest first: `Damaged` with the path of the first record that fails its grammar or a cross-check;
 /// `Edited` and `Parent` as `inverse` answers them, by the tree that the newer jobs left. Where all can be taken back, `Damaged` with
-/// the path of a saved content that is to be put and isn't as its fingerprint tells. It only reads.
+/// the path of one of the saved contents that are to be put and aren't as their fingerprints tell. It only reads.
 pub fn inverse_to<D: TreeDisk>(
     alloc: Global,
     disk: &mut D,
@@ -31,6 +32,9 @@ pub fn inverse_to<D: TreeDisk>(
 ) -> Result<Back, Stop>
     requires db { IsDatabase Two db.now.installed db.now.oldest db.now.newest }
     ensures value { Reads D.disk disk.old disk.new (IfOk result (IsBackTo (D.disk.reads disk.old) db.now number)) }
+    // On every disk, also where it tells nothing.
+    ensures job { OnOk result (IsOnStack db.now number) }
+    ensures fits { IfOk result (λ back. Fits Two back.db.installed) }
     ensures stops { IfErr result (IsBackStop D.disk.tells (D.disk.reads disk.old) db.now number
         (Rose (D.disk.faults disk.old) (D.disk.faults disk.new))) }
     ensures later { D.disk.faults disk.old ≤ D.disk.faults disk.new }

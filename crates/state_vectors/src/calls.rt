@@ -1,17 +1,14 @@
 //! The calls.
 use crate::records::{read, rewritten};
 use crate::saved::{can_save, old};
-use crate::stop::Stop;
 use crate::trees::disk_of;
+use crate::undoing::undo_all;
 use cny_base::{Bytes, Copies, Fault, Stop as DiskEnd, TextFault};
 use local_db::{Db, decode, encode, load};
 use sha1::Sha1;
+use state_words::{Stop, bytes_of, word};
 use std::alloc::Global;
 use trove_id::id_text;
-
-fn word(alloc: Global, word: &str) -> Result<String, Stop> {
-    Ok(String::from_str(alloc, word)?)
-}
 
 // The bytes of the database in format 2.
 fn written(alloc: Global, db: &Db) -> Result<Bytes, Stop> {
@@ -42,17 +39,6 @@ fn db_text(alloc: Global, db: &Db) -> Result<String, Stop> {
     let mut line = format!(in alloc; "{} {} {len} {digits}", copy.oldest, copy.newest)?;
     push_troves(alloc, &mut line, &copy)?;
     Ok(line)
-}
-
-/// The bytes that hexadecimal digits write; none for a hyphen.
-pub fn bytes_of(alloc: Global, text: &str) -> Result<Vec<u8>, Stop> {
-    if text == "-" {
-        return Ok(Vec::new(alloc));
-    }
-    match hex::decode(alloc, text) {
-        Ok(bytes) => Ok(bytes),
-        Err(_) => Err(Stop::Unreadable),
-    }
 }
 
 // `decode BYTES`.
@@ -101,6 +87,7 @@ pub fn answer_to(alloc: Global, line: &str) -> Result<String, Stop> {
         Some(("load", rest)) => loaded(alloc, rest),
         Some(("stashable", rest)) => can_save(alloc, rest),
         Some(("old", rest)) => old(alloc, rest),
+        Some(("undo", rest)) => undo_all(alloc, rest),
         Some((call, rest)) => record_call(alloc, call, rest),
         _ => Err(Stop::Unreadable),
     }

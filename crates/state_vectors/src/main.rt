@@ -1,19 +1,16 @@
-//! Answers calls on databases, rollback records and saved contents. A line of standard input is the name of a call and its arguments, a space before each; the line of
-//! standard output with its number is what the call answers. Input and wanted output come from tools/state_vectors.py, which is
-//! made from the rules of docs/FORMATS.md alone.
+//! Answers calls on databases, rollback records, saved contents and jobs that are taken back. A line of standard input is the
+//! name of a call and its arguments, a space before each; the line of standard output with its number is what the call answers.
+//! Input and wanted output come from tools/state_vectors.py, which is made from the rules of docs/FORMATS.md alone.
 #![tactic(auto)]
 
 mod calls;
-mod entries;
-mod nodes;
 mod records;
 mod saved;
-mod stop;
 mod trees;
-mod words;
+mod undoing;
 
 use crate::calls::answer_to;
-use crate::stop::Stop;
+use state_words::Stop;
 use std::alloc::Global;
 use std::io::{self, BufRead, BufReader, BufWriter, Write};
 

@@ -1,44 +1,10 @@
 //! Rollback records as texts.
-use crate::calls::bytes_of;
-use crate::stop::Stop;
-use cny_base::{Copies, Mode, TextFault, octal};
+use cny_base::{Copies, TextFault};
 use record_text::{Delta, Record, Told, ToldEntry, decode, encode};
+use state_words::{Stop, bytes_of, mark_text, word};
 use std::alloc::Global;
 use system_state::Format;
-use tree_scan::Mark;
 use trove_id::{TroveId, id_text};
-
-fn word(alloc: Global, word: &str) -> Result<String, Stop> {
-    Ok(String::from_str(alloc, word)?)
-}
-
-fn mode_text(alloc: Global, mode: Mode) -> Result<String, Stop> {
-    let digits = octal(mode);
-    match str::from_utf8(digits.as_slice()) {
-        Ok(text) => word(alloc, text),
-        Err(_) => Err(Stop::Unreadable),
-    }
-}
-
-fn dir_text(alloc: Global, mode: Mode) -> Result<String, Stop> {
-    let mode = mode_text(alloc, mode)?;
-    Ok(format!(in alloc; "d:{mode}")?)
-}
-
-fn file_text(alloc: Global, mode: Mode, size: u64, name: &[u8; 20]) -> Result<String, Stop> {
-    let mode = mode_text(alloc, mode)?;
-    let digits = hex::encode(alloc, name.as_slice())?;
-    Ok(format!(in alloc; "f:{mode}:{size}:{digits}")?)
-}
-
-fn mark_text(alloc: Global, mark: &Mark) -> Result<String, Stop> {
-    match mark {
-        Mark::Nothing => word(alloc, "n"),
-        Mark::Dir { mode } => dir_text(alloc, *mode),
-        Mark::File { mode, size, name } => file_text(alloc, *mode, *size, name),
-        Mark::Link { target } => Ok(format!(in alloc; "l:{}", target.text())?),
-    }
-}
 
 fn told_text(alloc: Global, told: &Told) -> Result<String, Stop> {
     match told {

@@ -1,16 +1,10 @@
 //! Calls on the contents that jobs save.
-use crate::entries::{entries_of, mark_of};
-use crate::nodes::tree_of;
-use crate::stop::Stop;
-use crate::words::{number_at, parts_of, text_at};
-use cny_base::{Copies, Fault, Mode, Refusal, Stop as DiskEnd, octal};
-use journal_log::Want;
+use cny_base::{Copies, Fault, Refusal, Stop as DiskEnd};
 use saved_contents::{Entries, Entry, old_node, stashable};
+use state_words::{
+    Stop, entries_of, mark_of, number_at, parts_of, text_at, tree_of, want_text, word,
+};
 use std::alloc::Global;
-
-fn word(alloc: Global, word: &str) -> Result<String, Stop> {
-    Ok(String::from_str(alloc, word)?)
-}
 
 fn collision_text(alloc: Global, refusal: &Refusal) -> Result<String, Stop> {
     let Refusal::Collision { name, at } = refusal else {
@@ -37,38 +31,6 @@ pub fn can_save(alloc: Global, text: &str) -> Result<String, Stop> {
         Ok(()) => word(alloc, "ok"),
         Err(Fault::Refused(refusal)) => collision_text(alloc, &refusal),
         Err(Fault::Memory) => Err(Stop::Memory),
-    }
-}
-
-fn mode_text(alloc: Global, mode: Mode) -> Result<String, Stop> {
-    let digits = octal(mode);
-    match str::from_utf8(digits.as_slice()) {
-        Ok(text) => word(alloc, text),
-        Err(_) => Err(Stop::Unreadable),
-    }
-}
-
-fn dir_text(alloc: Global, mode: Mode) -> Result<String, Stop> {
-    let mode = mode_text(alloc, mode)?;
-    Ok(format!(in alloc; "d:{mode}")?)
-}
-
-fn file_text(alloc: Global, mode: Mode, bytes: &[u8]) -> Result<String, Stop> {
-    let mode = mode_text(alloc, mode)?;
-    let digits = hex::encode(alloc, bytes)?;
-    if bytes.is_empty() {
-        return Ok(format!(in alloc; "f:{mode}:-")?);
-    }
-    Ok(format!(in alloc; "f:{mode}:{digits}")?)
-}
-
-fn want_text(alloc: Global, want: &Want) -> Result<String, Stop> {
-    match want {
-        Want::Nothing => word(alloc, "n"),
-        Want::Dir { mode } => dir_text(alloc, *mode),
-        Want::File { mode, bytes } => file_text(alloc, *mode, bytes.get()),
-        Want::Link { target } => Ok(format!(in alloc; "l:{}", target.text())?),
-        Want::Staged { .. } => word(alloc, "staged"),
     }
 }
 

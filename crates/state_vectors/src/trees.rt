@@ -1,7 +1,6 @@
 //! Roots in memory.
-use crate::calls::bytes_of;
-use crate::stop::Stop;
 use cny_base::{Bytes, Fails, Mode, Node, Path, Target};
+use state_words::{Stop, bytes_of};
 use std::alloc::Global;
 use tree_memory::{MemoryTree, Nodes, TreeFault};
 

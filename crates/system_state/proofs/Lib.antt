@@ -16,3 +16,4 @@ pub mod Several
 pub mod Other
 pub mod Putting
 pub mod FileNames
+pub mod Unedited

@@ -117,6 +117,8 @@ module _ (puts : List Put) (list : List TroveParts) (s : SystemState) (system : 
 
   pub job_is_old : IsStackItem (old_of puts s)
   job_is_old = record {
+    before_formed = system.tree;
+    after_formed = can.well_formed;
     rising = rising_paths puts can.rises;
     free = All-map IsFree (λ (p : Put). p.path) puts can.free;
     differ = All-map (λ q. get s.tree q ≢ get (with_targets puts s.tree) q) (λ (p : Put). p.path) puts differ;

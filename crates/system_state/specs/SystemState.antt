@@ -72,6 +72,8 @@ pub record IsTellable (node : Option Node) : Type 0 where
   pub small : IsSmall node
 
 pub record IsStackItem (o : StackItem) : Type 0 where
+  pub before_formed : WellFormed o.before
+  pub after_formed : WellFormed o.after
   pub rising : IsStrictlySortedBy (slice_cmp nat_cmp) o.paths
   pub free : All IsFree o.paths
   pub differ : All (λ p. get o.before p ≢ get o.after p) o.paths

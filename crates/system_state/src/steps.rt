@@ -59,6 +59,8 @@ pub fn system_after_rollback()
     ensures kept { (o : StackItem) → IsStackItem o → (tree : Tree) (q : Name) → is_listed o.paths q ≡ false
         → get (with_targets (backs o) tree) q ≡ get tree q }
     ensures whole { (o : StackItem) → IsStackItem o → with_targets (backs o) o.after ≡ o.before }
+    // With no edit since the job, a rollback isn't refused.
+    ensures unedited { (o : StackItem) → IsStackItem o → (s : SystemState) → s.tree ≡ o.after → CanRollBack o s }
 {}
 
 /// The migration to format 2 changes no system.

@@ -1,6 +1,8 @@
 use Rattle.std.proofs.Common.{◌≡◌, ◌+◌, ◌-◌, List, sym, subst, arith}
 use Rattle.cny_base.specs.Count.{Rose}
+use Rattle.system_state.specs.Formats.{Fits}
 use Rattle.system_state.specs.Installed.{IsInstalled}
+use Rattle.system_state.specs.declared.format.Format.TheVariants.{Two}
 use Rattle.tree_disk.specs.Moments.{rose_before}
 use Rattle.tree_disk.specs.Tree.{Tree}
 use Rattle.rollback_stack.specs.Taking.{AreTaken, HasTakenJob, IsJobsStop}
@@ -16,6 +18,7 @@ loop-below-init g c = record {
   read = λ tells. read_start g.met.D.TreeDisk.laws c.args.disk.now;
   format = c.in_ok-list.ensures.format;
   installed = subst IsInstalled (sym c.in_ok-list.ensures.troves) c.requires.db.installed;
+  fits = subst (Fits Two) (sym c.in_ok-list.ensures.troves) c.requires.db.fits;
   taken = λ tells. none_taken (g.D.TreeDisk.disk.reads c.args.disk.now) c.args.db.now c.in_ok-list.list.troves c.new-found.result c.in_ok-list.ensures.troves c.new-found.ensures.empty;
 }
 
@@ -55,6 +58,7 @@ loop-below-preserved g c =
       read = λ tells. read_as (read_then g.met.D.TreeDisk.laws (so_far.read tells) (c.in_ok-take_job.ensures.value tells)) tt;
       format = c.in_ok-take_job.ensures.format;
       installed = c.in_ok-take_job.ensures.installed;
+      fits = c.in_ok-take_job.ensures.fits;
       taken = λ tells. one_taken x db below old.list.troves new.list.troves old.found new.found (so_far.taken tells)
           (subst (λ (t : Tree). HasTakenJob t (db.newest - below) old.list.troves new.list.troves old.found new.found) (so_far.read tells).same.reads (c.in_ok-take_job.ensures.value tells).answer);
     }

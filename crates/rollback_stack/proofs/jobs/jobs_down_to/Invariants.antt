@@ -1,4 +1,5 @@
 use Rattle.std.proofs.Common.{◌≡◌, ◌≤◌, IsTrue}
+use Rattle.system_state.specs.Formats.{Fits}
 use Rattle.system_state.specs.Installed.{IsInstalled}
 use Rattle.system_state.specs.declared.format.Format.TheVariants.{Two}
 use Rattle.tree_disk.specs.Disk.{HasRead}
@@ -11,5 +12,6 @@ invariant-loop-below g l = let disk = g.D.TreeDisk.disk in record {
   read : IsTrue disk.tells → HasRead disk l.fn.disk l.disk (Unit {0});
   format : l.back.list.format ≡ Two;
   installed : IsInstalled l.back.list.troves;
+  fits : Fits Two l.back.list.troves;
   taken : IsTrue disk.tells → AreTaken (disk.reads l.fn.disk) l.db l.below l.back.list.troves l.back.found;
 }

@@ -48,6 +48,9 @@ returns-in_err-check_undo-clause-stops g c =
 pub returns-clause-installed : goal.returns-clause-installed
 returns-clause-installed g c = c.in_ok-job.ensures.job.checks.list
 
+pub returns-clause-fits : goal.returns-clause-fits
+returns-clause-fits g c = c.in_ok-job.ensures.job.checks.fits
+
 pub returns-clause-value : goal.returns-clause-value
 returns-clause-value g c tells =
     let n = c.args.number in

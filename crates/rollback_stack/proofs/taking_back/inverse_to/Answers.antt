@@ -1,6 +1,9 @@
 use Rattle.std.proofs.Common.{◌≡◌, ◌∙◌, List, ap, sym, subst}
 use Rattle.cny_base.specs.Count.{Rose}
 use Rattle.job_inverse.specs.Writes.{db_below}
+use Rattle.local_db.specs.declared.db.Db.{Db}
+use Rattle.system_state.specs.Formats.{Fits}
+use Rattle.system_state.specs.declared.format.Format.TheVariants.{Two}
 use Rattle.tree_disk.specs.Moments.{rose_before}
 use Rattle.tree_disk.specs.Tree.{Tree}
 use Rattle.trove_stream.specs.declared.parts.TroveParts.{TroveParts}
@@ -43,6 +46,11 @@ returns-in_err-wants-clause-stops g c =
     (content_stop told x y c.args.db.now c.args.number back.list.troves back.found rose later e c.in_ok-check_number.ensures.job (λ tells. (c.in_ok-back.ensures.value tells).answer)
     (λ r. rose_before (faults c.args.disk.now) (faults c.jobs_down_to.new.disk) (faults c.old_nodes.new.disk) c.in_ok-back.ensures.later r)
     (λ tells. (c.in_ok-back.ensures.value tells).same.reads) c.in_err-wants.ensures.stops)
+
+pub returns-clause-fits : goal.returns-clause-fits
+returns-clause-fits g c =
+    let list_is = ap (λ (d : Db). d.installed) c.db_below-below.ensures ∙ c.in_ok-before.ensures in
+    subst (Fits Two) (sym list_is) c.in_ok-back.ensures.fits
 
 pub returns-clause-value : goal.returns-clause-value
 returns-clause-value g c tells =

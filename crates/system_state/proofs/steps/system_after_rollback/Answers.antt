@@ -1,6 +1,7 @@
 use Rattle.system_state.proofs.Together.{rollback_after}
 use Rattle.system_state.proofs.Several.{rollbacks_stored}
 use Rattle.system_state.proofs.Images.{restored, kept, all_restored}
+use Rattle.system_state.proofs.Unedited.{unedited}
 use Rattle.system_state.proofs.steps.system_after_rollback.Goals as goal
 
 pub returns-clause-after : goal.returns-clause-after
@@ -17,3 +18,6 @@ returns-clause-kept c = kept
 
 pub returns-clause-whole : goal.returns-clause-whole
 returns-clause-whole c = all_restored
+
+pub returns-clause-unedited : goal.returns-clause-unedited
+returns-clause-unedited c = unedited

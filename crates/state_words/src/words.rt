@@ -1,4 +1,5 @@
 //! The words of a line.
+use crate::bytes::bytes_of;
 use crate::stop::Stop;
 use cny_base::{Bytes, Mode, Path, read_octal};
 use std::alloc::Global;
@@ -43,12 +44,6 @@ pub fn number_at(parts: &[String], place: usize) -> Result<u32, Stop> {
 
 /// The part at a place, as bytes in hexadecimal digits; none for a hyphen.
 pub fn bytes_at(alloc: Global, parts: &[String], place: usize) -> Result<Bytes, Stop> {
-    let text = text_at(parts, place)?;
-    if text == "-" {
-        return Ok(Bytes::from_vec(Vec::new(alloc)));
-    }
-    match hex::decode(alloc, text) {
-        Ok(bytes) => Ok(Bytes::from_vec(bytes)),
-        Err(_) => Err(Stop::Unreadable),
-    }
+    let bytes = bytes_of(alloc, text_at(parts, place)?)?;
+    Ok(Bytes::from_vec(bytes))
 }

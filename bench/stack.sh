@@ -1,0 +1,63 @@
+#!/bin/sh
+# Prints how long it takes to tell what all jobs of a root changed, in memory: a root of 1,000 troves of 10 files with 500 jobs, each
+# of which turned 5 troves into others, or of so many troves and so many jobs.
+# It builds a program for that in a folder of its own, which proves what isn't proved yet on this machine.
+# Usage: bench/stack.sh [TROVES JOBS]...
+set -eu
+top=$(CDPATH='' cd "$(dirname "$0")/.." && pwd)
+work=$(mktemp -d)
+trap 'rm -rf "$work"' EXIT
+mkdir -p "$work/crates/stacks/src"
+sed '/_vectors/d' "$top/crates.txt" >"$work/crates.txt"
+for crate in $(sed -n 's/^\([a-z_0-9]*\):.*/\1/p' "$work/crates.txt"); do
+    mkdir "$work/crates/$crate"
+    for part in src specs proofs; do
+        [ ! -d "$top/crates/$crate/$part" ] || cp -r "$top/crates/$crate/$part" "$work/crates/$crate/"
+    done
+done
+echo 'stacks may_abort=1: cny_base local_db rollback_stack state_words system_state tree_disk tree_memory anyhow' >>"$work/crates.txt"
+for part in databases quiet; do
+    cp "$top/crates/stack_vectors/src/$part.rt" "$work/crates/stacks/src/"
+done
+cp -r "$top/crates/stack_vectors/proofs" "$work/crates/stacks/"
+# (proofs name their crate)
+find "$work/crates/stacks/proofs" -name '*.antt' -exec sed -i 's/Rattle\.stack_vectors\./Rattle.stacks./g' {} +
+cat >"$work/crates/stacks/src/main.rt" <<'PROGRAM'
+//! Reads a root from a line, and prints how long it took to tell what all its jobs changed.
+#![tactic(auto)]
+mod databases;
+mod quiet;
+
+use crate::databases::database_of;
+use crate::quiet::Quiet;
+use rollback_stack::all;
+use state_words::tree_of;
+use std::io::{self, BufRead, BufReader};
+use std::process::Abort;
+use std::time::Instant;
+
+fn main(rt: HostRuntime) -> io::Result<()> {
+    for line in BufReader::new(rt.alloc(), rt.reader())?.lines(rt.alloc()) {
+        let tree = tree_of(rt.alloc(), line?.as_str(), 0).expect(&rt, "a tree");
+        let mut disk = Quiet { tree, faults: 0, calls: 0 };
+        let begun = Instant::now(&rt)?;
+        let db = database_of(rt.alloc(), &mut disk).expect(&rt, "a database");
+        let loaded = begun.elapsed(&rt)?;
+        let notes = all(rt.alloc(), &mut disk, &db).expect(&rt, "the jobs");
+        let done = begun.elapsed(&rt)?;
+        println!(rt; "{} jobs: the database {} ms, all jobs {} ms, in {} calls", notes.get().len(), loaded.as_millis(), done.as_millis().saturating_sub(loaded.as_millis()), disk.calls)?;
+    }
+    Ok(())
+}
+PROGRAM
+[ $# -gt 0 ] || set -- 1000 500
+cd "$work/crates/stacks"
+if ! rt run </dev/null >"$work/build.log" 2>&1; then
+    tail -5 "$work/build.log" >&2
+    exit 70
+fi
+while [ $# -gt 1 ]; do
+    python3 "$top/tools/stack_vectors.py" root "$1" "$2" 5 10 >"$work/root"
+    out/stacks <"$work/root"
+    shift 2
+done

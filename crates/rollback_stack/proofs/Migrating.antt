@@ -1,0 +1,160 @@
+-- The database and the records of a root of format 1, once more in format 2.
+use Rattle.std.proofs.Common.{◌≡◌, ◌≢◌, inl, inr, ℕ, ◌+◌, ◌-◌, ◌≤◌, Bool, true, false, IsTrue, List, [], ◌∷◌, ◌++◌, Option, Some, None, Result, Ok, Err, All, Contains, refl, sym, ◌∙◌, ap, subst, arith}
+use Rattle.std.specs.Prelude.{IfErr, IfSome}
+use Rattle.std.specs.BTreeMap.{IsOrdered}
+use Rattle.std.specs.Cmp.Lexicographic.{slice_cmp}
+use Rattle.std.specs.FinMap.{get}
+use Rattle.std.specs.Ordering.{nat_cmp}
+use Rattle.cny_base.specs.Below.{begins, begins_with}
+use Rattle.cny_base.specs.declared.node.Node.{Node}
+use Rattle.cny_base.specs.declared.node.Node.TheVariants as node
+use Rattle.cny_base.specs.declared.stop.Stop.{Stop}
+use Rattle.cny_base.specs.declared.stop.Stop.TheVariants as stop
+use Rattle.content_store.specs.Store.{file_bytes}
+use Rattle.job_records.specs.Reading.{IsDamagedRecord, IsReadStop}
+use Rattle.journal_log.specs.declared.put.Put.{Put}
+use Rattle.journal_log.specs.declared.put.Want.TheVariants as want
+use Rattle.local_db.specs.Database.{IsDatabaseFile}
+use Rattle.local_db.specs.declared.db.Db.{Db}
+use Rattle.record_text.specs.Text.{IsRecordText}
+use Rattle.record_text.specs.declared.record.Record.{Record}
+use Rattle.system_state.specs.Formats.{database_bytes, database_magic, trove_text}
+use Rattle.system_state.specs.Names.{database}
+use Rattle.system_state.specs.Steps.{IsUnion}
+use Rattle.system_state.specs.Stores.{HoldsDatabase, HoldsFile, IsDatabase, absent, written}
+use Rattle.system_state.specs.declared.format.Format.{Format}
+use Rattle.system_state.specs.declared.format.Format.TheVariants.{One, Two}
+use Rattle.trove_items.specs.Items.{items_bytes}
+use Rattle.cny_stream.specs.Item.{item_bytes}
+use Rattle.std.specs.Int.{w32, to_be_bytes}
+use Rattle.tree_disk.specs.Looks.{nothing_seen, sees_nothing}
+use Rattle.tree_disk.specs.Rows.{look_of}
+use Rattle.tree_disk.specs.Tree.{Name, Tree}
+use Rattle.trove_stream.specs.declared.parts.TroveParts.{TroveParts}
+use Rattle.rollback_stack.specs.Migrated.{AreMigration, AreWritesOf, IsDamagedFile, IsFileStop, IsMigratedStop, IsNoDatabase, IsOldDatabase, IsOldFile, IsOldIn, IsOtherAt, IsRecordsStop, is_up_to_date}
+use Rattle.rollback_stack.specs.Numbers.{job_count}
+use Rattle.rollback_stack.proofs.Finding.{none_seen}
+
+-- ---- stops
+
+pub read_stop_map : (told : Bool) (damaged more : Name → Type 0) (rose later : Type 0) (e : Stop) → (IsTrue told → (path : Name) → damaged path → more path) → (rose → later)
+    → IsReadStop told damaged rose e → IsReadStop told more later e
+read_stop_map told damaged more rose later stop.Failed to rises is = rises is
+read_stop_map told damaged more rose later stop.Memory to rises is = tt
+read_stop_map told damaged more rose later (stop.Damaged path) to rises is = λ tells. to tells path (is tells)
+read_stop_map told damaged more rose later (stop.Refused why) to rises is = is
+read_stop_map told damaged more rose later stop.FarFailed to rises is = is
+read_stop_map told damaged more rose later (stop.FarDamaged path) to rises is = is
+
+pub if_err_map : {X E : Type 0} (P Q : E → Type 0) (r : Result X E) → ((e : E) → P e → Q e) → IfErr r P → IfErr r Q
+if_err_map P Q (Ok x) to is = tt
+if_err_map P Q (Err e) to is = to e is
+
+-- ---- what stands at a path
+
+pub found_nothing : (x : Tree) (p : Name) → true ≡ sees_nothing (look_of x p) → get x p ≡ None
+found_nothing x p is = nothing_seen x p (sym is)
+
+pub other_at : (x : Tree) (p q : Name) → q ≡ p → false ≡ sees_nothing (look_of x p) → None ≡ file_bytes (get x p) → IsOtherAt x p q
+other_at x p q same seen no_file = record {
+  path_is = same;
+  some = λ none. absurd (cc (seen, none_seen x p none));
+  no_file = sym no_file;
+}
+
+-- ---- the file of the database
+
+some_bytes : (a b : List ℕ) → Some a ≡ Some b → a ≡ b
+some_bytes a b e = cc e
+
+pub of_file : (o : Option Node) (bytes : List ℕ) → file_bytes o ≡ Some bytes → is_up_to_date o ≡ begins_with (database_magic Two) bytes
+of_file None bytes e = absurd (cc e)
+of_file (Some (node.Dir mode)) bytes e = absurd (cc e)
+of_file (Some (node.Link target)) bytes e = absurd (cc e)
+of_file (Some (node.File mode content)) bytes e = ap (begins_with (database_magic Two)) (some_bytes content bytes e)
+
+of_other : (o : Option Node) → o ≢ None → file_bytes o ≡ None → is_up_to_date o ≡ false
+of_other None some e = absurd (some refl)
+of_other (Some (node.Dir mode)) some e = refl
+of_other (Some (node.Link target)) some e = refl
+of_other (Some (node.File mode content)) some e = absurd (cc e)
+
+pub of_nothing : (o : Option Node) → o ≡ None → is_up_to_date o ≡ true
+of_nothing o none = ap is_up_to_date none
+
+-- what else stands there is no database
+pub other_is_none : (x : Tree) (path : Name) → IsOtherAt x database path → IsNoDatabase x path
+other_is_none x path is = record { path_is = is.path_is; old = of_other (get x database) is.some is.no_file; none = none }
+  where
+    none : (list : List TroveParts) (oldest newest : ℕ) → HoldsDatabase One x list oldest newest → ⊥
+    none list oldest newest (absent nothing empty low high) = is.some nothing
+    none list oldest newest (written of file) = cc (is.no_file, file)
+
+-- a file of other bytes is none
+pub file_is_none : (x : Tree) (path : Name) (bytes : List ℕ) → path ≡ database → file_bytes (get x database) ≡ Some bytes → begins_with (database_magic Two) bytes ≡ false → ((db : Db) → IsOldFile db bytes → ⊥) → IsNoDatabase x path
+file_is_none x path bytes at file other never = record { path_is = at; old = of_file (get x database) bytes file ∙ other; none = none }
+  where
+    none : (list : List TroveParts) (oldest newest : ℕ) → HoldsDatabase One x list oldest newest → ⊥
+    none list oldest newest (absent nothing empty low high) = absurd (cc (file, ap file_bytes nothing))
+    none list oldest newest (written of file') = never (record { installed = list; oldest = oldest; newest = newest })
+        (record { database = of; text = some_bytes bytes (database_bytes One list oldest newest) (sym file ∙ file') })
+
+pub old_holds : (x : Tree) (bytes : List ℕ) (db : Db) → file_bytes (get x database) ≡ Some bytes → IsOldFile db bytes → HoldsDatabase One x db.installed db.oldest db.newest
+old_holds x bytes db file is = written is.database (file ∙ ap Some is.text)
+
+begins_two : (list : List TroveParts) (oldest newest : ℕ) → begins_with (database_magic Two) (database_bytes Two list oldest newest) ≡ true
+begins_two list oldest newest = begins (database_magic Two) (items_bytes (trove_text Two) 0x50 list ++ (item_bytes 0x51 (to_be_bytes w32 oldest ++ to_be_bytes w32 newest) ++ item_bytes 0x5F []))
+
+-- bytes that don't begin as those of format 2 are of format 1
+pub in_one : (db : Db) (bytes : List ℕ) → begins_with (database_magic Two) bytes ≡ false → IsDatabaseFile db bytes → IsOldFile db bytes
+in_one db bytes other is = by is.format is.database is.text
+  where
+    by : (f : Format) → IsDatabase f db.installed db.oldest db.newest → bytes ≡ database_bytes f db.installed db.oldest db.newest → IsOldFile db bytes
+    by One of text = record { database = of; text = text }
+    by Two of text = absurd (cc (other, ap (begins_with (database_magic Two)) text ∙ begins_two db.installed db.oldest db.newest))
+
+-- why the bytes of the file are no database
+pub file_stop : (told : Bool) (x : Tree) (rose : Type 0) (file : Name) (bytes : List ℕ) (e : Stop) → file ≡ database → (IsTrue told → file_bytes (get x database) ≡ Some bytes)
+    → IsFileStop file bytes e → IsReadStop told (IsNoDatabase x) rose e
+file_stop told x rose file bytes stop.Failed at there is = absurd is
+file_stop told x rose file bytes stop.Memory at there is = tt
+file_stop told x rose file bytes (stop.Damaged path) at there is = λ tells. file_is_none x path bytes (is.0 ∙ at) (there tells) is.1 is.2
+file_stop told x rose file bytes (stop.Refused why) at there is = is
+file_stop told x rose file bytes stop.FarFailed at there is = is
+file_stop told x rose file bytes (stop.FarDamaged path) at there is = is
+
+-- the database of the tree, by the bytes of its file
+pub old_in : (x : Tree) (bytes : List ℕ) (found : Option Db) → file_bytes (get x database) ≡ Some bytes → IsOldIn bytes found → IsOldDatabase x found
+old_in x bytes None file is = of_file (get x database) bytes file ∙ is
+old_in x bytes (Some db) file is = (of_file (get x database) bytes file ∙ is.0, old_holds x bytes db file is.1)
+
+pub old_is_one : (bytes : List ℕ) (found : Option Db) → IsOldIn bytes found → IfSome found (λ db. IsDatabase One db.installed db.oldest db.newest)
+old_is_one bytes None is = tt
+old_is_one bytes (Some db) is = is.1.database
+
+pub as_file : (db : Db) (bytes : List ℕ) → IsOldFile db bytes → IsDatabaseFile db bytes
+as_file db bytes is = record { format = One; database = is.database; text = is.text }
+
+-- ---- all writes
+
+pub migration_is : (x : Tree) (db : Db) (puts : List Put) → HoldsDatabase One x db.installed db.oldest db.newest → AreWritesOf x db puts → AreMigration x puts
+migration_is x db puts holds are = record {
+  list = db.installed;
+  oldest = db.oldest;
+  newest = db.newest;
+  holds = holds;
+  records = are.records;
+  rewritten = are.rewritten;
+  mode = 420;
+  writes = are.writes;
+}
+
+pub no_database_stop : (told : Bool) (x : Tree) (rose : Type 0) (e : Stop) → IsReadStop told (IsNoDatabase x) rose e → IsMigratedStop told x rose e
+no_database_stop told x rose e is = read_stop_map told (IsNoDatabase x) (IsDamagedFile x) rose rose e (λ tells path none. inl none) (λ r. r) is
+
+pub records_stop : (told : Bool) (x y : Tree) (db : Db) (rose later : Type 0) (e : Stop) → (IsTrue told → HoldsDatabase One x db.installed db.oldest db.newest) → (rose → later) → (IsTrue told → y ≡ x)
+    → IsRecordsStop told y db rose e → IsMigratedStop told x later e
+records_stop told x y db rose later e holds rises same is =
+    let count = job_count db.oldest db.newest in
+    read_stop_map told (IsDamagedRecord One y count db.newest db.installed) (IsDamagedFile x) rose later e
+    (λ tells path damaged. inr (db, holds tells, subst (λ (t : Tree). IsDamagedRecord One t count db.newest db.installed path) (same tells) damaged)) rises is

@@ -1,0 +1,10 @@
+use Rattle.std.proofs.Common.{arith}
+use Rattle.system_state.specs.declared.format.Format.TheVariants.{Two}
+use Rattle.rollback_stack.proofs.Doubling.{fits_two}
+use Rattle.rollback_stack.proofs.migration.bytes_in_two.Goals as goal
+
+pub unreachable-requires : goal.unreachable-requires
+unreachable-requires c =
+    let given = rw c.in-Err-Refused.field-0-is at c.in-Err-Refused.ensures.refused in
+    let fits = fits_two c.args.db.now.installed c.requires.fits in
+    omega (arith, fits.short, given.1, c.distinct_databases.ensures.length Two c.args.db.now.installed c.args.db.now.oldest c.args.db.now.newest)

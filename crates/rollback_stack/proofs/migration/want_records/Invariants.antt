@@ -1,0 +1,15 @@
+use Rattle.std.proofs.Common.{◌≡◌, ◌≤◌, IsTrue}
+use Rattle.system_state.specs.Installed.{IsInstalled}
+use Rattle.system_state.specs.declared.format.Format.TheVariants.{One}
+use Rattle.tree_disk.specs.Disk.{HasRead}
+use Rattle.rollback_stack.proofs.Rewriting.{AreRewrittenTo}
+use Rattle.rollback_stack.proofs.migration.want_records.Given as goal
+
+abbrev pub invariant-loop-below : goal.invariant-loop-below
+invariant-loop-below g l = let disk = g.D.TreeDisk.disk in record {
+  later : disk.faults l.fn.disk ≤ disk.faults l.disk;
+  read : IsTrue disk.tells → HasRead disk l.fn.disk l.disk (Unit {0});
+  format : l.list.format ≡ One;
+  installed : IsInstalled l.list.troves;
+  rewritten : IsTrue disk.tells → AreRewrittenTo (disk.reads l.fn.disk) l.db.newest l.below l.db.installed l.list.troves l.fn.wants l.wants;
+}
