@@ -836,6 +836,14 @@ def commit_cases(script):
     script.disks((), COOKED)
     script.fed(set_bytes([same], carried(b"abc")), b"commit")
     script.case("commits over a commit")
+    # Seven troves at once: refused for the last one's content, taken, and refused since they exist.
+    contents = [b"part %d" % place for place in range(7)]
+    parts = [component(b"part%d:runtime" % place, b"1.0-1-1", [(b"/part%d" % place, plain(data))]) for place, data in enumerate(contents)]
+    script.disks()
+    for carries in (contents[:-1], contents, contents):
+        script.fed(set_bytes(parts, carried(*carries)), b"commit")
+        script.run(b"rq")
+    script.case("commits of seven troves")
 
 
 def listing_cases(script):
@@ -968,6 +976,52 @@ def next_cases(script):
     script.case("next revisions")
 
 
+def damaged_content_cases(script):
+    """Each command over a repository of which a content isn't there, or another one or something else stands in its place."""
+    refused = HEAD + b"dir 0755 /x/y\nend\n"
+    for node in (None, file(b"abX"), file(b"abcd"), DIR, ("link", b"x")):
+        nodes = with_node(BOTH, content_at(b"abc"), node)
+        for edits in ([], COMMITTED, NO_VAR):
+            script.disks(edits, nodes)
+            for data, words in (
+                (refused, [b"install"]), (b"x", [b"install"]), (COMPONENT, [b"install"]), (COMPONENT, [b"install"]), (SET, [b"showcs"]),
+                (RELATIVE, [b"showcs"]), (b"x", [b"showcs"]),
+            ):  # fmt: skip
+                script.fed(data, *words)
+            script.case("damaged contents")
+        # The output fails, and then the input.
+        script.disks((), nodes)
+        script.input(COMPONENT)
+        script.sinks(1, 0)
+        script.run(b"install")
+        script.sinks(0, 0)
+        script.input(COMPONENT, 50, 2)
+        script.run(b"install")
+        script.case("damaged contents")
+        # The commands of the repository that name the trove whose content is damaged, and those that name another one.
+        for name, version in zip((b"first", b"second"), VERSIONS):
+            script.disks((), nodes)
+            for words in ([b"rq", b"foo:runtime"], [b"rq", b"foo"], [b"changeset", version], [b"changeset", version, version], [b"changeset", *VERSIONS[::-1]]):
+                script.run(*words)
+            for way in (b"shadow", b"branch"):
+                script.run(way, name + b"@" + way + b":devel", version)
+            script.run(b"rq")
+            script.case("damaged contents")
+        script.disks((), nodes)
+        for data, words in ((COMPONENT, [b"cook"]), (COMPONENT, [b"cook", b"--next"]), (SET, [b"commit"]), (RELATIVE, [b"commit"]), (PACKAGE, [b"cook"]), (b"x", [b"cook"]), (b"x", [b"commit"])):
+            script.fed(data, *words)
+        script.run(b"rq")
+        script.case("damaged contents")
+    # The calls of the root that fail, and those behind which it is cut off.
+    lost = with_node(BOTH, content_at(b"abc"), None)
+    for edits, words, data in (([], b"install", COMPONENT), (COMMITTED, b"install", LEVELS), (COMMITTED, b"showcs", SET)):
+        script.disks(edits, lost)
+        script.input(data)
+        script.faults("root", words)
+        script.stops("root", 1, words)
+        script.case("damaged contents")
+
+
 def damage_cases(script):
     """Repositories that are damaged, or in which a log can't be put."""
     first, second = repo_side.commit_path(1), repo_side.commit_path(2)
@@ -1017,11 +1071,12 @@ CHANGING = [
     ([b"cook"], COMPONENT, []),
     ([b"cook"], PACKAGE, COOKED),
     ([b"commit"], RELATIVE, COOKED),
+    ([b"shadow", STABLE, b"foo:runtime=" + LABEL], b"", COOKED),
+    ([b"branch", STABLE, b"foo:runtime=" + LABEL], b"", COOKED),
 ]
 READING = [
     ([b"rq"], b"", BOTH),
     ([b"changeset", *VERSIONS], b"", BOTH),
-    ([b"shadow", STABLE, b"foo:runtime=" + LABEL], b"", COOKED),
     ([b"install"], COMPONENT, COOKED),
 ]
 
@@ -1053,12 +1108,13 @@ def repository_fault_cases(script):
 
 
 def repository_crash_cases(script):
-    """Commands that are cut off after each number of calls of the repository, and made again over what a crash leaves."""
+    """Commands that are cut off after each number of calls of either disk, and made again over what a crash leaves. The root's
+    recovery puts a write set first."""
     for words, data, nodes in [row for row in CHANGING if are_built(row[0])]:
-        for pick in PICKS:
-            script.disks((), nodes)
+        for side, edits, pick in [("repo", (), pick) for pick in PICKS] + [("root", COMMITTED, 1)]:
+            script.disks(edits, nodes)
             script.input(data)
-            script.stops("repo", pick, *words)
+            script.stops(side, pick, *words)
             script.case("stopped commits")
     for side in SIDES:
         for words, data, nodes in [row for row in READING if are_built(row[0])]:
@@ -1095,7 +1151,8 @@ GROUPS = (
     (words_cases, []), (manifest_cases, []), (set_cases, []), (stream_cases, []), (recovery_cases, []), (show_cases, []), (fault_cases, []),
     (crash_cases, []), (commit_row_cases, [b"cook", b"commit"]), (row_cases, [b"cook", b"commit", b"changeset", b"shadow"]), (cook_cases, [b"cook"]),
     (commit_cases, [b"commit"]), (listing_cases, []), (spec_cases, [b"changeset"]), (set_making_cases, [b"changeset", b"commit", b"cook"]),
-    (moving_cases, [b"shadow", b"branch", b"changeset"]), (next_cases, [b"cook"]), (damage_cases, []), (repository_fault_cases, []),
+    (moving_cases, [b"shadow", b"branch", b"changeset"]), (next_cases, [b"cook"]), (damage_cases, []),
+    (damaged_content_cases, [b"cook", b"commit", b"changeset", b"shadow", b"branch"]), (repository_fault_cases, []),
     (repository_crash_cases, []), (second_cases, [b"cook"]),
 )  # fmt: skip
 

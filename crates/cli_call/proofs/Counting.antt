@@ -1,5 +1,5 @@
 -- What a repository's store keeps to.
-use Rattle.std.proofs.Common.{◌≡◌, ⊎_elim, false, List, ℕ, length, Some, Option, ap, ◌∙◌, subst}
+use Rattle.std.proofs.Common.{◌≡◌, inl, ⊎_elim, false, List, ℕ, length, Some, Option, ap, ◌∙◌, subst}
 use Rattle.std.specs.Prelude.{IsTrue}
 use Rattle.std.specs.FinMap.{get}
 use Rattle.tree_disk.specs.Tree.{Name, Tree}
@@ -45,4 +45,5 @@ repository_laws laws = record {
   counted = laws.stored;
   own = laws.own;
   whole = λ t path r damaged stored. ⊎_elim (λ commit. laws.commits t r path stored commit) (⊎_elim (λ content. content_whole laws t r path stored content) (λ content. sound_whole laws t r path stored content)) damaged;
+  at_opening = λ t path commit. inl commit;
 }

@@ -1,5 +1,5 @@
 -- The repository, recovered and loaded.
-use Rattle.std.proofs.Common.{◌≡◌, Result, Ok, Err, IfOk, IfErr, refl, sym, subst, inl, inr}
+use Rattle.std.proofs.Common.{◌≡◌, Result, Ok, Err, IfOk, IfErr, refl, sym, subst, inr}
 use Rattle.std.specs.Prelude.{IsTrue}
 use Rattle.cny_base.specs.declared.stop.Stop.{Stop}
 use Rattle.cny_base.specs.declared.stop.Stop.TheVariants as stop
@@ -35,7 +35,7 @@ module _ {P : Type 0} {disk : DiskModel P} (laws : IsDisk disk) (old mid new : P
       let read = looks.same told in
       inr (record {
         flag_clear = (recovered_on repository_store laws old mid new read (recovers.recovered told)).flag_clear;
-        damaged = inl (subst (λ (t : Tree). IsDamagedCommit t path) (sym read.same.reads) (looks.ends told));
+        damaged = subst (λ (t : Tree). IsDamagedCommit t path) (sym read.same.reads) (looks.ends told);
       })
   stops_loading (Err (stop.Refused r)) looks = absurd looks.ends
   stops_loading (Err stop.FarFailed) looks = absurd looks.ends

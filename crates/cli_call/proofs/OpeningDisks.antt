@@ -17,6 +17,7 @@ use Rattle.tree_journal.specs.Recovering.{IsVisibleIn}
 use Rattle.tree_journal.specs.Staging.{outcome}
 use Rattle.cli_call.specs.CommandLaws.{read_shown}
 use Rattle.cli_call.specs.Opening.{RecoversAt, RecoveryStops, IsOpen, Opens, OpeningStops, nothing_read}
+use Rattle.cli_call.specs.FixedDirs.{RefusesPath}
 use Rattle.cli_call.specs.Recovered.{RecoversToNone, IsKept, RefusesLog}
 use Rattle.cli_call.specs.Store.{Store}
 use Rattle.cli_call.specs.StoreLaws.{kept_so}
@@ -43,6 +44,7 @@ module _ {D X : Type 0} (store : Store X) {disk : DiskModel D} (laws : IsDisk di
     kept = λ told. subst (IsKept store.base (disk.reads old)) (sym (read told).same.reads) (kept_so store.base (disk.reads old));
     missing = λ told r is. read told;
     untouched = λ told none. confined_read laws (Among no_name) (read told);
+    clear = λ told off. confined_read laws (Among no_name) (read told);
     stops = stops;
   }
 
@@ -84,6 +86,7 @@ module _ {D X : Type 0} (store : Store X) {disk : DiskModel D} (laws : IsDisk di
     kept = λ told. subst (λ (t : Tree). IsKept store.base t (disk.reads new)) (read told).same.reads (recovers.kept told);
     missing = λ told r is. let ok = fixed told in absurd (cc (ok, is));
     untouched = λ told none. confined_then (confined_read laws (Among no_name) (read told)) (recovers.untouched told (subst (RecoversToNone store.base) (sym (read told).same.reads) none));
+    clear = λ told off. confined_then (confined_read laws (Among no_name) (read told)) (recovers.clear told (ap (is_committed store.base) (read told).same.reads ∙ off));
     stops = stops;
   }
 
@@ -94,7 +97,7 @@ module _ {D X : Type 0} (store : Store X) {disk : DiskModel D} (laws : IsDisk di
   pub stops_on : (tests : Tree → Result (Unit {0}) Refusal) (old mid new : D) (e : Stop) → disk.faults old ≤ disk.faults mid → (IsTrue disk.tells → HasRead disk old mid (Unit {0})) → RecoveryStops disk store.base mid new e → OpeningStops store disk tests old new e
   stops_on tests old mid new stop.Failed le read stops = rose_before (disk.faults old) (disk.faults mid) (disk.faults new) le stops
   stops_on tests old mid new stop.Memory le read stops = tt
-  stops_on tests old mid new (stop.Refused r) le read stops = λ told. let h = log_refused old mid new r (read told) (stops told) in record { same = h.0; cause = inl h.1 }
+  stops_on tests old mid new (stop.Refused r) le read stops = record { of_path = stops.0; told = λ told. let h = log_refused old mid new r (read told) (stops.1 told) in record { same = h.0; cause = inl h.1 } }
   stops_on tests old mid new (stop.Damaged path) le read stops = λ told. inl (record {
     damaged = subst (λ (t : Tree). IsDamagedAt store.base t path) (read told).same.reads (stops told).damaged;
     same = (stops told).same ∙ (read told).same.reads;
@@ -125,6 +128,7 @@ module _ {D X : Type 0} (store : Store X) {disk : DiskModel D} (laws : IsDisk di
     kept = λ told. subst (λ (t : Tree). IsKept store.base (disk.reads old) t) (sym (read told).same.reads) (recovers.kept told);
     missing = λ told r is. let ok = fixed told in absurd (cc (ok, is));
     untouched = λ told none. confined_then (recovers.untouched told none) (confined_read laws (Among no_name) (read told));
+    clear = λ told off. confined_then (recovers.clear told off) (confined_read laws (Among no_name) (read told));
     stops = stops;
   }
 
@@ -140,16 +144,16 @@ module _ {D X : Type 0} (store : Store X) {disk : DiskModel D} (laws : IsDisk di
   -- ---- the two ways
 
   -- the tests stopped
-  found_stops : (tests : Tree → Result (Unit {0}) Refusal) (told : Bool) (expected : Result (Unit {0}) Refusal) (e : Stop) (old new : D) → disk.tells ≡ told → expected ≡ tests (disk.reads old) → (IsTrue disk.tells → HasRead disk old new (Unit {0})) → Found (λ (d : Unit {0}). d) told expected (Err e) (disk.faults old) (disk.faults new) → OpeningStops store disk tests old new e
-  found_stops tests told expected stop.Failed old new is same read found = found
-  found_stops tests told expected stop.Memory old new is same read found = tt
-  found_stops tests told expected (stop.Refused r) old new is same read found = λ t. record { same = (read t).same.reads; cause = inr (sym same ∙ found (sym is ∙ t)) }
-  found_stops tests told expected (stop.Damaged path) old new is same read found = absurd found
-  found_stops tests told expected stop.FarFailed old new is same read found = absurd found
-  found_stops tests told expected (stop.FarDamaged path) old new is same read found = absurd found
+  found_stops : (tests : Tree → Result (Unit {0}) Refusal) (told : Bool) (expected : Result (Unit {0}) Refusal) (e : Stop) (old new : D) → disk.tells ≡ told → expected ≡ tests (disk.reads old) → (IsTrue disk.tells → HasRead disk old new (Unit {0})) → Found (λ (d : Unit {0}). d) told expected (Err e) (disk.faults old) (disk.faults new) → RefusesPath e → OpeningStops store disk tests old new e
+  found_stops tests told expected stop.Failed old new is same read found of_path = found
+  found_stops tests told expected stop.Memory old new is same read found of_path = tt
+  found_stops tests told expected (stop.Refused r) old new is same read found of_path = record { of_path = of_path; told = λ t. record { same = (read t).same.reads; cause = inr (sym same ∙ found (sym is ∙ t)) } }
+  found_stops tests told expected (stop.Damaged path) old new is same read found of_path = absurd found
+  found_stops tests told expected stop.FarFailed old new is same read found of_path = absurd found
+  found_stops tests told expected (stop.FarDamaged path) old new is same read found of_path = absurd found
 
-  pub tests_stopped : {V : Type 0} {tests : Tree → Result (Unit {0}) Refusal} {IsRead : Tree → V → Type 0} (old new : D) (e : Stop) → Tests disk (λ (d : Unit {0}). d) tests old new (Err e) → Opens store disk tests IsRead old new (Err e)
-  tests_stopped {tests = tests} old new e checks = opens_read old new e checks.later checks.same (found_stops tests disk.tells (tests (disk.reads old)) e old new refl refl checks.same checks.found)
+  pub tests_stopped : {V : Type 0} {tests : Tree → Result (Unit {0}) Refusal} {IsRead : Tree → V → Type 0} (old new : D) (e : Stop) → Tests disk (λ (d : Unit {0}). d) tests old new (Err e) → RefusesPath e → Opens store disk tests IsRead old new (Err e)
+  tests_stopped {tests = tests} old new e checks of_path = opens_read old new e checks.later checks.same (found_stops tests disk.tells (tests (disk.reads old)) e old new refl refl checks.same checks.found of_path)
 
   pub opens_stopped : {V : Type 0} {tests : Tree → Result (Unit {0}) Refusal} {IsRead : Tree → V → Type 0} (old mid new : D) (s : Result (Unit {0}) Stop) (e : Stop) → s ≡ Err e → (IsTrue disk.tells → HasRead disk old mid (Unit {0})) → (IsTrue disk.tells → tests (disk.reads old) ≡ Ok tt) → disk.faults old ≤ disk.faults mid → RecoversAt disk store.base mid new s → Opens store disk tests IsRead old new (Err e)
   opens_stopped old mid new (Ok x) e is read fixed later recovers = absurd (cc is)

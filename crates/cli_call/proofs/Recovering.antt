@@ -30,7 +30,7 @@ pub record Recovery {D : Type 0} (disk : DiskModel D) (base : Name) (old new : D
 stops_here : {D : Type 0} (disk : DiskModel D) (base : Name) (old new : D) (e : Stop) → StopsSo disk base old new e → RecoveryStops disk base old new e
 stops_here disk base old new stop.Failed so = so
 stops_here disk base old new stop.Memory so = tt
-stops_here disk base old new (stop.Refused (refusal.Parent path)) so = λ told. ((so told).1, record { path = path; refused = refl; blocked = (so told).0 })
+stops_here disk base old new (stop.Refused (refusal.Parent path)) so = ((path, refl), λ told. ((so told).1, record { path = path; refused = refl; blocked = (so told).0 }))
 stops_here disk base old new (stop.Damaged path) so = λ told. record { damaged = (so told).0; same = (so told).1 }
 stops_here disk base old new _ so = absurd so
 
@@ -48,6 +48,7 @@ ends {disk = disk} {old = old} recovery s recovered stops = record {
   recovered = recovered;
   kept = λ told. record { still = recovery.still told; same = same_clear recovery told };
   untouched = λ told none. recovery.untouched told (none_replayable (disk.reads old) none);
+  clear = λ told off. recovery.untouched told (λ set has. absurd (cc (set, off)));
   stops = stops;
 }
 

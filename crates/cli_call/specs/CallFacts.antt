@@ -8,10 +8,13 @@ use Rattle.cny_base.specs.declared.stop.Stop.{Stop}
 use Rattle.cny_base.specs.declared.stop.Stop.TheVariants as stop
 use Rattle.tree_disk.specs.Tree.{Tree}
 use Rattle.tree_disk.specs.Disk.{DiskModel, IsDisk}
+use Rattle.tree_disk.specs.Clear.{is_within}
 use Rattle.tree_disk.specs.Confined.{Among, Confined}
-use Rattle.tree_disk.specs.ConfinedLaws.{confined_start}
+use Rattle.tree_disk.specs.ConfinedLaws.{confined_start, confined_then, confined_wider}
 use Rattle.tree_disk.specs.Moments.{rose_before}
 use Rattle.tree_disk.specs.Steps.{no_name}
+use Rattle.tree_journal.specs.Recovery.{is_committed}
+use Rattle.repo_state.specs.Files.{repository_base}
 use Rattle.cli_call.specs.declared.failure.Failure.{Failure}
 use Rattle.cli_call.specs.declared.failure.Failure.TheVariants as failure
 use Rattle.cli_call.specs.declared.opened.Opened.{Opened}
@@ -21,14 +24,14 @@ use Rattle.cli_call.specs.FixedDirs.{fixed_dirs}
 use Rattle.cli_call.specs.Line.{Moment, LineCause, RunsLine}
 use Rattle.cli_call.specs.LineLaws.{keeps_still}
 use Rattle.cli_call.specs.Reading.{ReadsGiven}
-use Rattle.cli_call.specs.Recovered.{RecoversToNone, IsKept, RefusesLog}
+use Rattle.cli_call.specs.Recovered.{RecoversToNone, IsKept, IsPathRefusal, RefusesLog}
 use Rattle.cli_call.specs.Report.{End, status_of}
 use Rattle.cli_call.specs.State.{Meaning}
 use Rattle.cli_call.specs.Stops.{root_failure, repository_failure}
 use Rattle.cli_call.specs.Store.{IsSettled}
 use Rattle.cli_call.specs.StoreLaws.{kept_so}
 use Rattle.cli_call.specs.Stores.{root_store, repository_store}
-use Rattle.cli_call.specs.WholeCall.{AreKept, RestOpened, IsDamage, OnlyRead}
+use Rattle.cli_call.specs.WholeCall.{AreKept, RecoversToCatalogue, RestOpened, IsDamage, OnlyRead}
 
 -- of two causes that are known where a disk is told, the first, or the second by itself
 pub by_told : {A B : Type 0} (told : Bool) → (IsTrue told → A ⊎ B) → (IsTrue told → A) ⊎ B
@@ -55,6 +58,7 @@ module _ {T P : Type 0} (root_disk : DiskModel T) (repo_disk : DiskModel P) wher
   pub record RefusedLog (before now : CallState T P) (end : End) : Type 0 where
     pub refusal : Refusal
     pub is : end ≡ Err (failure.Refused refusal)
+    pub of_path : IsPathRefusal refusal
     pub log : (IsTrue root_disk.tells → RefusesLog root_store.base (root_disk.reads before.root) refusal)
         ⊎ (IsTrue repo_disk.tells → RefusesLog repository_store.base (repo_disk.reads before.repo) refusal)
     pub unread : now.input ≡ before.input
@@ -74,6 +78,7 @@ module _ {T P : Type 0} (root_disk : DiskModel T) (repo_disk : DiskModel P) wher
     pub settles : status_of end ≤ 4 → SettlesSo before now end
     pub root_untouched : IsTrue root_disk.tells → RecoversToNone root_store.base (root_disk.reads before.root) → Confined root_disk (Among no_name) before.root now.root
     pub repo_untouched : IsTrue repo_disk.tells → RecoversToNone repository_store.base (repo_disk.reads before.repo) → Confined repo_disk (Among no_name) before.repo now.repo
+    pub repo_within : IsTrue repo_disk.tells → is_committed repository_store.base (repo_disk.reads before.repo) ≡ false → Confined repo_disk (Among (is_within repository_base)) before.repo now.repo
     pub missing : IsTrue root_disk.tells → (r : Refusal) → fixed_dirs (root_disk.reads before.root) ≡ Err r → OnlyRead root_disk repo_disk before now
 
 module _ {T P : Type 0} {root_disk : DiskModel T} {repo_disk : DiskModel P} (root_laws : IsDisk root_disk) (repo_laws : IsDisk repo_disk) (before now : CallState T P) where
@@ -89,9 +94,9 @@ module _ {T P : Type 0} {root_disk : DiskModel T} {repo_disk : DiskModel P} (roo
 
   root_settles : (e : Stop) → OpensRoot root_disk repo_disk before.root now.root (Err e) → now.input ≡ before.input → status_of (Err (root_failure e)) ≤ 4 → SettlesSo root_disk repo_disk before now (Err (root_failure e))
   root_settles (stop.Refused r) opens unread le = ⊎_elim
-      (λ log. inr (inl (record { refusal = r; is = refl; log = inl log; unread = unread })))
+      (λ log. inr (inl (record { refusal = r; is = refl; of_path = opens.stops.of_path; log = inl log; unread = unread })))
       (λ dir. inr (inr (record { refusal = r; is = refl; missing = dir; unread = unread })))
-      (by_told root_disk.tells (λ told. (opens.stops told).cause))
+      (by_told root_disk.tells (λ told. (opens.stops.told told).cause))
   root_settles stop.Failed opens unread le = absurd (omega (arith, le))
   root_settles stop.Memory opens unread le = absurd (omega (arith, le))
   root_settles (stop.Damaged path) opens unread le = absurd (omega (arith, le))
@@ -108,6 +113,7 @@ module _ {T P : Type 0} {root_disk : DiskModel T} {repo_disk : DiskModel P} (roo
     settles = root_settles e opens unread;
     root_untouched = opens.untouched;
     repo_untouched = λ told none. subst (λ (d : P). Confined repo_disk (Among no_name) before.repo d) (sym same) (confined_start repo_laws (Among no_name) before.repo);
+    repo_within = λ told off. subst (λ (d : P). Confined repo_disk (Among (is_within repository_base)) before.repo d) (sym same) (confined_start repo_laws (Among (is_within repository_base)) before.repo);
     missing = λ told r is. record { root = opens.missing told r is; repo = same; unread = unread };
   }
 
@@ -125,7 +131,8 @@ module _ {T P : Type 0} {root_disk : DiskModel T} {repo_disk : DiskModel P} (roo
   repo_settles (stop.Refused r) opens unread le = inr (inl (record {
     refusal = r;
     is = refl;
-    log = inr (λ told. ⊎_elim (λ log. log) (λ is. absurd (cc is)) (opens.stops told).cause);
+    of_path = opens.stops.of_path;
+    log = inr (λ told. ⊎_elim (λ log. log) (λ is. absurd (cc is)) (opens.stops.told told).cause);
     unread = unread;
   }))
   repo_settles stop.Failed opens unread le = absurd (omega (arith, le))
@@ -141,6 +148,7 @@ module _ {T P : Type 0} {root_disk : DiskModel T} {repo_disk : DiskModel P} (roo
     settles = repo_settles e opens unread;
     root_untouched = λ told none. absurd (none (root_disk.reads now.root) (opens_root.opened told).recovers);
     repo_untouched = opens.untouched;
+    repo_within = λ told off. confined_wider (λ p none. absurd cc) (opens.clear told off);
     missing = λ told r is. absurd (never_fixed (opens_root.opened told).fixed is);
   }
 
@@ -165,6 +173,9 @@ module _ {T P : Type 0} {root_disk : DiskModel T} {repo_disk : DiskModel P} (roo
     open_repo_untouched : IsTrue repo_disk.tells → RecoversToNone repository_store.base (repo_disk.reads before.repo) → Confined repo_disk (Among no_name) before.repo now.repo
     open_repo_untouched told none = absurd (none (repo_disk.reads repo) (opens.opens.opened told).recovers)
 
+    opened_within : IsTrue repo_disk.tells → is_committed repository_store.base (repo_disk.reads before.repo) ≡ false → Confined repo_disk (Among (is_within repository_base)) before.repo repo
+    opened_within told off = confined_wider (λ p none. absurd cc) (opens.opens.clear told off)
+
     open_missing : IsTrue root_disk.tells → (r : Refusal) → fixed_dirs (root_disk.reads before.root) ≡ Err r → OnlyRead root_disk repo_disk before now
     open_missing told r is = absurd (never_fixed (opens.opens_root.opened told).fixed is)
 
@@ -186,11 +197,22 @@ module _ {T P : Type 0} {root_disk : DiskModel T} {repo_disk : DiskModel P} (roo
     unread_cause m failure.RepositoryFault reads silent = absurd reads.cause
     unread_cause m (failure.Damaged path) reads silent = absurd reads.cause
 
+    loaded_repo : IsTrue repo_disk.tells → RecoversToCatalogue (repo_disk.reads before.repo)
+    loaded_repo told = let is = opens.opens.opened told in record {
+      tree = repo_disk.reads repo;
+      recovers = is.recovers;
+      only = is.stores;
+      catalogue = opened.catalogue;
+      holds = is.value_is;
+      rules = opens.rules;
+    }
+
     rest_unread : now.root ≡ root → now.repo ≡ repo → RestOpened root_disk repo_disk before now
     rest_unread same_root same_repo' = record {
       fixed = λ told. (opens.opens_root.opened told).fixed;
       root = λ told. subst (λ (d : T). IsSettled root_disk root_store.base d) (sym same_root) (opens.opens_root.opened told).settled;
       repo = λ told. subst (λ (d : P). IsSettled repo_disk repository_store.base d) (sym same_repo') (opens.opens.opened told).settled;
+      loaded = loaded_repo;
     }
 
     unread_facts : (m : Meaning) (e : Failure) → ReadsGiven m.takes_input before.input now.input (Err e) → last ≡ mid → CallFacts root_disk repo_disk before now (Err e)
@@ -204,6 +226,7 @@ module _ {T P : Type 0} {root_disk : DiskModel T} {repo_disk : DiskModel P} (roo
           settles = λ le. inl (rest_unread same_root same_repo');
           root_untouched = open_root_untouched;
           repo_untouched = open_repo_untouched;
+          repo_within = λ told off. subst (λ (d : P). Confined repo_disk (Among (is_within repository_base)) before.repo d) (sym same_repo') (opened_within told off);
           missing = open_missing;
         }
 
@@ -220,24 +243,25 @@ module _ {T P : Type 0} {root_disk : DiskModel T} {repo_disk : DiskModel P} (roo
     run_cause (Err failure.Usage) h = absurd h
     run_cause (Err failure.InputFault) h = absurd h
 
-    run_facts : (m : Meaning) (bytes : List ℕ) (end : End) → RunsLine root_disk repo_disk m bytes mid last end → CallFacts root_disk repo_disk before now end
-    run_facts m bytes end runs = record {
+    run_facts : (of_root : Bool) (m : Meaning) (bytes : List ℕ) (end : End) → RunsLine root_disk repo_disk of_root m bytes mid last end → CallFacts root_disk repo_disk before now end
+    run_facts of_root m bytes end runs = record {
       cause = run_cause end runs.cause;
       kept = λ none. record { root = λ told. kept_root ((runs.same none).root told) told; repo = λ told. kept_repo ((runs.same none).repo told) told };
-      settles = λ le. inl (record { fixed = λ told. (opens.opens_root.opened told).fixed; root = (runs.rest le).root; repo = (runs.rest le).repo });
+      settles = λ le. inl (record { fixed = λ told. (opens.opens_root.opened told).fixed; root = (runs.rest le).root; repo = (runs.rest le).repo; loaded = loaded_repo });
       root_untouched = open_root_untouched;
       repo_untouched = open_repo_untouched;
+      repo_within = λ told off. confined_then (opened_within told off) (runs.within told);
       missing = open_missing;
     }
 
-    pub open_facts : (m : Meaning) (end : End) → StopsReading root_disk repo_disk m before.input now.input mid last end ⊎ RunsWith root_disk repo_disk m before.input now.input mid last end → CallFacts root_disk repo_disk before now end
-    open_facts m end how = ⊎_elim
+    pub open_facts : (of_root : Bool) (m : Meaning) (end : End) → StopsReading root_disk repo_disk m before.input now.input mid last end ⊎ RunsWith root_disk repo_disk of_root m before.input now.input mid last end → CallFacts root_disk repo_disk before now end
+    open_facts of_root m end how = ⊎_elim
         (λ stops. subst (λ (x : End). CallFacts root_disk repo_disk before now x) (sym stops.is) (unread_facts m stops.failure stops.reads stops.same))
-        (λ runs. run_facts m runs.bytes end runs.runs)
+        (λ runs. run_facts of_root m runs.bytes end runs.runs)
         how
 
-  pub call_facts : (m : Meaning) (end : End) → RunsCall root_disk repo_disk m before now end → CallFacts root_disk repo_disk before now end
-  call_facts m end how = ⊎_elim
+  pub call_facts : (of_root : Bool) (m : Meaning) (end : End) → RunsCall root_disk repo_disk of_root m before now end → CallFacts root_disk repo_disk before now end
+  call_facts of_root m end how = ⊎_elim
       (λ stops. not_opened end stops)
-      (λ goes. open_facts goes.root goes.repo goes.opened goes.opened' goes.opens m end goes.runs)
+      (λ goes. open_facts goes.root goes.repo goes.opened goes.opened' goes.opens of_root m end goes.runs)
       how

@@ -1,5 +1,5 @@
 -- A whole call keeps all its promises, from what was opened, read, performed, written and reported.
-use Rattle.std.proofs.Common.{◌≡◌, ◌≤◌, ◌+◌, ℕ, Bool, true, false, cond, nat_lt, List, [], length, Option, Some, None, Result, Ok, Err, IfSome, refl, sym, ap, ◌∙◌, subst, inl, inr, ⊎_elim, arith}
+use Rattle.std.proofs.Common.{◌≡◌, ◌≤◌, ◌+◌, ℕ, Bool, true, false, cond, nat_lt, List, [], length, Some, Result, Ok, Err, IfSome, refl, sym, ap, ◌∙◌, subst, inl, inr, ⊎_elim, arith}
 use Rattle.std.specs.Prelude.{◌⊎◌}
 use Rattle.std.proofs.lemmas.Bool.{ltb-false}
 use Rattle.std.proofs.lemmas.List.{drop_all}
@@ -22,16 +22,19 @@ use Rattle.cli_call.specs.FixedDirsLaws.{same_fixed}
 use Rattle.cli_call.specs.FixedPaths.{directory_path}
 use Rattle.cli_call.specs.Call.{CallState, AreOpened, RunsCall}
 use Rattle.cli_call.specs.CallFacts.{SettlesSo, CallFacts, call_facts}
-use Rattle.cli_call.specs.CallStates.{CallEnds, CallFrom, call_from}
+use Rattle.cli_call.specs.CallEnds.{CallEnds, next_any}
+use Rattle.cli_call.specs.CallKnown.{call_known}
+use Rattle.cli_call.specs.CallStates.{CallFrom}
 use Rattle.cli_call.specs.Input.{input_limit, within_limit, left_after_reading}
-use Rattle.cli_call.specs.LineLaws.{takes_so}
+use Rattle.cli_call.specs.InputLaws.{some_so}
 use Rattle.cli_call.specs.Reading.{ReadsGiven}
 use Rattle.cli_call.specs.Report.{End, status_of, Tells, Reports}
-use Rattle.cli_call.specs.State.{State, Effect, Meaning, IsNext}
+use Rattle.cli_call.specs.RootCallLaws.{root_call}
+use Rattle.cli_call.specs.State.{State, Effect, Meaning}
 use Rattle.cli_call.specs.Store.{IsStore}
 use Rattle.cli_call.specs.StoreLaws.{nothing_done, kept_so, none_yet}
 use Rattle.cli_call.specs.Stores.{root_store, repository_store}
-use Rattle.cli_call.specs.WholeCall.{Outcome, FromStates, ForInput, RestBoth, IsRefused, Answers, LiveBoth, Settles, HasInputFault, HasOutputFault, IsCutShort, IsCut, HasRootFault, HasRepositoryFault, HasDamage, NoFaults, IsCallOf, ErrorLine}
+use Rattle.cli_call.specs.WholeCall.{Outcome, FromStates, RestBoth, IsRefused, Answers, LiveBoth, Settles, HasInputFault, HasOutputFault, IsCutShort, IsCut, HasRootFault, HasRepositoryFault, HasDamage, NoFaults, IsCallOf, ErrorLine}
 
 -- ---- ends and their statuses
 
@@ -61,18 +64,6 @@ reported (Ok u) err err' status h = inl h
 reported (Err e) err err' status (inl tells) = inr (e, tells)
 reported (Err e) err err' status (inr want) = inr (failure.Memory, want.1)
 
--- the state before or after, however it ended
-next_any : (IsOutcome : Result Effect Refusal → Type 0) (s next : State) (before now : SinkState) (end : End) → CallEnds IsOutcome s next before now end → IsNext IsOutcome s next
-next_any IsOutcome s next before now (Ok x) h = inr (takes_so (λ bytes b. tt) h)
-next_any IsOutcome s next before now (Err (failure.Refused r)) h = inl h.1
-next_any IsOutcome s next before now (Err failure.InputFault) h = inl h
-next_any IsOutcome s next before now (Err failure.OutputFault) h = inr (takes_so (λ bytes b. tt) h)
-next_any IsOutcome s next before now (Err failure.RootFault) h = h
-next_any IsOutcome s next before now (Err failure.RepositoryFault) h = h
-next_any IsOutcome s next before now (Err failure.Memory) h = h
-next_any IsOutcome s next before now (Err failure.Usage) h = absurd h
-next_any IsOutcome s next before now (Err (failure.Damaged path)) h = absurd h
-
 -- no file is damaged where the disks recover to states
 end_undamaged : (IsOutcome : Result Effect Refusal → Type 0) (s next : State) (before now : SinkState) (end : End) → CallEnds IsOutcome s next before now end → status_of end ≤ 7
 end_undamaged IsOutcome s next before now (Ok x) h = omega arith
@@ -98,41 +89,37 @@ nothing_left input bytes false is h = drop_all (input_limit + 1) input (omega (a
 all_read : (input bytes : List ℕ) → within_limit input ≡ Ok bytes → left_after_reading input ≡ []
 all_read input bytes h = nothing_left input bytes (nat_lt input_limit (length input)) refl h
 
-some_so : (o : Option (List ℕ)) {P Q : List ℕ → Type 0} → ((input : List ℕ) → P input → Q input) → IfSome o P → IfSome o Q
-some_so None f h = tt
-some_so (Some input) f h = f input h
-
-module _ {T P : Type 0} (root_disk : DiskModel T) (repo_disk : DiskModel P) (m : Meaning) (before now : CallState T P) (err err' : SinkState) (status : ℕ) where
+module _ {T P : Type 0} (root_disk : DiskModel T) (repo_disk : DiskModel P) (m : Meaning) (input : List ℕ) (before now : CallState T P) (err err' : SinkState) (status : ℕ) where
   -- ---- by the status
 
   data CallEnd : Type 0 where
-    answered : status ≤ 1 → Answers root_disk repo_disk m before now err err' status → Settles root_disk repo_disk before now err err' status → CallEnd
+    answered : status ≤ 1 → Answers root_disk repo_disk m input before now err err' status → Settles root_disk repo_disk before now err err' status → CallEnd
     input_fault : status ≡ 3 → HasInputFault root_disk repo_disk before now → Settles root_disk repo_disk before now err err' status → CallEnd
-    output_fault : status ≡ 4 → HasOutputFault root_disk repo_disk m before now → Settles root_disk repo_disk before now err err' status → CallEnd
-    root_fault : status ≡ 5 → HasRootFault root_disk repo_disk m before now → CallEnd
-    repository_fault : status ≡ 6 → HasRepositoryFault root_disk repo_disk m before now → CallEnd
-    no_memory : status ≡ 7 → IsCut root_disk repo_disk m before now → CallEnd
+    output_fault : status ≡ 4 → HasOutputFault root_disk repo_disk m input before now → Settles root_disk repo_disk before now err err' status → CallEnd
+    root_fault : status ≡ 5 → HasRootFault root_disk repo_disk m input before now → CallEnd
+    repository_fault : status ≡ 6 → HasRepositoryFault root_disk repo_disk m input before now → CallEnd
+    no_memory : status ≡ 7 → IsCut root_disk repo_disk m input before now → CallEnd
     damaged : status ≡ 8 → HasDamage root_disk repo_disk before now err err' status → CallEnd
 
-  module _ (end : End) (facts : CallFacts root_disk repo_disk before now end) (from : FromStates root_disk repo_disk before (λ s. CallFrom root_disk repo_disk m s before now end)) where
-    cut : FromStates root_disk repo_disk before (λ s. ForInput root_disk repo_disk m before (λ input. IsCutShort root_disk repo_disk (Outcome m s input) s before now))
-    cut root repo s recovers input is =
+  module _ (end : End) (facts : CallFacts root_disk repo_disk before now end) (from : FromStates root_disk repo_disk before (λ s. CallFrom root_disk repo_disk m input s before now end)) where
+    cut : FromStates root_disk repo_disk before (λ s. IsCutShort root_disk repo_disk (Outcome m s input) s before now)
+    cut root repo s recovers =
         let f = from root repo s recovers in
         record {
           next = f.next;
-          is_next = next_any (Outcome m s input) s f.next before.out now.out end (f.ends input is);
+          is_next = next_any (Outcome m s input) s f.next before.out now.out end f.ends;
           apart = f.apart;
           root = f.root_reads;
           repo = f.repo_reads;
-          outside = f.outside input is;
+          outside = f.outside;
         }
 
-    lives : FromStates root_disk repo_disk before (λ s. ForInput root_disk repo_disk m before (λ input. LiveBoth root_disk repo_disk (Outcome m s input) s before now))
-    lives root repo s recovers input is =
+    lives : FromStates root_disk repo_disk before (λ s. LiveBoth root_disk repo_disk (Outcome m s input) s before now)
+    lives root repo s recovers =
         let f = from root repo s recovers in
         record {
           next = f.next;
-          is_next = next_any (Outcome m s input) s f.next before.out now.out end (f.ends input is);
+          is_next = next_any (Outcome m s input) s f.next before.out now.out end f.ends;
           apart = f.apart;
           root = f.root;
           repo = f.repo;
@@ -155,16 +142,16 @@ module _ {T P : Type 0} (root_disk : DiskModel T) (repo_disk : DiskModel P) (m :
 
   settles_refused : (r : Refusal) → IsRefused root_disk repo_disk r before now err err' status → SettlesSo root_disk repo_disk before now (Err (failure.Refused r)) → Settles root_disk repo_disk before now err err' status
   settles_refused r refused (inl rest) = inl rest
-  settles_refused r refused (inr (inl log)) = inr (inl (record { refusal = log.refusal; log = log.log; unread = log.unread; refused = refused_on r log.refusal log.is refused }))
+  settles_refused r refused (inr (inl log)) = inr (inl (record { refusal = log.refusal; of_path = log.of_path; log = log.log; unread = log.unread; refused = refused_on r log.refusal log.is refused }))
   settles_refused r refused (inr (inr dir)) = inr (inr (record { refusal = dir.refusal; missing = dir.missing; unread = dir.unread; refused = refused_on r dir.refusal dir.is refused }))
 
   -- ---- how it ended
 
-  ok_end : CallFacts root_disk repo_disk before now (Ok tt) → FromStates root_disk repo_disk before (λ s. CallFrom root_disk repo_disk m s before now (Ok tt)) → status ≡ 0 → CallEnd
+  ok_end : CallFacts root_disk repo_disk before now (Ok tt) → FromStates root_disk repo_disk before (λ s. CallFrom root_disk repo_disk m input s before now (Ok tt)) → status ≡ 0 → CallEnd
   ok_end facts from zero' = answered (omega (arith, zero'))
-      (λ root repo s recovers input is.
+      (λ root repo s recovers.
       let f = from root repo s recovers in
-      let t = f.ends input is in (
+      let t = f.ends in (
         Ok t.effect,
         t.is,
         record {
@@ -175,27 +162,27 @@ module _ {T P : Type 0} (root_disk : DiskModel T) (repo_disk : DiskModel P) (m :
       ))
       (settles_ok (facts.settles (omega arith)))
 
-  refused_end : (r : Refusal) → CallFacts root_disk repo_disk before now (Err (failure.Refused r)) → FromStates root_disk repo_disk before (λ s. CallFrom root_disk repo_disk m s before now (Err (failure.Refused r)))
+  refused_end : (r : Refusal) → CallFacts root_disk repo_disk before now (Err (failure.Refused r)) → FromStates root_disk repo_disk before (λ s. CallFrom root_disk repo_disk m input s before now (Err (failure.Refused r)))
       → Tells (failure.Refused r) err err' status → CallEnd
   refused_end r facts from tells =
       let is_one : status ≡ 1 = tells.answered in
       let refused : IsRefused root_disk repo_disk r before now err err' status = record { kept = facts.kept tt; out = facts.cause; line = tells } in
       answered (omega (arith, is_one))
-      (λ root repo s recovers input is. (Err r, ((from root repo s recovers).ends input is).0, refused))
+      (λ root repo s recovers. (Err r, (from root repo s recovers).ends.0, refused))
       (settles_refused r refused (facts.settles (omega arith)))
 
-  output_end : CallFacts root_disk repo_disk before now (Err failure.OutputFault) → FromStates root_disk repo_disk before (λ s. CallFrom root_disk repo_disk m s before now (Err failure.OutputFault)) → status ≡ 4 → CallEnd
+  output_end : CallFacts root_disk repo_disk before now (Err failure.OutputFault) → FromStates root_disk repo_disk before (λ s. CallFrom root_disk repo_disk m input s before now (Err failure.OutputFault)) → status ≡ 4 → CallEnd
   output_end facts from four = output_fault four
       (record {
         rose = facts.cause;
-        done = λ root repo s recovers input is.
+        done = λ root repo s recovers.
             let f = from root repo s recovers in
-            let t = f.ends input is in
+            let t = f.ends in
             (t.effect, t.is, subst (λ (x : State). RestBoth root_disk repo_disk now x) t.leads (f.rests tt), t.bytes);
       })
       (settles_fault failure.OutputFault (λ r is. absurd (cc is)) (facts.settles (omega arith)))
 
-  call_end : (end : End) → CallFacts root_disk repo_disk before now end → FromStates root_disk repo_disk before (λ s. CallFrom root_disk repo_disk m s before now end) → Reports end err err' status → CallEnd
+  call_end : (end : End) → CallFacts root_disk repo_disk before now end → FromStates root_disk repo_disk before (λ s. CallFrom root_disk repo_disk m input s before now end) → Reports end err err' status → CallEnd
   call_end (Ok x) facts from reports = ok_end facts from reports.0
   call_end (Err (failure.Refused r)) facts from (inl tells) = refused_end r facts from tells
   call_end (Err (failure.Refused r)) facts from (inr want) = no_memory want.1.answered (record { short = cut (Err (failure.Refused r)) facts from; out = facts.cause })
@@ -217,7 +204,7 @@ module _ {T P : Type 0} (root_disk : DiskModel T) (repo_disk : DiskModel P) (m :
 
   -- ---- what each status says
 
-  end_answers : CallEnd → status ≤ 2 → Answers root_disk repo_disk m before now err err' status
+  end_answers : CallEnd → status ≤ 2 → Answers root_disk repo_disk m input before now err err' status
   end_answers (answered small is settles) h = is
   end_answers (input_fault is fault settles) h = absurd (omega (arith, is, h))
   end_answers (output_fault is fault settles) h = absurd (omega (arith, is, h))
@@ -244,7 +231,7 @@ module _ {T P : Type 0} (root_disk : DiskModel T) (repo_disk : DiskModel P) (m :
   end_input (no_memory is fault) h = absurd (omega (arith, is, h))
   end_input (damaged is fault) h = absurd (omega (arith, is, h))
 
-  end_output : CallEnd → status ≡ 4 → HasOutputFault root_disk repo_disk m before now
+  end_output : CallEnd → status ≡ 4 → HasOutputFault root_disk repo_disk m input before now
   end_output (answered small is settles) h = absurd (omega (arith, small, h))
   end_output (input_fault is fault settles) h = absurd (omega (arith, is, h))
   end_output (output_fault is fault settles) h = fault
@@ -253,7 +240,7 @@ module _ {T P : Type 0} (root_disk : DiskModel T) (repo_disk : DiskModel P) (m :
   end_output (no_memory is fault) h = absurd (omega (arith, is, h))
   end_output (damaged is fault) h = absurd (omega (arith, is, h))
 
-  end_root : CallEnd → status ≡ 5 → HasRootFault root_disk repo_disk m before now
+  end_root : CallEnd → status ≡ 5 → HasRootFault root_disk repo_disk m input before now
   end_root (answered small is settles) h = absurd (omega (arith, small, h))
   end_root (input_fault is fault settles) h = absurd (omega (arith, is, h))
   end_root (output_fault is fault settles) h = absurd (omega (arith, is, h))
@@ -262,7 +249,7 @@ module _ {T P : Type 0} (root_disk : DiskModel T) (repo_disk : DiskModel P) (m :
   end_root (no_memory is fault) h = absurd (omega (arith, is, h))
   end_root (damaged is fault) h = absurd (omega (arith, is, h))
 
-  end_repository : CallEnd → status ≡ 6 → HasRepositoryFault root_disk repo_disk m before now
+  end_repository : CallEnd → status ≡ 6 → HasRepositoryFault root_disk repo_disk m input before now
   end_repository (answered small is settles) h = absurd (omega (arith, small, h))
   end_repository (input_fault is fault settles) h = absurd (omega (arith, is, h))
   end_repository (output_fault is fault settles) h = absurd (omega (arith, is, h))
@@ -271,7 +258,7 @@ module _ {T P : Type 0} (root_disk : DiskModel T) (repo_disk : DiskModel P) (m :
   end_repository (no_memory is fault) h = absurd (omega (arith, is, h))
   end_repository (damaged is fault) h = absurd (omega (arith, is, h))
 
-  end_memory : CallEnd → status ≡ 7 → IsCut root_disk repo_disk m before now
+  end_memory : CallEnd → status ≡ 7 → IsCut root_disk repo_disk m input before now
   end_memory (answered small is settles) h = absurd (omega (arith, small, h))
   end_memory (input_fault is fault settles) h = absurd (omega (arith, is, h))
   end_memory (output_fault is fault settles) h = absurd (omega (arith, is, h))
@@ -298,7 +285,7 @@ module _ {T P : Type 0} (root_disk : DiskModel T) (repo_disk : DiskModel P) (m :
   end_known (no_memory is fault) = omega (arith, is)
   end_known (damaged is fault) = omega (arith, is)
 
-  end_complete : CallEnd → NoFaults root_disk repo_disk before now → (status ≡ 7) ⊎ HasDamage root_disk repo_disk before now err err' status ⊎ ((status ≤ 2) × Answers root_disk repo_disk m before now err err' status × Settles root_disk repo_disk before now err err' status)
+  end_complete : CallEnd → NoFaults root_disk repo_disk before now → (status ≡ 7) ⊎ HasDamage root_disk repo_disk before now err err' status ⊎ ((status ≤ 2) × Answers root_disk repo_disk m input before now err err' status × Settles root_disk repo_disk before now err err' status)
   end_complete (answered small is settles) none = inr (inr (omega (arith, small), is, settles))
   end_complete (input_fault is fault settles) none = absurd (none.input fault.rose)
   end_complete (output_fault is fault settles) none = absurd (none.out fault.rose)
@@ -309,8 +296,8 @@ module _ {T P : Type 0} (root_disk : DiskModel T) (repo_disk : DiskModel P) (m :
 
   -- ---- the input
 
-  unread_call : m.takes_input ≡ false → (end : End) → RunsCall root_disk repo_disk m before now end → now.input ≡ before.input
-  unread_call off end how = ⊎_elim
+  unread_call : (of_root : Bool) → m.takes_input ≡ false → (end : End) → RunsCall root_disk repo_disk of_root m before now end → now.input ≡ before.input
+  unread_call of_root off end how = ⊎_elim
       (λ stops. stops.unread)
       (λ goes. ⊎_elim (λ stops. (stops.reads.untaken off).0) (λ runs. (runs.reads.untaken off).0) goes.runs)
       how
@@ -325,49 +312,55 @@ module _ {T P : Type 0} (root_disk : DiskModel T) (repo_disk : DiskModel P) (m :
   not_ok : (e : Failure) (end : End) → end ≡ Err e → end ≡ Ok tt → ⊥
   not_ok e end is ok = cc (is, ok)
 
-  read_whole : m.takes_input ≡ true → (end : End) → end ≡ Ok tt → RunsCall root_disk repo_disk m before now end → IfSome before.input.left (λ input. now.input.left ≡ Some [])
-  read_whole on end ok how = ⊎_elim
+  read_whole : (of_root : Bool) → m.takes_input ≡ true → (end : End) → end ≡ Ok tt → RunsCall root_disk repo_disk of_root m before now end → IfSome before.input.left (λ input. now.input.left ≡ Some [])
+  read_whole of_root on end ok how = ⊎_elim
       (λ stops. absurd (not_ok stops.failure end stops.is ok))
       (λ goes. ⊎_elim (λ stops. absurd (not_ok stops.failure end stops.is ok)) (λ runs. read_taken runs.bytes on runs.reads) goes.runs)
       how
 
 -- ---- the whole
 
-pub whole_call : {T P : Type 0} {root_disk : DiskModel T} {repo_disk : DiskModel P} → IsDisk root_disk → IsDisk repo_disk → IsStore repository_store → (m : Meaning) (before now : CallState T P) (err err' : SinkState) (status : ℕ) (end : End)
-    → RunsCall root_disk repo_disk m before now end → Reports end err err' status → IsCallOf root_disk repo_disk m before now err err' status
-whole_call {root_disk = root_disk} {repo_disk = repo_disk} root_laws repo_laws store_laws m before now err err' status end runs reports =
-    let facts = call_facts root_laws repo_laws before now m end runs in
-    let from : FromStates root_disk repo_disk before (λ s. CallFrom root_disk repo_disk m s before now end) = λ root repo s recovers. call_from root_laws repo_laws store_laws m before now root repo s recovers end runs in
-    let how = call_end root_disk repo_disk m before now err err' status end facts from reports in
+pub whole_call : {T P : Type 0} {root_disk : DiskModel T} {repo_disk : DiskModel P} → IsDisk root_disk → IsDisk repo_disk → IsStore repository_store → (of_root : Bool) (m : Meaning) (before now : CallState T P) (err err' : SinkState) (status : ℕ) (end : End)
+    → RunsCall root_disk repo_disk of_root m before now end → Reports end err err' status → IsCallOf root_disk repo_disk of_root m before now err err' status
+whole_call {root_disk = root_disk} {repo_disk = repo_disk} root_laws repo_laws store_laws of_root m before now err err' status end runs reports =
+    let facts = call_facts root_laws repo_laws before now of_root m end runs in
+    let known = call_known root_laws repo_laws store_laws of_root m before now end runs in
+    let input : List ℕ = known.input in
+    let how = call_end root_disk repo_disk m input before now err err' status end facts known.from reports in
     record {
       runs = record { end = end; runs = runs; reports = reports };
-      answers = end_answers root_disk repo_disk m before now err err' status how;
-      complete = end_complete root_disk repo_disk m before now err err' status how;
-      input = λ small root repo s recovers. (from root repo s recovers).left (small_end end err err' status reports small);
-      read_to_end = λ zero' on. read_whole root_disk repo_disk m before now err err' status on end (zero_ok end err err' status reports zero') runs;
-      unread = λ off. unread_call root_disk repo_disk m before now err err' status off end runs;
-      lives = lives root_disk repo_disk m before now err err' status end facts from;
-      seen = λ root repo s recovers input is. (from root repo s recovers).seen input is;
-      settled = end_settles root_disk repo_disk m before now err err' status how;
+      input = input;
+      gives = known.gives;
+      is_input = known.is;
+      answers = end_answers root_disk repo_disk m input before now err err' status how;
+      complete = end_complete root_disk repo_disk m input before now err err' status how;
+      left = λ small root repo s recovers. (known.from root repo s recovers).left (small_end end err err' status reports small);
+      read_to_end = λ zero' on. read_whole root_disk repo_disk m input before now err err' status of_root on end (zero_ok end err err' status reports zero') runs;
+      unread = λ off. unread_call root_disk repo_disk m input before now err err' status of_root off end runs;
+      lives = lives root_disk repo_disk m input before now err err' status end facts known.from;
+      seen = λ root repo s recovers. (known.from root repo s recovers).seen;
+      settled = end_settles root_disk repo_disk m input before now err err' status how;
       root_untouched = facts.root_untouched;
       repo_untouched = facts.repo_untouched;
+      repo_within = facts.repo_within;
       missing = facts.missing;
-      input_fault = end_input root_disk repo_disk m before now err err' status how;
-      output_fault = end_output root_disk repo_disk m before now err err' status how;
-      root_fault = end_root root_disk repo_disk m before now err err' status how;
-      repository_fault = end_repository root_disk repo_disk m before now err err' status how;
-      memory = end_memory root_disk repo_disk m before now err err' status how;
-      damaged = end_damage root_disk repo_disk m before now err err' status how;
-      undamaged = λ root repo s recovers input is eight.
-          let f = from root repo s recovers in
-          status_undamaged end err err' status reports (end_undamaged (Outcome m s input) s f.next before.out now.out end (f.ends input is)) eight;
-      statuses = end_known root_disk repo_disk m before now err err' status how;
+      input_fault = end_input root_disk repo_disk m input before now err err' status how;
+      output_fault = end_output root_disk repo_disk m input before now err err' status how;
+      root_fault = end_root root_disk repo_disk m input before now err err' status how;
+      repository_fault = end_repository root_disk repo_disk m input before now err err' status how;
+      memory = end_memory root_disk repo_disk m input before now err err' status how;
+      damaged = end_damage root_disk repo_disk m input before now err err' status how;
+      undamaged = λ root repo s recovers eight.
+          let f = known.from root repo s recovers in
+          status_undamaged end err err' status reports (end_undamaged (Outcome m s input) s f.next before.out now.out end f.ends) eight;
+      statuses = end_known root_disk repo_disk m input before now err err' status how;
       error_line = reported end err err' status reports;
+      alone = λ is. root_call root_disk repo_disk m input before now err err' status end facts (known.alone is) reports;
     }
 
 -- Memory ran out before anything was done: the root wasn't opened.
-pub memory_call : {T P : Type 0} {root_disk : DiskModel T} {repo_disk : DiskModel P} → IsDisk root_disk → (m : Meaning) (before : CallState T P) → RunsCall root_disk repo_disk m before before (Err failure.Memory)
-memory_call {root_disk = root_disk} root_laws m before = inl (record {
+pub memory_call : {T P : Type 0} {root_disk : DiskModel T} {repo_disk : DiskModel P} → IsDisk root_disk → (of_root : Bool) (m : Meaning) (before : CallState T P) → RunsCall root_disk repo_disk of_root m before before (Err failure.Memory)
+memory_call {root_disk = root_disk} root_laws of_root m before = inl (record {
   failure = failure.Memory;
   is = refl;
   stops = inl (record {
@@ -381,6 +374,7 @@ memory_call {root_disk = root_disk} root_laws m before = inl (record {
       kept = λ told. kept_so root_store.base (root_disk.reads before.root);
       missing = λ told r is. nothing_done root_laws before.root;
       untouched = λ told none. confined_start root_laws (Among no_name) before.root;
+      clear = λ told off. confined_start root_laws (Among no_name) before.root;
       stops = tt;
     };
     same = refl;

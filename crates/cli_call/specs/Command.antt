@@ -5,10 +5,11 @@ use Rattle.cny_base.specs.Count.{Rose}
 use Rattle.cny_base.specs.declared.refusal.Refusal.{Refusal}
 use Rattle.tree_disk.specs.Tree.{Name, Tree}
 use Rattle.tree_disk.specs.Disk.{DiskModel}
-use Rattle.tree_disk.specs.Confined.{IsSynced, LeavesOnly}
+use Rattle.tree_disk.specs.Clear.{is_within}
+use Rattle.tree_disk.specs.Confined.{Among, Confined, IsSynced, LeavesOnly}
 use Rattle.tree_disk.specs.Unfailed.{UnlessFailed}
 use Rattle.journal_log.specs.Own.{is_own}
-use Rattle.repo_state.specs.Files.{HoldsCatalogue}
+use Rattle.repo_state.specs.Files.{repository_base, HoldsCatalogue}
 use Rattle.repository.specs.Loading.{IsCatalogue}
 use Rattle.tree_journal.specs.Recovery.{is_committed}
 use Rattle.tree_journal.specs.Visible.{IsVisible}
@@ -144,4 +145,6 @@ module _ {T P : Type 0} (root_disk : DiskModel T) (repo_disk : DiskModel P) wher
     pub cause : HasCause old new result
     pub rest : status_of (end_of result) ≤ 4 → Rest new
     pub same : ChangesNothing (end_of result) → ReadsSame old new
+    -- the repository's disk is changed below the repository's directory alone, however it ends
+    pub within : IsTrue repo_disk.tells → Confined repo_disk (Among (is_within repository_base)) old.repo new.repo
     pub told : IsTrue root_disk.tells → IsTrue repo_disk.tells → (s : State) → StandsFor old s → PerformsFrom (m.IsOutcome s input) s old new result

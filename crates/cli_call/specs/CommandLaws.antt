@@ -5,12 +5,14 @@ use Rattle.std.specs.FinMap.{get}
 use Rattle.cny_base.specs.declared.refusal.Refusal.{Refusal}
 use Rattle.tree_disk.specs.Tree.{Tree}
 use Rattle.tree_disk.specs.Disk.{DiskModel, IsDisk, HasRead}
-use Rattle.tree_disk.specs.Confined.{Among}
+use Rattle.tree_disk.specs.Clear.{is_within}
+use Rattle.tree_disk.specs.Confined.{Among, Confined}
 use Rattle.tree_disk.specs.ConfinedLaws.{confined_read, leaves_weaker}
 use Rattle.tree_disk.specs.Laws.{same_tree}
 use Rattle.tree_disk.specs.Steps.{no_name}
 use Rattle.tree_disk.specs.Unfailed.{UnlessFailed, unfailed_confined, unfailed_weaker}
 use Rattle.tree_journal.specs.Recovery.{is_committed}
+use Rattle.repo_state.specs.Files.{repository_base}
 use Rattle.cli_call.specs.declared.failure.Failure.{Failure}
 use Rattle.cli_call.specs.declared.failure.Failure.TheVariants as failure
 use Rattle.cli_call.specs.Command.{Disks, AreReady, ChangesNothing, Rest, ReadsSame, StandsFor, HasCause, Goes, Answers, IsShown, Performs, PerformsFrom, end_of}
@@ -97,6 +99,7 @@ module _ {T P : Type 0} {root_disk : DiskModel T} {repo_disk : DiskModel P} (roo
       cause = cause;
       rest = λ le. rest_on;
       same = λ none. same_on;
+      within = λ told. confined_read repo_laws (Among (is_within repository_base)) (read.repo told);
       told = λ root repo s stands. record {
         next = s;
         answers = answers_reading s root repo stands result answers;
@@ -117,12 +120,12 @@ pub record ChangesRepository {P : Type 0} (repo_disk : DiskModel P) (IsOutcome :
   pub goes : Goes repository_store repo_disk s.repository next old new (end_of result)
 
 module _ {T P : Type 0} {root_disk : DiskModel T} {repo_disk : DiskModel P} (root_laws : IsDisk root_disk) (root_store_laws : IsStore root_store) where
-  pub performs_on_repository : (m : Meaning) (input : List ℕ) (old new : Disks T P) (result : Result (List ℕ) Failure) → AreReady root_disk repo_disk old → new.root ≡ old.root → repo_disk.faults old.repo ≤ repo_disk.faults new.repo
+  pub performs_on_repository : (m : Meaning) (input : List ℕ) (old new : Disks T P) (result : Result (List ℕ) Failure) → AreReady root_disk repo_disk old → new.root ≡ old.root → repo_disk.faults old.repo ≤ repo_disk.faults new.repo → (IsTrue repo_disk.tells → Confined repo_disk (Among (is_within repository_base)) old.repo new.repo)
       → HasCause root_disk repo_disk old new result → (status_of (end_of result) ≤ 4 → IsTrue repo_disk.tells → IsSettled repo_disk repository_store.base new.repo)
       → (ChangesNothing (end_of result) → IsTrue repo_disk.tells → repo_disk.reads new.repo ≡ repo_disk.reads old.repo)
       → (IsTrue repo_disk.tells → (s : State) → StandsFor root_disk repo_disk old s → ChangesRepository repo_disk (m.IsOutcome s input) s old.repo new.repo result)
       → Performs root_disk repo_disk m input old new result
-  performs_on_repository m input old new result ready same later cause settles keeps changes =
+  performs_on_repository m input old new result ready same later within cause settles keeps changes =
       let read = subst (λ (d : T). HasRead root_disk old.root d (Unit {0})) (sym same) (nothing_done root_laws old.root) in
       record {
         root_later = omega (arith, ap root_disk.faults same);
@@ -136,6 +139,7 @@ module _ {T P : Type 0} {root_disk : DiskModel T} {repo_disk : DiskModel P} (roo
           repo = settles le;
         };
         same = λ none. record { root = λ told. read.same.reads; repo = keeps none };
+        within = within;
         told = λ root repo s stands.
             let changed = changes repo s stands in
             record {
@@ -194,5 +198,6 @@ performs_more one two from input more old new result done = record {
   cause = done.cause;
   rest = done.rest;
   same = done.same;
+  within = done.within;
   told = λ root repo s stands. performs_from_more (more s) s old new result (done.told root repo s stands);
 }

@@ -24,6 +24,14 @@ abbrev pub left_by : Result (Unit {0}) Refusal → List ℕ → List ℕ
 left_by (Ok _) input = left_after_reading input
 left_by (Err r) input = input
 
+-- What was read is within the limit; or there are bytes that the limit refuses so.
+abbrev pub IsOfSome : Result (List ℕ) Failure → Type 0
+IsOfSome (Ok bytes) = within_limit bytes ≡ Ok bytes
+IsOfSome (Err (failure.Refused r)) = (input : List ℕ) × (within_limit input ≡ Err r)
+IsOfSome (Err failure.InputFault) = Unit {0}
+IsOfSome (Err failure.Memory) = Unit {0}
+IsOfSome (Err _) = ⊥
+
 -- how reading the input ended, from the bytes that were left to those that are
 abbrev pub ReadsInput : Option (List ℕ) → Option (List ℕ) → Result (List ℕ) Failure → Type 0
 ReadsInput left rest (Ok bytes) = IfSome left (λ input. (within_limit input ≡ Ok bytes) × (rest ≡ Some (left_after_reading input)))

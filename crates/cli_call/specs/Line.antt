@@ -1,10 +1,13 @@
 -- A command over two disks that are open, with what it writes.
-use Rattle.std.specs.Prelude.{◌≡◌, ℕ, ◌≤◌, IsTrue, List, Result, Ok, Err}
+use Rattle.std.specs.Prelude.{◌≡◌, ℕ, ◌≤◌, Bool, true, IsTrue, List, Result, Ok, Err}
 use Rattle.std.specs.Io.KnownBytes.{Appends, Keeps}
 use Rattle.cny_base.specs.Count.{Rose}
 use Rattle.cny_base.specs.declared.refusal.Refusal.{Refusal}
 use Rattle.cny_flow.specs.Flow.{SinkModel, SinkState, sink_state, AppendsPart}
+use Rattle.tree_disk.specs.Clear.{is_within}
+use Rattle.tree_disk.specs.Confined.{Among, Confined}
 use Rattle.tree_disk.specs.Disk.{DiskModel}
+use Rattle.repo_state.specs.Files.{repository_base}
 use Rattle.tree_disk.specs.Unfailed.{UnlessFailed}
 use Rattle.cli_call.specs.declared.failure.Failure.{Failure}
 use Rattle.cli_call.specs.declared.failure.Failure.TheVariants as failure
@@ -12,6 +15,7 @@ use Rattle.cli_call.specs.declared.opened.Opened.{Opened}
 use Rattle.cli_call.specs.Command.{Disks, disks, Goes, KeepsOthers, IsShown, StandsFor, Rest, ReadsSame, HasDamage, ChangesNothing}
 use Rattle.cli_call.specs.Report.{End, status_of}
 use Rattle.cli_call.specs.State.{State, Effect, Meaning, Takes, IsNext, OneDisk}
+use Rattle.cli_call.specs.Store.{RestsAt}
 use Rattle.cli_call.specs.Stores.{root_store, repository_store}
 
 -- ---- writing
@@ -73,12 +77,28 @@ module _ {T P : Type 0} (root_disk : DiskModel T) (repo_disk : DiskModel P) wher
     pub outside : KeepsOthers IsOutcome s (root_disk.reads old.at.root) (root_disk.reads new.at.root)
     pub seen : UnlessFailed root_disk old.at.root new.at.root (IsShown IsOutcome s (root_disk.reads old.at.root))
 
-  -- A command of this meaning was performed with this input, what it answered was written, and it ended so.
-  pub record RunsLine (m : Meaning) (input : List ℕ) (old new : Moment T P) (end : End) : Type 0 where
+  -- The same of the root alone, from a state whose root its disk stores, whatever repository the state has.
+  pub record LineOnRoot (IsOutcome : Result Effect Refusal → Type 0) (s : State) (old new : Moment T P) (end : End) : Type 0 where
+    pub next : State
+    pub ends : Ends IsOutcome s next old.out new.out end
+    pub stays : next.repository ≡ s.repository
+    pub root : Goes root_store root_disk s.root next.root old.at.root new.at.root end
+    pub outside : KeepsOthers IsOutcome s (root_disk.reads old.at.root) (root_disk.reads new.at.root)
+    pub seen : UnlessFailed root_disk old.at.root new.at.root (IsShown IsOutcome s (root_disk.reads old.at.root))
+
+  pub record LineAlone (m : Meaning) (input : List ℕ) (old new : Moment T P) (end : End) : Type 0 where
+    pub repo : new.at.repo ≡ old.at.repo
+    pub told : IsTrue root_disk.tells → (s : State) → RestsAt root_store root_disk old.at.root s.root → LineOnRoot (m.IsOutcome s input) s old new end
+
+  -- A command of this meaning, which may work on the root alone, was performed with this input, what it answered was written, and it
+  -- ended so.
+  pub record RunsLine (of_root : Bool) (m : Meaning) (input : List ℕ) (old new : Moment T P) (end : End) : Type 0 where
     pub root_later : root_disk.faults old.at.root ≤ root_disk.faults new.at.root
     pub repo_later : repo_disk.faults old.at.repo ≤ repo_disk.faults new.at.repo
     pub out_later : old.out.faults ≤ new.out.faults
     pub cause : LineCause old new end
     pub rest : status_of end ≤ 4 → Rest root_disk repo_disk new.at
     pub same : ChangesNothing end → ReadsSame root_disk repo_disk old.at new.at
+    pub within : IsTrue repo_disk.tells → Confined repo_disk (Among (is_within repository_base)) old.at.repo new.at.repo
     pub told : IsTrue root_disk.tells → IsTrue repo_disk.tells → (s : State) → StandsFor root_disk repo_disk old.at s → LineFrom (m.IsOutcome s input) s old new end
+    pub alone : of_root ≡ true → LineAlone m input old new end

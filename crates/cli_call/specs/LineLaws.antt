@@ -1,11 +1,12 @@
 -- A command with what it writes, from what its own function did and from what was written.
-use Rattle.std.proofs.Common.{◌≡◌, ◌≤◌, ℕ, List, Option, Some, None, Result, Ok, Err, refl, sym, ap, subst, inr, arith}
+use Rattle.std.proofs.Common.{◌≡◌, ◌≤◌, ℕ, Bool, true, List, Option, Some, None, Result, Ok, Err, refl, sym, ap, subst, inr, arith}
 use Rattle.std.specs.Io.KnownBytes.{Appends, Keeps}
 use Rattle.cny_base.specs.declared.refusal.Refusal.{Refusal}
 use Rattle.cny_flow.specs.Flow.{SinkState, AppendsPart}
 use Rattle.tree_disk.specs.Disk.{DiskModel}
 use Rattle.cli_call.specs.declared.failure.Failure.{Failure}
 use Rattle.cli_call.specs.declared.failure.Failure.TheVariants as failure
+use Rattle.cli_call.specs.Alone.{PerformsAlone}
 use Rattle.cli_call.specs.Command.{Disks, HasCause, Goes, Answers, Performs}
 use Rattle.cli_call.specs.Line.{Moment, Writes, Ends, LineCause, RunsLine}
 use Rattle.cli_call.specs.Report.{End, status_of}
@@ -49,15 +50,16 @@ error_cause root_disk repo_disk old new before now failure.Usage keeps h = absur
 error_cause root_disk repo_disk old new before now failure.InputFault keeps h = absurd h
 error_cause root_disk repo_disk old new before now failure.OutputFault keeps h = absurd h
 
-module _ {T P : Type 0} {root_disk : DiskModel T} {repo_disk : DiskModel P} {m : Meaning} {input : List ℕ} {old new : Disks T P} (before now : SinkState) where
-  error_line : (e : Failure) → Performs root_disk repo_disk m input old new (Err e) → now ≡ before → RunsLine root_disk repo_disk m input (with_out old before) (with_out new now) (Err e)
-  error_line e performs same = record {
+module _ {T P : Type 0} {root_disk : DiskModel T} {repo_disk : DiskModel P} {m : Meaning} {input : List ℕ} {old new : Disks T P} (before now : SinkState) (of_root : Bool) where
+  error_line : (e : Failure) → Performs root_disk repo_disk m input old new (Err e) → (of_root ≡ true → PerformsAlone root_disk repo_disk m input old new (Err e)) → now ≡ before → RunsLine root_disk repo_disk of_root m input (with_out old before) (with_out new now) (Err e)
+  error_line e performs alone same = record {
     root_later = performs.root_later;
     repo_later = performs.repo_later;
     out_later = omega (arith, ap (λ (o : SinkState). o.faults) same);
     cause = error_cause root_disk repo_disk old new before now e (keeps_still before now same) performs.cause;
     rest = performs.rest;
     same = performs.same;
+    within = performs.within;
     told = λ root repo s stands. let f = performs.told root repo s stands in record {
       next = f.next;
       ends = error_ends (m.IsOutcome s input) s f.next before now e (keeps_still before now same) f.answers;
@@ -67,18 +69,31 @@ module _ {T P : Type 0} {root_disk : DiskModel T} {repo_disk : DiskModel P} {m :
       outside = f.outside;
       seen = f.seen;
     };
+    alone = λ is. let a = alone is in record {
+      repo = a.repo;
+      told = λ told s rests. let f = a.told told s rests in record {
+        next = f.next;
+        ends = error_ends (m.IsOutcome s input) s f.next before now e (keeps_still before now same) f.answers;
+        stays = f.stays;
+        root = f.root;
+        outside = f.outside;
+        seen = f.seen;
+      };
+    };
   }
 
   -- the whole line
-  pub line_written : (result : Result (List ℕ) Failure) (end : End) → Performs root_disk repo_disk m input old new result → Writes result before now end → RunsLine root_disk repo_disk m input (with_out old before) (with_out new now) end
-  line_written (Err e) end performs writes = subst (λ (x : End). RunsLine root_disk repo_disk m input (with_out old before) (with_out new now) x) (sym writes.wrote.0) (error_line e performs writes.wrote.1)
-  line_written (Ok text) (Ok x) performs writes = record {
+  pub line_written : (result : Result (List ℕ) Failure) (end : End) → Performs root_disk repo_disk m input old new result → (of_root ≡ true → PerformsAlone root_disk repo_disk m input old new result) → Writes result before now end
+      → RunsLine root_disk repo_disk of_root m input (with_out old before) (with_out new now) end
+  line_written (Err e) end performs alone writes = subst (λ (x : End). RunsLine root_disk repo_disk of_root m input (with_out old before) (with_out new now) x) (sym writes.wrote.0) (error_line e performs alone writes.wrote.1)
+  line_written (Ok text) (Ok x) performs alone writes = record {
     root_later = performs.root_later;
     repo_later = performs.repo_later;
     out_later = writes.later;
     cause = tt;
     rest = performs.rest;
     same = λ none. absurd none;
+    within = performs.within;
     told = λ root repo s stands. let f = performs.told root repo s stands in record {
       next = f.next;
       ends = takes_so (λ bytes is. subst (λ b. Appends before.written now.written b) (sym is) writes.wrote) f.answers;
@@ -88,14 +103,26 @@ module _ {T P : Type 0} {root_disk : DiskModel T} {repo_disk : DiskModel P} {m :
       outside = f.outside;
       seen = f.seen;
     };
+    alone = λ is. let a = alone is in record {
+      repo = a.repo;
+      told = λ told s rests. let f = a.told told s rests in record {
+        next = f.next;
+        ends = takes_so (λ bytes is. subst (λ b. Appends before.written now.written b) (sym is) writes.wrote) f.answers;
+        stays = f.stays;
+        root = f.root;
+        outside = f.outside;
+        seen = f.seen;
+      };
+    };
   }
-  line_written (Ok text) (Err failure.OutputFault) performs writes = record {
+  line_written (Ok text) (Err failure.OutputFault) performs alone writes = record {
     root_later = performs.root_later;
     repo_later = performs.repo_later;
     out_later = writes.later;
     cause = writes.wrote.0;
     rest = λ le. performs.rest (omega arith);
     same = λ none. absurd none;
+    within = performs.within;
     told = λ root repo s stands. let f = performs.told root repo s stands in record {
       next = f.next;
       ends = takes_so (λ bytes is. subst (λ b. AppendsPart before.written now.written b) (sym is) writes.wrote.1) f.answers;
@@ -105,14 +132,26 @@ module _ {T P : Type 0} {root_disk : DiskModel T} {repo_disk : DiskModel P} {m :
       outside = f.outside;
       seen = f.seen;
     };
+    alone = λ is. let a = alone is in record {
+      repo = a.repo;
+      told = λ told s rests. let f = a.told told s rests in record {
+        next = f.next;
+        ends = takes_so (λ bytes is. subst (λ b. AppendsPart before.written now.written b) (sym is) writes.wrote.1) f.answers;
+        stays = f.stays;
+        root = goes_on (Ok tt) (Err failure.OutputFault) (λ le. omega arith) f.root;
+        outside = f.outside;
+        seen = f.seen;
+      };
+    };
   }
-  line_written (Ok text) (Err failure.Memory) performs writes = record {
+  line_written (Ok text) (Err failure.Memory) performs alone writes = record {
     root_later = performs.root_later;
     repo_later = performs.repo_later;
     out_later = writes.later;
     cause = writes.wrote;
     rest = λ le. absurd (omega (arith, le));
     same = λ none. absurd none;
+    within = performs.within;
     told = λ root repo s stands. let f = performs.told root repo s stands in record {
       next = f.next;
       ends = (inr (takes_so (λ bytes is. tt) f.answers), writes.wrote);
@@ -122,10 +161,21 @@ module _ {T P : Type 0} {root_disk : DiskModel T} {repo_disk : DiskModel P} {m :
       outside = f.outside;
       seen = f.seen;
     };
+    alone = λ is. let a = alone is in record {
+      repo = a.repo;
+      told = λ told s rests. let f = a.told told s rests in record {
+        next = f.next;
+        ends = (inr (takes_so (λ bytes is. tt) f.answers), writes.wrote);
+        stays = f.stays;
+        root = goes_on (Ok tt) (Err failure.Memory) (λ le. absurd (omega (arith, le))) f.root;
+        outside = f.outside;
+        seen = f.seen;
+      };
+    };
   }
-  line_written (Ok text) (Err failure.Usage) performs writes = absurd writes.wrote
-  line_written (Ok text) (Err (failure.Refused r)) performs writes = absurd writes.wrote
-  line_written (Ok text) (Err failure.InputFault) performs writes = absurd writes.wrote
-  line_written (Ok text) (Err failure.RootFault) performs writes = absurd writes.wrote
-  line_written (Ok text) (Err failure.RepositoryFault) performs writes = absurd writes.wrote
-  line_written (Ok text) (Err (failure.Damaged path)) performs writes = absurd writes.wrote
+  line_written (Ok text) (Err failure.Usage) performs alone writes = absurd writes.wrote
+  line_written (Ok text) (Err (failure.Refused r)) performs alone writes = absurd writes.wrote
+  line_written (Ok text) (Err failure.InputFault) performs alone writes = absurd writes.wrote
+  line_written (Ok text) (Err failure.RootFault) performs alone writes = absurd writes.wrote
+  line_written (Ok text) (Err failure.RepositoryFault) performs alone writes = absurd writes.wrote
+  line_written (Ok text) (Err (failure.Damaged path)) performs alone writes = absurd writes.wrote

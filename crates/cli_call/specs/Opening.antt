@@ -1,5 +1,5 @@
 -- How a disk is opened: what a crash left is recovered, and what it stores is read.
-use Rattle.std.specs.Prelude.{◌≡◌, ◌⊎◌, ◌≤◌, IsTrue, Result, Ok, Err, OnOk, IfOk, IfErr}
+use Rattle.std.specs.Prelude.{◌≡◌, ◌⊎◌, ◌≤◌, false, IsTrue, Result, Ok, Err, OnOk, IfOk, IfErr}
 use Rattle.cny_base.specs.Count.{Rose}
 use Rattle.cny_base.specs.declared.refusal.Refusal.{Refusal}
 use Rattle.cny_base.specs.declared.stop.Stop.{Stop}
@@ -11,9 +11,9 @@ use Rattle.tree_disk.specs.Steps.{no_name}
 use Rattle.tree_disk.specs.Unfailed.{UnlessFailed}
 use Rattle.journal_log.specs.Own.{StoresSame}
 use Rattle.tree_journal.specs.Recovering.{IsVisibleIn}
-use Rattle.tree_journal.specs.Recovery.{RecoversTo, RecoversAsThen, IsRecovered, IsDamagedAt}
-use Rattle.cli_call.specs.Recovered.{RecoversToNone, IsKept, RefusesLog}
-use Rattle.cli_call.specs.Store.{Store, HasDamagedFile, IsSettled}
+use Rattle.tree_journal.specs.Recovery.{is_committed, RecoversTo, RecoversAsThen, IsRecovered, IsDamagedAt}
+use Rattle.cli_call.specs.Recovered.{RecoversToNone, IsKept, IsPathRefusal, RefusesLog}
+use Rattle.cli_call.specs.Store.{Store, HasDamageAtOpening, IsSettled}
 
 -- ---- recovering
 
@@ -26,7 +26,7 @@ pub record HasDamagedLog {D : Type 0} (disk : DiskModel D) (base : Name) (old ne
 abbrev pub RecoveryStops : {D : Type 0} → DiskModel D → Name → D → D → Stop → Type 0
 RecoveryStops disk base old new stop.Failed = Rose (disk.faults old) (disk.faults new)
 RecoveryStops disk base old new stop.Memory = Unit {0}
-RecoveryStops disk base old new (stop.Refused r) = IsTrue disk.tells → (disk.reads new ≡ disk.reads old) × RefusesLog base (disk.reads old) r
+RecoveryStops disk base old new (stop.Refused r) = IsPathRefusal r × (IsTrue disk.tells → (disk.reads new ≡ disk.reads old) × RefusesLog base (disk.reads old) r)
 RecoveryStops disk base old new (stop.Damaged path) = IsTrue disk.tells → HasDamagedLog disk base old new path
 RecoveryStops disk base old new stop.FarFailed = ⊥
 RecoveryStops disk base old new (stop.FarDamaged path) = ⊥
@@ -39,6 +39,7 @@ pub record RecoversAt {D : Type 0} (disk : DiskModel D) (base : Name) (old new :
   pub recovered : IsTrue disk.tells → OnOk result (IsRecovered disk base old new)
   pub kept : IsTrue disk.tells → IsKept base (disk.reads old) (disk.reads new)
   pub untouched : IsTrue disk.tells → RecoversToNone base (disk.reads old) → Confined disk (Among no_name) old new
+  pub clear : IsTrue disk.tells → is_committed base (disk.reads old) ≡ false → Confined disk (Among no_name) old new
   pub stops : IfErr result (RecoveryStops disk base old new)
 
 -- ---- opening
@@ -51,20 +52,25 @@ pub record IsOpen {D X V : Type 0} (store : Store X) (disk : DiskModel D) (tests
   pub stores : (tree : Tree) → RecoversTo store.base (disk.reads old) tree → StoresSame store.base (disk.reads new) tree
   pub value_is : IsRead (disk.reads new) value
 
--- A disk's log is damaged; or it was recovered, and a file is.
+-- A disk's log is damaged; or it was recovered, and a file that is read when it is opened is.
 abbrev pub MeetsDamage : {D X : Type 0} → Store X → DiskModel D → D → D → Name → Type 0
-MeetsDamage store disk old new path = IsTrue disk.tells → HasDamagedLog disk store.base old new path ⊎ HasDamagedFile store (disk.reads new) path
+MeetsDamage store disk old new path = IsTrue disk.tells → HasDamagedLog disk store.base old new path ⊎ HasDamageAtOpening store (disk.reads new) path
 
 -- its log can't be put, or it fails the tests; the tree is as it was
-pub record RefusesOpening {D : Type 0} (disk : DiskModel D) (base : Name) (tests : Tree → Result (Unit {0}) Refusal) (old new : D) (r : Refusal) : Type 0 where
+pub record RefusesTold {D : Type 0} (disk : DiskModel D) (base : Name) (tests : Tree → Result (Unit {0}) Refusal) (old new : D) (r : Refusal) : Type 0 where
   pub same : disk.reads new ≡ disk.reads old
   pub cause : RefusesLog base (disk.reads old) r ⊎ (tests (disk.reads old) ≡ Err r)
+
+-- Whatever the disk tells, the refusal is that of a path; and this is why, where it is told.
+pub record RefusesOpening {D : Type 0} (disk : DiskModel D) (base : Name) (tests : Tree → Result (Unit {0}) Refusal) (old new : D) (r : Refusal) : Type 0 where
+  pub of_path : IsPathRefusal r
+  pub told : IsTrue disk.tells → RefusesTold disk base tests old new r
 
 -- why a disk isn't opened
 abbrev pub OpeningStops : {D X : Type 0} → Store X → DiskModel D → (Tree → Result (Unit {0}) Refusal) → D → D → Stop → Type 0
 OpeningStops store disk tests old new stop.Failed = Rose (disk.faults old) (disk.faults new)
 OpeningStops store disk tests old new stop.Memory = Unit {0}
-OpeningStops store disk tests old new (stop.Refused r) = IsTrue disk.tells → RefusesOpening disk store.base tests old new r
+OpeningStops store disk tests old new (stop.Refused r) = RefusesOpening disk store.base tests old new r
 OpeningStops store disk tests old new (stop.Damaged path) = MeetsDamage store disk old new path
 OpeningStops store disk tests old new stop.FarFailed = ⊥
 OpeningStops store disk tests old new (stop.FarDamaged path) = ⊥
@@ -77,9 +83,10 @@ pub record Opens {D X V : Type 0} (store : Store X) (disk : DiskModel D) (tests 
   pub seen : IsTrue disk.tells → UnlessFailed disk old new (IsVisibleIn store.base (disk.reads old))
   pub opened : IsTrue disk.tells → IfOk result (IsOpen store disk tests IsRead old new)
   pub kept : IsTrue disk.tells → IsKept store.base (disk.reads old) (disk.reads new)
-  -- where a test fails, the disk is only read; where it recovers to no tree, it is left as it stands
+  -- where a test fails, the disk is only read; where it recovers to no tree, or its commit flag isn't set, it is left as it stands
   pub missing : IsTrue disk.tells → (r : Refusal) → tests (disk.reads old) ≡ Err r → HasRead disk old new (Unit {0})
   pub untouched : IsTrue disk.tells → RecoversToNone store.base (disk.reads old) → Confined disk (Among no_name) old new
+  pub clear : IsTrue disk.tells → is_committed store.base (disk.reads old) ≡ false → Confined disk (Among no_name) old new
   pub stops : IfErr result (OpeningStops store disk tests old new)
 
 -- a disk without tests

@@ -5,7 +5,7 @@ use Rattle.cny_base.specs.declared.refusal.Refusal.{Refusal}
 use Rattle.cny_flow.specs.Flow.{SourceState}
 use Rattle.cli_call.specs.declared.failure.Failure.{Failure}
 use Rattle.cli_call.specs.declared.failure.Failure.TheVariants as failure
-use Rattle.cli_call.specs.Input.{within_limit, left_after_reading}
+use Rattle.cli_call.specs.Input.{within_limit, left_after_reading, IsOfSome}
 
 -- a command that takes an input is given all of it, within its limit, and any other command nothing
 abbrev pub given : Bool → List ℕ → Result (List ℕ) Refusal
@@ -17,9 +17,17 @@ abbrev pub left_by : Bool → List ℕ → List ℕ
 left_by true input = left_after_reading input
 left_by false input = input
 
--- Where a command takes the input, this is all of it, and it is told.
+-- Where a command takes the input and it is told, this is all of it.
 abbrev pub IsInput : Bool → SourceState → List ℕ → Type 0
-IsInput takes source input = takes ≡ true → source.left ≡ Some input
+IsInput takes source input = takes ≡ true → IfSome source.left (λ all. all ≡ input)
+
+-- of this input reading gives this
+abbrev pub Gives : Bool → List ℕ → Result (List ℕ) Failure → Type 0
+Gives takes input (Ok bytes) = given takes input ≡ Ok bytes
+Gives takes input (Err (failure.Refused r)) = given takes input ≡ Err r
+Gives takes input (Err failure.InputFault) = Unit {0}
+Gives takes input (Err failure.Memory) = Unit {0}
+Gives takes input (Err _) = ⊥
 
 -- how reading ended, from a told input
 abbrev pub ReadFrom : Bool → List ℕ → SourceState → Result (List ℕ) Failure → Type 0
@@ -45,9 +53,11 @@ ReadCause before now (Err failure.RootFault) = ⊥
 ReadCause before now (Err failure.RepositoryFault) = ⊥
 ReadCause before now (Err (failure.Damaged path)) = ⊥
 
--- What a command is given was read, or why it wasn't. A command that takes no input is given nothing, and nothing is read.
+-- What a command is given was read, or why it wasn't. A command that takes no input is given nothing, and nothing is read. Of an input
+-- that isn't told there are bytes of which reading gives the same.
 pub record ReadsGiven (takes : Bool) (before now : SourceState) (result : Result (List ℕ) Failure) : Type 0 where
   pub later : before.faults ≤ now.faults
   pub cause : ReadCause before now result
   pub untaken : takes ≡ false → (now ≡ before) × ((bytes : List ℕ) → result ≡ Ok bytes → bytes ≡ []) × ((r : Refusal) → result ≡ Err (failure.Refused r) → ⊥)
   pub taken : takes ≡ true → IfSome before.left (λ input. ReadFrom takes input now result)
+  pub some : takes ≡ true → IsOfSome result

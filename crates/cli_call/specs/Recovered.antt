@@ -14,6 +14,10 @@ pub record IsKept (base : Name) (before after : Tree) : Type 0 where
   pub still : (recovered : Tree) → RecoversTo base before recovered → RecoversTo base after recovered
   pub same : is_committed base before ≡ false → after ≡ before
 
+-- the refusal of a path, for what stands there
+abbrev pub IsPathRefusal : Refusal → Type 0
+IsPathRefusal r = (path : Name) × (r ≡ refusal.Parent path)
+
 -- The log behind a set commit flag can't be put, and this is the refusal of its first such path.
 pub record RefusesLog (base : Name) (tree : Tree) (r : Refusal) : Type 0 where
   pub path : Name

@@ -13,6 +13,7 @@ root_laws = record {
   counted = λ t u x stored same. (stored.0, λ q out. same q out ∙ stored.1 q out);
   own = λ x q counts. counts;
   whole = λ t path x damaged stored. damaged;
+  at_opening = λ t path damaged. damaged;
 }
 
 -- the fixed directories of a state to which a root recovers

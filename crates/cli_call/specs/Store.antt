@@ -17,6 +17,8 @@ pub record Store (X : Type 0) : Type 1 where
   pub Counts : X → Name → Type 0
   -- this file of the tree isn't in its grammar, or fails a cross-check
   pub IsDamaged : Tree → Name → Type 0
+  -- it is one that is read when the disk is opened
+  pub IsDamagedAtOpening : Tree → Name → Type 0
 
 -- what holds of each store
 pub record IsStore {X : Type 0} (store : Store X) : Type 0 where
@@ -26,6 +28,8 @@ pub record IsStore {X : Type 0} (store : Store X) : Type 0 where
   pub own : (x : X) (q : Name) → store.Counts x q → is_own store.base q ≡ false
   -- a tree with a damaged file stores no state
   pub whole : (t : Tree) (path : Name) (x : X) → store.IsDamaged t path → store.IsStored t x → ⊥
+  -- what is found when the disk is opened is a damaged file
+  pub at_opening : (t : Tree) (path : Name) → store.IsDamagedAtOpening t path → store.IsDamaged t path
 
 -- a tree that a crash left recovers to a tree that stores the state
 pub record Recovers {X : Type 0} (store : Store X) (image : Tree) (x : X) : Type 0 where
@@ -41,6 +45,11 @@ OneOf store x y image = Recovers store image x ⊎ Recovers store image y
 pub record HasDamagedFile {X : Type 0} (store : Store X) (tree : Tree) (path : Name) : Type 0 where
   pub flag_clear : is_committed store.base tree ≡ false
   pub damaged : store.IsDamaged tree path
+
+-- The commit flag isn't set, and this file, which is read when the disk is opened, is damaged.
+pub record HasDamageAtOpening {X : Type 0} (store : Store X) (tree : Tree) (path : Name) : Type 0 where
+  pub flag_clear : is_committed store.base tree ≡ false
+  pub damaged : store.IsDamagedAtOpening tree path
 
 -- a disk at rest: its commit flag isn't set, neither now nor after a crash
 pub record IsResting {D : Type 0} (disk : DiskModel D) (base : Name) (d : D) : Type 0 where

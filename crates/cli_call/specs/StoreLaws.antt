@@ -15,7 +15,7 @@ use Rattle.tree_journal.specs.Recovery.{is_flag, is_committed, RecoversTo, at_re
 use Rattle.tree_journal.specs.Staging.{has_content}
 use Rattle.cli_call.specs.Opening.{IsOpen, MeetsDamage}
 use Rattle.cli_call.specs.Recovered.{IsKept, RefusesLog}
-use Rattle.cli_call.specs.Store.{Store, IsStore, Recovers, HasDamagedFile, IsSettled, RestsAt}
+use Rattle.cli_call.specs.Store.{Store, IsStore, Recovers, HasDamagedFile, HasDamageAtOpening, IsSettled, RestsAt}
 
 -- nothing was done
 pub nothing_done : {D : Type 0} {disk : DiskModel D} → IsDisk disk → (d : D) → HasRead disk d d (Unit {0})
@@ -60,6 +60,10 @@ module _ {X : Type 0} {store : Store X} (laws : IsStore store) where
   pub kept_recovers : (old new : Tree) (x : X) → IsKept store.base old new → Recovers store old x → Recovers store new x
   kept_recovers old new x kept rec = record { tree = rec.tree; recovers = kept.still rec.tree rec.recovers; stored = rec.stored }
 
+  -- what is found when the disk is opened is a damaged file
+  found_damaged : (tree : Tree) (path : Name) → HasDamageAtOpening store tree path → HasDamagedFile store tree path
+  found_damaged tree path file = record { flag_clear = file.flag_clear; damaged = laws.at_opening tree path file.damaged }
+
   -- nor a damaged file
   pub never_damaged_file : (tree : Tree) (path : Name) (x : X) → HasDamagedFile store tree path → Recovers store tree x → ⊥
   never_damaged_file tree path x file rec = by rec.recovers
@@ -71,7 +75,7 @@ module _ {X : Type 0} {store : Store X} (laws : IsStore store) where
   pub never_damaged : {D : Type 0} (disk : DiskModel D) (old new : D) (path : Name) (x : X) → IsTrue disk.tells → MeetsDamage store disk old new path → Recovers store (disk.reads old) x → Recovers store (disk.reads new) x → ⊥
   never_damaged disk old new path x told meets before now = ⊎_elim
       (λ log. never_damaged_log log.damaged before.recovers)
-      (λ file. never_damaged_file (disk.reads new) path x file now)
+      (λ file. never_damaged_file (disk.reads new) path x (found_damaged (disk.reads new) path file) now)
       (meets told)
 
   -- ---- a disk at rest

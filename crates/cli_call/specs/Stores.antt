@@ -21,6 +21,7 @@ root_store = record {
   IsStored = λ tree x. WellFormed x × StoresSame private_directory tree x;
   Counts = λ x q. is_own private_directory q ≡ false;
   IsDamaged = λ tree path. ⊥;
+  IsDamagedAtOpening = λ tree path. ⊥;
 }
 
 -- a content that a committed trove names doesn't stand under its name with a size that is recorded
@@ -42,11 +43,12 @@ pub record HasUnsoundContent (tree : Tree) (path : Name) : Type 0 where
   pub none : (bytes : List ℕ) → stored tree contents_dir name ≡ Some bytes → sha1 bytes ≡ name
       → ((other : ℕ) → IsTrue (records_content name other catalogue.troves) → length bytes ≡ other) → ⊥
 
--- A repository stores its state; a commit's file or a content can be damaged.
+-- A repository stores its state; a commit's file or a content can be damaged. The contents aren't read when it is opened.
 abbrev pub repository_store : Store RepositoryState
 repository_store = record {
   base = repository_base;
   IsStored = StoresRepository;
   Counts = Counts;
   IsDamaged = λ tree path. IsDamagedCommit tree path ⊎ (HasDamagedContent tree path ⊎ HasUnsoundContent tree path);
+  IsDamagedAtOpening = IsDamagedCommit;
 }

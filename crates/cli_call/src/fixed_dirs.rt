@@ -1,8 +1,8 @@
 //! The fixed directories of the root.
-ghost use Rattle.std.specs.Prelude.{◌≡◌, IsTrue, Some, IfOk};
+ghost use Rattle.std.specs.Prelude.{◌≡◌, IsTrue, Some, IfOk, IfErr};
 ghost use Rattle.cny_base.specs.Path.{is_path};
 ghost use Rattle.tree_disk.specs.Steps.{Tests};
-ghost use Rattle.cli_call.specs.FixedDirs.{dir_at, fixed_dirs};
+ghost use Rattle.cli_call.specs.FixedDirs.{dir_at, fixed_dirs, RefusesPath};
 ghost use Rattle.cli_call.specs.Seen.{is_dir_seen};
 
 use crate::texts::text_of_path;
@@ -19,7 +19,9 @@ fn is_dir_look(look: &Look) -> bool
 // Refuses where the path of this text isn't that of a directory.
 fn check_dir<T: TreeDisk>(alloc: Global, root: &mut T, text: &str) -> Result<(), Stop>
     requires { IsTrue (is_path text.now) }
-    ensures { Tests T.disk (λ done. done) (λ tree. dir_at tree text.now) root.old root.new result }
+    ensures tests { Tests T.disk (λ done. done) (λ tree. dir_at tree text.now) root.old root.new result }
+    // Also where the disk tells nothing.
+    ensures refuses { IfErr result RefusesPath }
 {
     let path = match Path::read(alloc, text) {
         Ok(path) => path,
@@ -36,7 +38,8 @@ fn check_dir<T: TreeDisk>(alloc: Global, root: &mut T, text: &str) -> Result<(),
 
 /// Refuses where one of the fixed directories isn't a directory.
 pub fn check_fixed_dirs<T: TreeDisk>(alloc: Global, root: &mut T) -> Result<(), Stop>
-    ensures { Tests T.disk (λ done. done) fixed_dirs root.old root.new result }
+    ensures tests { Tests T.disk (λ done. done) fixed_dirs root.old root.new result }
+    ensures refuses { IfErr result RefusesPath }
 {
     check_dir(alloc, root, "/")?;
     check_dir(alloc, root, "/var")?;

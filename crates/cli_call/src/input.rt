@@ -3,7 +3,7 @@ ghost use Rattle.std.specs.Prelude.{◌≡◌, ◌⊎◌, ◌≤◌, ◌+◌, �
 ghost use Rattle.std.specs.Io.KnownBytes.{Consumes, IsAtEnd};
 ghost use Rattle.cny_base.specs.Count.{Rose};
 ghost use Rattle.cny_flow.specs.Flow.{source_state};
-ghost use Rattle.cli_call.specs.Input.{input_limit, ReadsInput};
+ghost use Rattle.cli_call.specs.Input.{input_limit, IsOfSome, ReadsInput};
 ghost use Rattle.cli_call.specs.Reading.{ReadsGiven};
 
 use crate::failure::Failure;
@@ -38,6 +38,8 @@ fn take_more<I: Source>(input: &mut I, bytes: &mut Vec<u8>) -> Result<usize, Fai
 // Reads the input to its end, or to one byte past its limit.
 fn read_input<I: Source>(alloc: Global, input: &mut I) -> Result<Bytes, Failure>
     ensures read { ReadsInput (I.source.left input.old) (I.source.left input.new) result }
+    // Also where the source doesn't tell what it has.
+    ensures some { IsOfSome result }
     ensures later { I.source.faults input.old ≤ I.source.faults input.new }
     ensures failed { IsErrOf result Failure.InputFault → Rose (I.source.faults input.old) (I.source.faults input.new) }
 {

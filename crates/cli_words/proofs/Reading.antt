@@ -1,11 +1,12 @@
 -- How reading words ends, by how the reading of their parts ends.
-use Rattle.std.proofs.Common.{◌≡◌, List, ℕ, Result, Ok, Err, sym, ap, subst}
+use Rattle.std.proofs.Common.{◌≡◌, List, ℕ, Result, Ok, Err, refl, sym, ap, subst}
 use Rattle.std.specs.Prelude.{IsErrAnd}
 use Rattle.cli_call.specs.declared.failure.Failure.{Failure}
 use Rattle.cli_call.specs.declared.failure.Failure.TheVariants as failure
 use Rattle.cli_words.specs.declared.words.Command.{Command}
 use Rattle.cli_words.specs.declared.words.Form.{Form}
-use Rattle.cli_words.specs.Words.{ReadsOnly, IsOrUsage, ReadsWords, AreOfForm, AreWords, form_of}
+use Rattle.cli_words.specs.declared.words.Form.TheVariants as form
+use Rattle.cli_words.specs.Words.{ReadsOnly, IsOrUsage, IsSend, IsMove, ReadsWords, OrMemory, AreOfForm, AreWords, AreSomething, form_of, behind, command_of}
 
 -- an error that was passed on by `?`
 pub err_is : {X E : Type 0} (P : Result X E → Type 0) (s : Result X E) (f : E) → IsErrAnd s (λ e. e ≡ f) → P (Err f) → P s
@@ -44,5 +45,45 @@ reads_words Is (Err failure.RepositoryFault) reads expected is = absurd reads
 reads_words Is (Err (failure.Damaged path)) reads expected is = absurd reads
 
 -- the words are of this form
-pub of_form : (words : List (List ℕ)) (form : Form) → form_of words ≡ form → (expected : Result Command Failure) → AreWords words expected → AreOfForm form words expected
-of_form words form is expected are = subst (λ (f : Form). AreOfForm f words expected) is are
+pub of_form : (words : List (List ℕ)) (first : Form) → form_of words ≡ first → (expected : Result Command Failure) → AreWords words expected → AreOfForm first words expected
+of_form words first is expected are = subst (λ (f : Form). AreOfForm f words expected) is are
+
+pub of_this_form : (words : List (List ℕ)) (first : Form) → form_of words ≡ first → (r : Result Command Failure) → OrMemory (AreOfForm first words) r → OrMemory (AreWords words) r
+of_this_form words first is r h = subst (λ (f : Form). OrMemory (AreOfForm f words) r) (sym is) h
+
+-- ---- what was read, the words are
+
+pub read_is : (Is : Command → Type 0) (r : Result Command Failure) → ReadsOnly Is r → OrMemory (IsOrUsage Is) r
+read_is Is (Ok c) reads = reads.is
+read_is Is (Err failure.Usage) reads = (refl, reads)
+read_is Is (Err failure.Memory) reads = tt
+read_is Is (Err (failure.Refused r)) reads = absurd reads
+read_is Is (Err failure.InputFault) reads = absurd reads
+read_is Is (Err failure.OutputFault) reads = absurd reads
+read_is Is (Err failure.RootFault) reads = absurd reads
+read_is Is (Err failure.RepositoryFault) reads = absurd reads
+read_is Is (Err (failure.Damaged path)) reads = absurd reads
+
+pub other_is : (expected r : Result Command Failure) → ReadsWords expected r → OrMemory (λ (read : Result Command Failure). read ≡ expected) r
+other_is expected (Ok c) reads = sym reads
+other_is expected (Err failure.Usage) reads = sym reads
+other_is expected (Err (failure.Refused r)) reads = sym reads
+other_is expected (Err failure.Memory) reads = tt
+other_is expected (Err failure.InputFault) reads = absurd reads
+other_is expected (Err failure.OutputFault) reads = absurd reads
+other_is expected (Err failure.RootFault) reads = absurd reads
+other_is expected (Err failure.RepositoryFault) reads = absurd reads
+other_is expected (Err (failure.Damaged path)) reads = absurd reads
+
+-- ---- words are something
+
+some_or_usage : (Is : Command → Type 0) → ((expected : Result Command Failure) → IsOrUsage Is expected → ⊥) → ⊥
+some_or_usage Is nothing = nothing (Err failure.Usage) (refl, record { none = λ c is. nothing (Ok c) is })
+
+some_of_form : (f : Form) (words : List (List ℕ)) → ((expected : Result Command Failure) → AreOfForm f words expected → ⊥) → ⊥
+some_of_form form.Specs words nothing = some_or_usage (IsSend (behind words)) nothing
+some_of_form (form.LabelAndSpec onto) words nothing = some_or_usage (IsMove onto (behind words)) nothing
+some_of_form form.Others words nothing = nothing (command_of words) refl
+
+pub something : (words : List (List ℕ)) → AreSomething words
+something words nothing = some_of_form (form_of words) words nothing

@@ -153,6 +153,10 @@ AreOfForm form.Others words expected = expected ≡ command_of words
 abbrev pub AreWords : List (List ℕ) → Result Command Failure → Type 0
 AreWords words expected = AreOfForm (form_of words) words expected
 
+-- It can't be that words are nothing: neither a command nor none for a reason.
+abbrev pub AreSomething : List (List ℕ) → Type 0
+AreSomething words = ((expected : Result Command Failure) → AreWords words expected → ⊥) → ⊥
+
 -- ---- how reading ends
 
 -- this is one, and the only one
@@ -174,3 +178,8 @@ ReadsWords expected (Err failure.Memory) = Unit {0}
 ReadsWords expected (Err failure.Usage) = expected ≡ Err failure.Usage
 ReadsWords expected (Err (failure.Refused r)) = expected ≡ Err (failure.Refused r)
 ReadsWords expected (Err _) = ⊥
+
+-- What was read is so, unless memory ran out.
+abbrev pub OrMemory : (Result Command Failure → Type 0) → Result Command Failure → Type 0
+OrMemory IsSo (Err failure.Memory) = Unit {0}
+OrMemory IsSo read = IsSo read

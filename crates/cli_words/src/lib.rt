@@ -5,4 +5,4 @@
 
 mod words;
 
-pub use words::{Command, read_words};
+pub use words::{Command, read_words, some_words};

@@ -1,9 +1,9 @@
 //! The words of the command line.
-ghost use Rattle.std.specs.Prelude.{◌≡◌, ◌∷◌, [], string_bytes, map, Result};
+ghost use Rattle.std.specs.Prelude.{◌≡◌, ◌∷◌, [], ℕ, List, string_bytes, map, Result};
 ghost use Rattle.trove_spec.specs.Spec.{IsSpecText};
 ghost use Rattle.cli_call.specs.declared.failure.Failure.{Failure};
 ghost use Rattle.cli_words.specs.declared.words.Command.{Command};
-ghost use Rattle.cli_words.specs.Words.{AreWords, behind, form_of, IsGiven, IsLabelWord, IsMove, IsSend, is_short_word, is_planned_command, is_planned_option, command_of, commit_of, cook_of, install_of, list_of, show_of, ReadsOnly, ReadsWords, not_built};
+ghost use Rattle.cli_words.specs.Words.{AreSomething, AreWords, behind, form_of, IsGiven, IsLabelWord, IsMove, IsSend, is_short_word, is_planned_command, is_planned_option, command_of, commit_of, cook_of, install_of, list_of, show_of, OrMemory, ReadsOnly, ReadsWords, not_built};
 
 use cli_call::Failure;
 use cny_base::{Name, Refusal, Text, TextFault};
@@ -309,9 +309,17 @@ fn words_behind(words: &[String]) -> &[String]
     rest
 }
 
+/// Each list of words is something: a command, or none for a reason. (Which of the two, no search tells without memory.)
+pub fn some_words()
+    ensures { (words : List (List ℕ)) → AreSomething words }
+{}
+
 /// The command that the words are, or why they are none.
 pub fn read_words(alloc: Global, words: &[String]) -> Result<Command, Failure>
-    ensures { (expected : Result Command Failure) → AreWords (map string_bytes words.now) expected → ReadsWords expected result }
+    // What is answered, the words are.
+    ensures is { OrMemory (AreWords (map string_bytes words.now)) result }
+    // What the words are is answered.
+    ensures read { (expected : Result Command Failure) → AreWords (map string_bytes words.now) expected → ReadsWords expected result }
 {
     let rest = words_behind(words);
     match first_form(words) {

@@ -1,5 +1,5 @@
 -- The form of the input decides how a command ends.
-use Rattle.std.proofs.Common.{◌≡◌, ℕ, ◌+◌, ◌≤◌, Bool, true, cond, List, length, Result, Ok, Err, refl, ap, ◌∙◌, subst, inl, inr}
+use Rattle.std.proofs.Common.{◌≡◌, ℕ, ◌+◌, ◌≤◌, Bool, true, cond, List, length, Result, Ok, Err, refl, ap, ◌∙◌, subst, inl, inr, ⊎_elim}
 use Rattle.std.proofs.lemmas.Bool.{le-ltb}
 use Rattle.cny_base.specs.declared.refusal.Refusal.{Refusal}
 use Rattle.cny_base.specs.declared.refusal.Refusal.TheVariants as refusal
@@ -9,19 +9,18 @@ use Rattle.tree_disk.specs.Tree.{Tree}
 use Rattle.tree_disk.specs.Disk.{DiskModel}
 use Rattle.change_set.specs.declared.change.ChangeSet.{ChangeSet}
 use Rattle.change_set.specs.ChangeSet.{IsSetStream}
-use Rattle.cli_call.specs.declared.failure.Failure.{Failure}
 use Rattle.cli_call.specs.Call.{CallState}
 use Rattle.cli_call.specs.FixedDirs.{◌>>=◌, fixed_dirs}
 use Rattle.cli_call.specs.Input.{input_limit, within_limit}
 use Rattle.cli_call.specs.Reading.{given}
 use Rattle.cli_call.specs.State.{State, Effect, Meaning, tree_of, Then}
-use Rattle.cli_call.specs.WholeCall.{Outcome, IsAnswered, IsCallOf}
+use Rattle.cli_call.specs.WholeCall.{Outcome, IsAnswered, IsAnsweredOnRoot, IsCallOf}
 use Rattle.cli_words.specs.declared.words.Command.{Command}
 use Rattle.cli_words.specs.declared.words.Command.TheVariants as command
 use Rattle.conary_cli.specs.declared.manifest.types.Manifest.{Manifest}
 use Rattle.conary_cli.specs.declared.manifest.fault.Unread.{Unread}
 use Rattle.conary_cli.specs.declared.manifest.fault.Unread.TheVariants as unread
-use Rattle.conary_cli.specs.Commands.{meaning, IsWholeCall}
+use Rattle.conary_cli.specs.Commands.{meaning, is_of_root}
 use Rattle.conary_cli.specs.FormDecides.{IsFormRefusal, DecidesForm, DecidesSet, FormDecides}
 use Rattle.conary_cli.specs.Install.{install, install_outcome, installs, on_both}
 use Rattle.conary_cli.specs.ManifestForm.{IsManifest, IsManifestText, spelling, max_items}
@@ -69,38 +68,56 @@ outcome_by tree input r is = ap (λ (x : Result Manifest Refusal). on_both (x >>
 -- ---- how a call ends
 
 -- bytes are the stream of one change set at most
-abbrev OneSet : Type 0
+abbrev pub OneSet : Type 0
 OneSet = (set other : ChangeSet) (bytes : List ℕ) → IsSetStream set bytes → IsSetStream other bytes → set ≡ other
 
+decides : (Ended : Result Effect Refusal → Type 0) (input : List ℕ) (s : State) (o : Result Effect Refusal) → Outcome install s input o → Ended o → fixed_dirs (tree_of s.root) ≡ Ok tt → length input ≤ input_limit → DecidesForm input s Ended
+decides Ended input s o is ended dirs le =
+    let own = own_outcome install s input o refl dirs le is in
+    record {
+      taken = λ m valid same. subst Ended (own ∙ outcome_by (tree_of s.root) input (Ok m) (spelled m input valid same)) ended;
+      refused = λ none.
+          let out = outside input none in
+          (out.0, out.1, subst Ended (own ∙ outcome_by (tree_of s.root) input (Err out.0) out.2) ended);
+    }
+
+shown_as : OneSet → (Ended : Result Effect Refusal → Type 0) (input : List ℕ) (o : Result Effect Refusal) → IsDescribed input o → Ended o → DecidesSet input Ended
+shown_as one Ended input (Ok e) is ended = record {
+  shown = λ set spelled. subst (λ (x : Effect). Ended (Ok x)) (is.2 ∙ ap described (one is.0 set input is.1 spelled)) ended;
+  refused = λ none. absurd (none is.0 is.1);
+}
+shown_as one Ended input (Err r) is ended = record {
+  shown = λ set spelled. absurd (is.1 set spelled);
+  refused = λ none. (r, is.0, ended);
+}
+
 module _ {T P : Type 0} (root_disk : DiskModel T) (repo_disk : DiskModel P) (before now : CallState T P) (err err' : SinkState) (status : ℕ) where
-  decides : (input : List ℕ) (s : State) (o : Result Effect Refusal) → Outcome install s input o → IsAnswered root_disk repo_disk s o before now err err' status → fixed_dirs (tree_of s.root) ≡ Ok tt → length input ≤ input_limit → DecidesForm root_disk repo_disk input s before now err err' status
-  decides input s o is answered dirs le =
-      let own = own_outcome install s input o refl dirs le is in
-      record {
-        taken = λ m valid same. subst (λ (x : Result Effect Refusal). IsAnswered root_disk repo_disk s x before now err err' status) (own ∙ outcome_by (tree_of s.root) input (Ok m) (spelled m input valid same)) answered;
-        refused = λ none.
-            let out = outside input none in
-            (out.0, out.1, subst (λ (x : Result Effect Refusal). IsAnswered root_disk repo_disk s x before now err err' status) (own ∙ outcome_by (tree_of s.root) input (Err out.0) out.2) answered);
-      }
+  -- an outcome of the command, by which it ended
+  abbrev HasEnd : State → List ℕ → (Result Effect Refusal → Type 0) → Command → Type 0
+  HasEnd s input Ended c = (o : Result Effect Refusal) × Outcome (meaning c) s input o × Ended o
 
-  shown_as : OneSet → (input : List ℕ) (s : State) (o : Result Effect Refusal) → IsDescribed input o → IsAnswered root_disk repo_disk s o before now err err' status → DecidesSet root_disk repo_disk input s before now err err' status
-  shown_as one input s (Ok e) is answered = record {
-    shown = λ set spelled. subst (λ (x : Effect). IsAnswered root_disk repo_disk s (Ok x) before now err err' status) (is.2 ∙ ap described (one is.0 set input is.1 spelled)) answered;
-    refused = λ none. absurd (none is.0 is.1);
-  }
-  shown_as one input s (Err r) is answered = record {
-    shown = λ set spelled. absurd (is.1 set spelled);
-    refused = λ none. (r, is.0, answered);
-  }
+  abbrev Answered : State → Result Effect Refusal → Type 0
+  Answered s = λ o. IsAnswered root_disk repo_disk s o before now err err' status
 
-  -- the words are this command
-  call_of : (words : Result Command Failure) (c : Command) → words ≡ Ok c → IsWholeCall root_disk repo_disk words before now err err' status → IsCallOf root_disk repo_disk (meaning c) before now err err' status
-  call_of words c is call = subst (λ (w : Result Command Failure). IsWholeCall root_disk repo_disk w before now err err' status) is call
+  abbrev OnRoot : State → Result Effect Refusal → Type 0
+  OnRoot s = λ o. IsAnsweredOnRoot root_disk repo_disk s o before now err err' status
 
-  pub form_decides : OneSet → (words : Result Command Failure) → IsWholeCall root_disk repo_disk words before now err err' status → FormDecides root_disk repo_disk words before now err err' status
-  form_decides one words call = record {
-    manifest = λ is root repo s recovers input given dirs le small.
-        let a = (call_of words command.Install is call).answers small root repo s recovers input given in decides input s a.0 a.1 a.2 dirs le;
-    set = λ is root repo s recovers input given dirs le small.
-        let a = (call_of words command.ShowChangeSet is call).answers small root repo s recovers input given in shown_as one input s a.0 (own_outcome show_change_set s input a.0 refl dirs le a.1) a.2;
+  as_form : (Ended : Result Effect Refusal → Type 0) (input : List ℕ) (s : State) → HasEnd s input Ended command.Install → fixed_dirs (tree_of s.root) ≡ Ok tt → length input ≤ input_limit → DecidesForm input s Ended
+  as_form Ended input s a dirs le = decides Ended input s a.0 a.1 a.2 dirs le
+
+  as_set : OneSet → (Ended : Result Effect Refusal → Type 0) (input : List ℕ) (s : State) → HasEnd s input Ended command.ShowChangeSet → fixed_dirs (tree_of s.root) ≡ Ok tt → length input ≤ input_limit → DecidesSet input Ended
+  as_set one Ended input s a dirs le = shown_as one Ended input a.0 (own_outcome show_change_set s input a.0 refl dirs le a.1) a.2
+
+  pub form_decides : OneSet → (c : Command) (call : IsCallOf root_disk repo_disk (is_of_root c) (meaning c) before now err err' status) → FormDecides root_disk repo_disk c call.input before now err err' status
+  form_decides one c call = record {
+    manifest = λ is root repo s recovers dirs le small. as_form (Answered s) call.input s (subst (HasEnd s call.input (Answered s)) is (call.answers small root repo s recovers)) dirs le;
+    set = λ is root repo s recovers dirs le small. as_set one (Answered s) call.input s (subst (HasEnd s call.input (Answered s)) is (call.answers small root repo s recovers)) dirs le;
+    manifest_alone = λ is root s recovers dirs le small. ⊎_elim
+        (λ refused. inl refused)
+        (λ a. inr (as_form (OnRoot s) call.input s (subst (HasEnd s call.input (OnRoot s)) is a) dirs le))
+        ((call.alone (ap is_of_root is)).answers small root s recovers);
+    set_alone = λ is root s recovers dirs le small. ⊎_elim
+        (λ refused. inl refused)
+        (λ a. inr (as_set one (OnRoot s) call.input s (subst (HasEnd s call.input (OnRoot s)) is a) dirs le))
+        ((call.alone (ap is_of_root is)).answers small root s recovers);
   }

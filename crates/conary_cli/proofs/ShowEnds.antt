@@ -1,5 +1,5 @@
 -- How `showcs` ends, from its input.
-use Rattle.std.proofs.Common.{◌≡◌, ℕ, List, Ok, Err, refl, ap}
+use Rattle.std.proofs.Common.{◌≡◌, ℕ, List, Result, Ok, Err, refl, ap}
 use Rattle.cny_base.specs.declared.refusal.Fault.{Fault}
 use Rattle.cny_base.specs.declared.refusal.Fault.TheVariants as fault
 use Rattle.tree_disk.specs.Disk.{DiskModel, IsDisk}
@@ -7,13 +7,17 @@ use Rattle.change_set.specs.declared.change.ChangeSet.{ChangeSet}
 use Rattle.change_set.specs.ChangeSet.{IsSetStream}
 use Rattle.change_set.specs.FirstFault.{IsFaultOf}
 use Rattle.cny_report.specs.Changes.{change_text}
+use Rattle.cli_call.specs.declared.failure.Failure.{Failure}
 use Rattle.cli_call.specs.declared.failure.Failure.TheVariants as failure
+use Rattle.cli_call.specs.Alone.{PerformsAlone}
+use Rattle.cli_call.specs.AloneLaws.{AnswersAlone, alone_reading}
 use Rattle.cli_call.specs.Command.{Disks, AreReady, Performs}
 use Rattle.cli_call.specs.CommandLaws.{none_read, performs_reading}
 use Rattle.cli_call.specs.Failures.{failure_of_fault}
 use Rattle.cli_call.specs.RootLaws.{root_laws}
 use Rattle.cli_call.specs.State.{nothing}
 use Rattle.cli_call.specs.Store.{IsStore}
+use Rattle.cli_call.specs.StoreLaws.{nothing_done}
 use Rattle.cli_call.specs.Stores.{repository_store}
 use Rattle.conary_cli.specs.ShowChangeSet.{show_change_set}
 
@@ -31,3 +35,19 @@ module _ {T P : Type 0} {root_disk : DiskModel T} {repo_disk : DiskModel P} (roo
   shows_none (fault.Refused r) is only = performs_reading root_disk_laws repo_disk_laws root_laws store_laws show_change_set input m m ready (none_read root_disk_laws repo_disk_laws m m refl refl) (Err (failure.Refused r)) tt
       (λ root repo s stands. (is, λ set spelled. let h = only set spelled in absurd (cc h)))
   shows_none fault.Memory is only = memory_out
+
+-- ---- whatever the repository's disk tells or stores
+
+module _ {T P : Type 0} {root_disk : DiskModel T} (repo_disk : DiskModel P) (root_disk_laws : IsDisk root_disk) (input : List ℕ) (m : Disks T P) where
+  alone : (result : Result (List ℕ) Failure) → AnswersAlone root_disk show_change_set input m.root result → PerformsAlone root_disk repo_disk show_change_set input m m result
+  alone result answers = alone_reading repo_disk root_disk_laws root_laws show_change_set input m m result refl (λ told. nothing_done root_disk_laws m.root) answers
+
+  pub shows_alone : (text : List ℕ) (set : ChangeSet) → IsSetStream set input → text ≡ change_text set → PerformsAlone root_disk repo_disk show_change_set input m m (Ok text)
+  shows_alone text set spelled is = alone (Ok text) (λ told s rests. (set, spelled, ap (λ (t : List ℕ). record { change = nothing; out = t }) is))
+
+  pub memory_out_alone : PerformsAlone root_disk repo_disk show_change_set input m m (Err failure.Memory)
+  memory_out_alone = alone (Err failure.Memory) tt
+
+  pub shows_none_alone : (f : Fault) → IsFaultOf input f → ((set : ChangeSet) → IsSetStream set input → f ≡ fault.Memory) → PerformsAlone root_disk repo_disk show_change_set input m m (Err (failure_of_fault f))
+  shows_none_alone (fault.Refused r) is only = alone (Err (failure.Refused r)) (λ told s rests. (is, λ set spelled. let h = only set spelled in absurd (cc h)))
+  shows_none_alone fault.Memory is only = memory_out_alone

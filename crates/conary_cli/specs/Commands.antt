@@ -1,5 +1,5 @@
 -- The table of commands: what each means.
-use Rattle.std.specs.Prelude.{◌≡◌, ◌⊎◌, ℕ, Result, Ok, Err}
+use Rattle.std.specs.Prelude.{◌≡◌, ◌⊎◌, ℕ, Bool, true, false, List, Result, Ok, Err}
 use Rattle.cny_flow.specs.Flow.{SinkState}
 use Rattle.tree_disk.specs.Disk.{DiskModel}
 use Rattle.cli_call.specs.declared.failure.Failure.{Failure}
@@ -15,6 +15,8 @@ use Rattle.spec_commands.specs.Sending.{changeset}
 use Rattle.move_commands.specs.Moving.{move}
 use Rattle.cli_words.specs.declared.words.Command.{Command}
 use Rattle.cli_words.specs.declared.words.Command.TheVariants as command
+use Rattle.cli_words.specs.Words.{AreWords}
+use Rattle.conary_cli.specs.FormDecides.{FormDecides}
 use Rattle.conary_cli.specs.Install.{install}
 use Rattle.conary_cli.specs.ShowChangeSet.{show_change_set}
 
@@ -27,13 +29,31 @@ meaning (command.ListCommitted name) = list_committed name
 meaning (command.SendChanges from to) = changeset from to
 meaning (command.Move way label given) = move way label given
 
+-- the commands that work on the root alone
+abbrev pub is_of_root : Command → Bool
+is_of_root command.Install = true
+is_of_root command.ShowChangeSet = true
+is_of_root _ = false
+
 module _ {T P : Type 0} (root_disk : DiskModel T) (repo_disk : DiskModel P) where
   -- The words are a command, and it was called; or they are none, and nothing was done.
   abbrev pub RunsWords : Result Command Failure → CallState T P → CallState T P → End → Type 0
-  RunsWords (Ok c) before now end = RunsCall root_disk repo_disk (meaning c) before now end
+  RunsWords (Ok c) before now end = RunsCall root_disk repo_disk (is_of_root c) (meaning c) before now end
   RunsWords (Err e) before now end = (now ≡ before) × ((end ≡ Err e) ⊎ (end ≡ Err failure.Memory))
+
+  -- a call of a command, and what the form of its input decides of it
+  pub record IsCommandCall (c : Command) (before now : CallState T P) (err err' : SinkState) (status : ℕ) : Type 0 where
+    pub call : IsCallOf root_disk repo_disk (is_of_root c) (meaning c) before now err err' status
+    pub form : FormDecides root_disk repo_disk c call.input before now err err' status
 
   -- what a whole call promises: as its command means, or nothing was done
   abbrev pub IsWholeCall : Result Command Failure → CallState T P → CallState T P → SinkState → SinkState → ℕ → Type 0
-  IsWholeCall (Ok c) before now err err' status = IsCallOf root_disk repo_disk (meaning c) before now err err' status
+  IsWholeCall (Ok c) before now err err' status = IsCommandCall c before now err err' status
   IsWholeCall (Err e) before now err err' status = IsNoCall e before now err err' status
+
+  -- The words are something, and the call was one of it; or memory ran out before they were read, and nothing was done.
+  abbrev pub RunsSome : List (List ℕ) → CallState T P → CallState T P → End → Type 0
+  RunsSome words before now end = ((expected : Result Command Failure) × AreWords words expected × RunsWords expected before now end) ⊎ ((now ≡ before) × (end ≡ Err failure.Memory))
+
+  abbrev pub IsSomeCall : List (List ℕ) → CallState T P → CallState T P → SinkState → SinkState → ℕ → Type 0
+  IsSomeCall words before now err err' status = ((expected : Result Command Failure) × AreWords words expected × IsWholeCall expected before now err err' status) ⊎ IsNoCall failure.Memory before now err err' status

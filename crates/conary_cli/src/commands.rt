@@ -1,7 +1,8 @@
 //! The table of commands: what each takes, and which function performs it.
-ghost use Rattle.std.specs.Prelude.{◌≡◌};
+ghost use Rattle.std.specs.Prelude.{◌≡◌, true};
+ghost use Rattle.cli_call.specs.Alone.{PerformsAlone};
 ghost use Rattle.cli_call.specs.Command.{disks, AreReady, Performs};
-ghost use Rattle.conary_cli.specs.Commands.{meaning};
+ghost use Rattle.conary_cli.specs.Commands.{meaning, is_of_root};
 
 use crate::install::install;
 use crate::show::show_change_set;
@@ -49,7 +50,9 @@ pub fn perform<T: TreeDisk, P: TreeDisk>(
     root: &mut T,
 ) -> Result<Bytes, Failure>
     requires { AreReady T.disk P.disk (disks root.old repo.old opened.old) }
-    ensures { Performs T.disk P.disk (meaning command.now) input.now (disks root.old repo.old opened.old) (disks root.new repo.new opened.new) result }
+    ensures performs { Performs T.disk P.disk (meaning command.now) input.now (disks root.old repo.old opened.old) (disks root.new repo.new opened.new) result }
+    // A command that works on the root alone does so whatever the repository's disk tells or stores.
+    ensures alone { is_of_root command.now ≡ true → PerformsAlone T.disk P.disk (meaning command.now) input.now (disks root.old repo.old opened.old) (disks root.new repo.new opened.new) result }
 {
     match command {
         Command::Install => as_bytes(install(alloc, input, opened, repo, root)),

@@ -1,13 +1,12 @@
 //! A whole call of the program.
-ghost use Rattle.std.specs.Prelude.{◌≡◌, string_bytes, map, Result};
+ghost use Rattle.std.specs.Prelude.{◌≡◌, ◌≤◌, string_bytes, map, Result};
 ghost use Rattle.cli_call.specs.declared.failure.Failure.{Failure};
 ghost use Rattle.cli_words.specs.declared.words.Command.{Command};
 ghost use Rattle.cny_flow.specs.Flow.{sink_state, source_state};
 ghost use Rattle.cli_call.specs.Call.{call_state, RunsCall, RunsOpen};
 ghost use Rattle.cli_call.specs.Command.{disks, AreReady};
 ghost use Rattle.cli_call.specs.Line.{moment, RunsLine};
-ghost use Rattle.conary_cli.specs.Commands.{meaning, IsWholeCall, RunsWords};
-ghost use Rattle.conary_cli.specs.FormDecides.{FormDecides};
+ghost use Rattle.conary_cli.specs.Commands.{meaning, is_of_root, IsSomeCall, IsWholeCall, RunsSome, RunsWords};
 ghost use Rattle.cli_words.specs.Words.{AreWords};
 
 use crate::commands::{perform, takes_input};
@@ -29,7 +28,7 @@ fn run_command<O: Sink, T: TreeDisk, P: TreeDisk>(
     root: &mut T,
 ) -> Result<(), Failure>
     requires { AreReady T.disk P.disk (disks root.old repo.old opened.old) }
-    ensures { RunsLine T.disk P.disk (meaning command.now) input.now (moment O.sink root.old repo.old opened.old out.old) (moment O.sink root.new repo.new opened.new out.new) result }
+    ensures { RunsLine T.disk P.disk (is_of_root command.now) (meaning command.now) input.now (moment O.sink root.old repo.old opened.old out.old) (moment O.sink root.new repo.new opened.new out.new) result }
 {
     let answered = perform(alloc, command, input, opened, repo, root);
     write_answer(answered, out)
@@ -46,7 +45,7 @@ fn run_open<I: Source, O: Sink, T: TreeDisk, P: TreeDisk>(
     root: &mut T,
 ) -> Result<(), Failure>
     requires { AreReady T.disk P.disk (disks root.old repo.old opened.old) }
-    ensures { RunsOpen T.disk P.disk (meaning command.now) (source_state I.source input.old) (source_state I.source input.new)
+    ensures { RunsOpen T.disk P.disk (is_of_root command.now) (meaning command.now) (source_state I.source input.old) (source_state I.source input.new)
         (moment O.sink root.old repo.old opened.old out.old) (moment O.sink root.new repo.new opened.new out.new) result }
 {
     let bytes = read_given(alloc, takes_input(command), input)?;
@@ -62,7 +61,7 @@ fn run_call<I: Source, O: Sink, T: TreeDisk, P: TreeDisk>(
     repo: &mut P,
     root: &mut T,
 ) -> Result<(), Failure>
-    ensures { RunsCall T.disk P.disk (meaning command.now) (call_state I.source O.sink input.old out.old root.old repo.old)
+    ensures { RunsCall T.disk P.disk (is_of_root command.now) (meaning command.now) (call_state I.source O.sink input.old out.old root.old repo.old)
         (call_state I.source O.sink input.new out.new root.new repo.new) result }
 {
     let mut opened = open_disks(alloc, repo, root)?;
@@ -77,7 +76,9 @@ fn run_words<I: Source, O: Sink, T: TreeDisk, P: TreeDisk>(
     repo: &mut P,
     root: &mut T,
 ) -> Result<(), Failure>
-    ensures { (expected : Result Command Failure) → AreWords (map string_bytes words.now) expected → RunsWords T.disk P.disk expected (call_state I.source O.sink input.old out.old root.old repo.old)
+    ensures some { RunsSome T.disk P.disk (map string_bytes words.now) (call_state I.source O.sink input.old out.old root.old repo.old)
+        (call_state I.source O.sink input.new out.new root.new repo.new) result }
+    ensures each { (expected : Result Command Failure) → AreWords (map string_bytes words.now) expected → RunsWords T.disk P.disk expected (call_state I.source O.sink input.old out.old root.old repo.old)
         (call_state I.source O.sink input.new out.new root.new repo.new) result }
 {
     let command = read_words(alloc, words)?;
@@ -94,13 +95,14 @@ pub fn run<I: Source, O: Sink, E: Sink, P: TreeDisk, T: TreeDisk>(
     repo: &mut P,
     root: &mut T,
 ) -> u8
+    // The words are something, and the call keeps all that one of it promises; or memory ran out before they were read, and nothing
+    // was done.
+    ensures some { IsSomeCall T.disk P.disk (map string_bytes words.now) (call_state I.source O.sink input.old out.old root.old repo.old)
+        (call_state I.source O.sink input.new out.new root.new repo.new) (sink_state E.sink err.old) (sink_state E.sink err.new) result }
+    // Whatever the words are, and however the call ends.
+    ensures statuses { result ≤ 8 }
     // All that a call promises, by the command that the words are.
     ensures call { (expected : Result Command Failure) → AreWords (map string_bytes words.now) expected → IsWholeCall T.disk P.disk expected
-        (call_state I.source O.sink input.old out.old root.old repo.old) (call_state I.source O.sink input.new out.new root.new repo.new)
-        (sink_state E.sink err.old) (sink_state E.sink err.new) result }
-    // `install` refuses an input for its form exactly where it is no manifest's text, and `showcs` describes exactly the inputs
-    // that are change sets.
-    ensures form { (expected : Result Command Failure) → AreWords (map string_bytes words.now) expected → FormDecides T.disk P.disk expected
         (call_state I.source O.sink input.old out.old root.old repo.old) (call_state I.source O.sink input.new out.new root.new repo.new)
         (sink_state E.sink err.old) (sink_state E.sink err.new) result }
 {

@@ -1,4 +1,5 @@
 //! The command that describes a change set.
+ghost use Rattle.cli_call.specs.Alone.{PerformsAlone};
 ghost use Rattle.cli_call.specs.Command.{disks, AreReady, Performs};
 ghost use Rattle.conary_cli.specs.ShowChangeSet as spec;
 
@@ -18,7 +19,8 @@ pub fn show_change_set<T: TreeDisk, P: TreeDisk>(
     root: &T,
 ) -> Result<Text, Failure>
     requires { AreReady T.disk P.disk (disks root.now repo.now opened.now) }
-    ensures { Performs T.disk P.disk spec.show_change_set input.now (disks root.now repo.now opened.now) (disks root.now repo.now opened.now) result }
+    ensures performs { Performs T.disk P.disk spec.show_change_set input.now (disks root.now repo.now opened.now) (disks root.now repo.now opened.now) result }
+    ensures alone { PerformsAlone T.disk P.disk spec.show_change_set input.now (disks root.now repo.now opened.now) (disks root.now repo.now opened.now) result }
 {
     store_laws();
     let change = decode(alloc, input)?;

@@ -1,6 +1,8 @@
 //! What the program does: it hands its words, the standard streams and two disks to `run`.
 #![tactic(auto)]
 
+ghost use Rattle.std.specs.Prelude.{◌≡◌, ◌≤◌, IfOk, IfErr};
+
 use cny_base::{Fails, Mode, Node, OutOfMemory, Path, Text};
 use cny_flow::{StdSink, StdSource};
 use conary_cli::run;
@@ -20,12 +22,24 @@ const DISK_OPTION: &str = "--disk";
 /// Runs the words of the command line over the standard streams and two disks: directories of the host where `--disk` is the very
 /// first word and two more follow, and else trees in memory, which are gone when the program ends. Answers the status of `run`,
 /// and that of want of memory where there is none for the words or the trees.
-pub fn start(rt: &HostRuntime) -> u8 {
-    start_words(rt).unwrap_or(OUT_OF_MEMORY)
+pub fn start(rt: &HostRuntime) -> u8
+    ensures { result ≤ 8 }
+{
+    status_of(start_words(rt))
+}
+
+// The status of `run`, or that of want of memory.
+fn status_of(outcome: Result<u8, OutOfMemory>) -> u8
+    ensures ran { IfOk outcome (λ status. result ≡ status) }
+    ensures memory { IfErr outcome (λ _. result ≡ 7) }
+{
+    outcome.unwrap_or(OUT_OF_MEMORY)
 }
 
 // Runs the words of the command line.
-fn start_words(rt: &HostRuntime) -> Result<u8, OutOfMemory> {
+fn start_words(rt: &HostRuntime) -> Result<u8, OutOfMemory>
+    ensures { IfOk result (λ status. status ≤ 8) }
+{
     let words = words_of(rt)?;
     match words.as_slice() {
         [option, root, repo, rest @ ..] if option.as_str() == DISK_OPTION => {
@@ -41,7 +55,9 @@ fn run_on_host(
     words: &[String],
     root: &str,
     repo: &str,
-) -> Result<u8, OutOfMemory> {
+) -> Result<u8, OutOfMemory>
+    ensures { IfOk result (λ status. status ≤ 8) }
+{
     let alloc = rt.alloc();
     let mut repo = HostTree::journaled(alloc, rt, Text::new(alloc, repo)?);
     let mut root = HostTree::new(alloc, rt, Text::new(alloc, root)?);
@@ -49,7 +65,9 @@ fn run_on_host(
 }
 
 // Runs words over two trees in memory, which are gone when the program ends.
-fn run_in_memory(rt: &HostRuntime, words: &[String]) -> Result<u8, OutOfMemory> {
+fn run_in_memory(rt: &HostRuntime, words: &[String]) -> Result<u8, OutOfMemory>
+    ensures { IfOk result (λ status. status ≤ 8) }
+{
     let alloc = rt.alloc();
     let mut repo = new_tree(alloc, &["/"])?;
     let mut root = new_tree(alloc, &["/", "/var", "/var/lib"])?;
@@ -62,7 +80,9 @@ fn run_over<P: TreeDisk, T: TreeDisk>(
     words: &[String],
     repo: &mut P,
     root: &mut T,
-) -> u8 {
+) -> u8
+    ensures { result ≤ 8 }
+{
     let mut input = StdSource::new(rt.stdin());
     let mut out = StdSink::new(rt.stdout());
     let mut err = StdSink::new(rt.stderr());

@@ -9,7 +9,8 @@ use Rattle.trove_id.specs.declared.id.TroveId.{TroveId}
 use Rattle.trove_stream.specs.declared.parts.TroveParts.{TroveParts}
 use Rattle.tree_disk.specs.Tree.{Name, Tree}
 use Rattle.tree_disk.specs.Disk.{DiskModel, IsDisk, HasRead}
-use Rattle.tree_disk.specs.Confined.{IsUnsynced}
+use Rattle.tree_disk.specs.Clear.{is_within}
+use Rattle.tree_disk.specs.Confined.{Among, Confined, IsUnsynced}
 use Rattle.tree_disk.specs.ConfinedLaws.{leaves_weaker}
 use Rattle.journal_log.specs.Own.{gate}
 use Rattle.tree_journal.specs.Recovery.{is_committed}
@@ -48,6 +49,7 @@ pub record CommitLaws : Type 0 where
 pub record Committing {P : Type 0} (disk : DiskModel P) (set : ChangeSet) (c c' : CatalogueParts) (old new : P) (result : Result (List TroveId) Stop) : Type 0 where
   pub ends : IsTrue disk.tells → EndsSo disk set c c' old new result
   pub any_moment : IsTrue disk.tells → (r : RepositoryState) → AtEveryMoment disk set old new r
+  pub within : IsTrue disk.tells → Confined disk (Among (is_within repository_base)) old new
   pub later : disk.faults old ≤ disk.faults new
   pub causes : IfErr result (outcome.HasCause (disk.faults old) (disk.faults new))
 
@@ -130,7 +132,7 @@ module _ {T P : Type 0} {root_disk : DiskModel T} {repo_disk : DiskModel P} (roo
       }
 
   pub commit_told : (ids : List TroveId) (text : List ℕ) → Committing repo_disk set old.opened.catalogue c' old.repo new.repo (Ok ids) → text ≡ committed_text ids → Performs root_disk repo_disk (commit_of set) input old new (Ok text)
-  commit_told ids text done is = performs_on_repository root_disk_laws root_laws (commit_of set) input old new (Ok text) ready root_same done.later tt
+  commit_told ids text done is = performs_on_repository root_disk_laws root_laws (commit_of set) input old new (Ok text) ready root_same done.later done.within tt
       (λ le told. done_settled ids done told)
       (λ none told. absurd none)
       (λ told s stands.
@@ -147,7 +149,7 @@ module _ {T P : Type 0} {root_disk : DiskModel T} {repo_disk : DiskModel P} (roo
 
   -- its ids couldn't be told, for want of memory
   pub commit_untold : (ids : List TroveId) → Committing repo_disk set old.opened.catalogue c' old.repo new.repo (Ok ids) → Performs root_disk repo_disk (commit_of set) input old new (Err failure.Memory)
-  commit_untold ids done = performs_on_repository root_disk_laws root_laws (commit_of set) input old new (Err failure.Memory) ready root_same done.later tt
+  commit_untold ids done = performs_on_repository root_disk_laws root_laws (commit_of set) input old new (Err failure.Memory) ready root_same done.later done.within tt
       (λ le told. done_settled ids done told)
       (λ none told. absurd none)
       (λ told s stands.
@@ -170,7 +172,7 @@ module _ {T P : Type 0} {root_disk : DiskModel T} {repo_disk : DiskModel P} (roo
   }
 
   refused_so : (refusal : Refusal) → Committing repo_disk set old.opened.catalogue c' old.repo new.repo (Err (stop.Refused refusal)) → Performs root_disk repo_disk (commit_of set) input old new (Err (failure.Refused refusal))
-  refused_so refusal done = performs_on_repository root_disk_laws root_laws (commit_of set) input old new (Err (failure.Refused refusal)) ready root_same done.later tt
+  refused_so refusal done = performs_on_repository root_disk_laws root_laws (commit_of set) input old new (Err (failure.Refused refusal)) ready root_same done.later done.within tt
       (λ le told. read_settled told (done.ends told).0)
       (λ none told. (done.ends told).0.same.reads)
       (λ told s stands.
@@ -183,7 +185,7 @@ module _ {T P : Type 0} {root_disk : DiskModel T} {repo_disk : DiskModel P} (roo
   -- a fault, or want of memory
   module _ (result : Result (List ℕ) Failure) (low : status_of (end_of result) ≤ 4 → ⊥) (quiet : ChangesNothing (end_of result) → ⊥) (next_answers : (s next : State) → IsNext (Commits set s.repository) s next → Answers (Commits set s.repository) s next result) where
     ended_so : (r : Result (List TroveId) Stop) → Committing repo_disk set old.opened.catalogue c' old.repo new.repo r → HasCause root_disk repo_disk old new result → Performs root_disk repo_disk (commit_of set) input old new result
-    ended_so r done cause = performs_on_repository root_disk_laws root_laws (commit_of set) input old new result ready root_same done.later cause
+    ended_so r done cause = performs_on_repository root_disk_laws root_laws (commit_of set) input old new result ready root_same done.later done.within cause
         (λ le told. absurd (low le))
         (λ none told. absurd (quiet none))
         (λ told s stands.
@@ -219,7 +221,7 @@ module _ {T P : Type 0} {root_disk : DiskModel T} {repo_disk : DiskModel P} (roo
       (subst (λ (k : CatalogueParts). IsDamagedContent k.troves source.content.name (repo_disk.reads old.repo) path) same source.damaged)
 
   damaged_so : (path : Name) → Committing repo_disk set old.opened.catalogue c' old.repo new.repo (Err (stop.Damaged path)) → Performs root_disk repo_disk (commit_of set) input old new (Err (failure.Damaged path))
-  damaged_so path done = performs_on_repository root_disk_laws root_laws (commit_of set) input old new (Err (failure.Damaged path)) ready root_same done.later (inr (damaged_file path done))
+  damaged_so path done = performs_on_repository root_disk_laws root_laws (commit_of set) input old new (Err (failure.Damaged path)) ready root_same done.later done.within (inr (damaged_file path done))
       (λ le told. absurd (omega (arith, le)))
       (λ none told. (done.ends told).0.same.reads)
       (λ told s stands. absurd (never_damaged path done told s stands))

@@ -65,6 +65,7 @@ module _ {T P : Type 0} {root_disk : DiskModel T} {repo_disk : DiskModel P} (roo
       cause = done.cause;
       rest = done.rest;
       same = done.same;
+      within = done.within;
       told = λ root repo s stands.
           let of : cooked_set next (troves_of s.repository.commits) made ≡ Ok set = ap (λ (l : List TroveParts). cooked_set next l made) (sym (troves_are repo s stands)) ∙ is in
           performs_from_more (λ outcome commits. inl (record { made = made; makes = makes; is = subst (λ (made_so : Result ChangeSet Refusal). CommitsSet s.repository made_so outcome) (sym of) commits }))

@@ -5,7 +5,10 @@ use Rattle.std.specs.FinMap.{get}
 use Rattle.cny_base.specs.declared.refusal.Refusal.{Refusal}
 use Rattle.tree_disk.specs.Tree.{Tree}
 use Rattle.tree_disk.specs.Disk.{DiskModel, IsDisk, HasRead}
-use Rattle.tree_disk.specs.ConfinedLaws.{leaves_then, leaves_weaker}
+use Rattle.tree_disk.specs.Clear.{is_within}
+use Rattle.tree_disk.specs.Confined.{Among}
+use Rattle.tree_disk.specs.ConfinedLaws.{confined_read, confined_then, leaves_then, leaves_weaker}
+use Rattle.repo_state.specs.Files.{repository_base}
 use Rattle.tree_disk.specs.Moments.{rose_before}
 use Rattle.tree_disk.specs.Unfailed.{unfailed_then, unfailed_weaker}
 use Rattle.cli_call.specs.declared.failure.Failure.{Failure}
@@ -78,6 +81,7 @@ module _ {T P : Type 0} {root_disk : DiskModel T} {repo_disk : DiskModel P} wher
         root = λ told. (done.same none).root told ∙ (read.root told).same.reads;
         repo = λ told. (done.same none).repo told ∙ (read.repo told).same.reads;
       };
+      within = λ told. confined_then (confined_read repo_disk_laws (Among (is_within repository_base)) (read.repo told)) (done.within told);
       told = λ root repo s stands.
           from_since (two.IsOutcome s input) s root repo done.root_later stands
           (performs_from_more (more root repo s stands) s mid new result (done.told root repo s (stands_on root repo s stands)));

@@ -8,6 +8,7 @@ ghost use Rattle.conary_cli.specs.Install.{checks, installed_line, installs};
 ghost use Rattle.conary_cli.specs.ManifestForm.{Rise, IsManifest};
 ghost use Rattle.conary_cli.specs.NewPuts.{new_puts};
 ghost use Rattle.conary_cli.specs.OnRoot.{ChecksRoot, SearchesRoot, AppliesRoot, ActsOnRoot};
+ghost use Rattle.cli_call.specs.Alone.{PerformsAlone};
 ghost use Rattle.cli_call.specs.Command.{disks, AreReady, IsReady, Performs};
 ghost use Rattle.conary_cli.specs.RootEffect.{base};
 
@@ -99,7 +100,8 @@ pub fn install<T: TreeDisk, P: TreeDisk>(
     root: &mut T,
 ) -> Result<Text, Failure>
     requires { AreReady T.disk P.disk (disks root.old repo.now opened.now) }
-    ensures { Performs T.disk P.disk spec.install input.now (disks root.old repo.now opened.now) (disks root.new repo.now opened.now) result }
+    ensures performs { Performs T.disk P.disk spec.install input.now (disks root.old repo.now opened.now) (disks root.new repo.now opened.now) result }
+    ensures alone { PerformsAlone T.disk P.disk spec.install input.now (disks root.old repo.now opened.now) (disks root.new repo.now opened.now) result }
 {
     store_laws();
     let manifest = read_manifest(alloc, input)?;

@@ -10,9 +10,9 @@ check_dir-requires-2 g c = rw var_text refl
 pub check_dir-requires-3 : goal.check_dir-requires-3
 check_dir-requires-3 g c = rw (var_text, lib_text) refl
 
-pub returns : goal.returns
-returns g c =
+pub returns-clause-tests : goal.returns-clause-tests
+returns-clause-tests g c =
     let laws = g.met.T.TreeDisk.laws in
-    let first = c.in_ok-check_dir.ensures in
-    let second = tests_then laws {goal = λ tree. dir_at tree (codes "/var")} first c.in_ok-check_dir-2.ensures (λ told. refl) in
-    tests_then laws {goal = fixed_dirs} second c.check_dir-3.ensures (λ told. rw (first.found told, second.found told) refl)
+    let first = c.in_ok-check_dir.ensures.tests in
+    let second = tests_then laws {goal = λ tree. dir_at tree (codes "/var")} first c.in_ok-check_dir-2.ensures.tests (λ told. refl) in
+    tests_then laws {goal = fixed_dirs} second c.check_dir-3.ensures.tests (λ told. rw (first.found told, second.found told) refl)

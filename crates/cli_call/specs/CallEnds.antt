@@ -1,0 +1,166 @@
+-- How a call ends on a state, from how its command's function and the reading of its input ended.
+use Rattle.std.proofs.Common.{◌≡◌, ◌≤◌, ℕ, Bool, List, Option, Some, Result, Ok, Err, IfSome, refl, sym, ap, ◌∙◌, subst, inl, inr, ⊎_elim, arith}
+use Rattle.std.specs.Io.KnownBytes.{Appends}
+use Rattle.cny_base.specs.declared.refusal.Refusal.{Refusal}
+use Rattle.cny_base.specs.declared.stop.Stop.{Stop}
+use Rattle.cny_base.specs.declared.stop.Stop.TheVariants as stop
+use Rattle.cny_flow.specs.Flow.{SourceState, SinkState, AppendsPart}
+use Rattle.tree_disk.specs.Tree.{Tree}
+use Rattle.cli_call.specs.declared.failure.Failure.{Failure}
+use Rattle.cli_call.specs.declared.failure.Failure.TheVariants as failure
+use Rattle.cli_call.specs.Command.{IsShown}
+use Rattle.cli_call.specs.FixedDirs.{fixed_dirs}
+use Rattle.cli_call.specs.InputLaws.{left_err, left_ok, some_so}
+use Rattle.cli_call.specs.Line.{Ends}
+use Rattle.cli_call.specs.LineLaws.{takes_so}
+use Rattle.cli_call.specs.Reading.{given, left_by, Gives, ReadsGiven}
+use Rattle.cli_call.specs.Report.{End, status_of}
+use Rattle.cli_call.specs.State.{State, Effect, Meaning, tree_of, Takes, IsNext, Then}
+use Rattle.cli_call.specs.Stops.{root_failure, repository_failure}
+use Rattle.cli_call.specs.WholeCall.{Outcome, left_when, left_of}
+
+-- the ends after which an effect stands
+abbrev pub HasEffect : End → Type 0
+HasEffect (Ok x) = Unit {0}
+HasEffect (Err failure.OutputFault) = Unit {0}
+HasEffect _ = ⊥
+
+-- how a call ended, by its outcomes on a state and an input: the state after it, and what was written
+abbrev pub CallEnds : (Result Effect Refusal → Type 0) → State → State → SinkState → SinkState → End → Type 0
+CallEnds IsOutcome s next before now (Ok x) = Takes IsOutcome s next (λ bytes. Appends before.written now.written bytes)
+CallEnds IsOutcome s next before now (Err (failure.Refused r)) = IsOutcome (Err r) × (next ≡ s)
+CallEnds IsOutcome s next before now (Err failure.InputFault) = next ≡ s
+CallEnds IsOutcome s next before now (Err failure.OutputFault) = Takes IsOutcome s next (λ bytes. AppendsPart before.written now.written bytes)
+CallEnds IsOutcome s next before now (Err failure.RootFault) = IsNext IsOutcome s next
+CallEnds IsOutcome s next before now (Err failure.RepositoryFault) = IsNext IsOutcome s next
+CallEnds IsOutcome s next before now (Err failure.Memory) = IsNext IsOutcome s next
+CallEnds IsOutcome s next before now (Err failure.Usage) = ⊥
+CallEnds IsOutcome s next before now (Err (failure.Damaged path)) = ⊥
+
+-- a status up to 4 comes then
+pub small : (end : End) → HasEffect end → status_of end ≤ 4
+small (Ok x) h = omega arith
+small (Err failure.OutputFault) h = omega arith
+small (Err (failure.Refused r)) h = absurd h
+small (Err failure.InputFault) h = absurd h
+small (Err failure.Memory) h = absurd h
+small (Err failure.Usage) h = absurd h
+small (Err failure.RootFault) h = absurd h
+small (Err failure.RepositoryFault) h = absurd h
+small (Err (failure.Damaged path)) h = absurd h
+
+pub no_root_effect : (e : Stop) → HasEffect (Err (root_failure e)) → ⊥
+no_root_effect stop.Failed h = h
+no_root_effect stop.Memory h = h
+no_root_effect (stop.Refused r) h = h
+no_root_effect (stop.Damaged path) h = h
+no_root_effect stop.FarFailed h = h
+no_root_effect (stop.FarDamaged path) h = h
+
+pub no_repo_effect : (e : Stop) → HasEffect (Err (repository_failure e)) → ⊥
+no_repo_effect stop.Failed h = h
+no_repo_effect stop.Memory h = h
+no_repo_effect (stop.Refused r) h = h
+no_repo_effect (stop.Damaged path) h = h
+no_repo_effect stop.FarFailed h = h
+no_repo_effect (stop.FarDamaged path) h = h
+
+pub no_unread_effect : {takes : Bool} {before now : SourceState} (e : Failure) → ReadsGiven takes before now (Err e) → HasEffect (Err e) → ⊥
+no_unread_effect failure.OutputFault reads h = reads.cause
+no_unread_effect (failure.Refused r) reads h = h
+no_unread_effect failure.InputFault reads h = h
+no_unread_effect failure.Memory reads h = h
+no_unread_effect failure.Usage reads h = h
+no_unread_effect failure.RootFault reads h = h
+no_unread_effect failure.RepositoryFault reads h = h
+no_unread_effect (failure.Damaged path) reads h = h
+
+-- the state before or after, however it ended
+pub next_any : (IsOutcome : Result Effect Refusal → Type 0) (s next : State) (before now : SinkState) (end : End) → CallEnds IsOutcome s next before now end → IsNext IsOutcome s next
+next_any IsOutcome s next before now (Ok x) h = inr (takes_so (λ bytes b. tt) h)
+next_any IsOutcome s next before now (Err (failure.Refused r)) h = inl h.1
+next_any IsOutcome s next before now (Err failure.InputFault) h = inl h
+next_any IsOutcome s next before now (Err failure.OutputFault) h = inr (takes_so (λ bytes b. tt) h)
+next_any IsOutcome s next before now (Err failure.RootFault) h = h
+next_any IsOutcome s next before now (Err failure.RepositoryFault) h = h
+next_any IsOutcome s next before now (Err failure.Memory) h = h
+next_any IsOutcome s next before now (Err failure.Usage) h = absurd h
+next_any IsOutcome s next before now (Err (failure.Damaged path)) h = absurd h
+
+-- ---- outcomes
+
+-- where the fixed directories stand and this is what the command is given
+pub outcome_of : (m : Meaning) (s : State) (input bytes : List ℕ) (o : Result Effect Refusal) → fixed_dirs (tree_of s.root) ≡ Ok tt → given m.takes_input input ≡ Ok bytes → m.IsOutcome s bytes o → Outcome m s input o
+outcome_of m s input bytes o fixed is h =
+    subst (λ (d : Result (Unit {0}) Refusal). Then d (λ _. Then (given m.takes_input input) (m.IsOutcome s)) o) (sym fixed)
+    (subst (λ (g : Result (List ℕ) Refusal). Then g (m.IsOutcome s) o) (sym is) h)
+
+-- where a fixed directory isn't one
+pub dir_missing : (m : Meaning) (s : State) (input : List ℕ) (r : Refusal) → fixed_dirs (tree_of s.root) ≡ Err r → Outcome m s input (Err r)
+dir_missing m s input r missing = subst (λ (d : Result (Unit {0}) Refusal). Then d (λ _. Then (given m.takes_input input) (m.IsOutcome s)) (Err r)) (sym missing) refl
+
+-- where nothing is given
+pub not_given : (m : Meaning) (s : State) (input : List ℕ) (r : Refusal) → fixed_dirs (tree_of s.root) ≡ Ok tt → given m.takes_input input ≡ Err r → Outcome m s input (Err r)
+not_given m s input r fixed is =
+    subst (λ (d : Result (Unit {0}) Refusal). Then d (λ _. Then (given m.takes_input input) (m.IsOutcome s)) (Err r)) (sym fixed)
+    (subst (λ (g : Result (List ℕ) Refusal). Then g (m.IsOutcome s) (Err r)) (sym is) refl)
+
+-- ---- where the fixed directories stand
+
+module _ (m : Meaning) (s : State) (input : List ℕ) (fixed : fixed_dirs (tree_of s.root) ≡ Ok tt) where
+  -- the input wasn't read
+
+  pub unread_ends : {before now : SourceState} (out out' : SinkState) (e : Failure) → ReadsGiven m.takes_input before now (Err e) → Gives m.takes_input input (Err e) → CallEnds (Outcome m s input) s s out out' (Err e)
+  unread_ends out out' (failure.Refused r) reads gives = (not_given m s input r fixed gives, refl)
+  unread_ends out out' failure.InputFault reads gives = refl
+  unread_ends out out' failure.Memory reads gives = inl refl
+  unread_ends out out' failure.Usage reads gives = absurd reads.cause
+  unread_ends out out' failure.OutputFault reads gives = absurd reads.cause
+  unread_ends out out' failure.RootFault reads gives = absurd reads.cause
+  unread_ends out out' failure.RepositoryFault reads gives = absurd reads.cause
+  unread_ends out out' (failure.Damaged path) reads gives = absurd reads.cause
+
+  -- the command was performed
+
+  module _ (bytes : List ℕ) (gives : given m.takes_input input ≡ Ok bytes) where
+    to_outcome : (o : Result Effect Refusal) → m.IsOutcome s bytes o → Outcome m s input o
+    to_outcome o h = outcome_of m s input bytes o fixed gives h
+
+    takes_outcome : {P Q : List ℕ → Type 0} {next : State} → ((b : List ℕ) → P b → Q b) → Takes (m.IsOutcome s bytes) s next P → Takes (Outcome m s input) s next Q
+    takes_outcome f t = record { effect = t.effect; is = to_outcome (Ok t.effect) t.is; leads = t.leads; bytes = f t.effect.out t.bytes }
+
+    next_outcome : {next : State} → IsNext (m.IsOutcome s bytes) s next → IsNext (Outcome m s input) s next
+    next_outcome h = ⊎_elim (λ same. inl same) (λ t. inr (takes_outcome (λ b x. x) t)) h
+
+    pub run_ends : (before now : SinkState) (next : State) (end : End) → Ends (m.IsOutcome s bytes) s next before now end → CallEnds (Outcome m s input) s next before now end
+    run_ends before now next (Ok x) h = takes_outcome (λ b y. y) h
+    run_ends before now next (Err (failure.Refused r)) h = (to_outcome (Err r) h.0, h.1)
+    run_ends before now next (Err failure.OutputFault) h = takes_outcome (λ b y. y) h
+    run_ends before now next (Err failure.RootFault) h = next_outcome h.0
+    run_ends before now next (Err failure.RepositoryFault) h = next_outcome h.0
+    run_ends before now next (Err failure.Memory) h = next_outcome h.0
+    run_ends before now next (Err failure.Usage) h = absurd h
+    run_ends before now next (Err failure.InputFault) h = absurd h
+    run_ends before now next (Err (failure.Damaged path)) h = absurd h
+
+    pub shown_so : {tree : Tree} (t : Tree) → IsShown (m.IsOutcome s bytes) s tree t → IsShown (Outcome m s input) s tree t
+    shown_so t h = ⊎_elim (λ same. inl same) (λ e. inr (e.0, to_outcome (Ok e.0) e.1, e.2)) h
+
+-- ---- what is left of the input
+
+module _ (m : Meaning) (s : State) (fixed : fixed_dirs (tree_of s.root) ≡ Ok tt) where
+  left_open : (left : Option (List ℕ)) (input : List ℕ) → left ≡ Some (left_by m.takes_input input) → left ≡ Some (left_of m s input)
+  left_open left input is = is ∙ ap Some (sym (ap (λ (d : Result (Unit {0}) Refusal). left_when d m input) fixed))
+
+  pub unread_left : {before now : SourceState} (e : Failure) → ReadsGiven m.takes_input before now (Err e) → status_of (Err e) ≤ 2 → IfSome before.left (λ input. now.left ≡ Some (left_of m s input))
+  unread_left {before} {now} (failure.Refused r) reads le = some_so before.left (λ input h. left_open now.left input h) (left_err m.takes_input before now r reads)
+  unread_left failure.InputFault reads le = absurd (omega (arith, le))
+  unread_left failure.Memory reads le = absurd (omega (arith, le))
+  unread_left failure.Usage reads le = absurd reads.cause
+  unread_left failure.OutputFault reads le = absurd reads.cause
+  unread_left failure.RootFault reads le = absurd reads.cause
+  unread_left failure.RepositoryFault reads le = absurd reads.cause
+  unread_left (failure.Damaged path) reads le = absurd reads.cause
+
+  pub read_left : {before now : SourceState} (bytes : List ℕ) → ReadsGiven m.takes_input before now (Ok bytes) → IfSome before.left (λ input. now.left ≡ Some (left_of m s input))
+  read_left {before} {now} bytes reads = some_so before.left (λ input h. left_open now.left input h) (left_ok m.takes_input before now bytes reads)
