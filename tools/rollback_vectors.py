@@ -169,6 +169,23 @@ class Root:
         root.with_database()
         return root, "r.%d [%s]" % (job.number, root.db_text())
 
+    def taken_back_to(self, number):
+        """The root and the answer after all jobs from the newest down to this number were taken back at once."""
+        if not self.jobs:
+            return self, "stack empty [%s]" % self.db_text()
+        if all(job.number != number for job in self.jobs):
+            return self, "no job r.%d [%s]" % (number, self.db_text())
+        root = self
+        while root.jobs and root.jobs[-1].number >= number:
+            why = root.refusal()
+            if why is not None:
+                return self, "%s [%s]" % (why, self.db_text())
+            root, _ = root.taken_back()
+        return root, "%d jobs [%s]" % (len(self.jobs) - len(root.jobs), root.db_text())
+
+    def after(self, number):
+        return self.taken_back() if number is None else self.taken_back_to(number)
+
 
 # ---- texts
 
@@ -199,28 +216,38 @@ def rollback_line(root, count=1):
     return call, "\t".join(answers + [root.db_text(), standing(root.nodes())])
 
 
-def damaged_line(root, path):
+def to_line(root, number):
+    after, said = root.taken_back_to(number)
+    return "to\t%s\t%d" % (input_text(root.nodes()), number), "\t".join([said, after.db_text(), standing(after.nodes())])
+
+
+def damaged_line(root, path, number=None):
     answer = "damaged %s [%s]" % (path.decode(), root.db_text())
-    return "rollback\t%s\t1" % input_text(root.nodes()), "\t".join([answer, root.db_text(), standing(root.nodes())])
+    call = "rollback\t%s\t1" % input_text(root.nodes()) if number is None else "to\t%s\t%d" % (input_text(root.nodes()), number)
+    return call, "\t".join([answer, root.db_text(), standing(root.nodes())])
 
 
-def recovered(root):
+def recovered(root, number):
     name = sha1(standing(root.nodes()).encode()).hexdigest()
-    return "%s, %s, again %s" % (root.db_text(), name, root.taken_back()[1])
+    return "%s, %s, again %s" % (root.db_text(), name, root.after(number)[1])
 
 
-def stop_line(root, pick):
-    after, _ = root.taken_back()
-    texts = ["stopped", recovered(root)] + ([recovered(after)] if after is not root else [])
-    return "stop\t%s\t%d" % (input_text(root.nodes()), pick), "\t".join(texts)
+def last(number):
+    return "" if number is None else "\t%d" % number
 
 
-def fail_line(root):
-    after, said = root.taken_back()
-    texts = ["failed", "failed, " + recovered(root), "failed [%s], %s" % (root.db_text(), recovered(root))]
+def stop_line(root, pick, number=None):
+    after, _ = root.after(number)
+    texts = ["stopped", recovered(root, number)] + ([recovered(after, number)] if after is not root else [])
+    return "stop\t%s\t%d%s" % (input_text(root.nodes()), pick, last(number)), "\t".join(texts)
+
+
+def fail_line(root, number=None):
+    after, said = root.after(number)
+    texts = ["failed", "failed, " + recovered(root, number), "failed [%s], %s" % (root.db_text(), recovered(root, number))]
     if after is not root:
-        texts.append("failed [%s], %s" % (root.db_text(), recovered(after)))
-    return "fail\t" + input_text(root.nodes()), "\t".join(texts + ["%s, %s" % (said, recovered(after))])
+        texts.append("failed [%s], %s" % (root.db_text(), recovered(after, number)))
+    return "fail\t" + input_text(root.nodes()) + last(number), "\t".join(texts + ["%s, %s" % (said, recovered(after, number))])
 
 
 # ---- the lines
@@ -268,6 +295,8 @@ TURNED_KINDS = Root().job([KINDS], {b"/d": dir_(), b"/d/f": file_(b"1"), b"/x": 
 )
 THREE = REPLACED.job([BAR, FOO_2], {b"/etc/bar": link_(b"foo")})
 LIST_ALONE = INSTALLED.job([], {})
+# Three jobs, after each of which nothing was edited.
+CLEAN = INSTALLED.job([FOO_2], {b"/etc/foo": file_(b"abcd")}).job([BAR, FOO_2], {b"/etc/bar": link_(b"foo")})
 IN_PLACE = Root().edit(b"/srv", dir_()).job([BAR], {b"/srv/bar": file_(b"b")})
 TAKEN = Root().edit(b"/srv", dir_()).edit(b"/srv/bar", file_(b"b")).job([], {b"/srv/bar": None})
 
@@ -324,6 +353,17 @@ def damaged():
     yield REPLACED.edit(b"/etc/foo", file_(b"abY")).edit(name, None), name
 
 
+def damaged_to():
+    """Roots, and numbers of jobs down to which they can't be taken back because of a damaged file."""
+    yield THREE.edit(record_path(3), None), record_path(3), 2
+    yield THREE.edit(record_path(2), file_(b"junk")), record_path(2), 1
+    yield THREE.edit(record_path(1), dir_()), record_path(1), 1
+    # a content of the oldest job that has the path, which is to stand again
+    name = saved_path(2) + b"/" + sha1(b"abX").hexdigest().encode()
+    yield THREE.edit(name, None), name, 2
+    yield THREE.edit(name, file_(b"abY")), name, 2
+
+
 def lines():
     yield rollback_line(Root())
     yield rollback_line(Root().edit(BASE, dir_()).edit(DATABASE, file_(database_bytes(2, [FOO], 0, 0))).with_troves([FOO]))
@@ -338,9 +378,48 @@ def lines():
         for pick in (0, 1, 4_294_967_295):
             yield stop_line(root, pick)
         yield fail_line(root)
+    yield from lines_to()
     refusing = REPLACED.edit(b"/etc/foo", file_(b"abY"))
     yield stop_line(refusing, 0)
     yield fail_line(refusing)
+
+
+def lines_to():
+    """Several jobs taken back at once."""
+    yield to_line(Root(), 1)
+    for root in roots():
+        low, high = root.numbers()
+        for number in (0, low, high, high + 1, 4_294_967_295):
+            yield to_line(root, number)
+    for root in refused():
+        low, high = root.numbers()
+        yield to_line(root, low)
+        yield to_line(root, high)
+    # only the turn of an older job shows what keeps it from being taken back
+    put_into = INSTALLED.edit(b"/etc/new", file_(b"new")).job([FOO_2], {b"/etc/foo": file_(b"abcd")})
+    yield to_line(put_into, 1)
+    yield to_line(put_into, 2)
+    yield to_line(put_into.edit(b"/etc/new", None), 1)
+    yield to_line(REPLACED, 1)
+    # the directory of a path that an older job took away is gone
+    left_alone = TAKEN.job([FOO], {b"/etc": dir_(), b"/etc/foo": file_(b"abc")}).edit(b"/srv", None)
+    yield to_line(left_alone, 1)
+    yield to_line(left_alone, 2)
+    # the stack's oldest jobs were dropped
+    dropped = INSTALLED.job([], {b"/etc/foo": None, b"/etc": None}, 7)
+    dropped.jobs = dropped.jobs[1:]
+    dropped = dropped.with_database().job([FOO], {b"/etc": dir_(), b"/etc/foo": file_(b"abc")})
+    for number in (1, 6, 7, 8):
+        yield to_line(dropped, number)
+    for root, path, number in damaged_to():
+        yield damaged_line(root, path, number)
+    # a content that isn't to stand again isn't looked at
+    name = saved_path(2) + b"/" + sha1(b"abX").hexdigest().encode()
+    yield to_line(CLEAN.edit(name, None), 1)
+    for root, number in ((THREE, 3), (CLEAN, 1), (TURNED_KINDS, 1)):
+        for pick in (0, 1, 4_294_967_295):
+            yield stop_line(root, pick, number)
+        yield fail_line(root, number)
 
 
 def main():

@@ -14,13 +14,13 @@ use Rattle.tree_disk.specs.Disk.{DiskModel}
 use Rattle.tree_disk.specs.Tree.{Tree}
 use Rattle.job_targets.specs.declared.targets.Targets.{Targets}
 use Rattle.job_targets.specs.Gathering.{Gathers}
-use Rattle.job_targets.specs.Outcome.{AreChanges, AreGiven, AreOver, AreSavable, AreTargets, FitPlan}
+use Rattle.job_targets.specs.Outcome.{AreChanges, AreGiven, AreHeld, AreOver, AreSavable, AreTargets, FitPlan}
 use Rattle.job_targets.specs.Targets.{HaveEntries, IsChange}
 use Rattle.job_targets.proofs.Listed.{changing_puts, entries_by_puts, given_entries, given_puts, marked_puts, rising_entries, tellable_puts, told_entries}
 
-pub given_of : (planned : List Planned) (r : Result Targets Stop) → IfOk r (FitPlan planned) → IfOk r (λ (t : Targets). AreGiven t.puts)
-given_of planned (Ok t) fits = record { given = given_puts planned t.puts fits.puts; marks = marked_puts planned t.puts t.entries fits.puts fits.entries }
-given_of planned (Err stop) fits = tt
+pub given_of : (planned : List Planned) (r : Result Targets Stop) → IfOk r (FitPlan planned) → IfOk r (λ (t : Targets). AreHeld t.puts) → IfOk r (λ (t : Targets). AreGiven t.puts)
+given_of planned (Ok t) fits held = record { given = given_puts planned t.puts fits.puts; held = held; marks = marked_puts planned t.puts t.entries fits.puts fits.entries }
+given_of planned (Err stop) fits held = tt
 
 pub savable_of : (planned : List Planned) (r : Result Targets Stop) → IsStrictlySortedBy planned_cmp planned → IfOk r (FitPlan planned) → IfOk r (λ (t : Targets). AreSavable t.entries)
 savable_of planned (Ok t) rises fits = record {

@@ -1,9 +1,9 @@
 mod Adjacent
 mod Carrying
-mod Changing
+pub mod Changing
 mod Digests
 mod Fitting
-mod GatherLaws
+pub mod GatherLaws
 mod Gathered
-mod Listed
+pub mod Listed
 mod Standing

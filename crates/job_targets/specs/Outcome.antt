@@ -1,5 +1,5 @@
 -- What comes of making the write set of a plan.
-use Rattle.std.specs.Prelude.{◌≡◌, ◌≢◌, ℕ, false, List, ◌∷◌, ◌++◌, map, Option, Some, None, All}
+use Rattle.std.specs.Prelude.{◌≡◌, ◌≢◌, ℕ, false, IsTrue, List, ◌∷◌, ◌++◌, map, Option, Some, None, All}
 use Rattle.std.specs.FinMap.{get}
 use Rattle.std.specs.List.Sorted.{IsStrictlySortedBy}
 use Rattle.cny_base.specs.declared.refusal.Fault.{Fault}
@@ -22,7 +22,7 @@ use Rattle.saved_contents.specs.Old.{is_staged}
 use Rattle.system_state.specs.MarkBytes.{IsMark}
 use Rattle.system_state.specs.Record.{entry_cmp, IsEntry}
 use Rattle.system_state.specs.SystemState.{IsTellable}
-use Rattle.tree_disk.specs.Tree.{Tree}
+use Rattle.tree_disk.specs.Tree.{Tree, may_stand}
 use Rattle.tree_scan.specs.Marks.{fingerprint}
 use Rattle.job_targets.specs.declared.targets.Targets.{Targets}
 use Rattle.job_targets.specs.Contents.{Finds}
@@ -102,9 +102,14 @@ pub record FitPlan (planned : List Planned) (t : Targets) : Type 0 where
   pub small : first_large planned ≡ None
   pub agree : AllAgree t.entries
 
--- no bytes are staged, and the fingerprints have bytes
+-- each write is of a node that a disk can hold
+abbrev pub AreHeld : List Put → Type 0
+AreHeld puts = All (λ (p : Put). IsTrue (may_stand (node_of p.want))) puts
+
+-- no bytes are staged, a disk can hold what is to stand, and the fingerprints have bytes
 pub record AreGiven (puts : List Put) : Type 0 where
   pub given : All (λ (p : Put). is_staged p.want ≡ false) puts
+  pub held : AreHeld puts
   pub marks : All (λ (p : Put). IsMark (fingerprint (node_of p.want))) puts
 
 -- each path once, in their order, and a record can have them; the contents can be saved

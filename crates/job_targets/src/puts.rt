@@ -6,11 +6,13 @@ ghost use Rattle.change_set.specs.declared.change.Carried as declared;
 ghost use Rattle.change_set.specs.ChangeSet.{content_cmp};
 ghost use Rattle.conflict_plan.specs.Orphans.{IsSeenPlan};
 ghost use Rattle.conflict_plan.specs.Plan.{mark_of_want, planned_cmp};
+ghost use Rattle.journal_log.specs.Targets.{node_of};
 ghost use Rattle.saved_contents.specs.Old.{HasMark};
+ghost use Rattle.tree_disk.specs.Tree.{may_stand};
 ghost use Rattle.tree_scan.specs.declared.mark.Mark.TheVariants as mark;
 ghost use Rattle.tree_scan.specs.Marks.{fingerprint_of_record};
 ghost use Rattle.job_targets.specs.Gathering.{Gathers};
-ghost use Rattle.job_targets.specs.Outcome.{IsFirstUnfound, IsMissing, IsMissingStop, IsUnfound};
+ghost use Rattle.job_targets.specs.Outcome.{AreHeld, IsFirstUnfound, IsMissing, IsMissingStop, IsUnfound};
 ghost use Rattle.job_targets.specs.Targets.{ArePutsOf, HasPut, HavePuts, IsFoundFile, IsPutOf, IsTarget};
 
 use crate::content::find_content;
@@ -21,7 +23,7 @@ use content_store::Contents;
 use file_stream::FileRec;
 use journal_log::{Put, Puts, Want};
 use std::alloc::Global;
-use tree_disk::TreeDisk;
+use tree_disk::{TreeDisk, byte_ranges};
 
 // A file of this mode, with the content that is found. `MissingContent` where none is.
 fn file_want<T: TreeDisk, C: Contents>(
@@ -175,5 +177,36 @@ pub(crate) fn puts_of<T: TreeDisk, C: Contents>(
     match Puts::new(puts) {
         Some(puts) => Ok(puts),
         None => unreachable!(),
+    }
+}
+
+// What is to stand is a node that a disk can hold. It does nothing: its clause is for the proofs of its callers.
+fn want_ranges(want: &Want)
+    ensures { IsTrue (may_stand (node_of want.now)) }
+{
+    match want {
+        Want::Nothing => {}
+        Want::Dir { mode } => {
+            let _bits = mode.bits();
+        }
+        Want::File { mode, bytes } => {
+            let _bits = mode.bits();
+            byte_ranges(bytes.get());
+        }
+        Want::Link { target } => {
+            let _text = target.text();
+        }
+        Want::Staged { mode, .. } => {
+            let _bits = mode.bits();
+        }
+    }
+}
+
+/// Each write is of a node that a disk can hold. It does nothing: its clause is for the proofs of its callers.
+pub(crate) fn put_ranges(puts: &[Put])
+    ensures { AreHeld puts.now }
+{
+    for put in puts {
+        want_ranges(&put.want);
     }
 }

@@ -7,11 +7,11 @@ ghost use Rattle.change_set.specs.ChangeSet.{content_cmp};
 ghost use Rattle.conflict_plan.specs.Orphans.{IsSeenPlan};
 ghost use Rattle.conflict_plan.specs.Plan.{planned_cmp};
 ghost use Rattle.job_targets.specs.Gathering.{Gathers};
-ghost use Rattle.job_targets.specs.Outcome.{AreChanges, AreGiven, AreOver, AreSavable, AreTargets, FitPlan, IsFirstRefusal, IsTargetStop};
+ghost use Rattle.job_targets.specs.Outcome.{AreChanges, AreGiven, AreHeld, AreOver, AreSavable, AreTargets, FitPlan, IsFirstRefusal, IsTargetStop};
 ghost use Rattle.job_targets.specs.Targets.{IsChange};
 
 use crate::entries::entries_of;
-use crate::puts::puts_of;
+use crate::puts::{put_ranges, puts_of};
 use crate::sizes::check_sizes;
 use change_set::Carried;
 use cny_base::{Copies, OutOfMemory, Stop};
@@ -56,9 +56,11 @@ fn make_targets<T: TreeDisk, C: Contents>(
         (IsFirstRefusal carried.now (C.contents.answers far.old) planned.now)
         root.old root.new far.old far.new result }
     ensures fits { IfOk result (FitPlan planned.now) }
+    ensures held { IfOk result (λ made. AreHeld made.puts) }
     ensures stops { IfErr result IsTargetStop }
 {
     let puts = puts_of(alloc, root, far, carried, planned)?;
+    put_ranges(puts.get());
     check_sizes(planned)?;
     let entries = entries_of(alloc, root, planned)?;
     stashable(alloc, entries.get())?;

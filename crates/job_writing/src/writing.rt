@@ -1,5 +1,5 @@
 //! A job, written.
-ghost use Rattle.std.specs.Prelude.{◌≡◌, ◌↔◌, ◌≤◌, [], false, All, IfErr, IfNone, IfOk, IfSome, IsTrue};
+ghost use Rattle.std.specs.Prelude.{◌≡◌, ◌↔◌, ◌⊎◌, ◌≤◌, [], false, All, IfErr, IfNone, IfOk, IfSome, IsTrue};
 ghost use Rattle.cny_base.specs.Count.{Rose};
 ghost use Rattle.journal_log.specs.declared.put.Put as declared;
 ghost use Rattle.update_job.specs.declared.comparing.Change as comparing;
@@ -152,6 +152,8 @@ pub fn write_job<T: TreeDisk>(
     ensures answers { AnswersJob db.old list puts db.new result }
     ensures rules { IsDatabase Two db.new.installed db.new.oldest db.new.newest }
     ensures stops { IfErr result (IsJobStop T.disk.tells (Rose (T.disk.faults root.old) (T.disk.faults root.new)) db.old list puts) }
+    // Whatever is answered, no call of the root is made before the last tests have passed.
+    ensures tested { (root.new ≡ root.old) ⊎ PassesLast db.old list puts }
     ensures later { T.disk.faults root.old ≤ T.disk.faults root.new }
 {
     // No tree holds two databases.

@@ -21,6 +21,7 @@ pub fn word(alloc: Global, word: &str) -> Result<String, Stop> {
 fn refusal_text(alloc: Global, refusal: &Refusal) -> Result<String, Stop> {
     match refusal {
         Refusal::StackEmpty => word(alloc, "stack empty"),
+        Refusal::NoJob { number } => Ok(format!(in alloc; "no job r.{number}")?),
         Refusal::Edited { path } => Ok(format!(in alloc; "edited {}", path.get())?),
         Refusal::Parent { path } => Ok(format!(in alloc; "parent {}", path.get())?),
         _ => word(alloc, "another refusal"),

@@ -34,7 +34,7 @@ use Rattle.system_state.proofs.Frame.{stores_still}
 use Rattle.system_state.proofs.Places.{own_doesnt_count, own_reserved}
 use Rattle.system_state.proofs.Putting.{all_can, all_formed, all_named}
 use Rattle.system_state.proofs.Together.{at_every_moment}
-use Rattle.root_writing.specs.Writing.{AreSettled, CanWrite, Goes, RestsAt, RecoversToEither, ShowsEither, KeepsOthers, is_private_or_target}
+use Rattle.root_writing.specs.Writing.{AreSettled, CanWrite, Goes, IsPut, RestsAt, RecoversToEither, ShowsEither, KeepsOthers, is_private_or_target}
 
 -- ---- no bytes are staged
 
@@ -85,6 +85,15 @@ module _ {D : Type 0} (disk : DiskModel D) (puts : List Put) (old : D) (can : Ca
     can = subst (AllCanBePut puts) (sym (base_kept private_directory (disk.reads old) can.puttable.base)) (all_can can.some can.more puts (disk.reads old) can.managed can.puttable);
     well_formed = subst WellFormed (sym whole) (all_formed can.some can.more puts (disk.reads old) can.managed can.puttable);
   }
+
+  -- after Ok all targets stand
+  pub put_on : (new : D) (result : Result (Unit {0}) Stop) → OnOk result (IsAtRest disk private_directory (apply.goal private_directory puts (disk.reads old)) new) → OnOk result (IsPut disk puts old new)
+  put_on new (Ok done) rest = subst (λ (t : Tree). IsAtRest disk private_directory t new) whole rest
+  put_on new (Err stop) rest = tt
+
+pub not_put : (Why : Stop → Type 0) (P : Type 0) (result : Result (Unit {0}) Stop) → IsErrAnd result Why → OnOk result P
+not_put Why P (Ok done) is = absurd is
+not_put Why P (Err stop) is = tt
 
 -- ---- from one system to the other
 

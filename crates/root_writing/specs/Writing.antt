@@ -9,7 +9,8 @@ use Rattle.tree_disk.specs.Confined.{Among, Confined, IsSynced, LeavesOnly}
 use Rattle.tree_disk.specs.Unfailed.{UnlessFailed}
 use Rattle.journal_log.specs.Own.{gate}
 use Rattle.journal_log.specs.declared.put.Put.{Put}
-use Rattle.journal_log.specs.Targets.{is_target}
+use Rattle.journal_log.specs.Targets.{is_target, with_targets}
+use Rattle.tree_journal.specs.Apply.{IsAtRest}
 use Rattle.tree_journal.specs.Recovery.{is_committed}
 use Rattle.tree_journal.specs.Visible.{ShowsNode}
 use Rattle.saved_contents.specs.Old.{is_staged}
@@ -37,6 +38,11 @@ pub record CanWrite {D : Type 0} (disk : DiskModel D) (puts : List Put) (d : D) 
   pub puttable : IsPuttable some more puts (disk.reads d) managed
 
 -- ---- what is left
+
+-- All targets stand: but for the journal's own names the root holds the tree with them, its commit flag isn't set, and a crash leaves
+-- just what it reads.
+abbrev pub IsPut : {D : Type 0} → DiskModel D → List Put → D → D → Type 0
+IsPut disk puts old new = IsAtRest disk private_directory (with_targets puts (disk.reads old)) new
 
 -- A root at rest that stores the system: its commit flag isn't set, and a crash leaves just what it reads.
 pub record RestsAt {D : Type 0} (disk : DiskModel D) (f : Format) (s : SystemState) (d : D) : Type 0 where

@@ -1,5 +1,5 @@
 //! Write sets on a root.
-ghost use Rattle.std.specs.Prelude.{◌≤◌, IfErr, IsErrOf, IsTrue};
+ghost use Rattle.std.specs.Prelude.{◌≤◌, IfErr, IsErrOf, IsTrue, OnOk};
 ghost use Rattle.cny_base.specs.Count.{Rose};
 ghost use Rattle.cny_base.specs.declared.stop.Stop.TheVariants as stop;
 ghost use Rattle.tree_disk.specs.Steps.{IsDiskStop};
@@ -7,7 +7,7 @@ ghost use Rattle.journal_log.specs.Targets.{with_targets};
 ghost use Rattle.system_state.specs.declared.format.Format.{Format};
 ghost use Rattle.system_state.specs.SystemState.{SystemState};
 ghost use Rattle.system_state.specs.Stores.{StoresIn};
-ghost use Rattle.root_writing.specs.Writing.{AreSettled, CanWrite, Goes};
+ghost use Rattle.root_writing.specs.Writing.{AreSettled, CanWrite, Goes, IsPut};
 
 use cny_base::Stop;
 use journal_log::Puts;
@@ -23,6 +23,8 @@ use tree_journal::apply;
 /// log. After both the root recovers to the system before or after.
 pub fn write_all<T: TreeDisk>(alloc: Global, root: &mut T, puts: &Puts) -> Result<(), Stop>
     requires can { IsTrue T.disk.tells → CanWrite T.disk puts.now root.old }
+    // Also on a root that stores no system.
+    ensures put { IsTrue T.disk.tells → OnOk result (IsPut T.disk puts.now root.old root.new) }
     // From each system that the root stores to the one that it stores with all targets.
     ensures goes { IsTrue T.disk.tells → (f g : Format) (s t : SystemState) → StoresIn f (T.disk.reads root.old) s → AreSettled T.disk root.old s
         → StoresIn g (with_targets puts.now (T.disk.reads root.old)) t → Goes T.disk g s t puts.now root.old root.new result }

@@ -1,9 +1,6 @@
 -- How a rollback ends, by the system that the root stores.
 use Rattle.std.proofs.Common.{◌≡◌, ◌≢◌, ◌⊎◌, inl, inr, ⊎_elim, ℕ, ◌≤◌, Bool, true, false, IsTrue, List, [], ◌∷◌, ◌++◌, map, Option, Some, None, Result, Ok, Err, All, Contains, refl, sym, ◌∙◌, ap, subst, arith}
 use Rattle.std.proofs.lemmas.List.Elements.{All-contains, All-map, Contains-append_right, Contains-get_or}
-use Rattle.std.specs.FinMap.{get}
-use Rattle.cny_base.specs.declared.node.Node.{Node}
-use Rattle.cny_base.specs.declared.node.Node.TheVariants as node
 use Rattle.cny_base.specs.declared.refusal.Refusal.{Refusal}
 use Rattle.cny_base.specs.declared.refusal.Refusal.TheVariants.{Edited, Parent, StackEmpty}
 use Rattle.cny_base.specs.declared.stop.Stop.{Stop}
@@ -12,7 +9,6 @@ use Rattle.cny_base.specs.Reserved.{is_reserved}
 use Rattle.tree_disk.specs.Disk.{DiskModel, HasRead}
 use Rattle.tree_disk.specs.Steps.{IsDiskStop}
 use Rattle.tree_disk.specs.Tree.{Name, Tree, WellFormed}
-use Rattle.tree_scan.specs.Marks.{fingerprint}
 use Rattle.local_db.specs.declared.db.Db.{Db}
 use Rattle.saved_contents.specs.Old.{IsDamagedOld}
 use Rattle.system_state.specs.Record as state
@@ -23,26 +19,16 @@ use Rattle.system_state.specs.declared.format.Format.TheVariants.{Two}
 use Rattle.system_state.proofs.Sorted.{listed_in}
 use Rattle.undo_check.specs.Marks.{IsUndoRefusal, marks_of}
 use Rattle.rollback_stack.specs.Reading.{IsDamagedAt, IsDamagedNewest, IsFirstDamaged}
-use Rattle.system_rollback.specs.Preparing.{IsPreparingStop, IsRefusal}
+use Rattle.rollback_stack.proofs.Later.{read_as}
+use Rattle.system_rollback.specs.Preparing.{IsPreparingStop, IsRefusal, IsRefusalKind}
 use Rattle.system_rollback.specs.Restoring.{IsException, IsUnedited, Restores}
-use Rattle.system_rollback.specs.Rollback.{EndsSo, HasCause, IsSystemRefusal, StopsSo, db_of}
+use Rattle.system_rollback.specs.Rollback.{EndsSo, HasCause, HasStep, IsSystemRefusal, StopsSo, db_of}
 use Rattle.system_rollback.proofs.Restored.{is_restored, left_alone, put_into}
 use Rattle.system_rollback.proofs.Stepping.{edited, empty_stack, orphaned, some_job}
-use Rattle.system_rollback.proofs.Stored.{OneDatabase, OneRecord, SameParts, held, item, one_held, record_of, some_newest}
+use Rattle.system_rollback.proofs.Stored.{OneDatabase, OneRecord, SameParts, held, item, not_damaged, one_held, record_of, some_newest}
 use Rattle.system_rollback.proofs.Undoing.{told_at}
 
 -- ---- nothing is damaged
-
--- a saved content that the job's record refers to isn't damaged
-not_damaged : (x : Tree) (s : SystemState) (stores : StoresIn Two x s) (o : StackItem) (olds : List StackItem) (stack : s.stack ≡ o ∷ olds) (n : ℕ) → n ≡ o.number → (p path : Name) → Contains o.paths p
-    → IsDamagedOld x n (fingerprint (get o.before p)) path → ⊥
-not_damaged x s stores o olds stack n number_is p path among damaged = at (get o.before p) refl (subst (λ (k : ℕ). IsDamagedOld x k (fingerprint (get o.before p)) path) number_is damaged)
-  where
-    at : (m : Option Node) → get o.before p ≡ m → IsDamagedOld x o.number (fingerprint m) path → ⊥
-    at None is h = h
-    at (Some (node.Dir mode)) is h = h
-    at (Some (node.File mode bytes)) is h = h.1 bytes (record { there = (held x s stores o olds stack).contents p mode bytes among is; content = record { long = refl; named = refl } })
-    at (Some (node.Link target)) is h = h
 
 -- the first of the entries that is damaged is one of the job's
 first_damaged : (x : Tree) (s : SystemState) (stores : StoresIn Two x s) (o : StackItem) (olds : List StackItem) (stack : s.stack ≡ o ∷ olds) (n : ℕ) → n ≡ o.number → (es : List state.Entry) → es ≡ state.entries_of o
@@ -51,7 +37,7 @@ first_damaged x s stores o olds stack n number_is es same path h =
     All-contains (λ (e : state.Entry). IsDamagedOld x n e.was path → ⊥) es h.first
     (subst (All (λ (e : state.Entry). IsDamagedOld x n e.was path → ⊥)) (sym same)
     (All-map (λ (e : state.Entry). IsDamagedOld x n e.was path → ⊥) (told_at o) o.paths
-    (λ k d lt. not_damaged x s stores o olds stack n number_is (Rattle.std.proofs.Common.get_or o.paths k d) path (Contains-get_or o.paths k d lt))))
+    (λ k d lt. not_damaged x o (held x s stores o olds stack).contents n number_is (Rattle.std.proofs.Common.get_or o.paths k d) path (Contains-get_or o.paths k d lt))))
     (subst (λ (l : List state.Entry). Contains l h.first) (sym h.split) (Contains-append_right h.front (h.first ∷ h.rest) h.first (0, omega arith, refl)))
     h.damaged
 
@@ -89,7 +75,7 @@ module _ (one_db : OneDatabase) (one_record : OneRecord) (x : Tree) (s : SystemS
   pub unwritten : (told : Bool) (rose : Type 0) (left : Db) (e : Stop) → IsTrue told → IsPreparingStop told x db rose e → EndsSo s left (Err e)
   unwritten told rose left stop.Failed tells is = tt
   unwritten told rose left stop.Memory tells is = tt
-  unwritten told rose left (stop.Refused why) tells is = system_refusal why (is tells)
+  unwritten told rose left (stop.Refused why) tells is = system_refusal why (is.1 tells)
   unwritten told rose left (stop.Damaged path) tells is = none_damaged path (is tells)
   unwritten told rose left stop.FarFailed tells is = is
   unwritten told rose left (stop.FarDamaged path) tells is = is
@@ -105,7 +91,7 @@ unfinished s left (stop.FarDamaged path) is = is
 
 -- ---- what is restored
 
-module _ (x y : Tree) (s : SystemState) (stores : StoresIn Two x s) (left : Db) (o : StackItem) (olds : List StackItem) (stack : s.stack ≡ o ∷ olds) (formed : WellFormed o.before) (unedited : IsUnedited o s.tree) where
+module _ (x y : Tree) (s : SystemState) (stores : StoresIn Two x s) (left : Db) (o : StackItem) (olds : List StackItem) (stack : s.stack ≡ o ∷ olds) (unedited : IsUnedited o s.tree) where
   mine : IsStackItem o
   mine = item x s stores o olds stack
 
@@ -114,8 +100,8 @@ module _ (x y : Tree) (s : SystemState) (stores : StoresIn Two x s) (left : Db) 
 
   exception : (why : Refusal) → IsSystemRefusal s why → IsException o s.tree why
   exception StackEmpty is = absurd (cc (sym is ∙ stack))
-  exception (Edited path) is = put_into o mine formed s.tree unedited path (subst (λ (p : StackItem). Rattle.system_rollback.specs.Tests.IsFirstEdited p s.tree path) (same_job is.job is.others is.stack_is).0 is.holds)
-  exception (Parent path) is = left_alone o mine formed s.tree unedited stores.system.tree path (subst (λ (p : StackItem). Rattle.system_rollback.specs.Tests.IsFirstOrphan p s.tree path) (same_job is.job is.others is.stack_is).0 is.holds)
+  exception (Edited path) is = put_into o mine s.tree unedited path (subst (λ (p : StackItem). Rattle.system_rollback.specs.Tests.IsFirstEdited p s.tree path) (same_job is.job is.others is.stack_is).0 is.holds)
+  exception (Parent path) is = left_alone o mine s.tree unedited stores.system.tree path (subst (λ (p : StackItem). Rattle.system_rollback.specs.Tests.IsFirstOrphan p s.tree path) (same_job is.job is.others is.stack_is).0 is.holds)
   exception _ is = absurd is
 
   outer : (q : Name) → is_listed o.paths q ≡ true → is_reserved q ≡ false
@@ -139,33 +125,33 @@ module _ (x y : Tree) (s : SystemState) (stores : StoresIn Two x s) (left : Db) 
 -- ---- on each root
 
 pub stops_so : {D A : Type 0} (disk : DiskModel D) (db : Db) (old mid : D) (rose : Type 0) (e : Stop) → IsTrue disk.tells → HasRead disk old mid A → IsPreparingStop disk.tells (disk.reads old) db rose e → StopsSo disk db old mid e
-stops_so disk db old mid rose stop.Failed tells run is = tt
-stops_so disk db old mid rose stop.Memory tells run is = tt
-stops_so disk db old mid rose (stop.Refused why) tells run is = record { answer = is tells; same = run.same; time = run.time }
+stops_so disk db old mid rose stop.Failed tells run is = inl (read_as run tt)
+stops_so disk db old mid rose stop.Memory tells run is = inl (read_as run tt)
+stops_so disk db old mid rose (stop.Refused why) tells run is = record { answer = is.1 tells; same = run.same; time = run.time }
 stops_so disk db old mid rose (stop.Damaged path) tells run is = record { answer = is tells; same = run.same; time = run.time }
 stops_so disk db old mid rose stop.FarFailed tells run is = is
 stops_so disk db old mid rose (stop.FarDamaged path) tells run is = is
 
-pub written_so : {D : Type 0} (disk : DiskModel D) (db : Db) (old new : D) (e : Stop) → IsDiskStop e → StopsSo disk db old new e
-written_so disk db old new stop.Failed is = tt
-written_so disk db old new stop.Memory is = tt
-written_so disk db old new (stop.Refused why) is = absurd is
-written_so disk db old new (stop.Damaged path) is = absurd is
-written_so disk db old new stop.FarFailed is = is
-written_so disk db old new (stop.FarDamaged path) is = is
+pub written_so : {D : Type 0} (disk : DiskModel D) (db : Db) (old new : D) (e : Stop) → HasStep (disk.reads old) db → IsDiskStop e → StopsSo disk db old new e
+written_so disk db old new stop.Failed has is = inr has
+written_so disk db old new stop.Memory has is = inr has
+written_so disk db old new (stop.Refused why) has is = absurd is
+written_so disk db old new (stop.Damaged path) has is = absurd is
+written_so disk db old new stop.FarFailed has is = is
+written_so disk db old new (stop.FarDamaged path) has is = is
 
-pub cause_before : (told : Bool) (x : Tree) (db : Db) (rose : Type 0) (e : Stop) → IsPreparingStop told x db rose e → HasCause rose e
+pub cause_before : (told : Bool) (x : Tree) (db : Db) (rose : Type 0) (e : Stop) → IsPreparingStop told x db rose e → HasCause (IsRefusalKind db) rose e
 cause_before told x db rose stop.Failed is = is
 cause_before told x db rose stop.Memory is = tt
-cause_before told x db rose (stop.Refused why) is = tt
+cause_before told x db rose (stop.Refused why) is = is.0
 cause_before told x db rose (stop.Damaged path) is = tt
 cause_before told x db rose stop.FarFailed is = is
 cause_before told x db rose (stop.FarDamaged path) is = is
 
-pub cause_written : (rose : Type 0) (e : Stop) → IsDiskStop e → (e ≡ stop.Failed → rose) → HasCause rose e
-cause_written rose stop.Failed is failed = failed refl
-cause_written rose stop.Memory is failed = tt
-cause_written rose (stop.Refused why) is failed = tt
-cause_written rose (stop.Damaged path) is failed = tt
-cause_written rose stop.FarFailed is failed = is
-cause_written rose (stop.FarDamaged path) is failed = is
+pub cause_written : (IsKind : Refusal → Type 0) (rose : Type 0) (e : Stop) → IsDiskStop e → (e ≡ stop.Failed → rose) → HasCause IsKind rose e
+cause_written IsKind rose stop.Failed is failed = failed refl
+cause_written IsKind rose stop.Memory is failed = tt
+cause_written IsKind rose (stop.Refused why) is failed = absurd is
+cause_written IsKind rose (stop.Damaged path) is failed = tt
+cause_written IsKind rose stop.FarFailed is failed = is
+cause_written IsKind rose (stop.FarDamaged path) is failed = is

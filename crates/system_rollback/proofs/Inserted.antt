@@ -1,14 +1,16 @@
 -- A write among others, in the order of their paths.
-use Rattle.std.proofs.Common.{◌≡◌, ◌⊎◌, inl, inr, ⊎_elim, ℕ, zero, suc, ◌<◌, Bool, true, false, ◌||◌, List, [], ◌∷◌, ◌++◌, length, take, drop, get_or, All, Contains, refl, sym, subst, arith, take-append-drop}
+use Rattle.std.proofs.Common.{◌≡◌, ◌⊎◌, inl, inr, ⊎_elim, ℕ, zero, suc, ◌<◌, Bool, true, false, ◌||◌, not, cond, List, [], ◌∷◌, ◌++◌, length, take, drop, get_or, All, Contains, refl, sym, subst, arith, take-append-drop, ap, ◌∙◌}
 use Rattle.std.specs.declared.cmp.Ordering.TheVariants.{Less}
 use Rattle.std.proofs.lemmas.List.Elements.{All-cons, All-head, All-nil, All-tail, Contains-append_left, Contains-append_right, Contains-append_cases, Contains-get_or}
 use Rattle.journal_log.specs.declared.put.Put.{Put}
-use Rattle.journal_log.specs.WriteSet.{Rises}
+use Rattle.journal_log.specs.WriteSet.{ComesBefore, Rises}
 use Rattle.journal_log.specs.Targets.{is_target}
 use Rattle.tree_disk.specs.Laws.{same_itself}
 use Rattle.tree_disk.specs.Tree.{Name, same_name}
 use Rattle.system_state.specs.Steps.{IsUnion}
+use Rattle.system_state.proofs.Writes.{first_before}
 use Rattle.undo_check.proofs.Order.{name_cmp, placed}
+use Rattle.system_rollback.specs.Inserting.{without}
 
 abbrev IsBefore : Put → Put → Type 0
 IsBefore q p = name_cmp p.path q.path ≡ Less
@@ -94,3 +96,42 @@ module _ (q : Put) where
 
     pub union_at : IsUnion (take at puts ++ q ∷ drop at puts) puts (q ∷ [])
     union_at = subst (λ (l : List Put). IsUnion (take at puts ++ q ∷ drop at puts) l (q ∷ [])) (take-append-drop at puts) (union_with q (take at puts) (drop at puts) rises_at)
+
+-- ---- the writes but the one at a path
+
+pub without_out : (path : Name) (puts : List Put) → is_target (without path puts) path ≡ false
+without_out path [] = refl
+without_out path (p ∷ puts) = at (same_name path p.path) refl (without_out path puts)
+  where
+    at : (b : Bool) → same_name path p.path ≡ b → is_target (without path puts) path ≡ false → is_target (cond (not b) (p ∷ without path puts) (without path puts)) path ≡ false
+    at true is later = later
+    at false is later = ap (λ (c : Bool). c || is_target (without path puts) path) is ∙ later
+
+-- where none is at it, these are all
+pub without_same : (path : Name) (puts : List Put) → is_target puts path ≡ false → without path puts ≡ puts
+without_same path [] out = refl
+without_same path (p ∷ puts) out = at (same_name path p.path) out (without_same path puts)
+  where
+    at : (b : Bool) → (b || is_target puts path) ≡ false → (is_target puts path ≡ false → without path puts ≡ puts) → cond (not b) (p ∷ without path puts) (without path puts) ≡ p ∷ puts
+    at true out later = absurd (cc out)
+    at false out later = ap (λ (l : List Put). p ∷ l) (later out)
+
+comes_before : (path : Name) (p : Put) (puts : List Put) → ((q : Name) → is_target puts q ≡ true → name_cmp p.path q ≡ Less) → ComesBefore p (without path puts)
+comes_before path p [] less = tt
+comes_before path p (q ∷ puts) less = at (same_name path q.path) (comes_before path p puts (λ n is. less n (later (same_name n q.path) (is_target puts n) is)))
+  where
+    later : (a b : Bool) → b ≡ true → (a || b) ≡ true
+    later true b is = refl
+    later false b is = is
+
+    at : (b : Bool) → ComesBefore p (without path puts) → ComesBefore p (cond (not b) (q ∷ without path puts) (without path puts))
+    at true rest = rest
+    at false rest = less q.path (ap (λ (c : Bool). c || is_target puts q.path) (same_itself q.path))
+
+pub without_rises : (path : Name) (puts : List Put) → Rises puts → Rises (without path puts)
+without_rises path [] rises = tt
+without_rises path (p ∷ puts) rises = at (same_name path p.path) (without_rises path puts rises.1)
+  where
+    at : (b : Bool) → Rises (without path puts) → Rises (cond (not b) (p ∷ without path puts) (without path puts))
+    at true rest = rest
+    at false rest = (comes_before path p puts (first_before p puts rises), rest)

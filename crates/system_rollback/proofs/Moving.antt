@@ -20,7 +20,7 @@ use Rattle.system_state.specs.SystemState.{SystemState, is_listed}
 use Rattle.system_state.specs.declared.format.Format.TheVariants.{Two}
 use Rattle.system_state.proofs.Together.{at_rest_stores}
 use Rattle.root_writing.specs.Writing.{Goes, RestsAt, ShowsEither}
-use Rattle.system_rollback.specs.Rollback.{EndsSo, IsReadyWith, RollsBack, newest_paths, rolled_back}
+use Rattle.system_rollback.specs.Rollback.{IsReadyWith, Moves}
 
 recovers : (x : Tree) (s : SystemState) → is_committed private_directory x ≡ false → StoresIn Two x s → RecoversToSystem x s
 recovers x s clear stores = (at_rest_stores x s clear).1 (inr stores)
@@ -40,26 +40,25 @@ module _ {D : Type 0} (disk : DiskModel D) (laws : IsDisk disk) (s : SystemState
     read_shows : (t : SystemState) → UnlessFailed disk old mid (ShowsEither s t)
     read_shows t none = shows_weaker (λ u is q out. inl (ap (λ (v : Tree). get v q) is ∙ stores.managed q out)) run.same.visible
 
-    -- nothing was written
-    pub still : (db : Db) (r : Result ℕ Stop) → EndsSo s db r → OnOk r (RestsAt disk Two (rolled_back s) mid) → RollsBack disk s db old mid r
-    still db r ends rests = record {
-      ends = ends;
-      images = leaves_weaker (λ image h. inl h) read_images;
-      reads = inl (subst (λ (y : Tree). RecoversToSystem y s) (sym run.same.reads) now);
-      rests = rests;
-      shown = read_shows (rolled_back s);
-      others = λ q out other. ap (λ (v : Tree). get v q) run.same.reads;
-    }
+    module _ (t : SystemState) (paths : List Name) where
+      -- nothing was written
+      pub still : (r : Result ℕ Stop) → OnOk r (RestsAt disk Two t mid) → Moves disk s t paths old mid r
+      still r rests = record {
+        images = leaves_weaker (λ image h. inl h) read_images;
+        reads = inl (subst (λ (y : Tree). RecoversToSystem y s) (sym run.same.reads) now);
+        rests = rests;
+        shown = read_shows t;
+        others = λ q out other. ap (λ (v : Tree). get v q) run.same.reads;
+      }
 
-    -- the write set was put, or was to be put
-    pub moved : (puts : List Put) (new : D) (w : Result (Unit {0}) Stop) → Goes disk Two s (rolled_back s) puts mid new w → disk.faults old ≤ disk.faults mid → disk.faults mid ≤ disk.faults new
-        → ((q : Name) → is_reserved q ≡ false → is_listed (newest_paths s.stack) q ≡ false → is_target puts q ≡ false)
-        → (db : Db) (r : Result ℕ Stop) → EndsSo s db r → OnOk r (RestsAt disk Two (rolled_back s) new) → RollsBack disk s db old new r
-    moved puts new w goes early late outside db r ends rests = record {
-      ends = ends;
-      images = leaves_then (leaves_weaker (λ image h. inl h) read_images) goes.images;
-      reads = goes.reads;
-      rests = rests;
-      shown = unfailed_then early late (read_shows (rolled_back s)) goes.shown;
-      others = λ q out other. goes.others q out (outside q out other) ∙ ap (λ (v : Tree). get v q) run.same.reads;
-    }
+      -- the write set was put, or was to be put
+      pub moved : (puts : List Put) (new : D) (w : Result (Unit {0}) Stop) → Goes disk Two s t puts mid new w → disk.faults old ≤ disk.faults mid → disk.faults mid ≤ disk.faults new
+          → ((q : Name) → is_reserved q ≡ false → is_listed paths q ≡ false → is_target puts q ≡ false)
+          → (r : Result ℕ Stop) → OnOk r (RestsAt disk Two t new) → Moves disk s t paths old new r
+      moved puts new w goes early late outside r rests = record {
+        images = leaves_then (leaves_weaker (λ image h. inl h) read_images) goes.images;
+        reads = goes.reads;
+        rests = rests;
+        shown = unfailed_then early late (read_shows t) goes.shown;
+        others = λ q out other. goes.others q out (outside q out other) ∙ ap (λ (v : Tree). get v q) run.same.reads;
+      }

@@ -10,17 +10,17 @@ use Rattle.system_state.proofs.Systems.{numbers_by_length}
 use Rattle.job_inverse.specs.Writes.{db_below, newest_below, oldest_below}
 use Rattle.system_rollback.specs.Rollback.{db_of}
 
-is_below : (a b : ℕ) → a < b → nat_lt a b ≡ true
+pub is_below : (a b : ℕ) → a < b → nat_lt a b ≡ true
 is_below a b lt = grind (arith, nat_tests)
 
 not_below : (a : ℕ) → nat_lt a a ≡ false
 not_below a = grind (arith, nat_tests)
 
-chosen : (b : Bool) (x y : ℕ) → b ≡ true → (if b then x else y) ≡ x
+pub chosen : (b : Bool) (x y : ℕ) → b ≡ true → (if b then x else y) ≡ x
 chosen true x y is = refl
 chosen false x y is = absurd (cc is)
 
-other : (b : Bool) (x y : ℕ) → b ≡ false → (if b then x else y) ≡ y
+pub other : (b : Bool) (x y : ℕ) → b ≡ false → (if b then x else y) ≡ y
 other true x y is = absurd (cc is)
 other false x y is = refl
 

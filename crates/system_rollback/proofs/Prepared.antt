@@ -3,6 +3,8 @@ use Rattle.std.proofs.Common.{◌≡◌, ◌⊎◌, inl, inr, ⊎_elim, ℕ, Boo
 use Rattle.std.proofs.lemmas.Bool.{cases_Bool}
 use Rattle.std.proofs.lemmas.List.Elements.{All-cons, All-contains, All-head, All-nil, All-tail, Contains-get_or}
 use Rattle.cny_base.specs.Reserved.{is_reserved}
+use Rattle.cny_base.specs.declared.refusal.Refusal.{Refusal}
+use Rattle.cny_base.specs.declared.refusal.Refusal.TheVariants.{Edited, Parent}
 use Rattle.cny_base.specs.declared.stop.Stop.{Stop}
 use Rattle.cny_base.specs.declared.stop.Stop.TheVariants as stop
 use Rattle.journal_log.specs.declared.put.Put.{Put}
@@ -19,6 +21,7 @@ use Rattle.system_state.specs.declared.format.Format.TheVariants.{Two}
 use Rattle.system_state.proofs.Places.{database_reserved, job_not_database, record_is_job}
 use Rattle.system_state.proofs.Writes.{contains_cases, contains_first, contains_rest, nothing_in, not_both, target_at}
 use Rattle.undo_check.specs.Marks.{CanUndo, IsUndoRefusal, marks_of}
+use Rattle.undo_check.specs.Outcome.{IsUndoKind}
 use Rattle.job_records.specs.Reading.{HoldsRecord}
 use Rattle.job_records.proofs.Mapping.{unmapped}
 use Rattle.job_undo.specs.declared.undo.Back.{Back}
@@ -30,7 +33,7 @@ use Rattle.rollback_stack.specs.Reading.{IsNewest, IsNewestStop}
 use Rattle.tree_disk.specs.Laws.{same_itself}
 use Rattle.system_rollback.specs.declared.preparing.Step.{Step}
 use Rattle.system_rollback.specs.Inserting.{HasBytes, HasRoom, put_of_db}
-use Rattle.system_rollback.specs.Preparing.{IsPreparingStop, IsStep}
+use Rattle.system_rollback.specs.Preparing.{IsPreparingStop, IsRefusalKind, IsStep}
 
 -- ---- the database's write
 
@@ -43,7 +46,7 @@ mapped_out (e ∷ es) free = All-cons (λ (p : Put). database ≡ p.path → ⊥
     (λ at. not_both (is_reserved database) database_reserved (ap is_reserved at ∙ (All-head (λ (e : Entry). IsFree e.path) e es free).not_reserved))
     (mapped_out es (All-tail (λ (e : Entry). IsFree e.path) e es free))
 
-not_record : (n : ℕ) → database ≡ record_file n → ⊥
+pub not_record : (n : ℕ) → database ≡ record_file n → ⊥
 not_record n is = not_both (same_name (record_file n) database) (subst (λ (q : Name). same_name q database ≡ true) is (same_itself database)) (job_not_database n (record_file n) (record_is_job n))
 
 -- none of the other writes is at its path
@@ -105,11 +108,16 @@ step_is x db undo back put all step newest can is put_is bytes union same = subs
 
 -- ---- stops
 
+kind_of : (db : Db) (why : Refusal) → IsUndoKind why → IsRefusalKind db why
+kind_of db (Edited path) is = is
+kind_of db (Parent path) is = is
+kind_of db _ is = absurd is
+
 pub newest_stop : (told : Bool) (x : Tree) (db : Db) (rose later : Type 0) (e : Stop) → (rose → later) → IsNewestStop told x db rose e → IsPreparingStop told x db later e
 newest_stop told x db rose later stop.Failed rises is = rises is
 newest_stop told x db rose later stop.Memory rises is = tt
 newest_stop told x db rose later (stop.Damaged path) rises is = is
-newest_stop told x db rose later (stop.Refused why) rises is = λ tells. inl is
+newest_stop told x db rose later (stop.Refused why) rises is = (subst (IsRefusalKind db) (sym is.0) is.1, λ tells. inl is)
 newest_stop told x db rose later stop.FarFailed rises is = is
 newest_stop told x db rose later (stop.FarDamaged path) rises is = is
 
@@ -118,11 +126,14 @@ pub inverse_stop : (told : Bool) (x y : Tree) (db : Db) (undo : Undo) (rose late
 inverse_stop told x y db undo rose later stop.Failed rises same newest is = rises is
 inverse_stop told x y db undo rose later stop.Memory rises same newest is = tt
 inverse_stop told x y db undo rose later (stop.Damaged path) rises same newest is = absurd is
-inverse_stop told x y db undo rose later (stop.Refused why) rises same newest is = λ tells. inr (record {
-  before = (newest tells).before;
-  es = entries_of undo.entries;
-  holds = subst (λ (n : ℕ). HoldsRecord Two x n db.installed (newest tells).before (entries_of undo.entries)) (newest tells).leads.newest (newest tells).holds;
-  refused = subst (λ (t : Tree). IsUndoRefusal (entries_of undo.entries) (marks_of t) why) (same tells) (is.1 tells);
-})
+inverse_stop told x y db undo rose later (stop.Refused why) rises same newest is = (
+  kind_of db why is.0,
+  λ tells. inr (record {
+    before = (newest tells).before;
+    es = entries_of undo.entries;
+    holds = subst (λ (n : ℕ). HoldsRecord Two x n db.installed (newest tells).before (entries_of undo.entries)) (newest tells).leads.newest (newest tells).holds;
+    refused = subst (λ (t : Tree). IsUndoRefusal (entries_of undo.entries) (marks_of t) why) (same tells) (is.1 tells);
+  }),
+)
 inverse_stop told x y db undo rose later stop.FarFailed rises same newest is = is
 inverse_stop told x y db undo rose later (stop.FarDamaged path) rises same newest is = is

@@ -59,7 +59,7 @@ bytes_of_file (Some (node.File mode b)) bytes stands is = let same : b ≡ bytes
 bytes_of_file (Some (node.Link target)) bytes stands is = absurd (cc is)
 
 -- what a job found, by its fingerprint and what it saved, is what a disk can hold
-may_be : (x : Tree) (number : ℕ) (w : Want) → WellFormed x → IsMark (fingerprint (node_of w)) → IsSaved x number w → may_stand (node_of w) ≡ true
+pub may_be : (x : Tree) (number : ℕ) (w : Want) → WellFormed x → IsMark (fingerprint (node_of w)) → IsSaved x number w → may_stand (node_of w) ≡ true
 may_be x number want.Nothing well is_mark saved_ = refl
 may_be x number (want.Dir mode) well is_mark saved_ = is_node-Dir mode is_mark
 may_be x number (want.File mode bytes) well is_mark saved_ =
@@ -67,23 +67,23 @@ may_be x number (want.File mode bytes) well is_mark saved_ =
 may_be x number (want.Link target) well is_mark saved_ = is_node-Link target is_mark
 may_be x number (want.Staged mode id size name) well is_mark saved_ = absurd saved_
 
-no_dir : (n : Option Node) (bytes : List ℕ) → file_bytes n ≡ Some bytes → is_dir n ≡ false
+pub no_dir : (n : Option Node) (bytes : List ℕ) → file_bytes n ≡ Some bytes → is_dir n ≡ false
 no_dir None bytes is = refl
 no_dir (Some (node.Dir mode)) bytes is = absurd (cc is)
 no_dir (Some (node.File mode b)) bytes is = refl
 no_dir (Some (node.Link target)) bytes is = refl
 
-not_none : (n : Option Node) (bytes : List ℕ) → file_bytes n ≡ Some bytes → n ≢ None
+pub not_none : (n : Option Node) (bytes : List ℕ) → file_bytes n ≡ Some bytes → n ≢ None
 not_none n bytes is none = absurd (cc (sym is ∙ ap file_bytes none))
 
-stands : (n : Option Node) → n ≢ None → is_some n ≡ true
+pub stands : (n : Option Node) → n ≢ None → is_some n ≡ true
 stands None some = absurd (some refl)
 stands (Some n) some = refl
 
-there : (n : Option Node) → is_some n ≡ true → n ≢ None
+pub there : (n : Option Node) → is_some n ≡ true → n ≢ None
 there n some none = absurd (cc (some, none))
 
-no_database_dir : (x : Tree) (db : Db) → HoldsDatabase Two x db.installed db.oldest db.newest → is_dir (get x database) ≡ false
+pub no_database_dir : (x : Tree) (db : Db) → HoldsDatabase Two x db.installed db.oldest db.newest → is_dir (get x database) ≡ false
 no_database_dir x db (absent none list oldest newest) = ap is_dir none
 no_database_dir x db (written is file) = no_dir (get x database) _ file
 

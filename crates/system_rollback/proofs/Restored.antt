@@ -31,7 +31,7 @@ none_of : (n : Option Node) → (is_some n ≡ true → ⊥) → n ≡ None
 none_of None never = refl
 none_of (Some n) never = absurd (never refl)
 
-module _ (o : StackItem) (item : IsStackItem o) (formed : WellFormed o.before) (tree : Tree) (unedited : IsUnedited o tree) where
+module _ (o : StackItem) (item : IsStackItem o) (tree : Tree) (unedited : IsUnedited o tree) where
   mark_at : (p : Name) → is_listed o.paths p ≡ true → fingerprint (get tree p) ≡ fingerprint (get o.after p)
   mark_at p own = All-contains (λ (p : Name). fingerprint (get tree p) ≡ fingerprint (get o.after p)) o.paths p unedited (listed_in o.paths p own)
 
@@ -50,7 +50,7 @@ module _ (o : StackItem) (item : IsStackItem o) (formed : WellFormed o.before) (
         other = foreign.2.1;
         below = foreign.2.2;
         left = sym (as_before foreign.2.0 foreign.2.1) ∙ none_of (get o.before foreign.2.0)
-            (λ some. not_both (is_dir (get o.before path)) (ap (λ (n : Name). is_dir (get o.before n)) (sym foreign.2.2) ∙ formed.parents foreign.2.0 some) foreign.0);
+            (λ some. not_both (is_dir (get o.before path)) (ap (λ (n : Name). is_dir (get o.before n)) (sym foreign.2.2) ∙ item.before_formed.parents foreign.2.0 some) foreign.0);
         there = foreign.2.3;
       })
       h.edited
@@ -93,7 +93,7 @@ module _ (o : StackItem) (item : IsStackItem o) (formed : WellFormed o.before) (
         stood none = h.orphan.0 (restored o item tree path own ∙ none)
 
         dir_before : is_dir (get o.before (parent path)) ≡ true
-        dir_before = formed.parents path (stands (get o.before path) stood)
+        dir_before = item.before_formed.parents path (stands (get o.before path) stood)
 
         other : is_listed o.paths (parent path) ≡ false
         other = ⊎_elim

@@ -30,8 +30,9 @@ use Rattle.system_rollback.specs.Preparing.{IsRefusedNewest, IsStep}
 use Rattle.system_rollback.specs.Rollback.{db_of}
 use Rattle.system_rollback.specs.Tests as test
 use Rattle.system_rollback.proofs.Numbers.{db_left}
-use Rattle.system_rollback.proofs.Putting.{nodes_formed, not_target}
-use Rattle.system_rollback.proofs.Stored.{OneDatabase, OneRecord, can_roll_back, first_edited_to, first_orphan_to, one_held, record_of, same_writes, some_newest}
+use Rattle.system_rollback.proofs.Putting.{not_target}
+use Rattle.system_rollback.proofs.Stored.{OneDatabase, OneRecord, one_held, record_of, same_writes, some_newest}
+use Rattle.system_rollback.proofs.Turn.{can_roll_back, first_edited_to, first_orphan_to, first_turn}
 
 -- ---- the list before a job is one list
 
@@ -87,8 +88,7 @@ module _ (one_db : OneDatabase) (one_record : OneRecord) (x : Tree) (s : SystemS
           (subst (λ (n : ℕ). All (λ (e : Entry). IsSaved x n e.was) is.undo.entries) number is.newest.saved)
 
       can : CanRollBack o s
-      can = can_roll_back x s stores o olds stack (subst (λ (es : List state.Entry). CanUndo es (marks_of x)) same.1 is.can)
-          (subst (λ (puts : List Put). WellFormed (with_targets puts x)) writes (nodes_formed x db step is well holds))
+      can = can_roll_back x (marks_of x) s (first_turn x s stores well) o olds stack (subst (λ (es : List state.Entry). CanUndo es (marks_of x)) same.1 is.can)
 
       numbered : AreNumbered (o ∷ olds)
       numbered = subst AreNumbered stack stores.system.numbered
@@ -141,7 +141,7 @@ module _ (one_db : OneDatabase) (one_record : OneRecord) (x : Tree) (s : SystemS
       refused = subst (λ (es : List state.Entry). undo.IsUndoRefusal es (marks_of x) why) entries is.refused
 
       pub edited : (path : Name) → why ≡ Edited path → test.IsFirstEdited o s.tree path
-      edited path e = first_edited_to x s stores o olds stack well path (subst (undo.IsUndoRefusal (state.entries_of o) (marks_of x)) e refused)
+      edited path e = first_edited_to x (marks_of x) s (first_turn x s stores well) o olds stack path (subst (undo.IsUndoRefusal (state.entries_of o) (marks_of x)) e refused)
 
       pub orphaned : (path : Name) → why ≡ Parent path → test.IsFirstOrphan o s.tree path
-      orphaned path e = first_orphan_to x s stores o olds stack well path (subst (undo.IsUndoRefusal (state.entries_of o) (marks_of x)) e refused)
+      orphaned path e = first_orphan_to x (marks_of x) s (first_turn x s stores well) o olds stack path (subst (undo.IsUndoRefusal (state.entries_of o) (marks_of x)) e refused)

@@ -1,10 +1,10 @@
 -- The write of a database.
-use Rattle.std.specs.Prelude.{ℕ, IsTrue, List}
-use Rattle.std.specs.List.{list_all}
+use Rattle.std.specs.Prelude.{ℕ, IsTrue, List, not}
+use Rattle.std.specs.List.{filter, list_all}
 use Rattle.journal_log.specs.declared.put.Put.{Put}
 use Rattle.journal_log.specs.declared.put.Want.TheVariants as want
 use Rattle.local_db.specs.declared.db.Db.{Db}
-use Rattle.tree_disk.specs.Tree.{is_byte}
+use Rattle.tree_disk.specs.Tree.{Name, is_byte, same_name}
 use Rattle.system_state.specs.declared.format.Format.TheVariants.{Two}
 use Rattle.system_state.specs.Formats.{Fits, database_bytes}
 use Rattle.system_state.specs.Names.{database}
@@ -28,3 +28,7 @@ HasRoom db = Fits Two db.installed
 -- each number of its text is a byte
 abbrev pub HasBytes : Db → Type 0
 HasBytes db = IsTrue (list_all is_byte (bytes_of db))
+
+-- the writes but the one at this path
+abbrev pub without : Name → List Put → List Put
+without path puts = filter (λ (p : Put). not (same_name path p.path)) puts

@@ -11,6 +11,7 @@ use Rattle.system_state.specs.Record as state
 use Rattle.system_state.specs.Steps.{IsUnion, no_record_put}
 use Rattle.local_db.specs.declared.db.Db.{Db}
 use Rattle.undo_check.specs.Marks.{CanUndo, IsUndoRefusal, marks_of}
+use Rattle.undo_check.specs.Outcome.{IsUndoKind}
 use Rattle.job_records.specs.Reading.{HoldsRecord}
 use Rattle.job_undo.specs.declared.undo.Undo.{Undo}
 use Rattle.job_undo.specs.Undo.{LeadsTo, entries_of}
@@ -43,11 +44,16 @@ pub record IsRefusedNewest (x : Tree) (db : Db) (why : Refusal) : Type 0 where
 abbrev pub IsRefusal : Tree → Db → Refusal → Type 0
 IsRefusal x db why = ((why ≡ StackEmpty) × (db.newest ≡ 0)) ⊎ IsRefusedNewest x db why
 
+-- On every disk: the refusals that there are, and `StackEmpty` only where the database has no job.
+abbrev pub IsRefusalKind : Db → Refusal → Type 0
+IsRefusalKind db StackEmpty = db.newest ≡ 0
+IsRefusalKind db why = IsUndoKind why
+
 -- Why the newest job isn't taken back, before anything is written.
 abbrev pub IsPreparingStop : Bool → Tree → Db → Type 0 → Stop → Type 0
 IsPreparingStop told x db rose stop.Failed = rose
 IsPreparingStop told x db rose stop.Memory = Unit {0}
-IsPreparingStop told x db rose (stop.Refused why) = IsTrue told → IsRefusal x db why
+IsPreparingStop told x db rose (stop.Refused why) = IsRefusalKind db why × (IsTrue told → IsRefusal x db why)
 IsPreparingStop told x db rose (stop.Damaged path) = IsTrue told → IsDamagedNewest x db path
 IsPreparingStop told x db rose stop.FarFailed = ⊥
 IsPreparingStop told x db rose (stop.FarDamaged path) = ⊥

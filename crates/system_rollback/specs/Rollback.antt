@@ -1,5 +1,5 @@
 -- How a rollback ends on a root.
-use Rattle.std.specs.Prelude.{◌≡◌, ℕ, false, List, [], ◌∷◌, Result, Ok, Err, OnOk}
+use Rattle.std.specs.Prelude.{◌≡◌, ◌⊎◌, ℕ, false, List, [], ◌∷◌, Result, Ok, Err, OnOk}
 use Rattle.std.specs.FinMap.{get}
 use Rattle.cny_base.specs.Reserved.{private_directory, is_reserved}
 use Rattle.cny_base.specs.declared.refusal.Refusal.{Refusal}
@@ -16,9 +16,10 @@ use Rattle.system_state.specs.declared.format.Format.TheVariants.{Two}
 use Rattle.system_state.specs.SystemState.{StackItem, SystemState, newest, oldest, is_listed}
 use Rattle.system_state.specs.Steps.{CanRollBack, after_rollback}
 use Rattle.system_state.specs.Stores.{HoldsDatabase}
-use Rattle.root_writing.specs.Writing.{RecoversToEither, RestsAt, ShowsEither}
+use Rattle.root_writing.specs.Writing.{IsPut, RecoversToEither, RestsAt, ShowsEither}
 use Rattle.rollback_stack.specs.Reading.{IsDamagedNewest}
-use Rattle.system_rollback.specs.Preparing.{IsRefusal}
+use Rattle.system_rollback.specs.declared.preparing.Step.{Step}
+use Rattle.system_rollback.specs.Preparing.{IsRefusal, IsStep}
 use Rattle.system_rollback.specs.Tests.{IsFirstEdited, IsFirstOrphan}
 
 -- A root that is made ready, with its database: its commit flag isn't set, a crash leaves just what it reads, and this is the
@@ -77,36 +78,62 @@ EndsSo s db (Err (stop.Damaged path)) = ⊥
 EndsSo s db (Err stop.FarFailed) = ⊥
 EndsSo s db (Err (stop.FarDamaged path)) = ⊥
 
--- outside the private directory each name that isn't a path of the newest job reads as before
-abbrev pub KeepsOtherPaths : SystemState → Tree → Tree → Type 0
-KeepsOtherPaths s before now = (q : Name) → is_reserved q ≡ false → is_listed (newest_paths s.stack) q ≡ false → get now q ≡ get before q
+-- outside the private directory each name that isn't one of these paths reads as before
+abbrev pub KeepsOtherPaths : List Name → Tree → Tree → Type 0
+KeepsOtherPaths paths before now = (q : Name) → is_reserved q ≡ false → is_listed paths q ≡ false → get now q ≡ get before q
 
--- From a system that the root stores to the one with its newest job taken back: at every moment a crash leaves a tree that
--- recovers to one of the two, and so does what the disk reads at the end; after Ok it rests at the second, with its database.
+-- nothing was done but reading
+abbrev pub HasOnlyRead : {D : Type 0} → DiskModel D → D → D → Type 0
+HasOnlyRead disk old new = HasRead disk old new (Unit {0})
+
+-- From the system s to the system t, which differs from it at these paths: at every moment a crash leaves a tree that recovers to
+-- one of the two, and so does what the disk reads at the end; after Ok it rests at t.
+pub record Moves {D : Type 0} (disk : DiskModel D) (s t : SystemState) (paths : List Name) (old new : D) (result : Result ℕ Stop) : Type 0 where
+  pub images : LeavesOnly disk old new (RecoversToEither s t)
+  pub reads : RecoversToEither s t (disk.reads new)
+  pub rests : OnOk result (RestsAt disk Two t new)
+  pub shown : UnlessFailed disk old new (ShowsEither s t)
+  pub others : KeepsOtherPaths paths (disk.reads old) (disk.reads new)
+
+-- the newest job can be taken back
+abbrev pub CanTakeBack : SystemState → Type 0
+CanTakeBack s = OfNewest s (λ o olds. CanRollBack o s)
+
+-- From a system that the root stores to the one with its newest job taken back, with the database of that. Where the job can't be
+-- taken back nothing is done but reading, whatever is answered.
 pub record RollsBack {D : Type 0} (disk : DiskModel D) (s : SystemState) (db : Db) (old new : D) (result : Result ℕ Stop) : Type 0 where
   pub ends : EndsSo s db result
-  pub images : LeavesOnly disk old new (RecoversToEither s (rolled_back s))
-  pub reads : RecoversToEither s (rolled_back s) (disk.reads new)
-  pub rests : OnOk result (RestsAt disk Two (rolled_back s) new)
-  pub shown : UnlessFailed disk old new (ShowsEither s (rolled_back s))
-  pub others : KeepsOtherPaths s (disk.reads old) (disk.reads new)
+  pub only : HasOnlyRead disk old new ⊎ CanTakeBack s
+  pub moves : Moves disk s (rolled_back s) (newest_paths s.stack) old new result
 
 -- ---- on each root
 
--- A refusal and a damaged file change nothing.
+-- the record of the newest job and the contents that it saved are there, and it can be taken back
+abbrev pub HasStep : Tree → Db → Type 0
+HasStep x db = (step : Step) × IsStep x db step
+
+-- The newest job was taken back: there was a step by the tree before, all its writes stand, and these are its number and its database.
+pub record HasTakenBack {D : Type 0} (disk : DiskModel D) (before after : Db) (old new : D) (number : ℕ) : Type 0 where
+  pub step : Step
+  pub step_is : IsStep (disk.reads old) before step
+  pub put : IsPut disk step.puts old new
+  pub number_is : number ≡ step.number
+  pub db_is : after ≡ step.db
+
+-- A refusal and a damaged file change nothing. Where there is no step nothing is done but reading.
 abbrev pub StopsSo : {D : Type 0} → DiskModel D → Db → D → D → Stop → Type 0
 StopsSo disk db old new (stop.Refused why) = HasRead disk old new (IsRefusal (disk.reads old) db why)
 StopsSo disk db old new (stop.Damaged path) = HasRead disk old new (IsDamagedNewest (disk.reads old) db path)
-StopsSo disk db old new stop.Failed = Unit {0}
-StopsSo disk db old new stop.Memory = Unit {0}
+StopsSo disk db old new stop.Failed = HasOnlyRead disk old new ⊎ HasStep (disk.reads old) db
+StopsSo disk db old new stop.Memory = HasOnlyRead disk old new ⊎ HasStep (disk.reads old) db
 StopsSo disk db old new stop.FarFailed = ⊥
 StopsSo disk db old new (stop.FarDamaged path) = ⊥
 
--- on every disk: a fault only where the count rose, and none of another disk
-abbrev pub HasCause : Type 0 → Stop → Type 0
-HasCause rose stop.Failed = rose
-HasCause rose stop.Memory = Unit {0}
-HasCause rose (stop.Refused why) = Unit {0}
-HasCause rose (stop.Damaged path) = Unit {0}
-HasCause rose stop.FarFailed = ⊥
-HasCause rose (stop.FarDamaged path) = ⊥
+-- on every disk: a refusal of these kinds, a fault only where the count rose, and none of another disk
+abbrev pub HasCause : (Refusal → Type 0) → Type 0 → Stop → Type 0
+HasCause IsKind rose stop.Failed = rose
+HasCause IsKind rose stop.Memory = Unit {0}
+HasCause IsKind rose (stop.Refused why) = IsKind why
+HasCause IsKind rose (stop.Damaged path) = Unit {0}
+HasCause IsKind rose stop.FarFailed = ⊥
+HasCause IsKind rose (stop.FarDamaged path) = ⊥

@@ -6,7 +6,7 @@ ghost use Rattle.std.specs.declared.cmp.Ordering.TheVariants.{Less};
 ghost use Rattle.journal_log.specs.declared.put.Put as declared;
 ghost use Rattle.journal_log.specs.Targets.{is_target};
 ghost use Rattle.system_state.specs.Steps.{IsUnion};
-ghost use Rattle.system_rollback.specs.Inserting.{HasBytes, HasRoom, bytes_of, put_of_db};
+ghost use Rattle.system_rollback.specs.Inserting.{HasBytes, HasRoom, bytes_of, put_of_db, without};
 
 use cny_base::{Bytes, Fault, Mode, OutOfMemory, Path};
 use journal_log::{Put, Puts, Want};
@@ -61,12 +61,19 @@ fn place_of(puts: &[Put], path: &Path) -> usize
     at
 }
 
-/// The write set with one write more, at whose path it has none.
+// Takes the write at a path out, where there is one.
+fn remove_at(puts: &mut Vec<Put>, path: &Path)
+    ensures { puts.new.items ≡ without path.now puts.old.items }
+{
+    puts.retain(|put| *path != put.path);
+}
+
+/// The write set with this write, in place of one at its path.
 pub(crate) fn with_put(puts: Puts, put: Put) -> Result<Puts, OutOfMemory>
-    requires { is_target puts put.path ≡ false }
-    ensures { IfOk result (λ all. IsUnion all puts (put ∷ [])) }
+    ensures { is_target puts put.path ≡ false → IfOk result (λ all. IsUnion all puts (put ∷ [])) }
 {
     let mut items = puts.into_vec();
+    remove_at(&mut items, &put.path);
     let at = place_of(items.as_slice(), &put.path);
     items.insert(at, put)?;
     match Puts::new(items) {

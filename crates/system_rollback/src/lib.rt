@@ -4,5 +4,7 @@
 mod inserting;
 mod newest_job;
 mod preparing;
+mod several_jobs;
 
 pub use newest_job::rollback;
+pub use several_jobs::rollback_to;

@@ -10,7 +10,7 @@ returns-clause-changes g c tells change =
     changes_of (g.T.TreeDisk.disk.reads c.args.root.now) c.args.planned.now c.make_targets.result (c.requires.seen tells) change c.make_targets.ensures.fits
 
 pub returns-clause-puts : goal.returns-clause-puts
-returns-clause-puts g c = given_of c.args.planned.now c.make_targets.result c.make_targets.ensures.fits
+returns-clause-puts g c = given_of c.args.planned.now c.make_targets.result c.make_targets.ensures.fits c.make_targets.ensures.held
 
 pub returns-clause-entries : goal.returns-clause-entries
 returns-clause-entries g c = savable_of c.args.planned.now c.make_targets.result c.requires.in_order c.make_targets.ensures.fits

@@ -1,8 +1,16 @@
-use Rattle.root_writing.proofs.Written.{may_apply, nothing_done, goes_on}
+use Rattle.root_writing.proofs.Written.{may_apply, not_put, nothing_done, goes_on, put_on}
 use Rattle.root_writing.proofs.writing.write_all.Goals as goal
 
 pub apply-requires-clause-told : goal.apply-requires-clause-told
 apply-requires-clause-told g c tells = rw c.in_ok-base.ensures (may_apply g.T.TreeDisk.disk c.args.puts.now c.args.root.now (c.requires.can tells))
+
+pub returns-in_err-base-clause-put : goal.returns-in_err-base-clause-put
+returns-in_err-base-clause-put g c tells = not_put _ _ c.from_residual.result c.from_residual.ensures.1
+
+pub returns-clause-put : goal.returns-clause-put
+returns-clause-put g c tells =
+    let is = c.in_ok-base.ensures in
+    put_on g.T.TreeDisk.disk c.args.puts.now c.args.root.now (c.requires.can tells) c.apply.new.disk c.apply.result (rw is at (c.apply.ensures.applied tells))
 
 pub returns-in_err-base-clause-goes : goal.returns-in_err-base-clause-goes
 returns-in_err-base-clause-goes g c tells f kind s t stores settled after =

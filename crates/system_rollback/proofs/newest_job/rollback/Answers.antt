@@ -1,12 +1,14 @@
-use Rattle.std.proofs.Common.{ℕ, Result, Err, refl, sym, ap, subst}
+use Rattle.std.proofs.Common.{inl, ℕ, Result, Err, refl, sym, ap, subst}
 use Rattle.cny_base.specs.Count.{Rose}
 use Rattle.cny_base.specs.declared.stop.Stop.{Stop}
 use Rattle.tree_disk.specs.Moments.{rose_before}
+use Rattle.rollback_stack.proofs.Later.{read_as}
 use Rattle.rollback_stack.proofs.NewestJob.{if_err_from}
+use Rattle.system_rollback.specs.Preparing.{IsRefusalKind}
 use Rattle.system_rollback.specs.Restoring.{Restores}
-use Rattle.system_rollback.specs.Rollback.{HasCause, RollsBack, StopsSo}
+use Rattle.system_rollback.specs.Rollback.{HasCause, RollsBack, StopsSo, newest_paths, rolled_back}
 use Rattle.system_rollback.proofs.Ending.{cause_before, cause_written, restores_err, stops_so, unwritten, written_so}
-use Rattle.system_rollback.proofs.Finished.{done_restores, done_rolls, err_is, failed_restores, failed_rolls}
+use Rattle.system_rollback.proofs.Finished.{done_restores, done_rolls, err_is, failed_restores, failed_rolls, taken_back}
 use Rattle.system_rollback.proofs.Moving.{still}
 use Rattle.system_rollback.proofs.Putting.{can_write}
 use Rattle.system_rollback.proofs.newest_job.rollback.Goals as goal
@@ -22,11 +24,14 @@ returns-in_err-step-clause-rolls g c tells s stores =
     let e = c.in_err-step.field-0.0 in
     let rose = Rose (disk.faults old) (disk.faults mid) in
     subst (λ (r : Result ℕ Stop). RollsBack disk s db old mid r) (sym (err_is c.from_residual.result e c.from_residual.ensures.1))
-    (still disk laws s db old ready stores (c.in_err-step.ensures.value tells) db (Err e)
-    (unwritten c.distinct_databases.ensures.unique c.one_record.ensures.one (disk.reads old) s stores db ready.holds (laws.reads_well_formed old) disk.tells rose db e tells c.in_err-step.ensures.stops) tt)
+    (record {
+      ends = unwritten c.distinct_databases.ensures.unique c.one_record.ensures.one (disk.reads old) s stores db ready.holds (laws.reads_well_formed old) disk.tells rose db e tells c.in_err-step.ensures.stops;
+      only = inl (read_as (c.in_err-step.ensures.value tells) tt);
+      moves = still disk laws s db old ready stores (c.in_err-step.ensures.value tells) (rolled_back s) (newest_paths s.stack) (Err e) tt;
+    })
 
 pub returns-in_err-step-clause-restores : goal.returns-in_err-step-clause-restores
-returns-in_err-step-clause-restores g c tells s o olds stores stack formed unedited =
+returns-in_err-step-clause-restores g c tells s o olds stores stack unedited =
     let disk = g.T.TreeDisk.disk in
     let laws = g.met.T.TreeDisk.laws in
     let old = c.args.root.now in
@@ -36,7 +41,7 @@ returns-in_err-step-clause-restores g c tells s o olds stores stack formed unedi
     let e = c.in_err-step.field-0.0 in
     let rose = Rose (disk.faults old) (disk.faults mid) in
     subst (λ (r : Result ℕ Stop). Restores o s.tree db (disk.reads mid) r) (sym (err_is c.from_residual.result e c.from_residual.ensures.1))
-    (restores_err (disk.reads old) (disk.reads mid) s stores db o olds stack formed unedited e
+    (restores_err (disk.reads old) (disk.reads mid) s stores db o olds stack unedited e
     (unwritten c.distinct_databases.ensures.unique c.one_record.ensures.one (disk.reads old) s stores db ready.holds (laws.reads_well_formed old) disk.tells rose db e tells c.in_err-step.ensures.stops))
 
 pub returns-in_err-step-clause-stops : goal.returns-in_err-step-clause-stops
@@ -56,7 +61,7 @@ returns-in_err-step-clause-causes g c =
     let old = c.args.root.now in
     let rose = Rose (disk.faults old) (disk.faults c.prepare.new.disk) in
     let e = c.in_err-step.field-0.0 in
-    if_err_from (HasCause rose) c.from_residual.result e c.from_residual.ensures.1
+    if_err_from (HasCause (IsRefusalKind c.args.db.now) rose) c.from_residual.result e c.from_residual.ensures.1
     (cause_before disk.tells (disk.reads old) c.args.db.now rose e c.in_err-step.ensures.stops)
 
 pub write_all-requires : goal.write_all-requires
@@ -83,7 +88,7 @@ returns-in_err-write_all-clause-rolls g c tells s stores =
     c.in_ok-step.ensures.later c.in_err-write_all.ensures.later (Err e) (c.in_err-write_all.ensures.goes tells) s stores e c.in_err-write_all.ensures.stops)
 
 pub returns-in_err-write_all-clause-restores : goal.returns-in_err-write_all-clause-restores
-returns-in_err-write_all-clause-restores g c tells s o olds stores stack formed unedited =
+returns-in_err-write_all-clause-restores g c tells s o olds stores stack unedited =
     let disk = g.T.TreeDisk.disk in
     let laws = g.met.T.TreeDisk.laws in
     let old = c.args.root.now in
@@ -93,7 +98,7 @@ returns-in_err-write_all-clause-restores g c tells s o olds stores stack formed 
     let e = c.in_err-write_all.field-0.0 in
     subst (λ (r : Result ℕ Stop). Restores o s.tree db (disk.reads new) r) (sym (err_is c.from_residual-in_err-write_all.result e c.from_residual-in_err-write_all.ensures.1))
     (failed_restores disk laws c.distinct_databases.ensures.unique c.one_record.ensures.one db old mid new (c.requires.ready tells) c.in_ok-step.step (c.in_ok-step.ensures.value tells)
-    c.in_ok-step.ensures.later c.in_err-write_all.ensures.later (Err e) (c.in_err-write_all.ensures.goes tells) s stores o olds stack formed unedited e c.in_err-write_all.ensures.stops)
+    c.in_ok-step.ensures.later c.in_err-write_all.ensures.later (Err e) (c.in_err-write_all.ensures.goes tells) s stores o olds stack unedited e c.in_err-write_all.ensures.stops)
 
 pub returns-in_err-write_all-clause-stops : goal.returns-in_err-write_all-clause-stops
 returns-in_err-write_all-clause-stops g c tells =
@@ -103,7 +108,7 @@ returns-in_err-write_all-clause-stops g c tells =
     let db = c.args.db.now in
     let e = c.in_err-write_all.field-0.0 in
     if_err_from (StopsSo disk db old new) c.from_residual-in_err-write_all.result e c.from_residual-in_err-write_all.ensures.1
-    (written_so disk db old new e c.in_err-write_all.ensures.stops)
+    (written_so disk db old new e (c.in_ok-step.step, (c.in_ok-step.ensures.value tells).answer) c.in_err-write_all.ensures.stops)
 
 pub returns-in_err-write_all-clause-causes : goal.returns-in_err-write_all-clause-causes
 returns-in_err-write_all-clause-causes g c =
@@ -113,8 +118,8 @@ returns-in_err-write_all-clause-causes g c =
     let new = c.write_all.new.root in
     let rose = Rose (disk.faults old) (disk.faults new) in
     let e = c.in_err-write_all.field-0.0 in
-    if_err_from (HasCause rose) c.from_residual-in_err-write_all.result e c.from_residual-in_err-write_all.ensures.1
-    (cause_written rose e c.in_err-write_all.ensures.stops (λ failed. rose_before (disk.faults old) (disk.faults mid) (disk.faults new) c.in_ok-step.ensures.later (c.in_err-write_all.ensures.failed (ap Err failed))))
+    if_err_from (HasCause (IsRefusalKind c.args.db.now) rose) c.from_residual-in_err-write_all.result e c.from_residual-in_err-write_all.ensures.1
+    (cause_written (IsRefusalKind c.args.db.now) rose e c.in_err-write_all.ensures.stops (λ failed. rose_before (disk.faults old) (disk.faults mid) (disk.faults new) c.in_ok-step.ensures.later (c.in_err-write_all.ensures.failed (ap Err failed))))
 
 pub returns-clause-rolls : goal.returns-clause-rolls
 returns-clause-rolls g c tells s stores =
@@ -123,7 +128,11 @@ returns-clause-rolls g c tells s stores =
     (c.in_ok-step.ensures.value tells) c.in_ok-step.ensures.later c.in_ok-write_all.ensures.later _ (c.in_ok-write_all.ensures.goes tells) s stores refl
 
 pub returns-clause-restores : goal.returns-clause-restores
-returns-clause-restores g c tells s o olds stores stack formed unedited =
+returns-clause-restores g c tells s o olds stores stack unedited =
     let disk = g.T.TreeDisk.disk in
     done_restores disk g.met.T.TreeDisk.laws c.distinct_databases.ensures.unique c.one_record.ensures.one c.args.db.now c.args.root.now c.prepare.new.disk c.write_all.new.root (c.requires.ready tells) c.in_ok-step.step
-    (c.in_ok-step.ensures.value tells) c.in_ok-step.ensures.later c.in_ok-write_all.ensures.later _ (c.in_ok-write_all.ensures.goes tells) s stores refl o olds stack formed unedited
+    (c.in_ok-step.ensures.value tells) c.in_ok-step.ensures.later c.in_ok-write_all.ensures.later _ (c.in_ok-write_all.ensures.goes tells) s stores refl o olds stack unedited
+
+pub returns-clause-done : goal.returns-clause-done
+returns-clause-done g c tells =
+    taken_back g.T.TreeDisk.disk c.args.db.now c.args.root.now c.prepare.new.disk c.write_all.new.root c.in_ok-step.step (c.in_ok-step.ensures.value tells) (c.in_ok-write_all.ensures.put tells)

@@ -1,5 +1,7 @@
-use Rattle.std.proofs.Common.{◌≡◌, refl, sym, ap, subst}
+use Rattle.std.proofs.Common.{◌∙◌, refl, ap, subst}
 use Rattle.cny_base.specs.Count.{Rose}
+use Rattle.journal_log.specs.declared.put.Put.{Put}
+use Rattle.journal_log.specs.Targets.{is_target}
 use Rattle.tree_disk.specs.Moments.{rose_before}
 use Rattle.tree_disk.specs.Tree.{Tree}
 use Rattle.undo_check.specs.Marks.{CanUndo, marks_of}
@@ -38,11 +40,6 @@ returns-in_err-back-clause-stops g c =
 pub database_put-requires : goal.database_put-requires
 database_put-requires g c = has_room c.in_ok-undo.undo c.args.db.now c.in_ok-back.back _ c.in_ok-back.ensures.value refl
 
-pub with_put-requires : goal.with_put-requires
-with_put-requires g c =
-    subst (λ p. Rattle.journal_log.specs.Targets.is_target c.in_ok-back.back.puts p ≡ Rattle.std.proofs.Common.false) (sym (ap (λ (p : Rattle.journal_log.specs.declared.put.Put.Put). p.path) c.in_ok-put.ensures.value))
-    (no_database c.in_ok-undo.undo c.args.db.now c.in_ok-back.back _ c.in_ok-back.ensures.value refl)
-
 pub returns-clause-value : goal.returns-clause-value
 returns-clause-value g c tells =
     let disk = g.D.TreeDisk.disk in
@@ -53,4 +50,5 @@ returns-clause-value g c tells =
     read_as (read_then g.met.D.TreeDisk.laws first second)
     (step_is x c.args.db.now undo c.in_ok-back.back c.in_ok-put.put c.in_ok-puts.puts _ first.answer
     (subst (λ (t : Tree). CanUndo (entries_of undo.entries) (marks_of t)) first.same.reads second.answer)
-    c.in_ok-back.ensures.value c.in_ok-put.ensures.value c.in_ok-put.ensures.bytes c.in_ok-puts.ensures refl)
+    c.in_ok-back.ensures.value c.in_ok-put.ensures.value c.in_ok-put.ensures.bytes
+    (c.in_ok-puts.ensures (ap (λ (p : Put). is_target c.in_ok-back.back.puts p.path) c.in_ok-put.ensures.value ∙ no_database undo c.args.db.now c.in_ok-back.back _ c.in_ok-back.ensures.value refl)) refl)

@@ -1,0 +1,16 @@
+pub mod Outer
+pub mod Recorded
+pub mod Shared
+pub mod Formed
+pub mod Values
+pub mod Lacking
+pub mod Managed
+pub mod ManagedTargets
+pub mod Held
+pub mod ReadFirst
+pub mod TestLaws
+pub mod JobLaws
+pub mod AnswerLaws
+pub mod CallLaws
+pub mod Erasing
+pub mod ErasedRefusals

@@ -1,0 +1,31 @@
+use Rattle.std.proofs.Common.{List, All, sym, subst}
+use Rattle.std.specs.Prelude.{IfErr, OnOk}
+use Rattle.trove_stream.specs.declared.parts.TroveParts.{TroveParts}
+use Rattle.trove_stream.specs.Trove.{IsTrove}
+use Rattle.installed_list.specs.Installed.{IsRising}
+use Rattle.system_state.specs.Installed.{IsInstalled}
+use Rattle.system_job.specs.Answers.{IsTestStop, PassesListTests}
+use Rattle.system_job.specs.Lists.{AreAllowed}
+use Rattle.system_job.proofs.TestLaws.{gathers_lists}
+use Rattle.system_job.proofs.testing.tested.Goals as goal
+
+pub tests_of-requires-clause-before : goal.tests_of-requires-clause-before
+tests_of-requires-clause-before g c = subst IsInstalled (sym c.troves.ensures.value) c.requires.before
+
+pub tests_of-requires-clause-in_order : goal.tests_of-requires-clause-in_order
+tests_of-requires-clause-in_order g c = subst IsRising (sym c.troves-2.ensures.value) c.troves-2.ensures.rising
+
+pub tests_of-requires-clause-allowed : goal.tests_of-requires-clause-allowed
+tests_of-requires-clause-allowed g c = subst AreAllowed (sym c.troves-2.ensures.value) c.requires.allowed
+
+pub returns-clause-gathers : goal.returns-clause-gathers
+returns-clause-gathers g c = gathers_lists _ c.args.before.now c.troves.result.now c.args.list.now c.troves-2.result.now c.troves.ensures.value c.troves-2.ensures.value c.tests_of.ensures.gathers
+
+pub returns-clause-troves : goal.returns-clause-troves
+returns-clause-troves g c = subst (All IsTrove) c.troves-2.ensures.value c.tests_of.ensures.troves
+
+pub returns-clause-passes : goal.returns-clause-passes
+returns-clause-passes g c = subst (λ (l : List TroveParts). OnOk c.tests_of.result (PassesListTests l)) c.troves-2.ensures.value c.tests_of.ensures.passes
+
+pub returns-clause-stops : goal.returns-clause-stops
+returns-clause-stops g c = subst (λ (l : List TroveParts). IfErr c.tests_of.result (IsTestStop l)) c.troves-2.ensures.value c.tests_of.ensures.stops

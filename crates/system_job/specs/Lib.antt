@@ -1,0 +1,5 @@
+pub mod Answers
+pub mod Job
+pub mod Lists
+pub mod Something
+pub mod Steps

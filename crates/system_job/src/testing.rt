@@ -1,0 +1,101 @@
+//! The tests of a job, which only read.
+ghost use Rattle.std.specs.Prelude.{◌≡◌, All, IfErr, IfOk, IsTrue, OnOk};
+ghost use Rattle.std.specs.List.Sorted.{IsStrictlySortedBy};
+ghost use Rattle.sha1.specs.Sha1.{sha1};
+ghost use Rattle.change_set.specs.declared.change.Carried as carried_content;
+ghost use Rattle.change_set.specs.ChangeSet.{content_cmp};
+ghost use Rattle.installed_list.specs.Installed.{IsRising};
+ghost use Rattle.job_targets.specs.Gathering.{Gathers};
+ghost use Rattle.job_writing.specs.Writing.{AreTargets, AreTargetsOf};
+ghost use Rattle.trove_stream.specs.Trove.{IsTrove};
+ghost use Rattle.system_state.specs.Installed.{IsInstalled};
+ghost use Rattle.system_job.specs.Answers.{IsTestStop, PassesListTests};
+ghost use Rattle.system_job.specs.Job.{IsTested, IsTestRefusal, sources_of};
+ghost use Rattle.system_job.specs.Lists.{AreAllowed};
+
+use crate::listed::troves_keep_rules;
+use crate::something::check_something;
+use change_set::Carried;
+use cny_base::{Options, Stop};
+use conflict_plan::plan;
+use content_store::Contents;
+use dep_closure::closed;
+use installed_list::Installed;
+use job_targets::{Targets, planned_is_seen, targets_of};
+use std::alloc::Global;
+use tree_disk::TreeDisk;
+use trove_stream::Trove;
+
+// The same, of lists as slices, the new one in the order of its names.
+fn tests_of<T: TreeDisk, C: Contents>(
+    alloc: Global,
+    root: &mut T,
+    before: &[Trove],
+    list: &[Trove],
+    carried: &[Carried],
+    far: &mut C,
+    options: &Options,
+) -> Result<Targets, Stop>
+    requires before { IsInstalled before.now }
+    requires in_order { IsRising list.now }
+    requires allowed { AreAllowed list.now }
+    requires hash { All (λ (content : carried_content.Carried). content.name ≡ sha1 content.bytes) carried.now }
+    requires rising { IsStrictlySortedBy content_cmp carried.now }
+    ensures gathers { Gathers T.disk C.contents
+        (IsTested (sources_of carried.now (C.contents.answers far.old) options.now) before.now list.now)
+        (IsTestRefusal (sources_of carried.now (C.contents.answers far.old) options.now) before.now list.now)
+        root.old root.new far.old far.new result }
+    ensures over { IsTrue T.disk.tells → IfOk result (λ made. AreTargetsOf (T.disk.reads root.old) made.puts made.entries) }
+    ensures targets { IfOk result (λ made. AreTargets made.puts made.entries) }
+    ensures list { OnOk result (IsInstalled list.now) }
+    ensures passes { OnOk result (PassesListTests list.now) }
+    ensures stops { IfErr result (IsTestStop list.now) }
+    ensures troves { All IsTrove list.now }
+{
+    planned_is_seen();
+    troves_keep_rules(list);
+    closed(alloc, list)?;
+    let planned = plan(alloc, root, before, list, options)?;
+    let made = targets_of(alloc, root, planned.get(), carried, far)?;
+    check_something(alloc, made.entries.get())?;
+    Ok(made)
+}
+
+/// The writes of a job that leads from the one list to the other, and what stood at its paths, once the tests of the list and of
+/// the tree have passed, in their order: `Unmet` for the first requirement that the new list doesn't meet; `Owned`, `Unowned`, `Edited`
+/// and `Parent` by its plan; `MissingContent`, `TooLarge` and `Collision` by what is to be written and replaced.
+pub(crate) fn tested<T: TreeDisk, C: Contents>(
+    alloc: Global,
+    root: &mut T,
+    before: &Installed,
+    list: &Installed,
+    carried: &[Carried],
+    far: &mut C,
+    options: &Options,
+) -> Result<Targets, Stop>
+    requires before { IsInstalled before.now }
+    requires allowed { AreAllowed list.now }
+    requires hash { All (λ (content : carried_content.Carried). content.name ≡ sha1 content.bytes) carried.now }
+    requires rising { IsStrictlySortedBy content_cmp carried.now }
+    ensures gathers { Gathers T.disk C.contents
+        (IsTested (sources_of carried.now (C.contents.answers far.old) options.now) before.now list.now)
+        (IsTestRefusal (sources_of carried.now (C.contents.answers far.old) options.now) before.now list.now)
+        root.old root.new far.old far.new result }
+    ensures over { IsTrue T.disk.tells → IfOk result (λ made. AreTargetsOf (T.disk.reads root.old) made.puts made.entries) }
+    // On every disk, also where it tells nothing.
+    ensures targets { IfOk result (λ made. AreTargets made.puts made.entries) }
+    ensures list { OnOk result (IsInstalled list.now) }
+    ensures passes { OnOk result (PassesListTests list.now) }
+    ensures stops { IfErr result (IsTestStop list.now) }
+    ensures troves { All IsTrove list.now }
+{
+    tests_of(
+        alloc,
+        root,
+        before.troves(),
+        list.troves(),
+        carried,
+        far,
+        options,
+    )
+}
