@@ -34,7 +34,7 @@ use Rattle.system_state.proofs.Frame.{stores_still}
 use Rattle.system_state.proofs.Places.{own_doesnt_count, own_reserved}
 use Rattle.system_state.proofs.Putting.{all_can, all_formed, all_named}
 use Rattle.system_state.proofs.Together.{at_every_moment}
-use Rattle.root_writing.specs.Writing.{AreSettled, CanWrite, Goes, IsPut, RestsAt, RecoversToEither, ShowsEither, KeepsOthers, is_private_or_target}
+use Rattle.root_writing.specs.Writing.{AreSettled, CanWrite, Goes, IsPut, RecoversToOneOf, RestsAt, RecoversToEither, ShowsEither, KeepsOthers, Writes, is_private_or_target}
 
 -- ---- no bytes are staged
 
@@ -187,3 +187,37 @@ module _ {D : Type 0} {disk : DiskModel D} (laws : IsDisk disk) (puts : List Put
       others = keeps;
       confined = confined_wider is_private confined;
     }
+
+-- ---- of trees
+
+module _ {D : Type 0} {disk : DiskModel D} (laws : IsDisk disk) (puts : List Put) (old : D) (can : CanWrite disk puts old) where
+  pub nothing_written : Writes disk puts old old
+  nothing_written = record {
+    images = record {
+      later = omega arith;
+      each = λ image since.
+          let crash = laws.only_now old image since in
+          inl (image, crash, at_rest (ap is_flag (crash.synced (gate private_directory) can.flag_synced) ∙ can.flag_clear) (same_itself image));
+      before = λ k image le since. inl since;
+      kept = λ k image le since. since;
+    };
+    reads = inl (at_rest can.flag_clear (same_itself (disk.reads old)));
+    shown = unfailed_start old (IsVisible private_directory (disk.reads old) (with_targets puts (disk.reads old)));
+    confined = confined_start laws (Among (is_own_or_target private_directory puts)) old;
+  }
+
+  module _ (new : D) (any_moment : LeavesOnly disk old new (IsBeforeOrAfter disk private_directory puts old))
+      (confined : Confined disk (Among (is_own_or_target private_directory puts)) old new)
+      (visible : UnlessFailed disk old new (IsVisible private_directory (disk.reads old) (apply.goal private_directory puts (disk.reads old)))) where
+    writes : RecoversToOneOf puts (disk.reads old) (disk.reads new) → Writes disk puts old new
+    writes reads = record {
+      images = leaves_weaker (λ image is. ⊎_elim (λ before. inl before) (λ done. inr (subst (RecoversTo private_directory image) (whole disk puts old can) done)) is) any_moment;
+      reads = reads;
+      shown = unfailed_weaker (λ t is. subst (λ (y : Tree). IsVisible private_directory (disk.reads old) y t) (whole disk puts old can) is) visible;
+      confined = confined;
+    }
+
+    pub all_written : (result : Result (Unit {0}) Stop) → OnOk result (IsAtRest disk private_directory (apply.goal private_directory puts (disk.reads old)) new)
+        → OnErr result (IsOneOf private_directory puts (disk.reads old) (disk.reads new)) → Writes disk puts old new
+    all_written (Ok done) applied stopped = writes (inr (subst (RecoversTo private_directory (disk.reads new)) (whole disk puts old can) (at_rest applied.flag_clear applied.stores)))
+    all_written (Err stop) applied stopped = writes (⊎_elim (λ before. inl before) (λ after. inr (subst (RecoversTo private_directory (disk.reads new)) (whole disk puts old can) after)) stopped)

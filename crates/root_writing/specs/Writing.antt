@@ -10,9 +10,9 @@ use Rattle.tree_disk.specs.Unfailed.{UnlessFailed}
 use Rattle.journal_log.specs.Own.{gate}
 use Rattle.journal_log.specs.declared.put.Put.{Put}
 use Rattle.journal_log.specs.Targets.{is_target, with_targets}
-use Rattle.tree_journal.specs.Apply.{IsAtRest}
-use Rattle.tree_journal.specs.Recovery.{is_committed}
-use Rattle.tree_journal.specs.Visible.{ShowsNode}
+use Rattle.tree_journal.specs.Apply.{IsAsBefore, IsAtRest, is_own_or_target}
+use Rattle.tree_journal.specs.Recovery.{RecoversTo, is_committed}
+use Rattle.tree_journal.specs.Visible.{IsVisible, ShowsNode}
 use Rattle.saved_contents.specs.Old.{is_staged}
 use Rattle.system_state.specs.declared.format.Format.{Format}
 use Rattle.system_state.specs.Names.{counts}
@@ -77,3 +77,22 @@ pub record Goes {D : Type 0} (disk : DiskModel D) (g : Format) (s t : SystemStat
   pub shown : UnlessFailed disk old new (ShowsEither s t)
   pub others : KeepsOthers puts (disk.reads old) (disk.reads new)
   pub confined : Confined disk (Among (is_private_or_target puts)) old new
+
+-- ---- of trees, also on a root that stores no system
+
+-- It recovers to a crash image at entry, or to the tree with all targets.
+abbrev pub RecoversToPut : {D : Type 0} → DiskModel D → List Put → D → Tree → Type 0
+RecoversToPut disk puts d image = IsAsBefore disk private_directory d image ⊎ RecoversTo private_directory image (with_targets puts (disk.reads d))
+
+-- the tree recovers to the one before, or to that with all targets
+abbrev pub RecoversToOneOf : List Put → Tree → Tree → Type 0
+RecoversToOneOf puts before tree = RecoversTo private_directory tree before ⊎ RecoversTo private_directory tree (with_targets puts before)
+
+-- However it ends: at every moment a crash leaves a tree that recovers to a crash image at entry or to the tree with all targets,
+-- and the root as it reads recovers to the tree before or to that one. Readers see both at most, and no name changes but the
+-- journal's own and the targets.
+pub record Writes {D : Type 0} (disk : DiskModel D) (puts : List Put) (old new : D) : Type 0 where
+  pub images : LeavesOnly disk old new (RecoversToPut disk puts old)
+  pub reads : RecoversToOneOf puts (disk.reads old) (disk.reads new)
+  pub shown : UnlessFailed disk old new (IsVisible private_directory (disk.reads old) (with_targets puts (disk.reads old)))
+  pub confined : Confined disk (Among (is_own_or_target private_directory puts)) old new

@@ -7,7 +7,7 @@ ghost use Rattle.journal_log.specs.Targets.{with_targets};
 ghost use Rattle.system_state.specs.declared.format.Format.{Format};
 ghost use Rattle.system_state.specs.SystemState.{SystemState};
 ghost use Rattle.system_state.specs.Stores.{StoresIn};
-ghost use Rattle.root_writing.specs.Writing.{AreSettled, CanWrite, Goes, IsPut};
+ghost use Rattle.root_writing.specs.Writing.{AreSettled, CanWrite, Goes, IsPut, Writes};
 
 use cny_base::Stop;
 use journal_log::Puts;
@@ -31,6 +31,8 @@ pub fn write_all<T: TreeDisk>(alloc: Global, root: &mut T, puts: &Puts) -> Resul
     ensures later { T.disk.faults root.old ≤ T.disk.faults root.new }
     ensures failed { IsErrOf result stop.Failed → Rose (T.disk.faults root.old) (T.disk.faults root.new) }
     ensures stops { IfErr result IsDiskStop }
+    // However it ends, of trees, also on a root that stores no system.
+    ensures writes { IsTrue T.disk.tells → Writes T.disk puts.now root.old root.new }
 {
     let base = base_path(alloc)?;
     apply(alloc, root, &base, puts)

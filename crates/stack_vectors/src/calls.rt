@@ -9,11 +9,10 @@ use job_undo::{Back, Notes, Undo};
 use journal_log::Puts;
 use local_db::decode;
 use rollback_stack::{all, inverse, inverse_to, migrated, newest, next_number};
+use root_ready::ready;
 use saved_contents::stashable;
 use state_words::{Stop, bytes_of, entries_of, number_at, parts_of, text_at, word};
 use std::alloc::Global;
-use system_state::base_path;
-use tree_journal::{apply, recover};
 
 fn fault_text(alloc: Global, fault: Fault) -> Result<String, Stop> {
     match fault {
@@ -135,14 +134,10 @@ fn migration(alloc: Global, parts: &[String]) -> Result<String, Stop> {
     }
 }
 
-// Brings the root to format 2 by the journal.
+// Makes the root ready for a command, which brings it to format 2.
 fn migrate_on(alloc: Global, disk: &mut Quiet) -> Result<(), DiskEnd> {
-    let base = base_path(alloc)?;
-    recover(alloc, disk, &base)?;
-    match migrated(alloc, disk)? {
-        Some(puts) => apply(alloc, disk, &base, &puts),
-        None => Ok(()),
-    }
+    ready(alloc, disk)?;
+    Ok(())
 }
 
 // `migrate PICK TREE CALLS PATHS`: what stands at the paths once the root is brought to format 2, after that was stopped after so

@@ -32,7 +32,8 @@ use Rattle.job_writing.specs.Writing.{AnswersJob, AreTargetsOf, CanWriteJob, IsJ
 use Rattle.system_job.specs.declared.done.Done.{Done}
 use Rattle.system_job.specs.Job.{IsTestRefusal, IsTested, PassesTests, Sources, db_of, last, untested}
 use Rattle.system_job.specs.Lists.{AreAllowed, to_list}
-use Rattle.system_job.specs.Steps.{EndsWith, Ends, HasCause, IsOnTheWay, IsReady, changed, no_job, reading, unchanged, writing}
+use Rattle.root_writing.specs.Ready.{IsReady}
+use Rattle.system_job.specs.Steps.{EndsWith, Ends, HasCause, IsOnTheWay, changed, no_job, reading, unchanged, writing}
 use Rattle.system_job.proofs.Held.{OneDatabase, SameParts, one_held}
 use Rattle.system_job.proofs.Managed.{IsManaged, KeepsOut}
 use Rattle.system_job.proofs.ManagedTargets.{test_refusal_managed, tested_managed}

@@ -1,8 +1,6 @@
--- What a job asks of a root, and how it ends.
-use Rattle.std.specs.Prelude.{◌≡◌, ℕ, ◌+◌, false, IsTrue, List, Option, Some, None, Result, Ok, Err}
+-- How a job of a root ends.
+use Rattle.std.specs.Prelude.{◌≡◌, ℕ, ◌+◌, List, Option, Some, None, Result, Ok, Err}
 use Rattle.cny_base.specs.Count.{Rose}
-use Rattle.cny_base.specs.Path.{parent}
-use Rattle.cny_base.specs.Reserved.{private_directory}
 use Rattle.cny_base.specs.declared.refusal.Refusal.{Refusal}
 use Rattle.cny_base.specs.declared.refusal.Refusal.TheVariants as refusal
 use Rattle.cny_base.specs.declared.refusal.What.{What}
@@ -12,13 +10,9 @@ use Rattle.cny_base.specs.declared.stop.Stop.TheVariants.{Refused, Memory, Faile
 use Rattle.content_store.specs.Contents.{ContentsModel}
 use Rattle.journal_log.specs.declared.put.Put.{Put}
 use Rattle.trove_stream.specs.declared.parts.TroveParts.{TroveParts}
-use Rattle.tree_disk.specs.Rows.{is_dir_at}
 use Rattle.tree_disk.specs.Disk.{DiskModel, HasRead}
-use Rattle.tree_disk.specs.Confined.{IsSynced}
-use Rattle.tree_journal.specs.Recovery.{is_committed}
 use Rattle.system_state.specs.declared.format.Format.TheVariants.{Two}
 use Rattle.system_state.specs.SystemState.{SystemState, newest}
-use Rattle.system_state.specs.Stores.{HoldsDatabase}
 use Rattle.system_state.specs.Steps.{after_job}
 use Rattle.local_db.specs.declared.db.Db.{Db}
 use Rattle.update_job.specs.Changes.{AreChanges}
@@ -29,15 +23,6 @@ use Rattle.job_writing.specs.Writing.{done}
 use Rattle.system_job.specs.declared.done.Done.{Done}
 use Rattle.system_job.specs.Job.{IsJobRefusal, PassesTests, Sources, db_of}
 use Rattle.system_job.specs.Lists.{ListStep}
-
--- ---- what is asked
-
--- A root on which a command begins: it is at rest, its fixed directories stand, and it holds this database in format 2.
-pub record IsReady {D : Type 0} (disk : DiskModel D) (db : Db) (d : D) : Type 0 where
-  pub flag_clear : is_committed private_directory (disk.reads d) ≡ false
-  pub synced : IsSynced disk d
-  pub pinned : IsTrue (is_dir_at (disk.reads d) (parent private_directory))
-  pub holds : HoldsDatabase Two (disk.reads d) db.installed db.oldest db.newest
 
 -- ---- how it ends
 

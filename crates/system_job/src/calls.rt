@@ -12,7 +12,8 @@ ghost use Rattle.system_state.specs.Stores.{IsDatabase, StoresIn};
 ghost use Rattle.system_job.specs.Answers.{AnswersCall};
 ghost use Rattle.system_job.specs.Job.{no_answers, sources_of};
 ghost use Rattle.system_job.specs.Lists.{AreAllowed, to_erased, to_list, to_updated};
-ghost use Rattle.system_job.specs.Steps.{Ends, HasCause, HasOwnCause, IsErasureStop, IsReady};
+ghost use Rattle.root_writing.specs.Ready.{IsReady};
+ghost use Rattle.system_job.specs.Steps.{Ends, HasCause, HasOwnCause, IsErasureStop};
 
 use crate::done::Done;
 use crate::running::job;

@@ -12,7 +12,8 @@ ghost use Rattle.system_state.specs.Stores.{IsDatabase, StoresIn};
 ghost use Rattle.system_job.specs.Answers.{AnswersCall};
 ghost use Rattle.system_job.specs.Job.{sources_of};
 ghost use Rattle.system_job.specs.Lists.{AreAllowed, to_list};
-ghost use Rattle.system_job.specs.Steps.{Ends, HasCause, IsReady};
+ghost use Rattle.root_writing.specs.Ready.{IsReady};
+ghost use Rattle.system_job.specs.Steps.{Ends, HasCause};
 
 use crate::done::Done;
 use crate::testing::tested;

@@ -1,4 +1,4 @@
-use Rattle.root_writing.proofs.Written.{may_apply, not_put, nothing_done, goes_on, put_on}
+use Rattle.root_writing.proofs.Written.{all_written, may_apply, not_put, nothing_done, nothing_written, goes_on, put_on}
 use Rattle.root_writing.proofs.writing.write_all.Goals as goal
 
 pub apply-requires-clause-told : goal.apply-requires-clause-told
@@ -20,6 +20,20 @@ pub returns-clause-goes : goal.returns-clause-goes
 returns-clause-goes g c tells f kind s t stores settled after =
     let is = c.in_ok-base.ensures in
     goes_on g.met.T.TreeDisk.laws c.args.puts.now c.args.root.now (c.requires.can tells) f kind s t stores settled after c.apply.new.disk
+    (rw is at (c.apply.ensures.any_moment tells))
+    (rw is at (c.apply.ensures.confined tells))
+    (rw is at (c.apply.ensures.visible tells))
+    c.apply.result
+    (rw is at (c.apply.ensures.applied tells))
+    (rw is at (c.apply.ensures.stopped tells))
+
+pub returns-in_err-base-clause-writes : goal.returns-in_err-base-clause-writes
+returns-in_err-base-clause-writes g c tells = nothing_written g.met.T.TreeDisk.laws c.args.puts.now c.args.root.now (c.requires.can tells)
+
+pub returns-clause-writes : goal.returns-clause-writes
+returns-clause-writes g c tells =
+    let is = c.in_ok-base.ensures in
+    all_written g.met.T.TreeDisk.laws c.args.puts.now c.args.root.now (c.requires.can tells) c.apply.new.disk
     (rw is at (c.apply.ensures.any_moment tells))
     (rw is at (c.apply.ensures.confined tells))
     (rw is at (c.apply.ensures.visible tells))

@@ -1,0 +1,46 @@
+//! The fixed directories of a root.
+ghost use Rattle.std.specs.Prelude.{◌≡◌, IsTrue, IfErr};
+ghost use Rattle.cny_base.specs.Path.{is_path};
+ghost use Rattle.tree_disk.specs.Steps.{Tests};
+ghost use Rattle.root_ready.specs.FixedDirs.{dir_at, fixed_dirs, is_dir_seen, RefusesPath};
+
+use cny_base::{Path, Refusal, Stop, Text, TextFault};
+use std::alloc::Global;
+use tree_disk::{Look, TreeDisk, steps};
+
+fn is_dir_look(look: &Look) -> bool
+    ensures { result ≡ is_dir_seen look.now }
+{
+    matches!(look, Look::Dir { .. })
+}
+
+// Refuses where the path of this text isn't that of a directory.
+fn check_dir<T: TreeDisk>(alloc: Global, root: &mut T, text: &str) -> Result<(), Stop>
+    requires { IsTrue (is_path text.now) }
+    ensures tests { Tests T.disk (λ done. done) (λ tree. dir_at tree text.now) root.old root.new result }
+    // Also where the disk tells nothing.
+    ensures refuses { IfErr result RefusesPath }
+{
+    let path = match Path::read(alloc, text) {
+        Ok(path) => path,
+        Err(TextFault::Memory) => return Err(Stop::Memory),
+        Err(TextFault::Bad) => unreachable!(),
+    };
+    let look = steps::look(alloc, root, &path)?;
+    if is_dir_look(&look) {
+        return Ok(());
+    }
+    let path = Text::new(alloc, path.text())?;
+    Err(Stop::Refused(Refusal::Parent { path }))
+}
+
+/// Refuses where one of the fixed directories, `/`, `/var` and `/var/lib`, isn't a directory, with the first of them. It only reads.
+pub fn check_fixed_dirs<T: TreeDisk>(alloc: Global, root: &mut T) -> Result<(), Stop>
+    ensures tests { Tests T.disk (λ done. done) fixed_dirs root.old root.new result }
+    // Also where the disk tells nothing.
+    ensures refuses { IfErr result RefusesPath }
+{
+    check_dir(alloc, root, "/")?;
+    check_dir(alloc, root, "/var")?;
+    check_dir(alloc, root, "/var/lib")
+}
