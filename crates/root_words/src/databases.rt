@@ -1,0 +1,138 @@
+//! The database of a root.
+ghost use Rattle.std.specs.Prelude.{IfOk};
+ghost use Rattle.local_db.specs.Database.{IsDb};
+ghost use Rattle.system_state.specs.declared.format.Format.TheVariants.{Two};
+ghost use Rattle.system_state.specs.Stores.{IsDatabase};
+
+use crate::ends::end_text;
+use crate::quiet::Quiet;
+use cny_base::{Fault, Path, Stop as DiskEnd};
+use local_db::{Db, encode, load};
+use state_words::Stop;
+use std::alloc::Global;
+use system_state::{base_path, distinct_databases};
+use tree_journal::recover;
+use trove_id::{TroveId, id_text};
+
+fn push_id(alloc: Global, line: &mut String, id: &TroveId) -> Result<(), Stop> {
+    let text = id_text(alloc, id)?;
+    line.push(' ')?;
+    line.push_str(text.get())?;
+    Ok(())
+}
+
+/// The numbers of the stack, and the ids of the troves.
+pub fn db_text(alloc: Global, db: &Db) -> Result<String, Stop> {
+    let mut line = format!(in alloc; "{} {}", db.oldest, db.newest)?;
+    for trove in db.installed.troves() {
+        push_id(alloc, &mut line, trove.id())?;
+    }
+    Ok(line)
+}
+
+/// Why a root has no database: a text that says so, or why there is none.
+pub enum Unready {
+    /// What a call on the root answers.
+    Ended(String),
+    /// There is no answer.
+    Stopped(Stop),
+}
+
+impl Unready {
+    // The end of a call. It is taken whole, so that only this function lets it go.
+    fn of(alloc: Global, end: DiskEnd) -> Unready {
+        match end_text(alloc, &end) {
+            Ok(text) => Unready::Ended(text),
+            Err(stop) => Unready::Stopped(stop),
+        }
+    }
+
+    /// The answer of a call on the root.
+    pub fn text(self) -> Result<String, Stop> {
+        match self {
+            Unready::Ended(text) => Ok(text),
+            Unready::Stopped(stop) => Err(stop),
+        }
+    }
+}
+
+impl Drop for Unready {
+    fn drop(self) {
+        match self {
+            Unready::Ended(_text) => (),
+            Unready::Stopped(_stop) => (),
+        }
+    }
+}
+
+// Why a database has no stream.
+fn unwritten(fault: Fault) -> Stop {
+    match fault {
+        Fault::Memory => Stop::Memory,
+        Fault::Refused(_) => Stop::Unreadable,
+    }
+}
+
+// Nothing, where the database has room in format 2.
+fn check_room(alloc: Global, db: &Db) -> Result<(), Stop>
+    requires { IsDb db.now }
+    ensures { IfOk result (λ done. IsDatabase Two db.now.installed db.now.oldest db.now.newest) }
+{
+    distinct_databases();
+    match encode(alloc, db) {
+        Ok(_) => Ok(()),
+        Err(fault) => Err(unwritten(fault)),
+    }
+}
+
+fn with_room(alloc: Global, db: Db) -> Result<Db, Unready>
+    requires { IsDb db }
+    ensures { IfOk result (λ same. IsDatabase Two same.installed same.oldest same.newest) }
+{
+    match check_room(alloc, &db) {
+        Ok(()) => Ok(db),
+        Err(stop) => Err(Unready::Stopped(stop)),
+    }
+}
+
+/// The database of a disk.
+pub fn loaded(alloc: Global, disk: &mut Quiet) -> Result<Db, Unready>
+    ensures { IfOk result (λ db. IsDatabase Two db.installed db.oldest db.newest) }
+{
+    match load(alloc, disk) {
+        Ok(db) => with_room(alloc, db),
+        Err(end) => Err(Unready::of(alloc, end)),
+    }
+}
+
+fn recovered(alloc: Global, disk: &mut Quiet, base: &Path) -> Result<Db, Unready>
+    ensures { IfOk result (λ db. IsDatabase Two db.installed db.oldest db.newest) }
+{
+    match recover(alloc, disk, base) {
+        Ok(_) => loaded(alloc, disk),
+        Err(end) => Err(Unready::of(alloc, end)),
+    }
+}
+
+/// The database of a disk once it is recovered.
+pub fn readied(alloc: Global, disk: &mut Quiet) -> Result<Db, Unready>
+    ensures { IfOk result (λ db. IsDatabase Two db.installed db.oldest db.newest) }
+{
+    match base_path(alloc) {
+        Ok(base) => recovered(alloc, disk, &base),
+        Err(_) => Err(Unready::Stopped(Stop::Memory)),
+    }
+}
+
+// The text of a database, which is let go.
+fn told(alloc: Global, db: Db) -> Result<String, Stop> {
+    db_text(alloc, &db)
+}
+
+/// The text of the database of a disk once it is recovered, or of why there is none.
+pub fn ready_text(alloc: Global, disk: &mut Quiet) -> Result<String, Stop> {
+    match readied(alloc, disk) {
+        Ok(db) => told(alloc, db),
+        Err(why) => why.text(),
+    }
+}

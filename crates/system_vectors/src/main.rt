@@ -1,0 +1,36 @@
+//! Makes jobs on roots in memory, and takes them back. A line of standard input has a tab between its words: what is done, what it
+//! shows, the nodes of a root, and calls; the line of standard output with its number is what comes of it. Input and wanted output
+//! come from tools/system_vectors.py, which is made from the rules of docs/FORMATS.md and docs/MODEL.md alone.
+#![tactic(auto)]
+
+mod answers;
+mod calls;
+mod jobs;
+mod lines;
+mod troves;
+mod undoing;
+mod verifying;
+
+use crate::lines::answer_to;
+use state_words::Stop;
+use std::alloc::Global;
+use std::io::{self, BufRead, BufReader, BufWriter, Write};
+
+// The line that is written. A line that isn't a call, and want of memory, are errors.
+fn line_to(alloc: Global, line: &str) -> io::Result<String> {
+    match answer_to(alloc, line) {
+        Ok(text) => Ok(text),
+        Err(Stop::Unreadable) => Err(io::Error::from(io::ErrorKind::InvalidInput)),
+        Err(Stop::Memory) => Err(io::Error::from(io::ErrorKind::OutOfMemory)),
+    }
+}
+
+fn main(rt: HostRuntime) -> io::Result<()> {
+    let mut out = BufWriter::new(rt.alloc(), io::writer(&rt))?;
+    for line in BufReader::new(rt.alloc(), rt.reader())?.lines(rt.alloc()) {
+        let text = line_to(rt.alloc(), line?.as_str())?;
+        out.write_all(text.as_str().as_bytes())?;
+        out.write_all(b"\n")?;
+    }
+    out.flush()
+}
