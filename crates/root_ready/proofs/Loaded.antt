@@ -100,6 +100,7 @@ not_migrated disk old mid e later migrates stops = record {
   images = λ tells. (migrates tells).images;
   reads = λ tells. (migrates tells).reads;
   shown = λ tells. (migrates tells).shown;
+  outer = λ tells. (migrates tells).outer;
   loaded = λ tells. tt;
   clear = λ tells. (migrates tells).clear;
   database = tt;
@@ -178,6 +179,7 @@ module _ {D : Type 0} {disk : DiskModel D} (laws : IsDisk disk) (old mid new : D
     reads = λ tells. subst (RecoversInAFormat (disk.reads old)) (sym (reads tells).same.reads) (inr (disk.reads mid, (run tells).brought, rest_reads mid (run tells).rests));
     shown = λ tells. unfailed_then early late (migrates tells).shown
         (rest_shows laws (disk.reads old) mid new (reads tells) (brought_outer (disk.reads old) (disk.reads mid) (run tells).brought));
+    outer = λ tells q out. ap (λ (t : Tree). get t q) (reads tells).same.reads ∙ (migrates tells).outer q out;
     loaded = λ tells. loaded_so tells (read_only (reads tells).same (reads tells).time) r (reads tells).answer (only tells);
     clear = λ tells up. read_then laws ((migrates tells).clear up) (read_only (reads tells).same (reads tells).time);
     database = all_two r rules;

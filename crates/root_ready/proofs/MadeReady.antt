@@ -46,6 +46,7 @@ not_opened disk old mid e opens = record {
   missing = opens.missing;
   untouched = opens.untouched;
   clear = λ tells off up. opens.clear tells off;
+  outer = λ tells off q out. ap (λ (t : Tree). get t q) ((opens.kept tells).same off);
   database = tt;
   stops = opening_stop disk old mid e opens.stops;
 }
@@ -109,6 +110,7 @@ module _ {D : Type 0} {disk : DiskModel D} (laws : IsDisk disk) (old mid new : D
     clear = λ tells off up.
         let same = (opens.kept tells).same off in
         confined_then (opens.clear tells off) (confined_read laws (Among no_name) (loads.clear tells (ap (λ (t : Tree). is_up_to_date (get t database)) same ∙ up)));
+    outer = λ tells off q out. loads.outer tells q out ∙ ap (λ (t : Tree). get t q) ((opens.kept tells).same off);
     database = loads.database;
     stops = ready_stops r loads.stops;
   }

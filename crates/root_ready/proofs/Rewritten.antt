@@ -9,9 +9,10 @@ use Rattle.cny_base.specs.declared.node.Node.TheVariants as node
 use Rattle.cny_base.specs.declared.stop.Stop.{Stop}
 use Rattle.cny_base.specs.declared.stop.Stop.TheVariants as stop
 use Rattle.journal_log.specs.declared.put.Put.{Put}
-use Rattle.journal_log.specs.Own.{StoresSame, gate}
-use Rattle.journal_log.specs.Targets.{node_of, with_targets}
+use Rattle.journal_log.specs.Own.{StoresSame, gate, is_own}
+use Rattle.journal_log.specs.Targets.{is_target, node_of, with_targets}
 use Rattle.tree_disk.specs.Disk.{DiskModel, Elapses, HasRead, IsDisk, IsImageOf, Unchanged}
+use Rattle.tree_disk.specs.ClearLaws.{or_cases}
 use Rattle.tree_disk.specs.Confined.{LeavesOnly}
 use Rattle.tree_disk.specs.ConfinedLaws.{leaves_step, leaves_then, leaves_weaker}
 use Rattle.tree_disk.specs.Moments.{rose_before, same_images}
@@ -90,6 +91,7 @@ module _ {D : Type 0} {disk : DiskModel D} (laws : IsDisk disk) (old mid : D) (r
       images = rest_leaves laws (RecoversInAFormat (disk.reads old)) old mid read rests (λ image is. inl is);
       reads = inl (subst (λ (t : Tree). RecoversTo private_directory t (disk.reads old)) (sym read.same.reads) (rest_reads old rests));
       shown = rest_shows laws (disk.reads old) old mid read (λ q out. refl);
+      outer = λ q out. ap (λ (u : Tree). get u q) read.same.reads;
       migrated = migrated;
       clear = λ new. read;
     }
@@ -133,6 +135,14 @@ module _ {D : Type 0} {disk : DiskModel D} (laws : IsDisk disk) (old mid : D) (r
             (subst (λ (n : Option Node). ShowsNode (get (disk.reads old) q) n (get t q)) there
             (subst (λ (n : Option Node). ShowsNode n (get (with_targets puts (disk.reads mid)) q) (get t q)) here (is q (not_own q out))))
 
+        -- neither the journal's own names nor those that are written are outside the private directory
+        outer_stays : AgreesOutside is_reserved (disk.reads new) (disk.reads old)
+        outer_stays q out =
+            let own = not_own q out in
+            let target = not_outer (disk.reads old) puts date m q out in
+            writes.confined.reads q (λ among. ⊎_elim (λ is. cc (is, own)) (λ is. cc (is, target)) (or_cases (is_own private_directory q) (is_target puts q) among))
+            ∙ ap (λ (u : Tree). get u q) read.same.reads
+
         pub was_written : IsPut disk puts mid new → HasMigrated disk old new
         was_written put = record {
           rests = record { flag_clear = put.flag_clear; synced = put.synced };
@@ -150,6 +160,7 @@ module _ {D : Type 0} {disk : DiskModel D} (laws : IsDisk disk) (old mid : D) (r
               writes.images);
           reads = ⊎_elim (before (disk.reads new)) (done (disk.reads new)) writes.reads;
           shown = unfailed_then early late (rest_shows laws (disk.reads old) old mid read (λ q out. refl)) (unfailed_weaker shows writes.shown);
+          outer = outer_stays;
           migrated = migrated;
           clear = λ up. absurd (cc (up, date));
         }

@@ -50,11 +50,13 @@ pub record HasMigrated {D : Type 0} (disk : DiskModel D) (old new : D) : Type 0 
   pub brought : IsBrought (disk.reads old) (disk.reads new)
 
 -- From a root at rest: at every moment a crash leaves a tree that recovers to what the root read, as it was or in format 2, and so does
--- what it reads at the end. Readers see no change outside the private directory. What is up to date is only read.
+-- what it reads at the end. Where no call failed readers see no change outside the private directory; however it ends, each name outside it
+-- reads as before. What is up to date is only read.
 pub record Migrates {D : Type 0} (disk : DiskModel D) (old new : D) (result : Result (Unit {0}) Stop) : Type 0 where
   pub images : LeavesOnly disk old new (RecoversInAFormat (disk.reads old))
   pub reads : RecoversInAFormat (disk.reads old) (disk.reads new)
   pub shown : UnlessFailed disk old new (λ t. AgreesOutside is_reserved t (disk.reads old))
+  pub outer : AgreesOutside is_reserved (disk.reads new) (disk.reads old)
   pub migrated : OnOk result (HasMigrated disk old new)
   pub clear : is_up_to_date (get (disk.reads old) database) ≡ true → HasRead disk old new (Unit {0})
 
@@ -91,6 +93,7 @@ pub record Loads {D : Type 0} (disk : DiskModel D) (old new : D) (result : Resul
   pub images : IsTrue disk.tells → LeavesOnly disk old new (RecoversInAFormat (disk.reads old))
   pub reads : IsTrue disk.tells → RecoversInAFormat (disk.reads old) (disk.reads new)
   pub shown : IsTrue disk.tells → UnlessFailed disk old new (λ t. AgreesOutside is_reserved t (disk.reads old))
+  pub outer : IsTrue disk.tells → AgreesOutside is_reserved (disk.reads new) (disk.reads old)
   pub loaded : IsTrue disk.tells → IfOk result (HasLoaded disk old new)
   pub clear : IsTrue disk.tells → is_up_to_date (get (disk.reads old) database) ≡ true → HasRead disk old new (Unit {0})
   -- on every disk, also where it tells nothing

@@ -82,6 +82,8 @@ pub record Readies {D : Type 0} (disk : DiskModel D) (old new : D) (result : Res
   pub untouched : IsTrue disk.tells → RecoversToNone private_directory (disk.reads old) → Confined disk (Among no_name) old new
   pub clear : IsTrue disk.tells → is_committed private_directory (disk.reads old) ≡ false → is_up_to_date (get (disk.reads old) database) ≡ true
       → Confined disk (Among no_name) old new
+  -- where its commit flag isn't set, no name outside the private directory is another, however it ends
+  pub outer : IsTrue disk.tells → is_committed private_directory (disk.reads old) ≡ false → AgreesOutside is_reserved (disk.reads new) (disk.reads old)
   pub database : IfOk result (λ db. IsDatabase Two db.installed db.oldest db.newest)
   pub stops : IfErr result (IsReadyStop disk old new)
 

@@ -1,12 +1,12 @@
 //! A root made ready for a command.
 ghost use Rattle.std.specs.Prelude.{◌≡◌, ◌≤◌, Err, IfErr, IfOk, IsTrue, false, true};
 ghost use Rattle.std.specs.FinMap.{get};
-ghost use Rattle.cny_base.specs.Reserved.{private_directory};
+ghost use Rattle.cny_base.specs.Reserved.{is_reserved, private_directory};
 ghost use Rattle.cny_base.specs.declared.refusal.Refusal.{Refusal};
 ghost use Rattle.tree_disk.specs.Confined.{Among, Confined, LeavesOnly};
 ghost use Rattle.tree_disk.specs.Disk.{HasRead};
 ghost use Rattle.tree_disk.specs.Steps.{no_name};
-ghost use Rattle.tree_disk.specs.Tree.{Tree};
+ghost use Rattle.tree_disk.specs.Tree.{AgreesOutside, Tree};
 ghost use Rattle.tree_disk.specs.Unfailed.{UnlessFailed};
 ghost use Rattle.tree_journal.specs.Recovery.{RecoversTo, is_committed};
 ghost use Rattle.rollback_stack.specs.Migrated.{is_up_to_date};
@@ -66,6 +66,9 @@ pub fn ready<T: TreeDisk>(alloc: Global, root: &mut T) -> Result<Db, Stop>
     ensures database { IfOk result (λ db. IsDatabase Two db.installed db.oldest db.newest) }
     ensures stops { IfErr result (IsReadyStop T.disk root.old root.new) }
     ensures later { T.disk.faults root.old ≤ T.disk.faults root.new }
+    // Where the commit flag wasn't set no name outside the private directory is another than at entry, however it ends.
+    ensures outer { IsTrue T.disk.tells → is_committed private_directory (T.disk.reads root.old) ≡ false
+        → AgreesOutside is_reserved (T.disk.reads root.new) (T.disk.reads root.old) }
 {
     // A tree holds one database and of each number one record; what a migration writes changes no stored system.
     distinct_databases();

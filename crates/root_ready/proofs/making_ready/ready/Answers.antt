@@ -34,3 +34,6 @@ returns-clause-stops g c = c.ready_trees.ensures.stops
 
 pub returns-clause-later : goal.returns-clause-later
 returns-clause-later g c = c.ready_trees.ensures.later
+
+pub returns-clause-outer : goal.returns-clause-outer
+returns-clause-outer g c = c.ready_trees.ensures.outer
