@@ -1,5 +1,5 @@
 #!/usr/bin/env python3
-"""Makes the vectors of what relative troves do: calls, and what they have to answer.
+"""Makes the vectors of what relative troves do, and of troves that come with a change set: calls, and what they have to answer.
 
     tools/rel_vectors.py stdin   >crates/rel_vectors/stdin     a call and its arguments in each line
     tools/rel_vectors.py stdout  >crates/rel_vectors/stdout    what each has to answer
@@ -14,7 +14,7 @@ import sys
 sys.dont_write_bytecode = True
 
 import stream_model as model
-from stream_model import Id, NotOfForm, Owner, Relative, Trove, directory, id_bytes, id_text, item, link, regular, str_field
+from stream_model import Id, NotOfForm, Owner, Relative, Trove, directory, forbidden_path, id_bytes, id_text, item, link, regular, str_field
 
 MOST_SHOWN = 400
 
@@ -65,6 +65,38 @@ def contents_to_send(old, new):
     return sorted({record.name for path, record in new.files if content(record) not in (None, content(was.get(path)))})
 
 
+# ---- troves that come with a change set
+
+
+class Refused(Exception):
+    """A call refuses; the text of the refusal."""
+
+
+def check_allowed(trove):
+    path = forbidden_path(trove)
+    if path is not None:
+        raise Refused("reserved " + path.decode())
+
+
+def made_of(part, installed):
+    """The trove that a part makes: its own, or what leads from an installed one."""
+    if isinstance(part, Trove):
+        return part
+    for base in installed:
+        made = applied(base, part)
+        if made is not None:
+            return made
+    raise Refused("missing base " + id_text(part.old).decode())
+
+
+def all_made(parts, installed):
+    made = []
+    for part in parts:
+        made.append(made_of(part, installed))
+        check_allowed(made[-1])
+    return made
+
+
 # ---- answers
 
 
@@ -81,7 +113,37 @@ def of_one_name(old, new):
     model.need(old.identity.name == new.identity.name and old.identity != new.identity)
 
 
-def answer(call, first, second):
+def parts_of(text):
+    try:
+        return model.read_set(text).parts
+    except model.Fault:
+        raise NotOfForm from None
+
+
+def whole_of(text):
+    parts = parts_of(text)
+    model.need(all(isinstance(part, Trove) for part in parts))
+    return parts
+
+
+def allowed_text(troves):
+    for trove in troves:
+        check_allowed(trove)
+    return "ok"
+
+
+def coming_text(text, change):
+    installed = whole_of(text)
+    model.need(model.rises([trove.identity.name for trove in installed]))
+    made = all_made(parts_of(change), installed)
+    return " ".join([str(len(made)), *(shown(stream) for stream in streams(*made))])
+
+
+def answer(call, first, second=None):
+    if call == "allowed":
+        return allowed_text(whole_of(first))
+    if call == "applied":
+        return coming_text(first, second)
     if call == "to_send":
         names = contents_to_send(model.read_trove(first) if first else None, model.read_trove(second))
         return f"{len(names)} {shown(b''.join(names))}"
@@ -99,6 +161,8 @@ def answer_line(call, arguments):
         return answer(call, *[argument_bytes(argument) for argument in arguments])
     except NotOfForm:
         return "unreadable"
+    except Refused as refused:
+        return str(refused)
 
 
 # ---- arguments: bytes, or a list of bytes and of (bytes, count, bytes) for each number below the count between the two
@@ -370,6 +434,66 @@ def sendings():
     yield "to_send", b"", *streams(of_refs(b"group-x", SHORT[0], []))
 
 
+def a_set(*parts):
+    return model.set_bytes(parts, [])
+
+
+RESERVED = component(V1, [(b"/a", RECORDS[0]), (b"/var/lib/conarydb", RECORDS[0]), (b"/var/lib/conarydb/x", RECORDS[4])], name=b"bad:runtime")
+PINNED = component(V1, [(b"/var", RECORDS[12]), (b"/var/lib/conarydb/y", RECORDS[4])], name=b"worse:runtime")
+NEARLY = component(V1, [(b"/", RECORDS[0]), (b"/var", RECORDS[1]), (b"/var/lib", RECORDS[2]), (b"/var/lib/conarydb-x", RECORDS[4])], name=b"good:runtime")
+
+
+def allowed_cases():
+    """The first forbidden path of the first trove that has one."""
+    yield "allowed", a_set()
+    for troves in subsets([FOO_1, NEARLY, PINNED, RESERVED]):
+        yield "allowed", a_set(*troves)
+        yield "allowed", a_set(*reversed(troves))
+    for path in (b"/", b"/var", b"/var/lib", b"/var/lib/conarydb", b"/var/lib/conarydb-x", b"/var/lib/conarydb/x", b"/var/lib/c"):
+        for record in (RECORDS[0], RECORDS[4], RECORDS[12]):
+            yield "allowed", a_set(FOO_1, component(V1, [(path, record)], name=b"x:y"))
+    yield "allowed", a_set(relative_of(FOO_1, FOO_2))
+    yield "allowed", b"\x01"
+
+
+def coming_cases():
+    """Parts over installed troves."""
+    forth, further = relative_of(FOO_1, FOO_2), relative_of(FOO_2, FOO_3)
+    other = component(V1, [ETC, (b"/etc/foo", plain(b"other"))])
+    same_name = [component(V3), component(V1, flavor=b"ssl")]
+    same_version = component(V1, FOO_1.files, name=b"foo:doc")
+    for installed in ([], [FOO_1], [FOO_2], [other], [same_version], [same_version, FOO_1], *[[one] for one in same_name]):
+        for parts in ([], [FOO_1], [forth], [further], [FOO_1, forth], [forth, FOO_1], [other, forth], [forth, forth], [forth, further], [FOO_2, further],
+                      [FOO_1, FOO_1], [FOO_1, other], [same_version, forth, FOO_3]):
+            yield "applied", a_set(*installed), a_set(*parts)
+    # Each of many, by its name.
+    names = [b"a", b"a:b", b"a:c", b"aa:b", b"b:a", b"foo:lib", b"foo:runtime"]
+    old, new = [[of_refs(name, version, []) if b":" not in name else component(version, name=name) for name in names] for version in (V1, V2)]
+    changes = [relative_of(*pair) for pair in zip(old, new)]
+    for place, change in enumerate(changes):
+        yield "applied", a_set(*old), a_set(change)
+        yield "applied", a_set(*old[:place], *old[place + 1 :]), a_set(change)
+        yield "applied", a_set(*old[:place], new[place], *old[place + 1 :]), a_set(change)
+    yield "applied", a_set(*old), a_set(*reversed(changes))
+    # Forbidden paths: set, kept from the base, and gone; of the first part that has one, and its first.
+    bad = relative_of(FOO_1, component(V2, [ETC, (b"/var/lib/conarydb/a", RECORDS[4]), (b"/var/lib/conarydb/b", RECORDS[4])]))
+    kept = relative_of(RESERVED, component(V2, [file for file in RESERVED.files if file[0] != b"/var/lib/conarydb"], name=b"bad:runtime"))
+    gone = relative_of(RESERVED, component(V2, RESERVED.files[:1], name=b"bad:runtime"))
+    lost = relative_of(component(V3, name=b"x:y"), component(V2, name=b"x:y"))
+    parts = [forth, bad, kept, gone, lost, RESERVED, PINNED, NEARLY]
+    for one in parts:
+        yield "applied", a_set(RESERVED, FOO_1), a_set(one)
+        for two in parts:
+            yield "applied", a_set(RESERVED, FOO_1), a_set(one, two)
+    yield "applied", a_set(RESERVED, FOO_1), a_set(forth, NEARLY, gone, FOO_3)
+    # Lists that aren't installed ones, and bytes that are no change sets.
+    yield "applied", a_set(FOO_1, same_version), a_set(forth)
+    yield "applied", a_set(FOO_1, FOO_2), a_set(forth)
+    yield "applied", a_set(forth), a_set(forth)
+    yield "applied", b"\x01", a_set(forth)
+    yield "applied", a_set(FOO_1), b"\x01"
+
+
 CASES = [
     ("worked relative troves", worked),
     ("flavors", flavors),
@@ -382,6 +506,8 @@ CASES = [
     ("limits", limits),
     ("long lists", long_lists),
     ("contents to send", sendings),
+    ("forbidden paths", allowed_cases),
+    ("change sets over installed troves", coming_cases),
 ]
 
 

@@ -20,7 +20,8 @@ fn shown(alloc: Global, bytes: &[u8]) -> Result<String, Stop> {
     Ok(format!(in alloc; "{len} {digits}")?)
 }
 
-fn stream_of(alloc: Global, trove: &Trove) -> Result<String, Stop> {
+/// The stream of a trove.
+pub fn shown_stream(alloc: Global, trove: &Trove) -> Result<String, Stop> {
     let mut out = Bytes::new(alloc, b"")?;
     encode(alloc, trove, &mut out)?;
     shown(alloc, out.get())
@@ -36,11 +37,16 @@ fn between(alloc: Global, old: &Trove, fresh: &Trove) -> Result<RelTrove, Stop> 
     Ok(relative(alloc, old, fresh)?)
 }
 
-fn refused(alloc: Global, refusal: &Refusal) -> Result<String, Stop> {
+/// A refusal.
+pub fn refused(alloc: Global, refusal: &Refusal) -> Result<String, Stop> {
     match refusal {
         Refusal::MissingBase { trove } => {
             let text = trove.get();
             Ok(format!(in alloc; "missing base {text}")?)
+        }
+        Refusal::Reserved { path } => {
+            let text = path.get();
+            Ok(format!(in alloc; "reserved {text}")?)
         }
         _ => Ok(String::from_str(alloc, "another refusal")?),
     }
@@ -48,7 +54,7 @@ fn refused(alloc: Global, refusal: &Refusal) -> Result<String, Stop> {
 
 fn answer_of(alloc: Global, old: &Trove, rel: &RelTrove) -> Result<String, Stop> {
     match apply(alloc, old, rel) {
-        Ok(fresh) => stream_of(alloc, &fresh),
+        Ok(fresh) => shown_stream(alloc, &fresh),
         Err(Fault::Refused(refusal)) => refused(alloc, &refusal),
         Err(Fault::Memory) => Err(Stop::Memory),
     }

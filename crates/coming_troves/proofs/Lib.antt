@@ -1,0 +1,5 @@
+pub mod Firsts
+pub mod Reserved
+pub mod Making
+pub mod Unique
+pub mod Bases
