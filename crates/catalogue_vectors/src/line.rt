@@ -1,5 +1,5 @@
 //! The arguments of a line, and its answer.
-use cny_base::{Copies, Fault, OutOfMemory, TextFault};
+use cny_base::{Copies, Fault, OutOfMemory, Refusal, Text, TextFault};
 use cny_report::refusal_text;
 use std::alloc::{AllocError, AllocFailed, Global};
 
@@ -11,6 +11,9 @@ pub enum Stop {
     /// No memory was left.
     Memory,
 }
+
+/// The answer to a line.
+pub type Answer = Result<String, Stop>;
 
 impl From<OutOfMemory> for Stop {
     fn from(_: OutOfMemory) -> Self {
@@ -40,13 +43,13 @@ impl From<TextFault> for Stop {
     }
 }
 
-/// The arguments behind a call, with a tab between two.
-pub fn arguments_of(alloc: Global, text: &str) -> Result<Vec<String>, Stop> {
-    let mut arguments = Vec::new(alloc);
-    for field in text.split('\t') {
-        arguments.push(String::from_str(alloc, field)?)?;
+/// The parts of a line, with a tab between two.
+pub fn parts_of(alloc: Global, line: &str) -> Result<Vec<String>, Stop> {
+    let mut parts = Vec::new(alloc);
+    for part in line.split('\t') {
+        parts.push(String::from_str(alloc, part)?)?;
     }
-    Ok(arguments)
+    Ok(parts)
 }
 
 /// The argument at a place.
@@ -57,12 +60,16 @@ pub fn text_at(arguments: &[String], place: usize) -> Result<&str, Stop> {
     }
 }
 
-/// The name of a content that is twenty times the byte of this number.
-pub fn content_name(text: &str) -> Result<[u8; 20], Stop> {
-    match text.parse::<u8>() {
-        Ok(byte) => Ok([byte; 20]),
+fn byte_of(number: &str) -> Result<u8, Stop> {
+    match number.parse::<u8>() {
+        Ok(byte) => Ok(byte),
         Err(_) => Err(Stop::Unreadable),
     }
+}
+
+/// The name of a content that is twenty times the byte of this number.
+pub fn content_name(text: &str) -> Result<[u8; 20], Stop> {
+    Ok([byte_of(text)?; 20])
 }
 
 /// The bytes with these numbers, with a space between two; none for a hyphen.
@@ -70,17 +77,14 @@ pub fn bytes_of(alloc: Global, text: &str) -> Result<Vec<u8>, Stop> {
     let mut bytes = Vec::new(alloc);
     if text != "-" {
         for number in text.split(' ') {
-            match number.parse::<u8>() {
-                Ok(byte) => bytes.push(byte)?,
-                Err(_) => return Err(Stop::Unreadable),
-            }
+            bytes.push(byte_of(number)?)?;
         }
     }
     Ok(bytes)
 }
 
 /// An answer of one word.
-pub fn word(alloc: Global, word: &str) -> Result<String, Stop> {
+pub fn word(alloc: Global, word: &str) -> Answer {
     Ok(String::from_str(alloc, word)?)
 }
 
@@ -91,14 +95,19 @@ pub fn push_field(line: &mut String, field: &str) -> Result<(), OutOfMemory> {
     Ok(())
 }
 
-/// The answer of a call that refuses: the text of the refusal.
-pub fn refused(alloc: Global, fault: &Fault) -> Result<String, Stop> {
+fn text_of_copy(alloc: Global, refusal: &Refusal) -> Result<Text, OutOfMemory> {
+    refusal_text(alloc, &refusal.copy()?)
+}
+
+fn refusal_word(alloc: Global, refusal: &Refusal) -> Answer {
+    word(alloc, text_of_copy(alloc, refusal)?.get())
+}
+
+/// The answer of a call that refuses: the text of a copy of the refusal.
+pub fn refused(alloc: Global, fault: Fault) -> Answer {
     match fault {
         Fault::Memory => Err(Stop::Memory),
-        Fault::Refused(refusal) => {
-            let text = refusal_text(alloc, &refusal.copy()?)?;
-            word(alloc, text.get())
-        }
+        Fault::Refused(refusal) => refusal_word(alloc, &refusal),
     }
 }
 

@@ -8,18 +8,13 @@ mod shadows;
 mod specs;
 mod troves;
 
-use crate::line::{Stop, arguments_of};
+use crate::line::{Answer, Stop, parts_of};
 use repo_index::Catalogue;
 use std::alloc::Global;
 use std::io::{self, BufRead, BufReader, BufWriter, Write};
 
 // What a call answers that only looks.
-fn look_up(
-    alloc: Global,
-    catalogue: &Catalogue,
-    name: &str,
-    arguments: &[String],
-) -> Result<String, Stop> {
+fn look_up(alloc: Global, catalogue: &Catalogue, name: &str, arguments: &[String]) -> Answer {
     match name {
         "troves" => troves::troves(alloc, catalogue),
         "find" => troves::find(alloc, catalogue, arguments),
@@ -37,12 +32,7 @@ fn look_up(
 }
 
 // What a call answers.
-fn call(
-    alloc: Global,
-    catalogue: &mut Catalogue,
-    name: &str,
-    arguments: &[String],
-) -> Result<String, Stop> {
+fn call(alloc: Global, catalogue: &mut Catalogue, name: &str, arguments: &[String]) -> Answer {
     match name {
         "new" => troves::new(alloc, catalogue),
         "add" => troves::add(alloc, catalogue, arguments),
@@ -52,20 +42,25 @@ fn call(
     }
 }
 
-fn answer_to(alloc: Global, catalogue: &mut Catalogue, line: &str) -> Result<String, Stop> {
-    match line.split_once('\t') {
-        None => call(alloc, catalogue, line, &[]),
-        Some((name, rest)) => {
-            let arguments = arguments_of(alloc, rest)?;
-            call(alloc, catalogue, name, arguments.as_slice())
-        }
+fn answer_to(alloc: Global, catalogue: &mut Catalogue, line: &str) -> Answer {
+    match parts_of(alloc, line)?.as_slice() {
+        [name, arguments @ ..] => call(alloc, catalogue, name.as_str(), arguments),
+        [] => Err(Stop::Unreadable),
     }
 }
 
-// The line that is written. A line that isn't a call, and want of memory, are errors.
-fn line_to(alloc: Global, catalogue: &mut Catalogue, line: &str) -> io::Result<String> {
+// Writes the answer to a line. A line that isn't a call, and want of memory, are errors.
+fn answer<W: Write>(
+    alloc: Global,
+    catalogue: &mut Catalogue,
+    out: &mut W,
+    line: &str,
+) -> io::Result<()> {
     match answer_to(alloc, catalogue, line) {
-        Ok(text) => Ok(text),
+        Ok(mut text) => {
+            text.push('\n')?;
+            out.write_all(text.as_bytes())
+        }
         Err(Stop::Unreadable) => Err(io::Error::from(io::ErrorKind::InvalidInput)),
         Err(Stop::Memory) => Err(io::Error::from(io::ErrorKind::OutOfMemory)),
     }
@@ -75,9 +70,7 @@ fn main(rt: HostRuntime) -> io::Result<()> {
     let mut catalogue = Catalogue::new(rt.alloc());
     let mut out = BufWriter::new(rt.alloc(), io::writer(&rt))?;
     for line in BufReader::new(rt.alloc(), rt.reader())?.lines(rt.alloc()) {
-        let text = line_to(rt.alloc(), &mut catalogue, line?.as_str())?;
-        out.write_all(text.as_str().as_bytes())?;
-        out.write_all(b"\n")?;
+        answer(rt.alloc(), &mut catalogue, &mut out, line?.as_str())?;
     }
     out.flush()
 }

@@ -1,5 +1,5 @@
 //! Specifications, and which troves they mean.
-use crate::line::{Stop, bytes_of, push_field, refused, text_at, word};
+use crate::line::{Answer, Stop, bytes_of, push_field, refused, text_at, word};
 use crate::troves::{ids_of, ids_text};
 use cny_base::{CONFIG_LIMIT, Copies, OutOfMemory, TextFault};
 use cny_flavor::Flavor;
@@ -24,25 +24,34 @@ fn push_place(line: &mut String, place: &Place) -> Result<(), OutOfMemory> {
     }
 }
 
+fn push_flavor(line: &mut String, flavor: &Option<Flavor>) -> Result<(), OutOfMemory> {
+    match flavor {
+        None => push_field(line, "none"),
+        Some(flavor) => {
+            push_field(line, "flavor")?;
+            push_field(line, flavor.text())
+        }
+    }
+}
+
 // The parts of a specification.
-fn spec_text(alloc: Global, spec: &Spec) -> Result<String, Stop> {
+fn spec_text(alloc: Global, spec: &Spec) -> Answer {
     let mut line = word(alloc, "ok")?;
     push_field(&mut line, spec.name.text())?;
     push_place(&mut line, &spec.place)?;
-    match &spec.flavor {
-        None => push_field(&mut line, "none")?,
-        Some(flavor) => {
-            push_field(&mut line, "flavor")?;
-            push_field(&mut line, flavor.text())?;
-        }
-    }
+    push_flavor(&mut line, &spec.flavor)?;
     Ok(line)
 }
 
+fn text_of_copy(alloc: Global, spec: &Spec) -> Answer {
+    let copy = spec.copy()?;
+    spec_text(alloc, &copy)
+}
+
 /// `Spec::read` of a text: the parts of a copy.
-pub fn spec(alloc: Global, arguments: &[String]) -> Result<String, Stop> {
+pub fn spec(alloc: Global, arguments: &[String]) -> Answer {
     match Spec::read(alloc, text_at(arguments, 0)?) {
-        Ok(spec) => spec_text(alloc, &spec.copy()?),
+        Ok(spec) => text_of_copy(alloc, &spec),
         Err(TextFault::Bad) => word(alloc, "bad"),
         Err(TextFault::Memory) => Err(Stop::Memory),
     }
@@ -59,57 +68,63 @@ fn labels_of(alloc: Global, text: &str) -> Result<Labels, Stop> {
     Ok(Labels::new(labels))
 }
 
-/// `resolve` of a specification, with the labels and the flavor of a configuration, which is copied.
-pub fn resolved(
-    alloc: Global,
-    catalogue: &Catalogue,
-    arguments: &[String],
-) -> Result<String, Stop> {
-    let text = text_at(arguments, 0)?;
+// The copy of a configuration of these labels and this flavor.
+fn config_of(alloc: Global, labels: &str, flavor: &str) -> Result<Config, Stop> {
+    let labels = labels_of(alloc, labels)?;
+    let flavor = Flavor::read(alloc, flavor)?;
+    Ok(Config { labels, flavor }.copy(alloc)?)
+}
+
+fn id_resolved(alloc: Global, catalogue: &Catalogue, text: &str, config: &Config) -> Answer {
     let spec = Spec::read(alloc, text)?;
-    let labels = labels_of(alloc, text_at(arguments, 1)?)?;
-    let flavor = Flavor::read(alloc, text_at(arguments, 2)?)?;
-    let config = Config { labels, flavor }.copy(alloc)?;
-    match resolve(alloc, catalogue, &spec, text, &config) {
+    match resolve(alloc, catalogue, &spec, text, config) {
         Ok(id) => word(alloc, id_text(alloc, &id)?.get()),
-        Err(fault) => refused(alloc, &fault),
+        Err(fault) => refused(alloc, fault),
     }
 }
 
-// The labels of a configuration with spaces between, and its flavor.
-fn config_text(alloc: Global, config: &Config) -> Result<String, Stop> {
-    let mut line = word(alloc, "ok\t")?;
-    for (place, label) in config.labels.get().iter().enumerate() {
+/// `resolve` of a specification, with the labels and the flavor of a configuration, which is copied.
+pub fn resolved(alloc: Global, catalogue: &Catalogue, arguments: &[String]) -> Answer {
+    let text = text_at(arguments, 0)?;
+    let config = config_of(alloc, text_at(arguments, 1)?, text_at(arguments, 2)?)?;
+    id_resolved(alloc, catalogue, text, &config)
+}
+
+fn push_labels(line: &mut String, labels: &[Label]) -> Result<(), OutOfMemory> {
+    for (place, label) in labels.iter().enumerate() {
         if place > 0 {
             line.push(' ')?;
         }
         line.push_str(label.text())?;
     }
+    Ok(())
+}
+
+// The labels of a configuration with spaces between, and its flavor.
+fn config_text(alloc: Global, config: &Config) -> Answer {
+    let mut line = word(alloc, "ok\t")?;
+    push_labels(&mut line, config.labels.get())?;
     push_field(&mut line, config.flavor.text())?;
     Ok(line)
 }
 
 /// `Config::read` of a file's bytes.
-pub fn config(alloc: Global, arguments: &[String]) -> Result<String, Stop> {
+pub fn config(alloc: Global, arguments: &[String]) -> Answer {
     let bytes = bytes_of(alloc, text_at(arguments, 0)?)?;
     if bytes.len() > CONFIG_LIMIT {
         return Err(Stop::Unreadable);
     }
     match Config::read(alloc, bytes.as_slice()) {
         Ok(config) => config_text(alloc, &config),
-        Err(fault) => refused(alloc, &fault),
+        Err(fault) => refused(alloc, fault),
     }
 }
 
 /// `expand` of a list of ids: the ids of the troves.
-pub fn expanded(
-    alloc: Global,
-    catalogue: &Catalogue,
-    arguments: &[String],
-) -> Result<String, Stop> {
+pub fn expanded(alloc: Global, catalogue: &Catalogue, arguments: &[String]) -> Answer {
     let roots = ids_of(alloc, text_at(arguments, 0)?)?;
     match expand(alloc, catalogue, roots.as_slice()) {
         Ok(troves) => ids_text(alloc, troves.get()),
-        Err(fault) => refused(alloc, &fault),
+        Err(fault) => refused(alloc, fault),
     }
 }

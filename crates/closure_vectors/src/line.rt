@@ -1,5 +1,5 @@
 //! The arguments of a line, and its answer.
-use cny_base::{Copies, Fault, OutOfMemory, TextFault};
+use cny_base::{Copies, Fault, OutOfMemory, Refusal, Text, TextFault};
 use cny_report::refusal_text;
 use std::alloc::{AllocError, AllocFailed, Global};
 
@@ -11,6 +11,9 @@ pub enum Stop {
     /// No memory was left.
     Memory,
 }
+
+/// The answer to a line.
+pub type Answer = Result<String, Stop>;
 
 impl From<OutOfMemory> for Stop {
     fn from(_: OutOfMemory) -> Self {
@@ -40,36 +43,33 @@ impl From<TextFault> for Stop {
     }
 }
 
-/// The arguments behind a call, with a tab between two.
-pub fn arguments_of(alloc: Global, text: &str) -> Result<Vec<String>, Stop> {
-    let mut arguments = Vec::new(alloc);
-    for field in text.split('\t') {
-        arguments.push(String::from_str(alloc, field)?)?;
+/// The parts of a line, with a tab between two.
+pub fn parts_of(alloc: Global, line: &str) -> Result<Vec<String>, Stop> {
+    let mut parts = Vec::new(alloc);
+    for part in line.split('\t') {
+        parts.push(String::from_str(alloc, part)?)?;
     }
-    Ok(arguments)
-}
-
-/// The argument at a place.
-pub fn text_at(arguments: &[String], place: usize) -> Result<&str, Stop> {
-    match arguments.get(place) {
-        Some(text) => Ok(text.as_str()),
-        None => Err(Stop::Unreadable),
-    }
+    Ok(parts)
 }
 
 /// An answer of one word.
-pub fn word(alloc: Global, word: &str) -> Result<String, Stop> {
+pub fn word(alloc: Global, word: &str) -> Answer {
     Ok(String::from_str(alloc, word)?)
 }
 
-/// The answer of a test: `ok`, or the text of the refusal.
-pub fn answer_of(alloc: Global, tested: Result<(), Fault>) -> Result<String, Stop> {
+fn text_of_copy(alloc: Global, refusal: &Refusal) -> Result<Text, OutOfMemory> {
+    refusal_text(alloc, &refusal.copy()?)
+}
+
+fn refused(alloc: Global, refusal: &Refusal) -> Answer {
+    word(alloc, text_of_copy(alloc, refusal)?.get())
+}
+
+/// The answer of a test: `ok`, or the text of a copy of the refusal.
+pub fn answer_of(alloc: Global, tested: Result<(), Fault>) -> Answer {
     match tested {
         Ok(()) => word(alloc, "ok"),
         Err(Fault::Memory) => Err(Stop::Memory),
-        Err(Fault::Refused(refusal)) => {
-            let text = refusal_text(alloc, &refusal.copy()?)?;
-            word(alloc, text.get())
-        }
+        Err(Fault::Refused(refusal)) => refused(alloc, &refusal),
     }
 }

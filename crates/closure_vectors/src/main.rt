@@ -6,18 +6,13 @@
 mod line;
 mod troves;
 
-use crate::line::{Stop, arguments_of};
+use crate::line::{Answer, Stop, parts_of};
 use crate::troves::State;
 use std::alloc::Global;
 use std::io::{self, BufRead, BufReader, BufWriter, Write};
 
 // What a call answers.
-fn call(
-    alloc: Global,
-    state: &mut State,
-    name: &str,
-    arguments: &[String],
-) -> Result<String, Stop> {
+fn call(alloc: Global, state: &mut State, name: &str, arguments: &[String]) -> Answer {
     match name {
         "trove" => troves::trove(alloc, state, arguments),
         "closed" => troves::is_closed(alloc, state),
@@ -27,13 +22,10 @@ fn call(
     }
 }
 
-fn answer_to(alloc: Global, state: &mut State, line: &str) -> Result<String, Stop> {
-    match line.split_once('\t') {
-        None => call(alloc, state, line, &[]),
-        Some((name, rest)) => {
-            let arguments = arguments_of(alloc, rest)?;
-            call(alloc, state, name, arguments.as_slice())
-        }
+fn answer_to(alloc: Global, state: &mut State, line: &str) -> Answer {
+    match parts_of(alloc, line)?.as_slice() {
+        [name, arguments @ ..] => call(alloc, state, name.as_str(), arguments),
+        [] => Err(Stop::Unreadable),
     }
 }
 
@@ -45,10 +37,13 @@ fn error_of(stop: Stop) -> io::Error {
     }
 }
 
-// The line that is written.
-fn line_to(alloc: Global, state: &mut State, line: &str) -> io::Result<String> {
+// Writes the answer to a line.
+fn answer<W: Write>(alloc: Global, state: &mut State, out: &mut W, line: &str) -> io::Result<()> {
     match answer_to(alloc, state, line) {
-        Ok(text) => Ok(text),
+        Ok(mut text) => {
+            text.push('\n')?;
+            out.write_all(text.as_bytes())
+        }
         Err(stop) => Err(error_of(stop)),
     }
 }
@@ -64,9 +59,7 @@ fn main(rt: HostRuntime) -> io::Result<()> {
     let mut state = start(rt.alloc())?;
     let mut out = BufWriter::new(rt.alloc(), io::writer(&rt))?;
     for line in BufReader::new(rt.alloc(), rt.reader())?.lines(rt.alloc()) {
-        let text = line_to(rt.alloc(), &mut state, line?.as_str())?;
-        out.write_all(text.as_str().as_bytes())?;
-        out.write_all(b"\n")?;
+        answer(rt.alloc(), &mut state, &mut out, line?.as_str())?;
     }
     out.flush()
 }

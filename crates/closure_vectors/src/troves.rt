@@ -1,5 +1,5 @@
 //! Troves of lines, and the calls on them.
-use crate::line::{Stop, answer_of, text_at, word};
+use crate::line::{Answer, Stop, answer_of, word};
 use cny_base::Name;
 use cny_dep::Dep;
 use dep_closure::{Closure, closed};
@@ -51,28 +51,34 @@ fn deps_of(alloc: Global, text: &str) -> Result<Deps, Stop> {
     Ok(Deps::new(deps))
 }
 
-/// One trove more waits: the text of its id, what it requires, what it provides.
-pub fn trove(alloc: Global, state: &mut State, arguments: &[String]) -> Result<String, Stop> {
-    let id = read_id(alloc, text_at(arguments, 0)?)?;
-    let required = deps_of(alloc, text_at(arguments, 1)?)?;
-    let provided = deps_of(alloc, text_at(arguments, 2)?)?;
+fn trove_of(alloc: Global, id: &str, required: &str, provided: &str) -> Result<Trove, Stop> {
+    let required = deps_of(alloc, required)?;
+    let provided = deps_of(alloc, provided)?;
+    let id = read_id(alloc, id)?;
     let files = Files::new(Vec::new(alloc));
     let refs = Refs::new(Vec::new(alloc));
-    state
-        .waiting
-        .push(Trove::make(id, files, refs, required, provided)?)?;
+    Ok(Trove::make(id, files, refs, required, provided)?)
+}
+
+/// One trove more waits: the text of its id, what it requires, what it provides.
+pub fn trove(alloc: Global, state: &mut State, arguments: &[String]) -> Answer {
+    let [id, required, provided] = arguments else {
+        return Err(Stop::Unreadable);
+    };
+    let trove = trove_of(alloc, id.as_str(), required.as_str(), provided.as_str())?;
+    state.waiting.push(trove)?;
     word(alloc, "ok")
 }
 
 /// `closed` of the troves that wait, which wait no more.
-pub fn is_closed(alloc: Global, state: &mut State) -> Result<String, Stop> {
+pub fn is_closed(alloc: Global, state: &mut State) -> Answer {
     let answer = answer_of(alloc, closed(alloc, state.waiting.as_slice()));
     state.waiting.clear();
     answer
 }
 
 /// `Closure::of` the troves that wait, which wait no more.
-pub fn of(alloc: Global, state: &mut State) -> Result<String, Stop> {
+pub fn of(alloc: Global, state: &mut State) -> Answer {
     let troves = std::mem::replace(&mut state.waiting, Vec::new(alloc));
     state.closure = closure_of(alloc, troves)?;
     word(alloc, "ok")
@@ -90,8 +96,11 @@ fn names_of(alloc: Global, text: &str) -> Result<Vec<Name>, Stop> {
 }
 
 /// `Closure::change`: the names that go; the troves that wait come, and wait no more.
-pub fn change(alloc: Global, state: &mut State, arguments: &[String]) -> Result<String, Stop> {
-    let gone = names_of(alloc, text_at(arguments, 0)?)?;
+pub fn change(alloc: Global, state: &mut State, arguments: &[String]) -> Answer {
+    let [gone] = arguments else {
+        return Err(Stop::Unreadable);
+    };
+    let gone = names_of(alloc, gone.as_str())?;
     let troves = std::mem::replace(&mut state.waiting, Vec::new(alloc));
     match Installed::new(troves) {
         Some(come) => answer_of(

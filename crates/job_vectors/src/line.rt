@@ -1,5 +1,5 @@
 //! The arguments of a line, and its answer.
-use cny_base::{Bytes, Copies, Fault, Name, OutOfMemory, Path, TextFault};
+use cny_base::{Bytes, Copies, Fault, Name, OutOfMemory, Path, Refusal, Text, TextFault};
 use cny_dep::Dep;
 use cny_report::refusal_text;
 use file_stream::{FileRec, decode_full};
@@ -45,30 +45,11 @@ impl From<TextFault> for Stop {
     }
 }
 
-/// The arguments behind a call, with a tab between two.
-pub fn arguments_of(alloc: Global, text: &str) -> Result<Vec<String>, Stop> {
-    let mut arguments = Vec::new(alloc);
-    for field in text.split('\t') {
-        arguments.push(String::from_str(alloc, field)?)?;
-    }
-    Ok(arguments)
-}
-
-/// The argument at a place.
-pub fn text_at(arguments: &[String], place: usize) -> Result<&str, Stop> {
-    match arguments.get(place) {
-        Some(text) => Ok(text.as_str()),
-        None => Err(Stop::Unreadable),
-    }
-}
-
-// The parts of a text with this between two; none for a hyphen.
-fn parts_of(alloc: Global, text: &str, between: &str) -> Result<Vec<String>, Stop> {
+/// The parts of a text with this between two.
+pub fn parts_of(alloc: Global, text: &str, between: char) -> Result<Vec<String>, Stop> {
     let mut parts = Vec::new(alloc);
-    if text != "-" {
-        for part in text.split(between) {
-            parts.push(String::from_str(alloc, part)?)?;
-        }
+    for part in text.split(between) {
+        parts.push(String::from_str(alloc, part)?)?;
     }
     Ok(parts)
 }
@@ -76,8 +57,10 @@ fn parts_of(alloc: Global, text: &str, between: &str) -> Result<Vec<String>, Sto
 /// The names of an argument, with a space between two; none for a hyphen.
 pub fn names_of(alloc: Global, text: &str) -> Result<Vec<Name>, Stop> {
     let mut names = Vec::new(alloc);
-    for part in &parts_of(alloc, text, " ")? {
-        names.push(Name::read(alloc, part.as_str())?)?;
+    if text != "-" {
+        for name in text.split(' ') {
+            names.push(Name::read(alloc, name)?)?;
+        }
     }
     Ok(names)
 }
@@ -85,8 +68,10 @@ pub fn names_of(alloc: Global, text: &str) -> Result<Vec<Name>, Stop> {
 // The ids of a text, with a semicolon and a space between two; none for a hyphen.
 fn refs_of(alloc: Global, text: &str) -> Result<Refs, Stop> {
     let mut ids = Vec::new(alloc);
-    for part in &parts_of(alloc, text, "; ")? {
-        ids.push(read_id(alloc, part.as_str())?)?;
+    if text != "-" {
+        for id in text.split("; ") {
+            ids.push(read_id(alloc, id)?)?;
+        }
     }
     Ok(Refs::new(ids))
 }
@@ -94,8 +79,10 @@ fn refs_of(alloc: Global, text: &str) -> Result<Refs, Stop> {
 // The dependencies of a text, with a semicolon and a space between two; none for a hyphen.
 fn deps_of(alloc: Global, text: &str) -> Result<Deps, Stop> {
     let mut deps = Vec::new(alloc);
-    for part in &parts_of(alloc, text, "; ")? {
-        deps.push(Dep::read(alloc, part.as_str())?)?;
+    if text != "-" {
+        for dep in text.split("; ") {
+            deps.push(Dep::read(alloc, dep)?)?;
+        }
     }
     Ok(Deps::new(deps))
 }
@@ -111,38 +98,47 @@ fn record_of(alloc: Global, digits: &str) -> Result<FileRec, Stop> {
 // A file of its path and its record, with a space between the two.
 fn file_of(alloc: Global, text: &str) -> Result<FileAt, Stop> {
     let (path, digits) = text.split_once(' ').ok_or(Stop::Unreadable)?;
+    let path = Path::read(alloc, path)?;
     let rec = record_of(alloc, digits)?;
-    Ok(FileAt {
-        path: Path::read(alloc, path)?,
-        rec,
-    })
+    Ok(FileAt { path, rec })
 }
 
 // The files of a text, with a semicolon and a space between two; none for a hyphen.
 fn files_of(alloc: Global, text: &str) -> Result<Files, Stop> {
     let mut files = Vec::new(alloc);
-    for part in &parts_of(alloc, text, "; ")? {
-        files.push(file_of(alloc, part.as_str())?)?;
+    if text != "-" {
+        for file in text.split("; ") {
+            files.push(file_of(alloc, file)?)?;
+        }
     }
     Ok(Files::new(files))
 }
 
+fn trove_of_parts(alloc: Global, parts: &[String]) -> Result<Trove, Stop> {
+    let [id, refs, required, provided, files] = parts else {
+        return Err(Stop::Unreadable);
+    };
+    let refs = refs_of(alloc, refs.as_str())?;
+    let required = deps_of(alloc, required.as_str())?;
+    let provided = deps_of(alloc, provided.as_str())?;
+    let files = files_of(alloc, files.as_str())?;
+    let id = read_id(alloc, id.as_str())?;
+    Ok(Trove::make(id, files, refs, required, provided)?)
+}
+
 // A trove of the text of its id, its references, what it requires, what it provides and its files, with a bar between two.
 fn trove_of(alloc: Global, text: &str) -> Result<Trove, Stop> {
-    let parts = parts_of(alloc, text, "|")?;
-    let id = read_id(alloc, text_at(parts.as_slice(), 0)?)?;
-    let refs = refs_of(alloc, text_at(parts.as_slice(), 1)?)?;
-    let required = deps_of(alloc, text_at(parts.as_slice(), 2)?)?;
-    let provided = deps_of(alloc, text_at(parts.as_slice(), 3)?)?;
-    let files = files_of(alloc, text_at(parts.as_slice(), 4)?)?;
-    Ok(Trove::make(id, files, refs, required, provided)?)
+    let parts = parts_of(alloc, text, '|')?;
+    trove_of_parts(alloc, parts.as_slice())
 }
 
 /// The troves of an argument, with an ampersand between two, which has a space on each side; none for a hyphen.
 pub fn troves_of(alloc: Global, text: &str) -> Result<Vec<Trove>, Stop> {
     let mut troves = Vec::new(alloc);
-    for part in &parts_of(alloc, text, " & ")? {
-        troves.push(trove_of(alloc, part.as_str())?)?;
+    if text != "-" {
+        for trove in text.split(" & ") {
+            troves.push(trove_of(alloc, trove)?)?;
+        }
     }
     Ok(troves)
 }
@@ -183,13 +179,18 @@ pub fn troves_text(alloc: Global, troves: &[Trove]) -> Result<String, Stop> {
     Ok(line)
 }
 
-/// The answer of a call that refuses: the text of the refusal.
-pub fn refused(alloc: Global, fault: &Fault) -> Result<String, Stop> {
+fn text_of_copy(alloc: Global, refusal: &Refusal) -> Result<Text, OutOfMemory> {
+    refusal_text(alloc, &refusal.copy()?)
+}
+
+fn refusal_word(alloc: Global, refusal: &Refusal) -> Result<String, Stop> {
+    word(alloc, text_of_copy(alloc, refusal)?.get())
+}
+
+/// The answer of a call that refuses: the text of a copy of the refusal.
+pub fn refused(alloc: Global, fault: Fault) -> Result<String, Stop> {
     match fault {
         Fault::Memory => Err(Stop::Memory),
-        Fault::Refused(refusal) => {
-            let text = refusal_text(alloc, &refusal.copy()?)?;
-            word(alloc, text.get())
-        }
+        Fault::Refused(refusal) => refusal_word(alloc, &refusal),
     }
 }

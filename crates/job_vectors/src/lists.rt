@@ -1,10 +1,10 @@
 //! Calls on installed lists.
-use crate::line::{Stop, names_of, push_field, refused, text_at, troves_of, troves_text, word};
-use cny_base::Fault;
+use crate::line::{Stop, names_of, push_field, refused, troves_of, troves_text, word};
 use dep_closure::closed;
 use installed_list::Installed;
 use std::alloc::Global;
 use trove_id::id_text;
+use trove_stream::Trove;
 use update_job as job;
 use update_job::Change;
 
@@ -14,22 +14,22 @@ fn installed_of(alloc: Global, text: &str) -> Result<Installed, Stop> {
 }
 
 /// `updated` of an installed list and new troves.
-pub fn updated(alloc: Global, arguments: &[String]) -> Result<String, Stop> {
-    let installed = installed_of(alloc, text_at(arguments, 0)?)?;
-    let come = troves_of(alloc, text_at(arguments, 1)?)?;
+pub fn updated(alloc: Global, first: &str, second: &str) -> Result<String, Stop> {
+    let installed = installed_of(alloc, first)?;
+    let come = troves_of(alloc, second)?;
     match job::updated(alloc, &installed, come.as_slice()) {
         Ok(list) => troves_text(alloc, list.troves()),
-        Err(fault) => refused(alloc, &fault),
+        Err(fault) => refused(alloc, fault),
     }
 }
 
 /// `erased` of an installed list and names.
-pub fn erased(alloc: Global, arguments: &[String]) -> Result<String, Stop> {
-    let installed = installed_of(alloc, text_at(arguments, 0)?)?;
-    let names = names_of(alloc, text_at(arguments, 1)?)?;
+pub fn erased(alloc: Global, first: &str, second: &str) -> Result<String, Stop> {
+    let installed = installed_of(alloc, first)?;
+    let names = names_of(alloc, second)?;
     match job::erased(alloc, &installed, names.as_slice()) {
         Ok(list) => troves_text(alloc, list.troves()),
-        Err(fault) => refused(alloc, &fault),
+        Err(fault) => refused(alloc, fault),
     }
 }
 
@@ -44,31 +44,34 @@ fn change_text(alloc: Global, change: &Change) -> Result<String, Stop> {
     Ok(format!(in alloc; "{kind} {}", id.get())?)
 }
 
-/// `changed` of two installed lists.
-pub fn changed(alloc: Global, arguments: &[String]) -> Result<String, Stop> {
-    let before = installed_of(alloc, text_at(arguments, 0)?)?;
-    let after = installed_of(alloc, text_at(arguments, 1)?)?;
+fn changes_text(alloc: Global, changes: &[Change]) -> Result<String, Stop> {
     let mut line = word(alloc, "ok")?;
-    for change in job::changed(alloc, &before, &after)?.get() {
+    for change in changes {
         push_field(&mut line, change_text(alloc, change)?.as_str())?;
     }
     Ok(line)
 }
 
-// Tests the list that is left without these names.
-fn close_without(alloc: Global, arguments: &[String]) -> Result<Result<(), Fault>, Stop> {
-    let installed = installed_of(alloc, text_at(arguments, 0)?)?;
-    let names = names_of(alloc, text_at(arguments, 1)?)?;
-    match job::erased(alloc, &installed, names.as_slice()) {
-        Ok(list) => Ok(closed(alloc, list.troves())),
-        Err(fault) => Ok(Err(fault)),
+/// `changed` of two installed lists.
+pub fn changed(alloc: Global, first: &str, second: &str) -> Result<String, Stop> {
+    let before = installed_of(alloc, first)?;
+    let after = installed_of(alloc, second)?;
+    changes_text(alloc, job::changed(alloc, &before, &after)?.get())
+}
+
+fn closed_text(alloc: Global, troves: &[Trove]) -> Result<String, Stop> {
+    match closed(alloc, troves) {
+        Ok(()) => word(alloc, "ok"),
+        Err(fault) => refused(alloc, fault),
     }
 }
 
 /// `closed` of the list that `erased` leaves of an installed list and names.
-pub fn closed_without(alloc: Global, arguments: &[String]) -> Result<String, Stop> {
-    match close_without(alloc, arguments)? {
-        Ok(()) => word(alloc, "ok"),
-        Err(fault) => refused(alloc, &fault),
+pub fn closed_without(alloc: Global, first: &str, second: &str) -> Result<String, Stop> {
+    let installed = installed_of(alloc, first)?;
+    let names = names_of(alloc, second)?;
+    match job::erased(alloc, &installed, names.as_slice()) {
+        Ok(list) => closed_text(alloc, list.troves()),
+        Err(fault) => refused(alloc, fault),
     }
 }

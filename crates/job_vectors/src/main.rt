@@ -6,26 +6,29 @@
 mod line;
 mod lists;
 
-use crate::line::{Stop, arguments_of};
+use crate::line::Stop;
 use std::alloc::Global;
 use std::io::{self, BufRead, BufReader, BufWriter, Write};
 
 fn answer_to(alloc: Global, line: &str) -> Result<String, Stop> {
     let (name, rest) = line.split_once('\t').ok_or(Stop::Unreadable)?;
-    let arguments = arguments_of(alloc, rest)?;
+    let (first, second) = rest.split_once('\t').ok_or(Stop::Unreadable)?;
     match name {
-        "updated" => lists::updated(alloc, arguments.as_slice()),
-        "erased" => lists::erased(alloc, arguments.as_slice()),
-        "changed" => lists::changed(alloc, arguments.as_slice()),
-        "closed_without" => lists::closed_without(alloc, arguments.as_slice()),
+        "updated" => lists::updated(alloc, first, second),
+        "erased" => lists::erased(alloc, first, second),
+        "changed" => lists::changed(alloc, first, second),
+        "closed_without" => lists::closed_without(alloc, first, second),
         _ => Err(Stop::Unreadable),
     }
 }
 
-// The line that is written. A line that isn't a call, and want of memory, are errors.
-fn line_to(alloc: Global, line: &str) -> io::Result<String> {
+// Writes the answer to a line. A line that isn't a call, and want of memory, are errors.
+fn answer<W: Write>(alloc: Global, out: &mut W, line: &str) -> io::Result<()> {
     match answer_to(alloc, line) {
-        Ok(text) => Ok(text),
+        Ok(mut text) => {
+            text.push('\n')?;
+            out.write_all(text.as_bytes())
+        }
         Err(Stop::Unreadable) => Err(io::Error::from(io::ErrorKind::InvalidInput)),
         Err(Stop::Memory) => Err(io::Error::from(io::ErrorKind::OutOfMemory)),
     }
@@ -34,9 +37,7 @@ fn line_to(alloc: Global, line: &str) -> io::Result<String> {
 fn main(rt: HostRuntime) -> io::Result<()> {
     let mut out = BufWriter::new(rt.alloc(), io::writer(&rt))?;
     for line in BufReader::new(rt.alloc(), rt.reader())?.lines(rt.alloc()) {
-        let text = line_to(rt.alloc(), line?.as_str())?;
-        out.write_all(text.as_str().as_bytes())?;
-        out.write_all(b"\n")?;
+        answer(rt.alloc(), &mut out, line?.as_str())?;
     }
     out.flush()
 }

@@ -52,12 +52,12 @@ fn push_times(bytes: &mut Vec<u8>, count: u32, byte: u8) -> Result<(), Stop> {
 }
 
 fn push_counted(alloc: Global, bytes: &mut Vec<u8>, count: &str, digits: &str) -> Result<(), Stop> {
-    match (
-        count.parse::<u32>(),
-        digits_of(alloc, digits)?.as_slice().first(),
-    ) {
-        (Ok(count), Some(byte)) => push_times(bytes, count, *byte),
-        _ => Err(Stop::Unreadable),
+    let Ok(count) = count.parse::<u32>() else {
+        return Err(Stop::Unreadable);
+    };
+    match digits_of(alloc, digits)?.as_slice() {
+        [byte, ..] => push_times(bytes, count, *byte),
+        [] => Err(Stop::Unreadable),
     }
 }
 
@@ -121,13 +121,10 @@ fn nodes_of(alloc: Global, text: &str) -> Result<Nodes, Stop> {
     Ok(Nodes::new(nodes))
 }
 
-/// A disk with `/` of mode 0755 and these nodes. Its first call fails where `fails` is set.
-pub fn disk_of(alloc: Global, text: &str, fails: bool) -> Result<MemoryTree, Stop> {
-    let mut numbers = Vec::new(alloc);
-    if fails {
-        numbers.push(1)?;
-    }
-    match MemoryTree::new(alloc, nodes_of(alloc, text)?, Fails::new(numbers)) {
+/// A disk with `/` of mode 0755 and these nodes. Its call of this number fails; none does where it is 0.
+pub fn disk_of(alloc: Global, text: &str, failing: u64) -> Result<MemoryTree, Stop> {
+    let fails = Fails::new(vec![in alloc; failing]?);
+    match MemoryTree::new(alloc, nodes_of(alloc, text)?, fails) {
         Ok(tree) => Ok(tree),
         Err(TreeFault::NotATree) => Err(Stop::Unreadable),
         Err(TreeFault::Memory) => Err(Stop::Memory),

@@ -30,18 +30,43 @@ fn push_times(alloc: Global, out: &mut Vec<u8>, digits: &str, times: &str) -> Re
     Ok(())
 }
 
-// Appends numbers, each between these bytes.
-fn push_counted(alloc: Global, out: &mut Vec<u8>, front: &str, rest: &str) -> Result<(), Stop> {
-    let (times, behind) = rest.split_once('#').ok_or(Stop::Unreadable)?;
-    let front = digits_of(alloc, front)?;
-    let behind = digits_of(alloc, behind)?;
-    for number in 0..times_of(times)? {
-        let digits = format!(in alloc; "{number:05}")?;
-        out.extend_from_slice(front.as_slice())?;
-        out.extend_from_slice(digits.as_bytes())?;
-        out.extend_from_slice(behind.as_slice())?;
+// Appends a number between these bytes.
+fn push_number(
+    alloc: Global,
+    out: &mut Vec<u8>,
+    front: &[u8],
+    number: usize,
+    behind: &[u8],
+) -> Result<(), Stop> {
+    let digits = format!(in alloc; "{number:05}")?;
+    out.extend_from_slice(front)?;
+    out.extend_from_slice(digits.as_bytes())?;
+    out.extend_from_slice(behind)?;
+    Ok(())
+}
+
+fn push_numbers(
+    alloc: Global,
+    out: &mut Vec<u8>,
+    front: &[u8],
+    times: usize,
+    behind: &[u8],
+) -> Result<(), Stop> {
+    for number in 0..times {
+        push_number(alloc, out, front, number, behind)?;
     }
     Ok(())
+}
+
+// Appends numbers, each between these bytes.
+fn push_counted(alloc: Global, out: &mut Vec<u8>, front: &str, rest: &str) -> Result<(), Stop> {
+    let Some((times, behind)) = rest.split_once('#') else {
+        return Err(Stop::Unreadable);
+    };
+    let times = times_of(times)?;
+    let front = digits_of(alloc, front)?;
+    let behind = digits_of(alloc, behind)?;
+    push_numbers(alloc, out, front.as_slice(), times, behind.as_slice())
 }
 
 fn push_term(alloc: Global, out: &mut Vec<u8>, term: &str) -> Result<(), Stop> {
@@ -56,16 +81,21 @@ fn push_term(alloc: Global, out: &mut Vec<u8>, term: &str) -> Result<(), Stop> {
     Ok(())
 }
 
-fn argument_of(alloc: Global, text: &str) -> Result<Vec<u8>, Stop> {
-    if text == "-" {
-        return Ok(Vec::new(alloc));
+// Appends the bytes of terms with a `+` between two.
+fn push_terms(alloc: Global, out: &mut Vec<u8>, text: &str) -> Result<(), Stop> {
+    for term in text.split('+') {
+        push_term(alloc, out, term)?;
     }
+    Ok(())
+}
+
+fn argument_of(alloc: Global, text: &str) -> Result<Vec<u8>, Stop> {
     if let Some(rest) = text.strip_prefix('=') {
         return Ok(Vec::from_slice(alloc, rest.as_bytes())?);
     }
     let mut out = Vec::new(alloc);
-    for term in text.split('+') {
-        push_term(alloc, &mut out, term)?;
+    if text != "-" {
+        push_terms(alloc, &mut out, text)?;
     }
     Ok(out)
 }

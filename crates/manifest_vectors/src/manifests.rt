@@ -46,6 +46,19 @@ fn flags_text(flags: Flags) -> &'static str {
     }
 }
 
+fn contents_text(
+    alloc: Global,
+    owned: &str,
+    flags: Flags,
+    size: u32,
+    name: &[u8; 20],
+    path: &str,
+) -> Result<String, Stop> {
+    let name = digits_of(alloc, name)?;
+    let flags = flags_text(flags);
+    Ok(format!(in alloc; "; file {owned} {flags} {size} {name} {path}")?)
+}
+
 fn file_text(alloc: Global, file: &FileAt) -> Result<String, Stop> {
     let path = file.path.text();
     match &file.rec {
@@ -61,13 +74,9 @@ fn file_text(alloc: Global, file: &FileAt) -> Result<String, Stop> {
             name,
         } => {
             let owned = owned(alloc, *mode, owner)?;
-            let (flags, name) = (flags_text(*flags), digits_of(alloc, name)?);
-            Ok(format!(in alloc; "; file {owned} {flags} {size} {name} {path}")?)
+            contents_text(alloc, owned.as_str(), *flags, *size, name, path)
         }
-        FileRec::Link { target } => {
-            let target = target.text();
-            Ok(format!(in alloc; "; link {path} to {target}")?)
-        }
+        FileRec::Link { target } => Ok(format!(in alloc; "; link {path} to {}", target.text())?),
     }
 }
 
@@ -109,15 +118,30 @@ fn push_content(alloc: Global, out: &mut String, content: &Carried) -> Result<()
     Ok(())
 }
 
+fn push_troves(alloc: Global, out: &mut String, troves: &[Trove]) -> Result<(), Stop> {
+    for trove in troves {
+        push_trove(alloc, out, trove)?;
+    }
+    Ok(())
+}
+
+fn push_contents(alloc: Global, out: &mut String, contents: &[Carried]) -> Result<(), Stop> {
+    for content in contents {
+        push_content(alloc, out, content)?;
+    }
+    Ok(())
+}
+
 fn made_text(alloc: Global, made: &Made) -> Result<String, Stop> {
     let mut out = String::from_str(alloc, "ok")?;
-    for trove in made.troves.get() {
-        push_trove(alloc, &mut out, trove)?;
-    }
-    for content in made.contents.get() {
-        push_content(alloc, &mut out, content)?;
-    }
+    push_troves(alloc, &mut out, made.troves.get())?;
+    push_contents(alloc, &mut out, made.contents.get())?;
     Ok(out)
+}
+
+fn text_of_copy(alloc: Global, made: &Made) -> Result<String, Stop> {
+    let copy = made.copy()?;
+    made_text(alloc, &copy)
 }
 
 // The text itself, or its length and its digest.
@@ -134,7 +158,7 @@ fn short(alloc: Global, text: String, longest: usize) -> Result<String, Stop> {
 pub fn answer(alloc: Global, bytes: &[u8], longest: usize) -> Result<String, Stop> {
     match read(alloc, bytes) {
         Ok(made) => {
-            let text = made_text(alloc, &made.copy()?)?;
+            let text = text_of_copy(alloc, &made)?;
             short(alloc, text, longest)
         }
         Err(fault) => fault_text(alloc, &fault),

@@ -19,18 +19,34 @@ fn times_of(text: &str) -> Result<usize, Stop> {
     }
 }
 
+fn push_number(alloc: Global, out: &mut Vec<u8>, number: usize) -> Result<(), Stop> {
+    let digits = format!(in alloc; "{number:05}")?;
+    out.extend_from_slice(digits.as_bytes())?;
+    Ok(())
+}
+
 // Appends numbers, each between these bytes.
-fn push_counted(alloc: Global, out: &mut Vec<u8>, front: &str, rest: &str) -> Result<(), Stop> {
-    let (times, behind) = rest.split_once('#').ok_or(Stop::Unreadable)?;
-    let front = digits_of(alloc, front)?;
-    let behind = digits_of(alloc, behind)?;
-    for number in 0..times_of(times)? {
-        let digits = format!(in alloc; "{number:05}")?;
-        out.extend_from_slice(front.as_slice())?;
-        out.extend_from_slice(digits.as_bytes())?;
-        out.extend_from_slice(behind.as_slice())?;
+fn push_numbers(
+    alloc: Global,
+    out: &mut Vec<u8>,
+    front: &[u8],
+    times: usize,
+    behind: &[u8],
+) -> Result<(), Stop> {
+    for number in 0..times {
+        out.extend_from_slice(front)?;
+        push_number(alloc, out, number)?;
+        out.extend_from_slice(behind)?;
     }
     Ok(())
+}
+
+fn push_counted(alloc: Global, out: &mut Vec<u8>, front: &str, rest: &str) -> Result<(), Stop> {
+    let (times, behind) = rest.split_once('#').ok_or(Stop::Unreadable)?;
+    let times = times_of(times)?;
+    let front = digits_of(alloc, front)?;
+    let behind = digits_of(alloc, behind)?;
+    push_numbers(alloc, out, front.as_slice(), times, behind.as_slice())
 }
 
 fn push_term(alloc: Global, out: &mut Vec<u8>, term: &str) -> Result<(), Stop> {
@@ -44,11 +60,10 @@ fn push_term(alloc: Global, out: &mut Vec<u8>, term: &str) -> Result<(), Stop> {
 
 fn argument_of(alloc: Global, text: &str) -> Result<Vec<u8>, Stop> {
     let mut out = Vec::new(alloc);
-    if text == "-" {
-        return Ok(out);
-    }
-    for term in text.split('+') {
-        push_term(alloc, &mut out, term)?;
+    if text != "-" {
+        for term in text.split('+') {
+            push_term(alloc, &mut out, term)?;
+        }
     }
     Ok(out)
 }

@@ -60,14 +60,17 @@ fn answer_of(alloc: Global, old: &Trove, rel: &RelTrove) -> Result<String, Stop>
     }
 }
 
+fn rel_stream_of(alloc: Global, rel: &RelTrove) -> Result<String, Stop> {
+    let mut out = Bytes::new(alloc, b"")?;
+    encode_rel(alloc, rel, &mut out)?;
+    shown(alloc, out.get())
+}
+
 /// The stream of `relative` of two troves.
 pub fn relative_of(alloc: Global, old: &[u8], fresh: &[u8]) -> Result<String, Stop> {
     let old = decode(alloc, old)?;
     let fresh = decode(alloc, fresh)?;
-    let rel = between(alloc, &old, &fresh)?;
-    let mut out = Bytes::new(alloc, b"")?;
-    encode_rel(alloc, &rel, &mut out)?;
-    shown(alloc, out.get())
+    rel_stream_of(alloc, &between(alloc, &old, &fresh)?)
 }
 
 /// The stream of what `apply` makes of a trove, or the refusal.
@@ -81,17 +84,20 @@ pub fn applied(alloc: Global, old: &[u8], rel: &[u8]) -> Result<String, Stop> {
 pub fn round(alloc: Global, old: &[u8], fresh: &[u8]) -> Result<String, Stop> {
     let old = decode(alloc, old)?;
     let fresh = decode(alloc, fresh)?;
-    let rel = between(alloc, &old, &fresh)?;
-    answer_of(alloc, &old, &rel)
+    answer_of(alloc, &old, &between(alloc, &old, &fresh)?)
+}
+
+fn names_text(alloc: Global, names: &[[u8; 20]]) -> Result<String, Stop> {
+    let mut out = Bytes::new(alloc, b"")?;
+    for name in names {
+        out.push_slice(name.as_slice())?;
+    }
+    shown(alloc, out.get())
 }
 
 fn names_of(alloc: Global, old: Option<&Trove>, fresh: &Trove) -> Result<String, Stop> {
     let names = to_send(alloc, old, fresh)?;
-    let mut out = Bytes::new(alloc, b"")?;
-    for name in names.get() {
-        out.push_slice(name.as_slice())?;
-    }
-    let text = shown(alloc, out.get())?;
+    let text = names_text(alloc, names.get())?;
     let number = names.get().len();
     Ok(format!(in alloc; "{number} {text}")?)
 }

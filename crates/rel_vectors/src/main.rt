@@ -47,11 +47,14 @@ fn answer_to(alloc: Global, line: &str) -> Result<String, Stop> {
     }
 }
 
-// The line that is written.
-fn line_to(alloc: Global, line: &str) -> io::Result<String> {
+// Writes the answer to a line.
+fn answer<W: Write>(alloc: Global, out: &mut W, line: &str) -> io::Result<()> {
     match answer_to(alloc, line) {
-        Ok(text) => Ok(text),
-        Err(Stop::Unreadable) => Ok(String::from_str(alloc, "unreadable")?),
+        Ok(mut text) => {
+            text.push('\n')?;
+            out.write_all(text.as_bytes())
+        }
+        Err(Stop::Unreadable) => out.write_all(b"unreadable\n"),
         Err(Stop::Memory) => Err(io::Error::from(io::ErrorKind::OutOfMemory)),
     }
 }
@@ -59,9 +62,7 @@ fn line_to(alloc: Global, line: &str) -> io::Result<String> {
 fn main(rt: HostRuntime) -> io::Result<()> {
     let mut out = BufWriter::new(rt.alloc(), io::writer(&rt))?;
     for line in BufReader::new(rt.alloc(), rt.reader())?.lines(rt.alloc()) {
-        let text = line_to(rt.alloc(), line?.as_str())?;
-        out.write_all(text.as_str().as_bytes())?;
-        out.write_all(b"\n")?;
+        answer(rt.alloc(), &mut out, line?.as_str())?;
     }
     out.flush()
 }

@@ -52,17 +52,22 @@ fn note_of(alloc: Global, field: &str) -> Result<Note, Stop> {
     let (paths, changes) = rest.split_once('|').ok_or(Stop::Unreadable)?;
     Ok(Note {
         number: count_of(number)?,
-        changes: changes_in(alloc, changes)?,
         paths: number_of(paths)?,
+        changes: changes_in(alloc, changes)?,
     })
 }
 
-/// `undos_text` of jobs.
-pub fn undos(alloc: Global, fields: &[String]) -> Result<String, Stop> {
+fn notes_of(alloc: Global, fields: &[String]) -> Result<Vec<Note>, Stop> {
     let mut notes = Vec::new(alloc);
     for field in fields {
         notes.push(note_of(alloc, field.as_str())?)?;
     }
+    Ok(notes)
+}
+
+/// `undos_text` of jobs.
+pub fn undos(alloc: Global, fields: &[String]) -> Result<String, Stop> {
+    let notes = notes_of(alloc, fields)?;
     on_a_line(alloc, undos_text(alloc, notes.as_slice())?.get())
 }
 
@@ -88,9 +93,17 @@ fn found_of(word: &str) -> Result<Found, Stop> {
 fn finding_of(alloc: Global, field: &str) -> Result<Finding, Stop> {
     let (word, path) = field.split_once(' ').ok_or(Stop::Unreadable)?;
     Ok(Finding {
-        path: Path::read(alloc, path)?,
         what: found_of(word)?,
+        path: Path::read(alloc, path)?,
     })
+}
+
+fn findings_of(alloc: Global, fields: &[String]) -> Result<Findings, Stop> {
+    let mut findings = Vec::new(alloc);
+    for field in fields {
+        findings.push(finding_of(alloc, field.as_str())?)?;
+    }
+    Ok(Findings::new(findings))
 }
 
 /// `verified_text` of how many paths were looked at, and of findings.
@@ -98,13 +111,9 @@ pub fn verified(alloc: Global, fields: &[String]) -> Result<String, Stop> {
     let [paths, fields @ ..] = fields else {
         return Err(Stop::Unreadable);
     };
-    let mut findings = Vec::new(alloc);
-    for field in fields {
-        findings.push(finding_of(alloc, field.as_str())?)?;
-    }
     let verified = Verified {
-        lines: Findings::new(findings),
         paths: number_of(paths.as_str())?,
+        lines: findings_of(alloc, fields)?,
     };
     on_a_line(alloc, verified_text(alloc, &verified)?.get())
 }

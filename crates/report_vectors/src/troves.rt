@@ -3,7 +3,7 @@ use crate::line::{Stop, on_a_line, text_at, trove_of, troves_of};
 use cny_base::Name;
 use cny_report::{committed_text, named_text, trove_text, troves_text};
 use std::alloc::Global;
-use trove_id::read_id;
+use trove_id::{TroveId, read_id};
 
 /// `troves_text` of troves.
 pub fn troves(alloc: Global, fields: &[String]) -> Result<String, Stop> {
@@ -21,12 +21,17 @@ pub fn named(alloc: Global, fields: &[String]) -> Result<String, Stop> {
     on_a_line(alloc, named_text(alloc, &name, troves.as_slice())?.get())
 }
 
-/// `committed_text` of ids.
-pub fn committed(alloc: Global, fields: &[String]) -> Result<String, Stop> {
+fn ids_of(alloc: Global, fields: &[String]) -> Result<Vec<TroveId>, Stop> {
     let mut ids = Vec::new(alloc);
     for field in fields {
         ids.push(read_id(alloc, field.as_str())?)?;
     }
+    Ok(ids)
+}
+
+/// `committed_text` of ids.
+pub fn committed(alloc: Global, fields: &[String]) -> Result<String, Stop> {
+    let ids = ids_of(alloc, fields)?;
     on_a_line(alloc, committed_text(alloc, ids.as_slice())?.get())
 }
 

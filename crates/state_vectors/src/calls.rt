@@ -1,14 +1,17 @@
 //! The calls.
 use crate::records::{read, rewritten};
-use crate::saved::{can_save, old};
+use crate::saved::{can_save, old, stop_text};
 use crate::trees::disk_of;
 use crate::undoing::undo_all;
-use cny_base::{Bytes, Copies, Fault, Stop as DiskEnd, TextFault};
+use cny_base::{Bytes, Copies, Fault, TextFault};
 use local_db::{Db, decode, encode, load};
 use sha1::Sha1;
 use state_words::{Stop, bytes_of, word};
 use std::alloc::Global;
 use trove_id::id_text;
+
+/// The answer to a line.
+pub type Answer = Result<String, Stop>;
 
 // The bytes of the database in format 2.
 fn written(alloc: Global, db: &Db) -> Result<Bytes, Stop> {
@@ -30,7 +33,7 @@ fn push_troves(alloc: Global, line: &mut String, db: &Db) -> Result<(), Stop> {
 }
 
 // The numbers, the length and the SHA-1 of the bytes in format 2 of a copy, and the ids of the troves.
-fn db_text(alloc: Global, db: &Db) -> Result<String, Stop> {
+fn db_text(alloc: Global, db: &Db) -> Answer {
     let copy = db.copy()?;
     let bytes = written(alloc, &copy)?;
     let len = bytes.get().len();
@@ -42,7 +45,7 @@ fn db_text(alloc: Global, db: &Db) -> Result<String, Stop> {
 }
 
 // `decode BYTES`.
-fn decoded(alloc: Global, text: &str) -> Result<String, Stop> {
+fn decoded(alloc: Global, text: &str) -> Answer {
     let bytes = bytes_of(alloc, text)?;
     match decode(alloc, bytes.as_slice()) {
         Ok(db) => db_text(alloc, &db),
@@ -52,7 +55,7 @@ fn decoded(alloc: Global, text: &str) -> Result<String, Stop> {
 }
 
 // `encode BYTES`: the bytes in format 2 of the database that these bytes are.
-fn encoded(alloc: Global, text: &str) -> Result<String, Stop> {
+fn encoded(alloc: Global, text: &str) -> Answer {
     let bytes = bytes_of(alloc, text)?;
     let db = decode(alloc, bytes.as_slice())?;
     let again = written(alloc, &db)?;
@@ -60,18 +63,15 @@ fn encoded(alloc: Global, text: &str) -> Result<String, Stop> {
 }
 
 // `load NODE`: the database of a root where this stands at its name.
-fn loaded(alloc: Global, text: &str) -> Result<String, Stop> {
+fn loaded(alloc: Global, text: &str) -> Answer {
     let mut disk = disk_of(alloc, text)?;
     match load(alloc, &mut disk) {
         Ok(db) => db_text(alloc, &db),
-        Err(DiskEnd::Damaged { path }) => Ok(format!(in alloc; "damaged {}", path.text())?),
-        Err(DiskEnd::Failed) => word(alloc, "failed"),
-        Err(DiskEnd::Memory) => Err(Stop::Memory),
-        Err(_) => Err(Stop::Unreadable),
+        Err(stop) => stop_text(alloc, &stop),
     }
 }
 
-fn record_call(alloc: Global, call: &str, rest: &str) -> Result<String, Stop> {
+fn record_call(alloc: Global, call: &str, rest: &str) -> Answer {
     match (call, rest.split_once(' ')) {
         ("record", Some((format, bytes))) => read(alloc, format, bytes),
         ("rewritten", Some((format, bytes))) => rewritten(alloc, format, bytes),
@@ -80,7 +80,7 @@ fn record_call(alloc: Global, call: &str, rest: &str) -> Result<String, Stop> {
 }
 
 /// The answer to a line.
-pub fn answer_to(alloc: Global, line: &str) -> Result<String, Stop> {
+pub fn answer_to(alloc: Global, line: &str) -> Answer {
     match line.split_once(' ') {
         Some(("decode", rest)) => decoded(alloc, rest),
         Some(("encode", rest)) => encoded(alloc, rest),

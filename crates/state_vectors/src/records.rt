@@ -1,4 +1,5 @@
 //! Rollback records as texts.
+use crate::calls::Answer;
 use cny_base::{Copies, TextFault};
 use record_text::{Delta, Record, Told, ToldEntry, decode, encode};
 use state_words::{Stop, bytes_of, mark_text, word};
@@ -6,31 +7,31 @@ use std::alloc::Global;
 use system_state::Format;
 use trove_id::{TroveId, id_text};
 
-fn told_text(alloc: Global, told: &Told) -> Result<String, Stop> {
+fn told_text(alloc: Global, told: &Told) -> Answer {
     match told {
         Told::Listed => word(alloc, "="),
         Told::Own(mark) => mark_text(alloc, mark),
     }
 }
 
-fn entry_text(alloc: Global, entry: &ToldEntry) -> Result<String, Stop> {
+fn entry_text(alloc: Global, entry: &ToldEntry) -> Answer {
     let before = told_text(alloc, &entry.before)?;
     let after = told_text(alloc, &entry.after)?;
     Ok(format!(in alloc; "{} {before} {after}", entry.path.text())?)
 }
 
-fn one_id(alloc: Global, kind: &str, id: &TroveId) -> Result<String, Stop> {
+fn one_id(alloc: Global, kind: &str, id: &TroveId) -> Answer {
     let text = id_text(alloc, id)?;
     Ok(format!(in alloc; "{kind} {}", text.get())?)
 }
 
-fn two_ids(alloc: Global, old: &TroveId, fresh: &TroveId) -> Result<String, Stop> {
+fn two_ids(alloc: Global, old: &TroveId, fresh: &TroveId) -> Answer {
     let old = id_text(alloc, old)?;
     let fresh = id_text(alloc, fresh)?;
     Ok(format!(in alloc; "turned {} {}", old.get(), fresh.get())?)
 }
 
-fn delta_text(alloc: Global, delta: &Delta) -> Result<String, Stop> {
+fn delta_text(alloc: Global, delta: &Delta) -> Answer {
     match delta {
         Delta::Came(id) => one_id(alloc, "came", id),
         Delta::Was(trove) => one_id(alloc, "was", trove.id()),
@@ -38,26 +39,40 @@ fn delta_text(alloc: Global, delta: &Delta) -> Result<String, Stop> {
     }
 }
 
+fn push_part(line: &mut String, text: &str) -> Result<(), Stop> {
+    line.push_str("; ")?;
+    line.push_str(text)?;
+    Ok(())
+}
+
+// Appends the text of a copy.
+fn push_delta(alloc: Global, line: &mut String, delta: &Delta) -> Result<(), Stop> {
+    let copy = delta.copy()?;
+    push_part(line, delta_text(alloc, &copy)?.as_str())
+}
+
 fn push_deltas(alloc: Global, line: &mut String, deltas: &[Delta]) -> Result<(), Stop> {
     for delta in deltas {
-        let text = delta_text(alloc, &delta.copy()?)?;
-        line.push_str("; ")?;
-        line.push_str(text.as_str())?;
+        push_delta(alloc, line, delta)?;
     }
     Ok(())
 }
 
+// Appends the text of a copy.
+fn push_entry(alloc: Global, line: &mut String, entry: &ToldEntry) -> Result<(), Stop> {
+    let copy = entry.copy()?;
+    push_part(line, entry_text(alloc, &copy)?.as_str())
+}
+
 fn push_entries(alloc: Global, line: &mut String, entries: &[ToldEntry]) -> Result<(), Stop> {
     for entry in entries {
-        let text = entry_text(alloc, &entry.copy()?)?;
-        line.push_str("; ")?;
-        line.push_str(text.as_str())?;
+        push_entry(alloc, line, entry)?;
     }
     Ok(())
 }
 
 // The number, the deltas and the entries.
-fn record_line(alloc: Global, found: &Record) -> Result<String, Stop> {
+fn record_line(alloc: Global, found: &Record) -> Answer {
     let mut line = format!(in alloc; "{}", found.number)?;
     push_deltas(alloc, &mut line, found.deltas.get())?;
     push_entries(alloc, &mut line, found.entries.get())?;
@@ -73,9 +88,10 @@ fn format_of(text: &str) -> Result<Format, Stop> {
 }
 
 /// `record FORMAT BYTES`: what the record of these bytes says.
-pub fn read(alloc: Global, format: &str, bytes: &str) -> Result<String, Stop> {
+pub fn read(alloc: Global, format: &str, bytes: &str) -> Answer {
+    let format = format_of(format)?;
     let bytes = bytes_of(alloc, bytes)?;
-    match decode(alloc, format_of(format)?, bytes.as_slice()) {
+    match decode(alloc, format, bytes.as_slice()) {
         Ok(found) => record_line(alloc, &found),
         Err(TextFault::Bad) => word(alloc, "bad"),
         Err(TextFault::Memory) => Err(Stop::Memory),
@@ -83,9 +99,10 @@ pub fn read(alloc: Global, format: &str, bytes: &str) -> Result<String, Stop> {
 }
 
 /// `rewritten FORMAT BYTES`: the bytes in format 2 of the record that these bytes are.
-pub fn rewritten(alloc: Global, format: &str, bytes: &str) -> Result<String, Stop> {
+pub fn rewritten(alloc: Global, format: &str, bytes: &str) -> Answer {
+    let format = format_of(format)?;
     let bytes = bytes_of(alloc, bytes)?;
-    let found = decode(alloc, format_of(format)?, bytes.as_slice())?;
+    let found = decode(alloc, format, bytes.as_slice())?;
     let again = encode(alloc, &found)?;
     Ok(hex::encode(alloc, again.get())?)
 }

@@ -33,20 +33,24 @@ fn node_of(alloc: Global, text: &str) -> Result<Node, Stop> {
     })
 }
 
-/// A root of directories, with this at the name of the database. For `nothing` nothing stands there, and for `fail` the
-/// first call of the disk fails.
-pub fn disk_of(alloc: Global, text: &str) -> Result<MemoryTree, Stop> {
+fn database_of(alloc: Global, text: &str) -> Result<(Path, Node), Stop> {
+    let path = Path::read(alloc, "/var/lib/conarydb/db")?;
+    Ok((path, node_of(alloc, text)?))
+}
+
+fn nodes_of(alloc: Global, text: &str) -> Result<Nodes, Stop> {
     let mut nodes = dirs(alloc)?;
-    let mut failing = Vec::new(alloc);
-    match text {
-        "nothing" => (),
-        "fail" => failing.push(1)?,
-        _ => nodes.push((
-            Path::read(alloc, "/var/lib/conarydb/db")?,
-            node_of(alloc, text)?,
-        ))?,
+    if !matches!(text, "nothing" | "fail") {
+        nodes.push(database_of(alloc, text)?)?;
     }
-    match MemoryTree::new(alloc, Nodes::new(nodes), Fails::new(failing)) {
+    Ok(Nodes::new(nodes))
+}
+
+/// A root of directories, with this at the name of the database. For `nothing` and `fail` nothing stands there, and for `fail`
+/// the first call of the disk fails.
+pub fn disk_of(alloc: Global, text: &str) -> Result<MemoryTree, Stop> {
+    let fails = Fails::new(vec![in alloc; u64::from(text == "fail")]?);
+    match MemoryTree::new(alloc, nodes_of(alloc, text)?, fails) {
         Ok(tree) => Ok(tree),
         Err(TreeFault::NotATree) => Err(Stop::Unreadable),
         Err(TreeFault::Memory) => Err(Stop::Memory),
