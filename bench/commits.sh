@@ -8,23 +8,20 @@ top=$(CDPATH='' cd "$(dirname "$0")/.." && pwd)
 work=$(mktemp -d)
 trap 'rm -rf "$work"' EXIT
 mkdir -p "$work/crates/commits/src"
-for crate in cny_base cny_lanes cny_stream cny_flavor cny_version cny_dep file_stream trove_id trove_items trove_stream trove_rel change_rel change_set tree_disk tree_nodes tree_memory content_store journal_log tree_journal repo_index repo_state repository repo_commit; do
+for crate in cny_base cny_lanes cny_stream cny_flavor cny_version cny_dep file_stream trove_id trove_items trove_stream trove_rel change_rel change_set tree_disk tree_nodes tree_memory disk_words content_store journal_log tree_journal repo_index repo_state repository repo_commit; do
     cp -r "$top/crates/$crate" "$work/crates/"
     grep "^$crate:" "$top/crates.txt" >>"$work/crates.txt"
 done
-echo 'commits may_abort=20: change_set cny_base repo_commit repo_index repository tree_disk tree_memory hex anyhow' >>"$work/crates.txt"
-# a disk that tells nothing, so that nothing has to be proved of what stands
-cp "$top/crates/commit_vectors/src/quiet.rt" "$work/crates/commits/src/quiet.rt"
+echo 'commits may_abort=20: change_set cny_base repo_commit repo_index repository tree_disk tree_memory hex disk_words anyhow' >>"$work/crates.txt"
 cat >"$work/crates/commits/src/main.rt" <<'PROGRAM'
 //! Commits the change sets on standard input, a line each, to a tree in memory, and prints what every 20 of them cost.
 #![tactic(auto)]
-mod quiet;
 
 ghost use Rattle.change_set.specs.ChangeSet.{HasContents};
 
-use crate::quiet::Quiet;
 use change_set::{ChangeSet, decode};
 use cny_base::{Fails, Mode, Node, Path};
+use disk_words::Quiet;
 use repo_commit::commit;
 use repository::load;
 use std::alloc::Global;
@@ -40,7 +37,7 @@ fn new_disk<R: Abort + Alloc<A = Global>>(rt: &R) -> Quiet {
     let nodes = vec![in rt.alloc(); root].expect(rt, "memory");
     let fails = Fails::new(Vec::new(rt.alloc()));
     let tree = MemoryTree::new(rt.alloc(), Nodes::new(nodes), fails).expect(rt, "a tree");
-    Quiet { tree, faults: 0, calls: 0 }
+    Quiet::new(tree)
 }
 
 // The change set of a line.

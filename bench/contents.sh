@@ -9,23 +9,20 @@ top=$(CDPATH='' cd "$(dirname "$0")/.." && pwd)
 work=$(mktemp -d)
 trap 'rm -rf "$work"' EXIT
 mkdir -p "$work/crates/contents/src"
-for crate in cny_base cny_lanes tree_disk tree_nodes tree_memory content_store; do
+for crate in cny_base cny_lanes tree_disk tree_nodes tree_memory disk_words content_store; do
     cp -r "$top/crates/$crate" "$work/crates/"
 done
 grep -E '^(cny_base|cny_lanes|tree_disk|tree_nodes|tree_memory|content_store):' "$top/crates.txt" >"$work/crates.txt"
-echo 'contents may_abort=20: cny_base cny_lanes tree_disk tree_memory content_store anyhow' >>"$work/crates.txt"
-# a disk that tells nothing, so that nothing has to be proved of what stands
-cp "$top/crates/disk_vectors/src/quiet.rt" "$work/crates/contents/src/quiet.rt"
+echo 'contents may_abort=20: cny_base cny_lanes tree_disk tree_memory content_store disk_words anyhow' >>"$work/crates.txt"
 cat >"$work/crates/contents/src/main.rt" <<'PROGRAM'
 //! Puts contents and gets them back, or compares two equal ones: `put COUNT SIZE`, `again COUNT SIZE`, `kernels COUNT SIZE`
 //! or `loop COUNT SIZE`.
 #![tactic(auto)]
-mod quiet;
 
-use crate::quiet::Quiet;
 use cny_base::{Fails, Mode, Node, Path};
 use cny_lanes::first_difference;
 use content_store::{Sha1Namer, get, put};
+use disk_words::Quiet;
 use std::alloc::Global;
 use std::env;
 use std::process::Abort;
@@ -42,7 +39,7 @@ fn start<R: Abort + Alloc<A = Global>>(rt: &R) -> Quiet {
     nodes.push((path(rt, "/"), Node::Dir { mode })).expect(rt, "memory");
     nodes.push((path(rt, "/c"), Node::Dir { mode })).expect(rt, "memory");
     let tree = MemoryTree::new(alloc, Nodes::new(nodes), Fails::new(Vec::new(alloc))).expect(rt, "a tree");
-    Quiet { tree, faults: 0 }
+    Quiet::new(tree)
 }
 
 // The bytes of the content of a number.

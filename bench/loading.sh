@@ -8,20 +8,17 @@ top=$(CDPATH='' cd "$(dirname "$0")/.." && pwd)
 work=$(mktemp -d)
 trap 'rm -rf "$work"' EXIT
 mkdir -p "$work/crates/loads/src"
-for crate in cny_base cny_lanes cny_stream cny_flavor cny_version cny_dep file_stream trove_id trove_items trove_stream tree_disk tree_nodes tree_memory content_store journal_log repo_index repo_state repository; do
+for crate in cny_base cny_lanes cny_stream cny_flavor cny_version cny_dep file_stream trove_id trove_items trove_stream tree_disk tree_nodes tree_memory disk_words content_store journal_log repo_index repo_state repository; do
     cp -r "$top/crates/$crate" "$work/crates/"
     grep "^$crate:" "$top/crates.txt" >>"$work/crates.txt"
 done
-echo 'loads may_abort=20: cny_base file_stream trove_id trove_items trove_stream tree_disk tree_memory repo_index repo_state repository sha1 anyhow' >>"$work/crates.txt"
-# a disk that tells nothing, so that nothing has to be proved of what stands
-cp "$top/crates/repository_vectors/src/quiet.rt" "$work/crates/loads/src/quiet.rt"
+echo 'loads may_abort=20: cny_base file_stream trove_id trove_items trove_stream tree_disk tree_memory repo_index repo_state repository sha1 disk_words anyhow' >>"$work/crates.txt"
 cat >"$work/crates/loads/src/main.rt" <<'PROGRAM'
 //! Loads repositories from trees in memory, and prints how long it took.
 #![tactic(auto)]
-mod quiet;
 
-use crate::quiet::Quiet;
 use cny_base::{Bytes, Fails, Mode, Node, Path};
+use disk_words::Quiet;
 use file_stream::{FileRec, Flags, Owner};
 use repo_index::Catalogue;
 use repo_state::{commit_path, content_path, encode_commit};
@@ -88,7 +85,7 @@ fn new_disk<R: Abort + Alloc<A = Global>>(rt: &R) -> Quiet {
     let nodes = vec![in rt.alloc(); root].expect(rt, "memory");
     let fails = Fails::new(Vec::new(rt.alloc()));
     let tree = MemoryTree::new(rt.alloc(), Nodes::new(nodes), fails).expect(rt, "a tree");
-    Quiet { tree, faults: 0, calls: 0 }
+    Quiet::new(tree)
 }
 
 // Writes the file of the commit behind so many others.

@@ -9,22 +9,19 @@ top=$(CDPATH='' cd "$(dirname "$0")/.." && pwd)
 work=$(mktemp -d)
 trap 'rm -rf "$work"' EXIT
 mkdir -p "$work/crates/plans/src"
-crates='cny_base cny_lanes cny_stream cny_flavor cny_version cny_dep file_stream trove_id trove_items trove_stream tree_disk tree_nodes tree_memory tree_scan conflict_plan'
+crates='cny_base cny_lanes cny_stream cny_flavor cny_version cny_dep file_stream trove_id trove_items trove_stream tree_disk tree_nodes tree_memory disk_words tree_scan conflict_plan'
 for crate in $crates; do
     cp -r "$top/crates/$crate" "$work/crates/"
     grep -E "^$crate:" "$top/crates.txt" >>"$work/crates.txt"
 done
-echo 'plans may_abort=20: cny_base file_stream sha1 trove_id trove_stream tree_disk tree_memory conflict_plan anyhow' >>"$work/crates.txt"
-# a disk that tells nothing, so that nothing has to be proved of what stands, and that counts its calls
-cp "$top/crates/plan_vectors/src/quiet.rt" "$work/crates/plans/src/quiet.rt"
+echo 'plans may_abort=20: cny_base file_stream sha1 trove_id trove_stream tree_disk tree_memory conflict_plan disk_words anyhow' >>"$work/crates.txt"
 cat >"$work/crates/plans/src/main.rt" <<'PROGRAM'
 //! Plans the update of every second of COUNT troves, TIMES times.
 #![tactic(auto)]
-mod quiet;
 
-use crate::quiet::Quiet;
 use cny_base::{Bytes, Fails, Mode, Node, Options, Path};
 use conflict_plan::plan;
+use disk_words::Quiet;
 use file_stream::{FileRec, Flags, Owner};
 use sha1::Sha1;
 use std::alloc::Global;

@@ -15,10 +15,8 @@ for crate in $(sed -n 's/^\([a-z_0-9]*\):.*/\1/p' "$work/crates.txt"); do
         [ ! -d "$top/crates/$crate/$part" ] || cp -r "$top/crates/$crate/$part" "$work/crates/$crate/"
     done
 done
-echo 'stacks may_abort=1: cny_base local_db rollback_stack state_words system_state tree_disk tree_memory anyhow' >>"$work/crates.txt"
-for part in databases quiet; do
-    cp "$top/crates/stack_vectors/src/$part.rt" "$work/crates/stacks/src/"
-done
+echo 'stacks may_abort=1: cny_base disk_words local_db rollback_stack state_words system_state tree_disk tree_memory anyhow' >>"$work/crates.txt"
+cp "$top/crates/stack_vectors/src/databases.rt" "$work/crates/stacks/src/"
 cp -r "$top/crates/stack_vectors/proofs" "$work/crates/stacks/"
 # (proofs name their crate)
 find "$work/crates/stacks/proofs" -name '*.antt' -exec sed -i 's/Rattle\.stack_vectors\./Rattle.stacks./g' {} +
@@ -26,10 +24,9 @@ cat >"$work/crates/stacks/src/main.rt" <<'PROGRAM'
 //! Reads a root from a line, and prints how long it took to tell what all its jobs changed.
 #![tactic(auto)]
 mod databases;
-mod quiet;
 
 use crate::databases::database_of;
-use crate::quiet::Quiet;
+use disk_words::Quiet;
 use rollback_stack::all;
 use state_words::tree_of;
 use std::io::{self, BufRead, BufReader};
@@ -39,7 +36,7 @@ use std::time::Instant;
 fn main(rt: HostRuntime) -> io::Result<()> {
     for line in BufReader::new(rt.alloc(), rt.reader())?.lines(rt.alloc()) {
         let tree = tree_of(rt.alloc(), line?.as_str(), 0).expect(&rt, "a tree");
-        let mut disk = Quiet { tree, faults: 0, calls: 0 };
+        let mut disk = Quiet::new(tree);
         let begun = Instant::now(&rt)?;
         let db = database_of(rt.alloc(), &mut disk).expect(&rt, "a database");
         let loaded = begun.elapsed(&rt)?;

@@ -8,7 +8,7 @@ top=$(CDPATH='' cd "$(dirname "$0")/.." && pwd)
 work=$(mktemp -d)
 trap 'rm -rf "$work"' EXIT
 mkdir -p "$work/crates/write_sets/src"
-for crate in cny_base cny_stream tree_disk tree_nodes tree_memory journal_log tree_journal; do
+for crate in cny_base cny_stream tree_disk tree_nodes tree_memory disk_words journal_log tree_journal; do
     cp -r "$top/crates/$crate" "$work/crates/"
 done
 cat >"$work/crates.txt" <<'LINES'
@@ -17,12 +17,11 @@ cny_stream: cny_base
 tree_disk: cny_base
 tree_nodes: cny_base tree_disk
 tree_memory: cny_base tree_disk tree_nodes
+disk_words: cny_base hex tree_disk tree_memory
 journal_log: cny_base cny_stream tree_disk itoa sha1
 tree_journal: cny_base tree_disk journal_log sha1
-write_sets may_abort=40: cny_base tree_disk tree_nodes tree_memory tree_journal sha1 anyhow
+write_sets may_abort=40: cny_base disk_words tree_disk tree_nodes tree_memory tree_journal sha1 anyhow
 LINES
-# the disk of the tests, to which any write set may be applied without a proof that it can be put
-sed '1s|^// |//! |' "$top/crates/journal_tests/src/tests/disk.rt" >"$work/crates/write_sets/src/disk.rt"
 # a disk that holds each node once
 cat >"$work/crates/write_sets/src/nodes.rt" <<'PROGRAM'
 //! A disk in memory that keeps its nodes, and neither what it began with nor what was changed since. It tells contracts nothing
@@ -124,12 +123,11 @@ cat >"$work/crates/write_sets/src/main.rt" <<'PROGRAM'
 //! Applies write sets of so many directories of 100 files each, and recovers from each one cut off in the middle; with 0 it
 //! recovers a write set of one file of 16 MB.
 #![tactic(auto)]
-mod disk;
 mod nodes;
 
-use crate::disk::QuietDisk;
 use crate::nodes::NodeDisk;
 use cny_base::{Bytes, Fails, Mode, Node, Path};
+use disk_words::Quiet;
 use sha1::Sha1;
 use std::alloc::Global;
 use std::env;
@@ -179,12 +177,12 @@ fn puts<R: Abort + Alloc<A = Global>>(rt: &R, dirs: u32) -> Puts {
     Puts::new(items).expect(rt, "a write set")
 }
 
-fn applied<R: Abort + Alloc<A = Global>>(rt: &R, base: &Path, puts: &Puts, stop: Option<u32>) -> QuietDisk {
+fn applied<R: Abort + Alloc<A = Global>>(rt: &R, base: &Path, puts: &Puts, stop: Option<u32>) -> Quiet {
     let mut tree = start(rt);
     if let Some(calls) = stop {
         tree.stop_after(calls);
     }
-    let mut disk = QuietDisk::new(tree);
+    let mut disk = Quiet::new(tree);
     if base.text().len() <= 1011 {
         let _ = apply(rt.alloc(), &mut disk, base, puts);
     }
@@ -192,15 +190,15 @@ fn applied<R: Abort + Alloc<A = Global>>(rt: &R, base: &Path, puts: &Puts, stop:
 }
 
 // What a crash leaves of a tree whose write set was cut off in the middle of making its targets.
-fn cut_off<R: Abort + Alloc<A = Global>>(rt: &R, base: &Path, puts: &Puts, dirs: u32) -> QuietDisk {
+fn cut_off<R: Abort + Alloc<A = Global>>(rt: &R, base: &Path, puts: &Puts, dirs: u32) -> Quiet {
     let cut = applied(rt, base, puts, Some(dirs.saturating_mul(CALLS)));
-    QuietDisk::new(cut.inner.crash(rt.alloc(), 0).expect(rt, "memory"))
+    Quiet::new(cut.tree.crash(rt.alloc(), 0).expect(rt, "memory"))
 }
 
 // Whether the last file of a directory stands.
-fn stands<R: Abort + Alloc<A = Global>>(rt: &R, disk: &QuietDisk, d: u32) -> bool {
+fn stands<R: Abort + Alloc<A = Global>>(rt: &R, disk: &Quiet, d: u32) -> bool {
     let name = format!(in rt.alloc(); "/d{:03}/f000099", d).expect(rt, "memory");
-    disk.inner.node(&path(rt, name.as_str())).is_some()
+    disk.tree.node(&path(rt, name.as_str())).is_some()
 }
 
 fn large_bytes<R: Abort + Alloc<A = Global>>(rt: &R) -> Vec<u8> {
@@ -251,7 +249,7 @@ fn is_put(disk: &NodeDisk) -> bool {
 }
 
 // Recovers from a write set that was cut off, and answers whether that was in the middle and all stands then.
-fn is_recovered<R: Abort + Alloc<A = Global>>(rt: &R, base: &Path, disk: &mut QuietDisk, dirs: u32) -> bool {
+fn is_recovered<R: Abort + Alloc<A = Global>>(rt: &R, base: &Path, disk: &mut Quiet, dirs: u32) -> bool {
     let last = dirs.saturating_sub(1);
     let is_cut = stands(rt, disk, dirs / 4) && !stands(rt, disk, last - last / 4);
     let was = recover(rt.alloc(), disk, base).ok();

@@ -25,7 +25,7 @@ import tempfile
 import time
 
 sys.path.insert(0, str(pathlib.Path(__file__).resolve().parent))
-from commit_vectors import set_of
+from commit_cases import set_of
 from repository_vectors import component
 
 FILES = 6

@@ -5,11 +5,12 @@ Usage: tools/repository_vectors.py stdin >crates/repository_vectors/stdin
        tools/repository_vectors.py stdout >crates/repository_vectors/stdout
 
 A line of the calls is the name of a call and its arguments, with a tab before each; the first argument is the tree of a
-repository. The files of commits and contents are read by the rules of docs/FORMATS.md, with tools/stream_model.py, and relative
+repository. The lines that commit are those of tools/commit_cases.py. The files of commits and contents are read by the rules of docs/FORMATS.md, with tools/stream_model.py, and relative
 troves are made with tools/rel_vectors.py; nothing is shared with the program that is tested.
 """
 import sys
 from hashlib import sha1
+from itertools import chain
 
 # So that a run leaves nothing behind in tools/.
 sys.dont_write_bytecode = True
@@ -337,12 +338,20 @@ def answer(call, tree, words):
         return [far + b"damaged " + damage.args[0]]
 
 
+def lines(asked):
+    """The fields of each line of the calls that read, or of the answers."""
+    for call, tree, words in calls():
+        yield [call, nodes_text(tree)] + words if asked == "stdin" else answer(call, tree, words)
+
+
 def main():
     asked = sys.argv[1:]
     if asked not in (["stdin"], ["stdout"]):
         sys.exit(__doc__)
-    for call, tree, words in calls():
-        fields = [call, nodes_text(tree)] + words if asked == ["stdin"] else answer(call, tree, words)
+    # It takes the rules of a repository from this file.
+    import commit_cases
+
+    for fields in chain(lines(asked[0]), commit_cases.lines(asked[0])):
         sys.stdout.buffer.write(b"\t".join(fields) + b"\n")
 
 

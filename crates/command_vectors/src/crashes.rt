@@ -31,82 +31,131 @@ pub enum Failing {
 }
 
 /// What came of a call over a disk that failed, and of the calls after it.
-#[derive(Drop)]
 pub struct Outcome {
     pub number: u32,
     pub text: String,
 }
 
-// Whether the recovery of what a crash leaves found a commit flag that was set, and what is then stored.
-fn recovered_text(alloc: Global, side: Side, tree: &MemoryTree, pick: u64) -> Result<String, Stop> {
-    let mut image = tree.crash(alloc, pick)?;
-    let base = Path::read(alloc, side.base())?;
-    let found = match recover(alloc, &mut image, &base) {
+// Written by hand, so that to let a value go is a single call wherever a function ends early.
+impl Drop for Outcome {
+    fn drop(self) {
+        let Outcome {
+            number: _number,
+            text: _text,
+        } = self;
+    }
+}
+
+// Recovers a disk: whether a commit flag was found that was set.
+fn found_by(alloc: Global, tree: &mut MemoryTree, base: &Path) -> &'static str {
+    match recover(alloc, tree, base) {
         Ok(true) => "committed",
         Ok(false) => "at rest",
         Err(_) => "stuck",
-    };
+    }
+}
+
+// Whether the recovery of what a crash leaves found a commit flag that was set, and what is then stored.
+fn recovered_text(alloc: Global, side: Side, tree: &MemoryTree, pick: u64) -> Result<String, Stop> {
+    let base = Path::read(alloc, side.base())?;
+    let mut image = tree.crash(alloc, pick)?;
+    let found = found_by(alloc, &mut image, &base);
     let stored = stored_text(alloc, &image, side)?;
     Ok(format!(in alloc; "; {found}{stored}")?)
 }
 
 // The same call again over what is left, and what stands then.
 fn again_text(alloc: Global, called: Called, disks: &mut Disks) -> Result<String, Stop> {
-    let answer = call(alloc, called.words, called.streams, disks)?;
+    let text = call(alloc, called.words, called.streams, disks)?.text();
     let kept = disks.kept_text(alloc)?;
-    let text = answer.text.as_str();
-    let kept = kept.as_str();
     Ok(format!(in alloc; "; again {text}{kept}")?)
 }
 
-// The call is stopped after so many calls of the disk, and two copies of what the crash leaves are recovered, the second one
-// by the call itself.
-fn stopped(alloc: Global, called: Called, pick: u64, calls: u32) -> Result<Answer, Stop> {
-    let side = called.side;
-    let mut disks = called.disks.copy(alloc, None)?;
-    disks.side_mut(side).stop_after(calls);
-    let mut answer = call(alloc, called.words, called.streams, &mut disks)?;
-    let found = recovered_text(alloc, side, disks.side(side), pick)?;
-    answer.text.push_str(found.as_str())?;
-    let again = again_text(alloc, called, &mut disks.crash(alloc, side, pick)?)?;
-    answer.text.push_str(again.as_str())?;
+// The same over what a crash leaves.
+fn again_after(alloc: Global, called: Called, disks: &Disks, pick: u64) -> Result<String, Stop> {
+    let mut left = disks.crash(alloc, called.side, pick)?;
+    again_text(alloc, called, &mut left)
+}
+
+// The call is made, and two copies of what the crash leaves are recovered, the second one by the call itself.
+fn crashed(alloc: Global, called: Called, disks: &mut Disks, pick: u64) -> Result<Answer, Stop> {
+    let mut answer = call(alloc, called.words, called.streams, disks)?;
+    let found = recovered_text(alloc, called.side, disks.side(called.side), pick)?;
+    let again = again_after(alloc, called, disks, pick)?;
+    answer.push(found.as_str())?;
+    answer.push(again.as_str())?;
     Ok(answer)
 }
 
-// One call of the disk fails, and the call is made again over what that leaves.
-fn failed(alloc: Global, called: Called, number: u64) -> Result<Answer, Stop> {
-    let side = called.side;
-    let mut disks = called.disks.copy(alloc, Some((side, number)))?;
-    let mut answer = call(alloc, called.words, called.streams, &mut disks)?;
-    answer
-        .text
-        .push_str(nodes_text(alloc, disks.side(side))?.as_str())?;
+// The same, stopped after so many calls of the disk.
+fn stopped(alloc: Global, called: Called, pick: u64, calls: u32) -> Result<Answer, Stop> {
+    let mut disks = called.disks.copy(alloc, None)?;
+    disks.side_mut(called.side).stop_after(calls);
+    crashed(alloc, called, &mut disks, pick)
+}
+
+// What stands on the disk of a side, and what its recovery finds.
+fn left_text(alloc: Global, disks: &Disks, side: Side) -> Result<String, Stop> {
+    let mut line = nodes_text(alloc, disks.side(side))?;
     let found = recovered_text(alloc, side, disks.side(side), 0)?;
-    answer.text.push_str(found.as_str())?;
-    let again = again_text(alloc, called, &mut disks)?;
-    answer.text.push_str(again.as_str())?;
+    line.push_str(found.as_str())?;
+    Ok(line)
+}
+
+// The call is made, and made again over what that leaves.
+fn made_twice(alloc: Global, called: Called, disks: &mut Disks) -> Result<Answer, Stop> {
+    let mut answer = call(alloc, called.words, called.streams, disks)?;
+    let left = left_text(alloc, disks, called.side)?;
+    let again = again_text(alloc, called, disks)?;
+    answer.push(left.as_str())?;
+    answer.push(again.as_str())?;
     Ok(answer)
+}
+
+// The same, where one call of the disk fails.
+fn failed(alloc: Global, called: Called, number: u64) -> Result<Answer, Stop> {
+    let mut disks = called.disks.copy(alloc, Some((called.side, number)))?;
+    made_twice(alloc, called, &mut disks)
+}
+
+fn answer_at(alloc: Global, called: Called, failing: Failing, number: u32) -> Result<Answer, Stop> {
+    match failing {
+        Failing::Stops { pick } => stopped(alloc, called, pick, number),
+        Failing::Once => failed(alloc, called, u64::from(number) + 1),
+    }
 }
 
 /// Calls over a disk that fails after no call, after one and so on, until the call comes to its end: each number from which on
 /// something else comes of it than of the number before.
 pub fn outcomes(alloc: Global, called: Called, failing: Failing) -> Result<Vec<Outcome>, Stop> {
-    let mut outcomes: Vec<Outcome> = Vec::new(alloc);
+    let mut outcomes = Vec::new(alloc);
+    push_outcomes(alloc, &mut outcomes, called, failing)?;
+    Ok(outcomes)
+}
+
+fn push_outcomes(
+    alloc: Global,
+    outcomes: &mut Vec<Outcome>,
+    called: Called,
+    failing: Failing,
+) -> Result<(), Stop> {
     for number in 0..MANY {
-        let answer = match failing {
-            Failing::Stops { pick } => stopped(alloc, called, pick, number)?,
-            Failing::Once => failed(alloc, called, u64::from(number) + 1)?,
-        };
+        let answer = answer_at(alloc, called, failing, number)?;
         let is_last = answer.status != called.side.fault();
-        let text = answer.text;
-        if is_new(outcomes.as_slice(), text.as_str()) {
-            outcomes.push(Outcome { number, text })?;
-        }
+        push_new(outcomes, number, answer.text())?;
         if is_last {
-            return Ok(outcomes);
+            return Ok(());
         }
     }
     Err(Stop::Unreadable)
+}
+
+// Adds an outcome that isn't the last one.
+fn push_new(outcomes: &mut Vec<Outcome>, number: u32, text: String) -> Result<(), Stop> {
+    if is_new(outcomes.as_slice(), text.as_str()) {
+        outcomes.push(Outcome { number, text })?;
+    }
+    Ok(())
 }
 
 fn is_new(outcomes: &[Outcome], text: &str) -> bool {
@@ -126,11 +175,17 @@ pub fn outcome_texts(alloc: Global, outcomes: &[Outcome]) -> Result<String, Stop
     Ok(line)
 }
 
+fn push_number(alloc: Global, line: &mut String, number: u32) -> Result<(), Stop> {
+    let text = format!(in alloc; " {number}")?;
+    line.push_str(text.as_str())?;
+    Ok(())
+}
+
 /// The numbers from which on something else came of the calls.
 pub fn outcome_numbers(alloc: Global, outcomes: &[Outcome]) -> Result<String, Stop> {
     let mut line = String::from_str(alloc, "from")?;
     for outcome in outcomes {
-        line.push_str(format!(in alloc; " {}", outcome.number)?.as_str())?;
+        push_number(alloc, &mut line, outcome.number)?;
     }
     Ok(line)
 }
@@ -147,9 +202,8 @@ pub fn cut_off(
     pick: u64,
 ) -> Result<String, Stop> {
     disks.side_mut(side).stop_after(calls);
-    let mut answer = call(alloc, words, streams, disks)?;
+    let text = call(alloc, words, streams, disks)?.text();
     let found = recovered_text(alloc, side, disks.side(side), pick)?;
-    answer.text.push_str(found.as_str())?;
     *disks = disks.crash(alloc, side, pick)?;
-    Ok(answer.text)
+    Ok(format!(in alloc; "{text}{found}")?)
 }

@@ -76,15 +76,20 @@ fn failing_at(side: Side, failing: Option<(Side, u64)>) -> u64 {
     }
 }
 
+// `/`, `/var` and `/var/lib`.
+fn new_root(alloc: Global, failing: u64) -> Result<MemoryTree, Stop> {
+    let mode = Mode::new(0o755).ok_or(Stop::Unreadable)?;
+    let mut root = new_tree(alloc, failing)?;
+    edit(alloc, &mut root, "/var", Some(Node::Dir { mode }))?;
+    edit(alloc, &mut root, "/var/lib", Some(Node::Dir { mode }))?;
+    Ok(root)
+}
+
 impl Disks {
     /// A root of `/`, `/var` and `/var/lib`, and a repository of `/`, all of mode 0755, of which the calls of these numbers
     /// fail where they aren't 0.
     pub fn new(alloc: Global, root_fails: u64, repo_fails: u64) -> Result<Self, Stop> {
-        let mut root = new_tree(alloc, root_fails)?;
-        for path in ["/var", "/var/lib"] {
-            let mode = Mode::new(0o755).ok_or(Stop::Unreadable)?;
-            edit(alloc, &mut root, path, Some(Node::Dir { mode }))?;
-        }
+        let root = new_root(alloc, root_fails)?;
         let repo = new_tree(alloc, repo_fails)?;
         Ok(Disks { root, repo })
     }

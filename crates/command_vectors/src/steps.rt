@@ -9,7 +9,6 @@ use cny_base::{Bytes, Mode, Node, Target};
 use std::alloc::Global;
 
 /// What the steps have set up.
-#[derive(Drop)]
 pub struct State {
     disks: Disks,
     streams: Streams,
@@ -17,12 +16,24 @@ pub struct State {
     outcomes: Vec<Outcome>,
 }
 
+// Written by hand, so that to let a value go is a single call wherever a function ends early.
+impl Drop for State {
+    fn drop(self) {
+        let State {
+            disks: _disks,
+            streams: _streams,
+            outcomes: _outcomes,
+        } = self;
+    }
+}
+
 impl State {
     /// Both disks as they are at first, of which the calls of these numbers fail where they aren't 0; no input, and no other
     /// call that fails.
     pub fn new(alloc: Global, root_fails: u64, repo_fails: u64) -> Result<Self, Stop> {
+        let disks = Disks::new(alloc, root_fails, repo_fails)?;
         Ok(State {
-            disks: Disks::new(alloc, root_fails, repo_fails)?,
+            disks,
             streams: Streams::new(alloc),
             outcomes: Vec::new(alloc),
         })
@@ -33,24 +44,30 @@ fn done(alloc: Global) -> Result<String, Stop> {
     Ok(String::from_str(alloc, "ok")?)
 }
 
+fn dir_of(words: &[Vec<u8>]) -> Result<Option<Node>, Stop> {
+    let mode = mode_at(words, 1)?;
+    Ok(Some(Node::Dir { mode }))
+}
+
+fn file_of(alloc: Global, words: &[Vec<u8>]) -> Result<Option<Node>, Stop> {
+    let mode = mode_at(words, 1)?;
+    let bytes = Bytes::new(alloc, bytes_at(words, 2)?)?;
+    Ok(Some(Node::File { mode, bytes }))
+}
+
+fn link_of(alloc: Global, words: &[Vec<u8>]) -> Result<Option<Node>, Stop> {
+    let target = Target::read(alloc, text_at(words, 1)?)?;
+    Ok(Some(Node::Link { target }))
+}
+
 // `dir PATH MODE`, `file PATH MODE BYTES`, `link PATH TARGET` or `nothing PATH`: what stands at a path.
 fn node_of(alloc: Global, kind: &str, words: &[Vec<u8>]) -> Result<Option<Node>, Stop> {
-    Ok(match kind {
-        "dir" => {
-            let mode = mode_at(words, 1)?;
-            Some(Node::Dir { mode })
-        }
-        "file" => {
-            let mode = mode_at(words, 1)?;
-            let bytes = Bytes::new(alloc, bytes_at(words, 2)?)?;
-            Some(Node::File { mode, bytes })
-        }
-        "link" => {
-            let target = Target::read(alloc, text_at(words, 1)?)?;
-            Some(Node::Link { target })
-        }
-        _ => None,
-    })
+    match kind {
+        "dir" => dir_of(words),
+        "file" => file_of(alloc, words),
+        "link" => link_of(alloc, words),
+        _ => Ok(None),
+    }
 }
 
 // `root KIND PATH ...` or `repo KIND PATH ...`: puts a node.
@@ -81,10 +98,9 @@ fn set_sinks(alloc: Global, streams: &mut Streams, words: &[Vec<u8>]) -> Result<
 // `run WORD...`: calls the program.
 fn run_call(alloc: Global, state: &mut State, words: &[Vec<u8>]) -> Result<String, Stop> {
     let words = texts_from(alloc, words, 0)?;
-    let mut answer = call(alloc, words.as_slice(), &state.streams, &mut state.disks)?;
+    let text = call(alloc, words.as_slice(), &state.streams, &mut state.disks)?.text();
     let kept = state.disks.kept_text(alloc)?;
-    answer.text.push_str(kept.as_str())?;
-    Ok(answer.text)
+    Ok(format!(in alloc; "{text}{kept}")?)
 }
 
 // `cut DISK CALLS PICK WORD...`: calls the program over a disk that stops after so many calls, and takes what a crash leaves.
@@ -138,7 +154,8 @@ fn faults(alloc: Global, state: &mut State, words: &[Vec<u8>]) -> Result<String,
 
 // `disks CALL CALL`: sets all up anew, with the call of the root that fails and that of the repository.
 fn reset(alloc: Global, state: &mut State, words: &[Vec<u8>]) -> Result<String, Stop> {
-    *state = State::new(alloc, number_at(words, 0)?, number_at(words, 1)?)?;
+    let (root_fails, repo_fails) = (number_at(words, 0)?, number_at(words, 1)?);
+    *state = State::new(alloc, root_fails, repo_fails)?;
     done(alloc)
 }
 

@@ -56,59 +56,100 @@ fn push_children(
     Ok(())
 }
 
+fn path_at(paths: &[Path], place: usize) -> Result<Option<Path>, Stop> {
+    match paths.get(place) {
+        Some(path) => Ok(Some(path.copy()?)),
+        None => Ok(None),
+    }
+}
+
+// Appends the paths below those that are there, then the paths below these, and so on.
+fn push_below(alloc: Global, tree: &mut MemoryTree, paths: &mut Vec<Path>) -> Result<(), Stop> {
+    for place in 0..MANY {
+        match path_at(paths, place)? {
+            Some(path) => push_children(alloc, tree, paths, &path)?,
+            None => return Ok(()),
+        }
+    }
+    Err(Stop::Unreadable)
+}
+
+fn paths_in(alloc: Global, tree: &mut MemoryTree) -> Result<Vec<Path>, Stop> {
+    let mut paths = vec![in alloc; Path::read(alloc, "/")?]?;
+    push_below(alloc, tree, &mut paths)?;
+    Ok(paths)
+}
+
 // All paths at which something stands: `/`, those directly below it, those directly below these, and so on.
 fn paths_of(alloc: Global, tree: &MemoryTree) -> Result<Vec<Path>, Stop> {
     let mut copy = tree.crash(alloc, 0)?;
-    let mut paths = vec![in alloc; Path::read(alloc, "/")?]?;
-    for place in 0..MANY {
-        let Some(path) = paths.get(place) else {
-            return Ok(paths);
-        };
-        let path = path.copy()?;
-        push_children(alloc, &mut copy, &mut paths, &path)?;
+    paths_in(alloc, &mut copy)
+}
+
+fn copy_node(
+    alloc: Global,
+    from: &MemoryTree,
+    to: &mut MemoryTree,
+    path: &Path,
+) -> Result<(), Stop> {
+    if let Some(node) = from.node(path) {
+        let copy = node.copy()?;
+        to.edit(alloc, path, Some(copy))?;
     }
-    Err(Stop::Unreadable)
+    Ok(())
 }
 
 /// A tree with the same nodes, all synced. The call of this number fails.
 pub fn copy_of(alloc: Global, tree: &MemoryTree, failing: u64) -> Result<MemoryTree, Stop> {
     let mut copy = new_tree(alloc, failing)?;
-    for path in paths_of(alloc, tree)? {
-        if let Some(node) = tree.node(&path) {
-            copy.edit(alloc, &path, Some(node.copy()?))?;
-        }
+    let paths = paths_of(alloc, tree)?;
+    for path in &paths {
+        copy_node(alloc, tree, &mut copy, path)?;
     }
     Ok(copy)
 }
 
+fn push_mode(line: &mut String, kind: &str, mode: Mode) -> Result<(), AllocError> {
+    line.push_str(kind)?;
+    push_word(line, &octal(mode))
+}
+
+fn push_file(line: &mut String, mode: Mode, bytes: &[u8]) -> Result<(), AllocError> {
+    push_mode(line, " file", mode)?;
+    push_word(line, bytes)
+}
+
+fn push_link(line: &mut String, target: &str) -> Result<(), AllocError> {
+    line.push_str(" link")?;
+    push_word(line, target.as_bytes())
+}
+
 fn push_node(line: &mut String, node: &Node) -> Result<(), AllocError> {
     match node {
-        Node::Dir { mode } => {
-            line.push_str(" dir")?;
-            push_word(line, &octal(*mode))
+        Node::Dir { mode } => push_mode(line, " dir", *mode),
+        Node::File { mode, bytes } => push_file(line, *mode, bytes.get()),
+        Node::Link { target } => push_link(line, target.text()),
+    }
+}
+
+// What stands at a path, if anything does.
+fn push_at(line: &mut String, tree: &MemoryTree, path: &Path) -> Result<(), AllocError> {
+    match tree.node(path) {
+        Some(node) => {
+            push_word(line, path.text().as_bytes())?;
+            push_node(line, node)
         }
-        Node::File { mode, bytes } => {
-            line.push_str(" file")?;
-            push_word(line, &octal(*mode))?;
-            push_word(line, bytes.get())
-        }
-        Node::Link { target } => {
-            line.push_str(" link")?;
-            push_word(line, target.text().as_bytes())
-        }
+        None => Ok(()),
     }
 }
 
 // What stands at each path; of a side, what isn't its journal's own.
 fn told(alloc: Global, tree: &MemoryTree, side: Option<Side>) -> Result<String, Stop> {
     let mut line = String::new(alloc);
-    for path in paths_of(alloc, tree)? {
-        if is_left_out(side, path.text()) {
-            continue;
-        }
-        if let Some(node) = tree.node(&path) {
-            push_word(&mut line, path.text().as_bytes())?;
-            push_node(&mut line, node)?;
+    let paths = paths_of(alloc, tree)?;
+    for path in &paths {
+        if !is_left_out(side, path.text()) {
+            push_at(&mut line, tree, path)?;
         }
     }
     Ok(line)
@@ -131,16 +172,25 @@ pub fn stored_text(alloc: Global, tree: &MemoryTree, side: Side) -> Result<Strin
     told(alloc, tree, Some(side))
 }
 
+fn left_text(alloc: Global, tree: &MemoryTree, pick: u64) -> Result<String, Stop> {
+    let image = tree.crash(alloc, pick)?;
+    nodes_text(alloc, &image)
+}
+
+// Whether crashes leave just this.
+fn is_synced(alloc: Global, tree: &MemoryTree, text: &str) -> Result<bool, Stop> {
+    for pick in WHOLLY_LOST {
+        if left_text(alloc, tree, pick)?.as_str() != text {
+            return Ok(false);
+        }
+    }
+    Ok(true)
+}
+
 /// What stands at each path, and whether crashes leave just that.
 pub fn kept_text(alloc: Global, tree: &MemoryTree) -> Result<String, Stop> {
     let mut line = nodes_text(alloc, tree)?;
-    for pick in WHOLLY_LOST {
-        let left = nodes_text(alloc, &tree.crash(alloc, pick)?)?;
-        if left.as_str() != line.as_str() {
-            line.push_str(" unsynced")?;
-            return Ok(line);
-        }
-    }
-    line.push_str(" synced")?;
+    let synced = is_synced(alloc, tree, line.as_str())?;
+    line.push_str(if synced { " synced" } else { " unsynced" })?;
     Ok(line)
 }

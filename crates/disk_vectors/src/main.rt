@@ -5,7 +5,6 @@
 
 mod nodes;
 mod over;
-mod quiet;
 mod steps;
 mod stop;
 mod store;

@@ -1,11 +1,11 @@
 //! The steps of a script.
 use crate::nodes::{count_text, look_text, names_text, node_at, push_node};
 use crate::over::over_any;
-use crate::quiet::Quiet;
 use crate::stop::Stop;
 use crate::store::store_step;
 use crate::words::{bytes_at, mode_at, number_at, path_at, text_at, words_of};
 use cny_base::{Fails, Mode, Names, Node, Path, Target};
+use disk_words::Quiet;
 use std::alloc::Global;
 use tree_disk::{DiskStop, Look, TreeDisk};
 use tree_memory::{MemoryTree, Nodes, TreeFault};
@@ -39,7 +39,7 @@ fn root_alone(alloc: Global) -> Result<Quiet, Stop> {
     let nodes = root_node(alloc)?;
     let fails = Fails::new(Vec::new(alloc));
     match MemoryTree::new(alloc, nodes, fails) {
-        Ok(tree) => Ok(Quiet { tree, faults: 0 }),
+        Ok(tree) => Ok(Quiet::new(tree)),
         Err(TreeFault::NotATree) => Err(Stop::Unreadable),
         Err(TreeFault::Memory) => Err(Stop::Memory),
     }
@@ -220,7 +220,7 @@ fn make_disk(alloc: Global, state: &mut State, words: &[Vec<u8>]) -> Result<Stri
     let nodes = std::mem::replace(&mut state.nodes, Vec::new(alloc));
     match MemoryTree::new(alloc, Nodes::new(nodes), fails) {
         Ok(tree) => {
-            state.disk = Quiet { tree, faults: 0 };
+            state.disk = Quiet::new(tree);
             text(alloc, "ok")
         }
         Err(fault) => said_fault(alloc, Err(fault)),
@@ -269,7 +269,7 @@ fn crash(alloc: Global, state: &mut State, words: &[Vec<u8>], comes: bool) -> Re
     if !comes {
         return nodes_at(alloc, &tree, words, 1);
     }
-    state.disk = Quiet { tree, faults: 0 };
+    state.disk = Quiet::new(tree);
     text(alloc, "ok")
 }
 

@@ -1,13 +1,13 @@
 //! The steps of a content store, over any disk. A content is a word, how often it is repeated, and a word behind.
 ghost use Rattle.std.specs.Prelude.{◌<◌};
 
-use crate::quiet::Quiet;
 use crate::stop::Stop;
 use crate::words::{bytes_at, number_at, path_at, push_word, text_at};
 use cny_base::{Bytes, Path, Refusal, Stop as DiskEnd};
 use content_store::{
     ByteNamer, Contents, FarStop, Namer, NoContents, Sha1Namer, clear, get, has, put, put_file,
 };
+use disk_words::Quiet;
 use hex::FromHex;
 use sha1::Sha1;
 use std::alloc::Global;

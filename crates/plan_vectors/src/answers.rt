@@ -1,16 +1,11 @@
 //! Answers as texts.
-use crate::stop::Stop;
 use cny_base::{Copies, Mode, Refusal, Stop as DiskEnd, octal};
 use cny_report::refusal_text;
 use conflict_plan::Planned;
+use disk_words::{Stop, push_field, word};
 use file_stream::{FileRec, Flags};
 use std::alloc::Global;
 use tree_scan::Mark;
-
-/// An answer of one word.
-pub fn word(alloc: Global, word: &str) -> Result<String, Stop> {
-    Ok(String::from_str(alloc, word)?)
-}
 
 fn mode_text(alloc: Global, mode: Mode) -> Result<String, Stop> {
     let digits = octal(mode);
@@ -89,13 +84,17 @@ fn planned_text(alloc: Global, planned: &Planned) -> Result<String, Stop> {
     Ok(format!(in alloc; "{path}: {was} -> {want}")?)
 }
 
+fn text_of_copy(alloc: Global, planned: &Planned) -> Result<String, Stop> {
+    let copy = planned.copy()?;
+    planned_text(alloc, &copy)
+}
+
 /// The paths of a plan, each behind a tab.
 pub fn plan_text(alloc: Global, planned: &[Planned]) -> Result<String, Stop> {
     let mut line = word(alloc, "ok")?;
     for one in planned {
-        let text = planned_text(alloc, &one.copy()?)?;
-        line.push('\t')?;
-        line.push_str(text.as_str())?;
+        let text = text_of_copy(alloc, one)?;
+        push_field(&mut line, text.as_str())?;
     }
     Ok(line)
 }

@@ -1,14 +1,13 @@
 //! The calls.
-use crate::answers::{mark_text, plan_text, stop_text, word};
+use crate::answers::{mark_text, plan_text, stop_text};
+use crate::contents::contents_at;
 use crate::nodes::{disk_of, record_of};
-use crate::quiet::Quiet;
-use crate::stop::Stop;
 use crate::targets::targets;
 use crate::troves::troves_of;
 use crate::verification::verified_tree;
-use crate::words::{contents_at, mode_at, parts_of, path_at, text_at};
 use cny_base::{Copies, Options, Path, Stop as DiskEnd};
 use conflict_plan::plan;
+use disk_words::{Quiet, Stop, mode_at, parts_of, path_at, text_at, word};
 use std::alloc::Global;
 use tree_scan::{
     Finding, Findings, Found, Mark, Verified, are_same_marks, differing, mark_at, mark_file,

@@ -5,17 +5,15 @@
 
 mod answers;
 mod calls;
+mod contents;
 mod far;
 mod nodes;
-mod quiet;
-mod stop;
 mod targets;
 mod troves;
 mod verification;
-mod words;
 
 use crate::calls::answer_to;
-use crate::stop::Stop;
+use disk_words::Stop;
 use std::alloc::Global;
 use std::io::{self, BufRead, BufReader, BufWriter, Write};
 

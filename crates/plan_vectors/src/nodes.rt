@@ -1,13 +1,12 @@
 //! Trees and records of a line. A node is `dir MODE PATH`, `file MODE CONTENTS PATH` or `link TARGET PATH`; a record is the same,
 //! but that a file has its flags behind the mode: the letters `c`, `i` and `t`, or a hyphen.
-use crate::quiet::Quiet;
-use crate::stop::Stop;
-use crate::words::{contents_at, mode_at, parts_of, path_at, text_at};
-use cny_base::{Fails, Mode, Node, Path, Target};
+use crate::contents::contents_at;
+use cny_base::{Mode, Node, Path, Target};
+use disk_words::{Quiet, Stop, mode_at, parts_of, path_at, text_at, tree_with};
 use file_stream::{FileRec, Flags, Owner};
 use sha1::Sha1;
 use std::alloc::Global;
-use tree_memory::{MemoryTree, Nodes, TreeFault};
+use tree_memory::Nodes;
 use trove_stream::{FileAt, Files};
 
 fn dir_of(alloc: Global, words: &[String]) -> Result<(Path, Node), Stop> {
@@ -54,15 +53,8 @@ fn nodes_of(alloc: Global, text: &str) -> Result<Nodes, Stop> {
 
 /// A disk with `/` of mode 0755 and these nodes. Its first call fails where `fails` is set.
 pub fn disk_of(alloc: Global, text: &str, fails: bool) -> Result<Quiet, Stop> {
-    let mut numbers = Vec::new(alloc);
-    if fails {
-        numbers.push(1)?;
-    }
-    match MemoryTree::new(alloc, nodes_of(alloc, text)?, Fails::new(numbers)) {
-        Ok(tree) => Ok(Quiet::new(tree)),
-        Err(TreeFault::NotATree) => Err(Stop::Unreadable),
-        Err(TreeFault::Memory) => Err(Stop::Memory),
-    }
+    let nodes = nodes_of(alloc, text)?;
+    Ok(Quiet::new(tree_with(alloc, nodes, u64::from(fails))?))
 }
 
 fn flags_of(text: &str) -> Flags {
@@ -82,21 +74,33 @@ fn dir_record(alloc: Global, words: &[String]) -> Result<FileAt, Stop> {
     })
 }
 
+fn size_of(bytes: &[u8]) -> Result<u32, Stop> {
+    match u32::try_from(bytes.len()) {
+        Ok(size) => Ok(size),
+        Err(_) => Err(Stop::Unreadable),
+    }
+}
+
+fn file_with(alloc: Global, mode: Mode, flags: Flags, bytes: &[u8]) -> Result<FileRec, Stop> {
+    let size = size_of(bytes)?;
+    let owner = Owner::new(alloc, "root", "root")?;
+    Ok(FileRec::File {
+        mode,
+        owner,
+        flags,
+        size,
+        name: Sha1::digest(bytes),
+    })
+}
+
 fn file_record(alloc: Global, words: &[String]) -> Result<FileAt, Stop> {
     let mode = mode_at(words, 1)?;
     let flags = flags_of(text_at(words, 2)?);
     let bytes = contents_at(alloc, words, 3)?;
-    let size = u32::try_from(bytes.get().len()).map_err(|_| Stop::Unreadable)?;
-    let owner = Owner::new(alloc, "root", "root")?;
+    let rec = file_with(alloc, mode, flags, bytes.get())?;
     Ok(FileAt {
         path: path_at(alloc, words, 4)?,
-        rec: FileRec::File {
-            mode,
-            owner,
-            flags,
-            size,
-            name: Sha1::digest(bytes.get()),
-        },
+        rec,
     })
 }
 

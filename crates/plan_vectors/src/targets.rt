@@ -5,17 +5,16 @@ ghost use Rattle.sha1.specs.Sha1.{sha1};
 ghost use Rattle.change_set.specs.declared.change.Carried as declared;
 ghost use Rattle.change_set.specs.ChangeSet.{content_cmp};
 
-use crate::answers::{mark_text, stop_text, word};
+use crate::answers::{mark_text, stop_text};
 use crate::calls::{has_word, options_of};
+use crate::contents::content_of;
 use crate::far::{Far, far_of};
 use crate::nodes::disk_of;
-use crate::quiet::Quiet;
-use crate::stop::Stop;
 use crate::troves::troves_of;
-use crate::words::{content_of, text_at};
 use change_set::Carried;
 use cny_base::{Copies, Stop as DiskEnd};
 use conflict_plan::{Planned, PlannedList, plan};
+use disk_words::{Quiet, Stop, push_field, text_at, word};
 use job_targets::{Targets, are_rising, targets_of};
 use journal_log::{Put, Want};
 use saved_contents::{Entry, mark_of};
@@ -57,20 +56,23 @@ fn target_text(alloc: Global, put: &Put, entry: &Entry) -> Result<String, Stop> 
     Ok(format!(in alloc; "{path}: {was} -> {want} ({mark})")?)
 }
 
-// The writes with the entries, each behind a tab, and how often the contents and files were asked for.
-fn targets_text(alloc: Global, made: &Targets, disk: &Quiet, far: &Far) -> Result<String, Stop> {
+// The writes with the entries, each behind a tab.
+fn puts_text(alloc: Global, puts: &[Put], entries: &[Entry]) -> Result<String, Stop> {
     let mut line = word(alloc, "ok")?;
+    for (put, entry) in puts.iter().zip(entries) {
+        let text = target_text(alloc, put, entry)?;
+        push_field(&mut line, text.as_str())?;
+    }
+    Ok(line)
+}
+
+// The same of a copy, and how often the contents and files were asked for.
+fn targets_text(alloc: Global, made: &Targets, finds: u64, files: u64) -> Result<String, Stop> {
     let made = made.copy()?;
     if made.puts.get().len() != made.entries.get().len() {
         return word(alloc, "apart");
     }
-    for (put, entry) in made.puts.get().iter().zip(made.entries.get()) {
-        let text = target_text(alloc, put, entry)?;
-        line.push('\t')?;
-        line.push_str(text.as_str())?;
-    }
-    let (finds, files) = (far.finds, disk.looks);
-    let line = line.as_str();
+    let line = puts_text(alloc, made.puts.get(), made.entries.get())?;
     Ok(format!(in alloc; "{line}\t{finds} finds, {files} files")?)
 }
 
@@ -116,7 +118,7 @@ fn made_text(
         return Err(Stop::Unreadable);
     }
     match targets_of(alloc, disk, planned, carried, far) {
-        Ok(made) => targets_text(alloc, &made, disk, far),
+        Ok(made) => targets_text(alloc, &made, far.finds, disk.looks),
         Err(stop) => end_text(alloc, &stop),
     }
 }

@@ -1,6 +1,6 @@
 //! Troves of a line.
 use crate::nodes::records_of;
-use crate::stop::Stop;
+use disk_words::Stop;
 use std::alloc::Global;
 use trove_id::read_id;
 use trove_stream::{Deps, Refs, Trove};

@@ -1,12 +1,12 @@
 //! Verifications over the contents of a line.
-use crate::answers::{stop_text, word};
+use crate::answers::stop_text;
+use crate::contents::content_of;
 use crate::nodes::disk_of;
-use crate::stop::Stop;
 use crate::troves::troves_of;
-use crate::words::{content_of, parts_of, text_at};
 use cny_base::{Bytes, Copies, Name};
 use cny_report::verified_text;
 use content_store::{Contents, FarStop};
+use disk_words::{Stop, text_at, word};
 use installed_list::Installed;
 use sha1::Sha1;
 use std::alloc::Global;

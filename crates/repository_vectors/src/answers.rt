@@ -1,43 +1,48 @@
 //! Answers as texts.
 ghost use Rattle.change_set.specs.ChangeSet.{HasContents};
 
-use crate::stop::Stop;
 use change_set::{ChangeSet, encode};
-use cny_base::{Bytes, Fault, Stop as DiskEnd};
+use cny_base::{Bytes, Fault, Refusal, Stop as DiskEnd};
+use cny_report::refusal_text;
 use content_store::FarStop;
+use disk_words::{Stop, push_field, word};
 use repo_index::Catalogue;
 use repository::Counts;
 use std::alloc::Global;
-use trove_id::id_text;
+use trove_id::{TroveId, id_text};
 
-/// An answer of one word.
-pub fn word(alloc: Global, word: &str) -> Result<String, Stop> {
-    Ok(String::from_str(alloc, word)?)
-}
-
-// Appends a field.
-fn push_field(line: &mut String, text: &str) -> Result<(), Stop> {
-    line.push('\t')?;
-    line.push_str(text)?;
-    Ok(())
+fn push_id(alloc: Global, line: &mut String, id: &TroveId) -> Result<(), Stop> {
+    let text = id_text(alloc, id)?;
+    push_field(line, text.get())
 }
 
 /// How many commits a catalogue has, and the ids of its troves.
 pub fn catalogue_text(alloc: Global, catalogue: &Catalogue) -> Result<String, Stop> {
     let mut line = format!(in alloc; "ok\t{}", catalogue.commits())?;
     for trove in catalogue.troves() {
-        push_field(&mut line, id_text(alloc, trove.id())?.get())?;
+        push_id(alloc, &mut line, trove.id())?;
     }
     Ok(line)
+}
+
+fn push_count(alloc: Global, line: &mut String, count: u64) -> Result<(), Stop> {
+    let digits = format!(in alloc; "{count}")?;
+    push_field(line, digits.as_str())
 }
 
 /// Numbers, a field each.
 pub fn counts_text(alloc: Global, counts: &Counts) -> Result<String, Stop> {
     let mut line = word(alloc, "ok")?;
     for count in counts.get() {
-        push_field(&mut line, format!(in alloc; "{count}")?.as_str())?;
+        push_count(alloc, &mut line, *count)?;
     }
     Ok(line)
+}
+
+// Bytes in hexadecimal digits.
+fn digits_text(alloc: Global, bytes: &[u8]) -> Result<String, Stop> {
+    let digits = hex::encode(alloc, bytes)?;
+    Ok(format!(in alloc; "ok\t{digits}")?)
 }
 
 /// A content in hexadecimal digits, or none.
@@ -45,8 +50,7 @@ pub fn content_text(alloc: Global, found: &Option<Bytes>) -> Result<String, Stop
     let Some(bytes) = found else {
         return word(alloc, "none");
     };
-    let digits = hex::encode(alloc, bytes.get())?;
-    Ok(format!(in alloc; "ok\t{}", digits.as_str())?)
+    digits_text(alloc, bytes.get())
 }
 
 /// The stream of a change set in hexadecimal digits.
@@ -54,10 +58,7 @@ pub fn set_text(alloc: Global, set: &ChangeSet) -> Result<String, Stop>
     requires { HasContents set.now }
 {
     match encode(alloc, set) {
-        Ok(bytes) => {
-            let digits = hex::encode(alloc, bytes.get())?;
-            Ok(format!(in alloc; "ok\t{}", digits.as_str())?)
-        }
+        Ok(bytes) => digits_text(alloc, bytes.get()),
         Err(Fault::Refused(_)) => word(alloc, "too large"),
         Err(Fault::Memory) => Err(Stop::Memory),
     }
@@ -73,10 +74,16 @@ pub fn far_text(alloc: Global, stop: FarStop) -> Result<String, Stop> {
     }
 }
 
+fn refused_text(alloc: Global, refusal: &Refusal) -> Result<String, Stop> {
+    let text = refusal_text(alloc, refusal)?;
+    word(alloc, text.get())
+}
+
 /// Why a call stopped.
 pub fn stop_text(alloc: Global, stop: &DiskEnd) -> Result<String, Stop> {
     match stop {
         DiskEnd::Damaged { path } => Ok(format!(in alloc; "damaged {}", path.text())?),
+        DiskEnd::Refused(refusal) => refused_text(alloc, refusal),
         DiskEnd::Failed => word(alloc, "failed"),
         DiskEnd::Memory => Err(Stop::Memory),
         _ => word(alloc, "another end"),

@@ -5,14 +5,13 @@
 
 mod answers;
 mod calls;
-mod nodes;
-mod quiet;
-mod stop;
+mod commits;
+mod failing;
+mod held;
 mod troves;
-mod words;
 
 use crate::calls::answer_to;
-use crate::stop::Stop;
+use disk_words::Stop;
 use std::alloc::Global;
 use std::io::{self, BufRead, BufReader, BufWriter, Write};
 

@@ -2,8 +2,8 @@
 ghost use Rattle.std.specs.Prelude.{IfOk, Contains};
 ghost use Rattle.repo_between.specs.Between.{AreCommitted};
 
-use crate::stop::Stop;
 use cny_base::Copies;
+use disk_words::Stop;
 use installed_list::Installed;
 use repo_index::Catalogue;
 use std::alloc::Global;

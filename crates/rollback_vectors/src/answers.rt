@@ -4,19 +4,13 @@ ghost use Rattle.local_db.specs.Database.{IsDb};
 ghost use Rattle.system_state.specs.declared.format.Format.TheVariants.{Two};
 ghost use Rattle.system_state.specs.Stores.{IsDatabase};
 
-use crate::quiet::Quiet;
-use crate::stop::Stop;
-use cny_base::{Fault, Refusal, Stop as DiskEnd};
+use cny_base::{Fault, Path, Refusal, Stop as DiskEnd};
+use disk_words::{Quiet, Stop, word};
 use local_db::{Db, encode, load};
 use std::alloc::Global;
 use system_state::{base_path, distinct_databases};
 use tree_journal::recover;
-use trove_id::id_text;
-
-/// An answer of one word.
-pub fn word(alloc: Global, word: &str) -> Result<String, Stop> {
-    Ok(String::from_str(alloc, word)?)
-}
+use trove_id::{TroveId, id_text};
 
 fn refusal_text(alloc: Global, refusal: &Refusal) -> Result<String, Stop> {
     match refusal {
@@ -39,50 +33,62 @@ pub fn stop_text(alloc: Global, stop: &DiskEnd) -> Result<String, Stop> {
     }
 }
 
+fn push_id(alloc: Global, line: &mut String, id: &TroveId) -> Result<(), Stop> {
+    let text = id_text(alloc, id)?;
+    line.push(' ')?;
+    line.push_str(text.get())?;
+    Ok(())
+}
+
 /// The numbers of the stack, and the ids of the troves.
 pub fn db_text(alloc: Global, db: &Db) -> Result<String, Stop> {
     let mut line = format!(in alloc; "{} {}", db.oldest, db.newest)?;
     for trove in db.installed.troves() {
-        line.push(' ')?;
-        line.push_str(id_text(alloc, trove.id())?.get())?;
+        push_id(alloc, &mut line, trove.id())?;
     }
     Ok(line)
 }
 
-// Nothing, where the database has room in format 2.
-fn check_room(alloc: Global, db: &Db) -> Result<(), Stop>
+// Nothing, where the database has room in format 2: that of each line has.
+fn check_room(alloc: Global, db: &Db) -> Result<(), DiskEnd>
     requires { IsDb db.now }
     ensures { IfOk result (λ done. IsDatabase Two db.now.installed db.now.oldest db.now.newest) }
 {
     distinct_databases();
     match encode(alloc, db) {
         Ok(_) => Ok(()),
-        Err(Fault::Memory) => Err(Stop::Memory),
-        Err(Fault::Refused(_)) => Err(Stop::Unreadable),
+        Err(Fault::Memory) => Err(DiskEnd::Memory),
+        Err(Fault::Refused(why)) => Err(DiskEnd::Refused(why)),
     }
 }
 
-/// The database of a disk, or the text of why there is none.
-pub fn loaded(alloc: Global, disk: &mut Quiet) -> Result<Result<Db, String>, Stop>
-    ensures { IfOk result (λ found. IfOk found (λ db. IsDatabase Two db.installed db.oldest db.newest)) }
+/// The database of a disk.
+pub fn loaded(alloc: Global, disk: &mut Quiet) -> Result<Db, DiskEnd>
+    ensures { IfOk result (λ db. IsDatabase Two db.installed db.oldest db.newest) }
 {
-    match load(alloc, disk) {
-        Ok(db) => {
-            check_room(alloc, &db)?;
-            Ok(Ok(db))
-        }
-        Err(stop) => Ok(Err(stop_text(alloc, &stop)?)),
+    let db = load(alloc, disk)?;
+    check_room(alloc, &db)?;
+    Ok(db)
+}
+
+// The text of the database of a disk.
+fn loaded_text(alloc: Global, disk: &mut Quiet) -> Result<String, Stop> {
+    match loaded(alloc, disk) {
+        Ok(db) => db_text(alloc, &db),
+        Err(stop) => stop_text(alloc, &stop),
     }
+}
+
+fn recovers(alloc: Global, disk: &mut Quiet, base: &Path) -> bool {
+    recover(alloc, disk, base).is_ok()
 }
 
 /// The database of a disk once it is recovered.
 pub fn held_text(alloc: Global, disk: &mut Quiet) -> Result<String, Stop> {
     let base = base_path(alloc)?;
-    if recover(alloc, disk, &base).is_err() {
-        return word(alloc, "not recovered");
-    }
-    match loaded(alloc, disk)? {
-        Ok(db) => db_text(alloc, &db),
-        Err(text) => Ok(text),
+    if recovers(alloc, disk, &base) {
+        loaded_text(alloc, disk)
+    } else {
+        word(alloc, "not recovered")
     }
 }

@@ -1,38 +1,43 @@
 //! Rollbacks over disks that fail.
 use crate::answers::held_text;
-use crate::calls::{Jobs, rollback_text};
-use crate::nodes::{disk_of, nodes_text, quiet};
-use crate::quiet::Quiet;
-use crate::stop::Stop;
+use crate::calls::{BASE, Jobs, rollback_text};
+use disk_words::{Outcome, Outcomes, Quiet, Stop, disk_of, nodes_text};
 use sha1::Sha1;
 use std::alloc::Global;
 
 // More calls than any of the rollbacks makes.
 const MANY: u32 = 2000;
 
-// What comes of a rollback, and whether it failed.
-#[derive(Drop)]
-struct Outcome {
-    text: String,
-    failed: bool,
+// The SHA-1 of what stands.
+fn nodes_name(alloc: Global, disk: &Quiet) -> Result<String, Stop> {
+    let nodes = nodes_text(alloc, &disk.tree, BASE)?;
+    let name = Sha1::digest(nodes.as_str().as_bytes());
+    Ok(hex::encode(alloc, name.as_slice())?)
 }
 
 // What is recovered, the SHA-1 of what stands then, and what comes of the rollback where it is made again.
 fn recovered_text(alloc: Global, disk: &mut Quiet, jobs: Jobs) -> Result<String, Stop> {
     let held = held_text(alloc, disk)?;
-    let nodes = nodes_text(alloc, &disk.tree)?;
-    let name = Sha1::digest(nodes.as_str().as_bytes());
-    let digits = hex::encode(alloc, name.as_slice())?;
+    let name = nodes_name(alloc, disk)?;
     let again = rollback_text(alloc, disk, jobs)?;
-    Ok(format!(in alloc;
-        "{}, {}, again {}",
-        held.as_str(),
-        digits.as_str(),
-        again.as_str()
-    )?)
+    Ok(format!(in alloc; "{held}, {name}, again {again}")?)
 }
 
-// The rollback is stopped after so many calls, what the crash leaves is recovered, and the rollback is made again.
+// The same of what a crash leaves.
+fn crashed_text(alloc: Global, disk: &Quiet, jobs: Jobs, pick: u64) -> Result<String, Stop> {
+    let mut image = Quiet::new(disk.tree.crash(alloc, pick)?);
+    recovered_text(alloc, &mut image, jobs)
+}
+
+// The rollback is made, what the crash leaves is recovered, and the rollback is made again.
+fn stopped_on(alloc: Global, disk: &mut Quiet, jobs: Jobs, pick: u64) -> Result<Outcome, Stop> {
+    let answer = rollback_text(alloc, disk, jobs)?;
+    let text = crashed_text(alloc, disk, jobs, pick)?;
+    let failed = answer.as_str().starts_with("failed");
+    Ok(Outcome { text, failed })
+}
+
+// The same, stopped after so many calls.
 fn stopped_after(
     alloc: Global,
     nodes: &str,
@@ -42,60 +47,64 @@ fn stopped_after(
 ) -> Result<Outcome, Stop> {
     let mut disk = disk_of(alloc, nodes, 0)?;
     disk.tree.stop_after(calls);
-    let answer = rollback_text(alloc, &mut disk, jobs)?;
-    let mut image = quiet(disk.tree.crash(alloc, pick)?);
-    let text = recovered_text(alloc, &mut image, jobs)?;
+    stopped_on(alloc, &mut disk, jobs, pick)
+}
+
+// The rollback is made, what is read then is recovered, on a disk that doesn't fail, and the rollback is made again.
+fn failed_on(alloc: Global, disk: &mut Quiet, jobs: Jobs) -> Result<Outcome, Stop> {
+    let answer = rollback_text(alloc, disk, jobs)?;
+    let held = crashed_text(alloc, disk, jobs, 0)?;
+    let text = format!(in alloc; "{answer}, {held}")?;
     let failed = answer.as_str().starts_with("failed");
     Ok(Outcome { text, failed })
 }
 
-// The call of this number fails; what is read then is recovered, and the rollback is made again.
+// The same, where the call of this number fails.
 fn failed_at(alloc: Global, nodes: &str, jobs: Jobs, number: u64) -> Result<Outcome, Stop> {
     let mut disk = disk_of(alloc, nodes, number)?;
-    let mut text = rollback_text(alloc, &mut disk, jobs)?;
-    let failed = text.as_str().starts_with("failed");
-    // What the disk reads, on one that doesn't fail.
-    let mut disk = quiet(disk.tree.crash(alloc, 0)?);
-    let held = recovered_text(alloc, &mut disk, jobs)?;
-    text.push_str(format!(in alloc; ", {}", held.as_str())?.as_str())?;
-    Ok(Outcome { text, failed })
+    failed_on(alloc, &mut disk, jobs)
 }
 
-// Adds a text that isn't the last one.
-fn push_new(line: &mut String, last: &mut String, text: String) -> Result<(), Stop> {
-    if text.as_str() != last.as_str() {
-        line.push('\t')?;
-        line.push_str(text.as_str())?;
-        *last = text;
+fn push_stopped(
+    alloc: Global,
+    outcomes: &mut Outcomes,
+    nodes: &str,
+    jobs: Jobs,
+    pick: u64,
+) -> Result<(), Stop> {
+    for calls in 0..MANY {
+        if outcomes.push(stopped_after(alloc, nodes, jobs, pick, calls)?)? {
+            return Ok(());
+        }
     }
-    Ok(())
+    Err(Stop::Unreadable)
+}
+
+fn push_failed(
+    alloc: Global,
+    outcomes: &mut Outcomes,
+    nodes: &str,
+    jobs: Jobs,
+) -> Result<(), Stop> {
+    for number in 1..u64::from(MANY) {
+        if outcomes.push(failed_at(alloc, nodes, jobs, number)?)? {
+            return Ok(());
+        }
+    }
+    Err(Stop::Unreadable)
 }
 
 /// What comes of a rollback that is cut off after no call, after one and so on, until it ends, and then of the same rollback made
 /// again: each text that differs from the one before.
 pub fn stopped(alloc: Global, nodes: &str, jobs: Jobs, pick: u64) -> Result<String, Stop> {
-    let mut line = String::from_str(alloc, "stopped")?;
-    let mut last = String::new(alloc);
-    for calls in 0..MANY {
-        let outcome = stopped_after(alloc, nodes, jobs, pick, calls)?;
-        push_new(&mut line, &mut last, outcome.text)?;
-        if !outcome.failed {
-            return Ok(line);
-        }
-    }
-    Err(Stop::Unreadable)
+    let mut outcomes = Outcomes::new(alloc, "stopped")?;
+    push_stopped(alloc, &mut outcomes, nodes, jobs, pick)?;
+    Ok(outcomes.line())
 }
 
 /// The same of a rollback of which the first call fails, the second and so on.
 pub fn failed_once(alloc: Global, nodes: &str, jobs: Jobs) -> Result<String, Stop> {
-    let mut line = String::from_str(alloc, "failed")?;
-    let mut last = String::new(alloc);
-    for number in 1..u64::from(MANY) {
-        let outcome = failed_at(alloc, nodes, jobs, number)?;
-        push_new(&mut line, &mut last, outcome.text)?;
-        if !outcome.failed {
-            return Ok(line);
-        }
-    }
-    Err(Stop::Unreadable)
+    let mut outcomes = Outcomes::new(alloc, "failed")?;
+    push_failed(alloc, &mut outcomes, nodes, jobs)?;
+    Ok(outcomes.line())
 }

@@ -6,13 +6,9 @@
 mod answers;
 mod calls;
 mod failing;
-mod nodes;
-mod quiet;
-mod stop;
-mod words;
 
 use crate::calls::answer_to;
-use crate::stop::Stop;
+use disk_words::Stop;
 use std::alloc::Global;
 use std::io::{self, BufRead, BufReader, BufWriter, Write};
 

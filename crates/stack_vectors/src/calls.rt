@@ -1,9 +1,11 @@
 //! The calls.
+ghost use Rattle.std.specs.Prelude.{◌≤◌, length};
+
 use crate::answers::{back_text, notes_text, puts_text, refused_text, stop_text, undo_text};
 use crate::databases::database_of;
-use crate::quiet::Quiet;
 use crate::roots::{root_of, stands_text};
-use cny_base::{Fault, Stop as DiskEnd};
+use cny_base::{Fault, Path, Stop as DiskEnd};
+use disk_words::Quiet;
 use job_pushing::push_puts;
 use job_undo::{Back, Notes, Undo};
 use journal_log::Puts;
@@ -109,19 +111,21 @@ fn pushed_to(alloc: Global, root: &mut Quiet, disk: &mut Quiet) -> Result<Puts, 
     }
 }
 
+fn pushed_text(alloc: Global, root: &mut Quiet, disk: &mut Quiet) -> Result<String, Stop> {
+    match pushed_to(alloc, root, disk) {
+        Ok(puts) => puts_text(alloc, &puts),
+        Err(stop) => stop_text(alloc, stop),
+    }
+}
+
 // `push FAILS TREE ROOT PATHS`: the newest job of the root is prepared on the tree before it: the write of its record, and what
 // stands at the paths then.
 fn push(alloc: Global, parts: &[String]) -> Result<String, Stop> {
     let mut disk = root_of(alloc, text_at(parts, 2)?, number_at(parts, 1)?)?;
     let mut root = root_of(alloc, text_at(parts, 3)?, 0)?;
-    let mut line = match pushed_to(alloc, &mut root, &mut disk) {
-        Ok(puts) => puts_text(alloc, &puts)?,
-        Err(stop) => stop_text(alloc, stop)?,
-    };
+    let line = pushed_text(alloc, &mut root, &mut disk)?;
     let stands = stands_text(alloc, &disk.tree, text_at(parts, 4)?)?;
-    line.push_str("\t")?;
-    line.push_str(stands.as_str())?;
-    Ok(line)
+    Ok(format!(in alloc; "{line}\t{stands}")?)
 }
 
 // `migrated FAILS TREE`: the writes that bring the root to format 2.
@@ -140,24 +144,30 @@ fn migrate_on(alloc: Global, disk: &mut Quiet) -> Result<(), DiskEnd> {
     Ok(())
 }
 
-// `migrate PICK TREE CALLS PATHS`: what stands at the paths once the root is brought to format 2, after that was stopped after so
-// many calls of the disk, and then crashed as the number picks.
-fn migrate(alloc: Global, parts: &[String]) -> Result<String, Stop> {
-    let mut disk = root_of(alloc, text_at(parts, 2)?, 0)?;
-    disk.tree.stop_after(number_at(parts, 3)?);
+// What stands at the paths once the root is brought to format 2.
+fn migrated_text(alloc: Global, disk: &mut Quiet, paths: &str) -> Result<String, Stop> {
+    match migrate_on(alloc, disk) {
+        Ok(()) => stands_text(alloc, &disk.tree, paths),
+        Err(stop) => stop_text(alloc, stop),
+    }
+}
+
+// The root that a crash leaves, after bringing it to format 2 was stopped after so many calls of the disk.
+fn stopped_root(alloc: Global, nodes: &str, calls: u32, pick: u32) -> Result<Quiet, Stop> {
+    let mut disk = root_of(alloc, nodes, 0)?;
+    disk.tree.stop_after(calls);
     if let Err(stop) = migrate_on(alloc, &mut disk) {
         let _text = stop_text(alloc, stop)?;
     }
-    let tree = disk.tree.crash(alloc, u64::from(number_at(parts, 1)?))?;
-    let mut again = Quiet {
-        tree,
-        faults: 0,
-        calls: 0,
-    };
-    match migrate_on(alloc, &mut again) {
-        Ok(()) => stands_text(alloc, &again.tree, text_at(parts, 4)?),
-        Err(stop) => stop_text(alloc, stop),
-    }
+    Ok(Quiet::new(disk.tree.crash(alloc, u64::from(pick))?))
+}
+
+// `migrate PICK TREE CALLS PATHS`: what stands at the paths once the root is brought to format 2, after that was stopped after so
+// many calls of the disk, and then crashed as the number picks.
+fn migrate(alloc: Global, parts: &[String]) -> Result<String, Stop> {
+    let (pick, calls) = (number_at(parts, 1)?, number_at(parts, 3)?);
+    let mut disk = stopped_root(alloc, text_at(parts, 2)?, calls, pick)?;
+    migrated_text(alloc, &mut disk, text_at(parts, 4)?)
 }
 
 // `within TREE CALLS`: whether bringing the root to format 2 ends within so many calls of the disk.

@@ -4,8 +4,8 @@ ghost use Rattle.system_state.specs.Stores.{IsDatabase};
 ghost use Rattle.system_state.specs.declared.format.Format.TheVariants.{Two};
 ghost use Rattle.local_db.specs.Database.{IsDb};
 
-use crate::quiet::Quiet;
 use cny_base::{Fault, Stop as DiskEnd};
+use disk_words::Quiet;
 use local_db::{Db, encode, load};
 use std::alloc::Global;
 use system_state::distinct_databases;

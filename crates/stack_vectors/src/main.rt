@@ -6,7 +6,6 @@
 mod answers;
 mod calls;
 mod databases;
-mod quiet;
 mod roots;
 
 use crate::calls::answer_to;

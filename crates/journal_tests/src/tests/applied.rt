@@ -1,7 +1,6 @@
 // Write sets applied where something else stands at the journal's own names, and with staged files.
 use super::runs::{MANY, apply_to, apply_up_to};
-use super::trees::{all_stand, node_of, path_of, put_of, text_of, tree_of};
-use journal_log::Put;
+use super::trees::{all_stand, path_of, put_node, text_of, tree_of};
 use std::alloc::Global;
 use std::test::Fail;
 use tree_memory::MemoryTree;
@@ -39,26 +38,22 @@ const OTHERS: &str = "@ dir 0755;@/gate file 0640 stale;@/log file 0640 none
 fn with_nodes(alloc: Global, start: &str, line: &str) -> Result<MemoryTree, Fail> {
     let mut tree = tree_of(alloc, start)?;
     for part in line.split(';') {
-        let Put { path, want } = put_of(alloc, part)?;
-        let node = node_of(want)?;
-        tree.edit(alloc, &path, node)?;
+        put_node(alloc, &mut tree, part)?;
     }
     Ok(tree)
+}
+
+// Whether the write set is put over these nodes, and no flag is left.
+fn gives_way(alloc: Global, line: &str) -> Result<bool, Fail> {
+    let applied = apply_to(alloc, with_nodes(alloc, START, line)?, PUTS)?;
+    let has_flag = applied.tree.node(&path_of(alloc, "@/gate")?).is_some();
+    Ok(applied.is_done && !has_flag && all_stand(alloc, &applied.tree, AFTER)?)
 }
 
 #[test]
 fn other_nodes_give_way(rt: HostRuntime) -> Result<(), Fail> {
     for line in OTHERS.lines() {
-        let tree = with_nodes(rt.alloc(), START, line)?;
-        let applied = apply_to(rt.alloc(), tree, PUTS)?;
-        assert!(rt;
-            applied.is_done && all_stand(rt.alloc(), &applied.tree, AFTER)?,
-            "over {line}"
-        );
-        assert!(rt;
-            applied.tree.node(&path_of(rt.alloc(), "@/gate")?).is_none(),
-            "over {line}"
-        );
+        assert!(rt; gives_way(rt.alloc(), line)?, "over {line}");
     }
     Ok(())
 }
@@ -89,16 +84,19 @@ const STAGED_AFTER: &str = "/ dir 0755
 /var/lib/conarydb/p/2 file 0600 -
 ";
 
+// The tree that is left but for the log, whose bytes are those of its own tests.
+fn staged_text(alloc: Global) -> Result<String, Fail> {
+    let mut applied = apply_to(alloc, with_nodes(alloc, START, STAGED)?, STAGED_PUTS)?;
+    if !applied.is_done {
+        return Err(Fail::from("a write set without an end"));
+    }
+    put_node(alloc, &mut applied.tree, "@/log nothing")?;
+    text_of(alloc, &applied.tree)
+}
+
 #[test]
 fn staged_files_are_kept(rt: HostRuntime) -> Result<(), Fail> {
-    let tree = with_nodes(rt.alloc(), START, STAGED)?;
-    let mut applied = apply_to(rt.alloc(), tree, STAGED_PUTS)?;
-    assert!(rt; applied.is_done);
-    // Its bytes are those of the log's own tests.
-    applied
-        .tree
-        .edit(rt.alloc(), &path_of(rt.alloc(), "@/log")?, None)?;
-    assert!(rt; text_of(rt.alloc(), &applied.tree)?.as_str() == STAGED_AFTER);
+    assert!(rt; staged_text(rt.alloc())?.as_str() == STAGED_AFTER);
     Ok(())
 }
 

@@ -114,19 +114,24 @@ fn calls_before(alloc: Global, path: &str) -> Result<u32, Fail> {
     Err(Fail::from("a name that stands"))
 }
 
-// One crash comes before the flag is written. The other comes after it is kept and before the next sync, and the file of
-// the component is torn.
+// A crash before the flag is written leaves the tree before, and so does its recovery.
+fn is_before_flag(alloc: Global) -> Result<bool, Fail> {
+    let calls = calls_before(alloc, "@/gate")?;
+    let image = crash_after(alloc, calls, AS_SYNCED)?;
+    Ok(all_stand(alloc, &image, FIXED)? && recovers_to(alloc, &image, false, FIXED)?)
+}
+
+// A crash after the flag is kept and before the next sync tears the file of the component, and the recovery puts it.
+fn is_after_flag(alloc: Global) -> Result<bool, Fail> {
+    let calls = calls_before(alloc, "/etc/foo")?.saturating_add(1);
+    let image = crash_after(alloc, calls, FOO_TORN)?;
+    Ok(all_stand(alloc, &image, WITH_TORN)? && recovers_to(alloc, &image, true, WITH_COMPONENT)?)
+}
+
 #[test]
 fn crash_around_commit_flag(rt: HostRuntime) -> Result<(), Fail> {
-    let alloc = rt.alloc();
-    let before_flag = calls_before(alloc, "@/gate")?;
-    let before = crash_after(alloc, before_flag, AS_SYNCED)?;
-    assert!(rt; all_stand(alloc, &before, FIXED)?);
-    assert!(rt; recovers_to(alloc, &before, false, FIXED)?);
-    let made = calls_before(alloc, "/etc/foo")?.saturating_add(1);
-    let after = crash_after(alloc, made, FOO_TORN)?;
-    assert!(rt; all_stand(alloc, &after, WITH_TORN)?);
-    assert!(rt; recovers_to(alloc, &after, true, WITH_COMPONENT)?);
+    assert!(rt; is_before_flag(rt.alloc())?);
+    assert!(rt; is_after_flag(rt.alloc())?);
     Ok(())
 }
 

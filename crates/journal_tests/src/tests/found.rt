@@ -1,10 +1,9 @@
 // What recovery finds on disks that no crash left.
-use super::disk::QuietDisk;
 use super::listed::ListedDisk;
 use super::runs::{MANY, recover_up_to};
-use super::trees::{BASE, node_of, path_of, push_node, put_of, text_of, tree_of};
+use super::trees::{BASE, path_of, push_node, put_node, text_of, tree_of};
 use cny_base::{Path, Refusal, Stop};
-use journal_log::Put;
+use disk_words::Quiet;
 use std::alloc::Global;
 use std::test::Fail;
 use tree_journal::recover;
@@ -97,10 +96,8 @@ fn edit(alloc: Global, tree: &mut MemoryTree, part: &str) -> Result<(), Fail> {
     if part.is_empty() {
         return Ok(());
     }
-    let Put { path, want } = put_of(alloc, with_log(alloc, part)?.as_str())?;
-    let node = node_of(want)?;
-    tree.edit(alloc, &path, node)?;
-    Ok(())
+    let line = with_log(alloc, part)?;
+    put_node(alloc, tree, line.as_str())
 }
 
 // The tree with these nodes put.
@@ -140,13 +137,13 @@ fn nothing_is_changed(rt: HostRuntime) -> Result<(), Fail> {
         let (wanted, nodes) = line.split_once(';').ok_or("an answer")?;
         let tree = with_nodes(rt.alloc(), nodes)?;
         let before = text_of(rt.alloc(), &tree)?;
-        let mut disk = QuietDisk::new(tree);
+        let mut disk = Quiet::new(tree);
         let answer = recover(rt.alloc(), &mut disk, &path_of(rt.alloc(), "@")?);
         assert!(rt;
             answer_text(rt.alloc(), answer)?.as_str() == wanted,
             "{line}"
         );
-        assert!(rt; text_of(rt.alloc(), &disk.inner)? == before, "{line}");
+        assert!(rt; text_of(rt.alloc(), &disk.tree)? == before, "{line}");
     }
     Ok(())
 }
@@ -156,15 +153,15 @@ fn log_is_put(rt: HostRuntime) -> Result<(), Fail> {
     for line in PUT.lines() {
         let mut tree = with_nodes(rt.alloc(), READY)?;
         edit(rt.alloc(), &mut tree, line)?;
-        let mut disk = QuietDisk::new(tree);
+        let mut disk = Quiet::new(tree);
         assert!(rt;
             recover(rt.alloc(), &mut disk, &path_of(rt.alloc(), "@")?)?,
             "{line}"
         );
         // The log stays, and has no meaning any more.
-        edit(rt.alloc(), &mut disk.inner, "@/log nothing")?;
+        edit(rt.alloc(), &mut disk.tree, "@/log nothing")?;
         assert!(rt;
-            text_of(rt.alloc(), &disk.inner)?.as_str() == PUT_AFTER,
+            text_of(rt.alloc(), &disk.tree)?.as_str() == PUT_AFTER,
             "{line}"
         );
     }
@@ -180,7 +177,7 @@ const FIRST_CALLS: &str =
 fn looks_then_syncs(rt: HostRuntime) -> Result<(), Fail> {
     for nodes in ["", READY] {
         let tree = with_nodes(rt.alloc(), nodes)?;
-        let mut disk = ListedDisk::new(rt.alloc(), QuietDisk::new(tree), 5);
+        let mut disk = ListedDisk::new(rt.alloc(), Quiet::new(tree), 5);
         let was_committed = recover(rt.alloc(), &mut disk, &path_of(rt.alloc(), "@")?)?;
         assert!(rt; was_committed == !nodes.is_empty());
         assert!(rt; disk.calls.as_str() == FIRST_CALLS, "{nodes}");
@@ -237,7 +234,7 @@ fn longest_path(alloc: Global) -> Result<Path, Fail> {
 #[test]
 fn base_without_room_for_a_flag(rt: HostRuntime) -> Result<(), Fail> {
     let base = longest_path(rt.alloc())?;
-    let mut disk = QuietDisk::new(tree_of(rt.alloc(), "/ dir 0755")?);
+    let mut disk = Quiet::new(tree_of(rt.alloc(), "/ dir 0755")?);
     assert!(rt; !recover(rt.alloc(), &mut disk, &base)?);
     Ok(())
 }

@@ -3,22 +3,22 @@ ghost use Rattle.std.specs.Prelude.{◌≡◌, OnErr};
 ghost use Rattle.tree_disk.specs.declared.disk.DiskStop.TheVariants.{Memory};
 ghost use Rattle.tree_disk.specs.Untold.{untold, untold_laws};
 
-use super::disk::QuietDisk;
 use cny_base::{Mode, Names, Path, Target};
+use disk_words::Quiet;
 use std::alloc::Global;
 use tree_disk::{DiskStop, Look, TreeDisk};
 
 /// Each call is a word and its path, with a semicolon behind.
 #[derive(Drop)]
 pub struct ListedDisk {
-    inner: QuietDisk,
+    inner: Quiet,
     pub calls: String,
     left: u32,
 }
 
 impl ListedDisk {
     /// A disk that lists so many calls.
-    pub fn new(alloc: Global, inner: QuietDisk, left: u32) -> ListedDisk {
+    pub fn new(alloc: Global, inner: Quiet, left: u32) -> ListedDisk {
         ListedDisk {
             inner,
             calls: String::new(alloc),

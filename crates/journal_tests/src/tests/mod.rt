@@ -1,6 +1,5 @@
 mod applied;
 mod crashes;
-mod disk;
 mod found;
 mod listed;
 mod runs;

@@ -1,9 +1,9 @@
 // Runs of the journal that are cut off, and crashes.
 ghost use Rattle.std.specs.Prelude.{◌≤◌, IfOk, length};
 
-use super::disk::QuietDisk;
 use super::trees::{BASE, puts_of, tree_of};
 use cny_base::{Path, Stop};
+use disk_words::Quiet;
 use std::alloc::Global;
 use std::test::Fail;
 use tree_journal::{apply, recover};
@@ -41,12 +41,12 @@ pub struct Applied {
 
 /// Applies a write set to a tree.
 pub fn apply_to(alloc: Global, tree: MemoryTree, puts: &str) -> Result<Applied, Fail> {
-    let mut disk = QuietDisk::new(tree);
+    let mut disk = Quiet::new(tree);
     let puts = puts_of(alloc, puts)?;
     let answer = apply(alloc, &mut disk, &base_path(alloc)?, &puts);
     let is_done = end_of(answer)?.is_some();
     Ok(Applied {
-        tree: disk.inner,
+        tree: disk.into_tree(),
         is_done,
     })
 }
@@ -74,11 +74,11 @@ pub fn recover_up_to(
 ) -> Result<Recovered, Fail> {
     let mut image = tree.crash(alloc, pick)?;
     image.stop_after(calls);
-    let mut disk = QuietDisk::new(image);
+    let mut disk = Quiet::new(image);
     let answer = recover(alloc, &mut disk, &base_path(alloc)?);
     let was_committed = end_of(answer)?;
     Ok(Recovered {
-        tree: disk.inner,
+        tree: disk.into_tree(),
         was_committed,
     })
 }

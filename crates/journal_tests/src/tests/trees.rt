@@ -126,6 +126,14 @@ pub fn node_of(want: Want) -> Result<Option<Node>, Fail> {
     }
 }
 
+/// Puts what a line says, or takes away what stands there; then all counts as synced.
+pub fn put_node(alloc: Global, tree: &mut MemoryTree, line: &str) -> Result<(), Fail> {
+    let Put { path, want } = put_of(alloc, line)?;
+    let node = node_of(want)?;
+    tree.edit(alloc, &path, node)?;
+    Ok(())
+}
+
 /// The disk of the tree with these lines, all synced.
 pub fn tree_of(alloc: Global, text: &str) -> Result<MemoryTree, Fail> {
     let mut nodes = Vec::new(alloc);

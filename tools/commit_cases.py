@@ -1,18 +1,10 @@
-#!/usr/bin/env python3
-"""Prints the calls that the program commit_vectors is run on, or the answers that it has to give.
-
-Usage: tools/commit_vectors.py stdin >crates/commit_vectors/stdin
-       tools/commit_vectors.py stdout >crates/commit_vectors/stdout
+"""The lines of repository_vectors that commit change sets, and the answers that it has to give to them.
 
 A line of the calls is the name of a call and its arguments, with a tab before each: the tree of a repository, and change sets.
 What a commit does is taken here from docs/FORMATS.md alone, over a tree as a dictionary; the streams are read and written by
 tools/stream_model.py, the repository's files by tools/repository_vectors.py. Nothing is shared with the program that is tested.
 """
-import sys
 from hashlib import sha1
-
-# So that a run leaves nothing behind in tools/.
-sys.dont_write_bytecode = True
 
 import rel_vectors as relatives
 from repository_vectors import BASE, Damaged, collection, commit_bytes, commit_path, component, content, load, nodes_text, on, tree_of
@@ -421,14 +413,7 @@ def given(call, words):
     return [words[0].hex().encode(), words[1]] if call == b"stop" else [text.hex().encode() for text in words]
 
 
-def main():
-    asked = sys.argv[1:]
-    if asked not in (["stdin"], ["stdout"]):
-        sys.exit(__doc__)
+def lines(asked):
+    """The fields of each line of the calls, or of the answers."""
     for call, tree, words in calls():
-        fields = [call, nodes_text(tree)] + given(call, words) if asked == ["stdin"] else answer(call, tree, words)
-        sys.stdout.buffer.write(b"\t".join(fields) + b"\n")
-
-
-if __name__ == "__main__":
-    main()
+        yield [call, nodes_text(tree)] + given(call, words) if asked == "stdin" else answer(call, tree, words)

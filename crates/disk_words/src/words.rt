@@ -33,13 +33,27 @@ pub fn mode_at(parts: &[String], place: usize) -> Result<Mode, Stop> {
     }
 }
 
+/// The part at a place, as a decimal number below 2^32.
+pub fn number_at(parts: &[String], place: usize) -> Result<u32, Stop> {
+    match text_at(parts, place)?.parse::<u32>() {
+        Ok(number) => Ok(number),
+        Err(_) => Err(Stop::Unreadable),
+    }
+}
+
+/// The part at a place, as the number that picks a crash.
+pub fn pick_at(parts: &[String], place: usize) -> Result<u64, Stop> {
+    match text_at(parts, place)?.parse::<u64>() {
+        Ok(pick) => Ok(pick),
+        Err(_) => Err(Stop::Unreadable),
+    }
+}
+
 /// The part at a place, as contents in hexadecimal digits; none for a hyphen.
 pub fn contents_at(alloc: Global, parts: &[String], place: usize) -> Result<Bytes, Stop> {
     let text = text_at(parts, place)?;
-    if text == "-" {
-        return Ok(Bytes::new(alloc, b"")?);
-    }
-    match hex::decode(alloc, text) {
+    let digits = if text == "-" { "" } else { text };
+    match hex::decode(alloc, digits) {
         Ok(bytes) => Ok(Bytes::from_vec(bytes)),
         Err(_) => Err(Stop::Unreadable),
     }
@@ -47,10 +61,21 @@ pub fn contents_at(alloc: Global, parts: &[String], place: usize) -> Result<Byte
 
 /// The part at a place, as the name of a content in hexadecimal digits.
 pub fn name_at(parts: &[String], place: usize) -> Result<[u8; 20], Stop> {
-    let digits = text_at(parts, place)?;
     let mut name = [0u8; 20];
-    match hex::decode_to_slice(digits, &mut name) {
+    match hex::decode_to_slice(text_at(parts, place)?, &mut name) {
         Ok(()) => Ok(name),
         Err(_) => Err(Stop::Unreadable),
     }
+}
+
+/// An answer of one word.
+pub fn word(alloc: Global, word: &str) -> Result<String, Stop> {
+    Ok(String::from_str(alloc, word)?)
+}
+
+/// Appends a field behind a tab.
+pub fn push_field(line: &mut String, text: &str) -> Result<(), Stop> {
+    line.push('\t')?;
+    line.push_str(text)?;
+    Ok(())
 }

@@ -49,19 +49,18 @@ fn nodes_of(alloc: Global, text: &str) -> Result<Nodes, Stop> {
     Ok(Nodes::new(nodes))
 }
 
-/// A disk with `/` of mode 0755 and these nodes. Its first call fails where `fails` is set.
-pub fn disk_of(alloc: Global, text: &str, fails: bool) -> Result<Quiet, Stop> {
-    let mut numbers = Vec::new(alloc);
-    if fails {
-        numbers.push(1)?;
-    }
-    match MemoryTree::new(alloc, nodes_of(alloc, text)?, Fails::new(numbers)) {
-        Ok(tree) => Ok(Quiet {
-            tree,
-            faults: 0,
-            calls: 0,
-        }),
+/// A tree of these nodes. Its call of this number fails; none does where it is 0.
+pub fn tree_with(alloc: Global, nodes: Nodes, failing: u64) -> Result<MemoryTree, Stop> {
+    let fails = Fails::new(vec![in alloc; failing]?);
+    match MemoryTree::new(alloc, nodes, fails) {
+        Ok(tree) => Ok(tree),
         Err(TreeFault::NotATree) => Err(Stop::Unreadable),
         Err(TreeFault::Memory) => Err(Stop::Memory),
     }
+}
+
+/// A disk with `/` of mode 0755 and these nodes. Its call of this number fails; none does where it is 0.
+pub fn disk_of(alloc: Global, text: &str, failing: u64) -> Result<Quiet, Stop> {
+    let nodes = nodes_of(alloc, text)?;
+    Ok(Quiet::new(tree_with(alloc, nodes, failing)?))
 }

@@ -1,5 +1,4 @@
-//! A disk in memory that tells contracts nothing of its tree: what its nodes don't allow counts as a fault. It counts the calls
-//! that read.
+//! A disk in memory that tells contracts nothing of its tree: what its nodes don't allow counts as a fault. It counts its calls.
 ghost use Rattle.std.specs.Prelude.{◌≡◌, ◌≤◌, IfOk, IsErrOf, Ok};
 ghost use Rattle.cny_base.specs.Count.{Rose};
 ghost use Rattle.tree_disk.specs.declared.disk.DiskStop.TheVariants.{Failed, Memory, Refused};
@@ -10,15 +9,29 @@ use std::alloc::Global;
 use tree_disk::{DiskStop, Look, TreeDisk};
 use tree_memory::MemoryTree;
 
-/// The disk, how often a call of it failed or wasn't allowed, and how many looks at paths, reads of files and lists of
-/// directories were made.
-#[derive(Drop)]
+/// The disk, how often a call of it failed or wasn't allowed, and how many calls were made: all of them, and those that looked at a
+/// path, read of a file or listed a directory.
 pub struct Quiet {
     pub tree: MemoryTree,
     pub faults: u64,
+    pub calls: u64,
     pub looks: u64,
     pub reads: u64,
     pub lists: u64,
+}
+
+// Written by hand, so that to let a value go is a single call wherever a function ends early.
+impl Drop for Quiet {
+    fn drop(self) {
+        let Quiet {
+            tree: _tree,
+            faults: _faults,
+            calls: _calls,
+            looks: _looks,
+            reads: _reads,
+            lists: _lists,
+        } = self;
+    }
 }
 
 impl Quiet {
@@ -27,10 +40,24 @@ impl Quiet {
         Quiet {
             tree,
             faults: 0,
+            calls: 0,
             looks: 0,
             reads: 0,
             lists: 0,
         }
+    }
+
+    /// The tree.
+    pub fn into_tree(self) -> MemoryTree {
+        let Quiet {
+            tree,
+            faults: _faults,
+            calls: _calls,
+            looks: _looks,
+            reads: _reads,
+            lists: _lists,
+        } = self;
+        tree
     }
 
     // The answer of a call. It is never that the tree doesn't allow the call.
@@ -41,6 +68,7 @@ impl Quiet {
         ensures failed { IsErrOf result Failed → Rose self.old.faults self.new.faults }
         ensures memory { IsErrOf result Memory → self.new.faults ≡ self.old.faults }
     {
+        self.calls = self.calls.saturating_add(1);
         match answer {
             Ok(value) => Ok(value),
             Err(DiskStop::Memory) => Err(DiskStop::Memory),
