@@ -822,8 +822,9 @@ def migration_lines():
     yield from stopped_lines(tree, [DATABASE, record_path(1), record_path(2), content_path(2, sha1(b"abX")), b"/etc/foo"])
 
 
-# the numbers of calls after which a migration is stopped
+# the numbers of calls after which a migration is stopped, and the crashes that are tried then
 STOPS = range(0, 60)
+PICKS = (0, 1, 4_294_967_295, 0x5555555555555555)
 
 
 def stopped_lines(tree, paths):
@@ -833,7 +834,7 @@ def stopped_lines(tree, paths):
     yield f"within\t{tree_text(tree)}\t{STOPS[0]}", "failed"
     yield f"within\t{tree_text(tree)}\t{STOPS[-1]}", "ended"
     for calls in STOPS:
-        for pick in (0, 1, 7):
+        for pick in PICKS:
             call = ["migrate", str(pick), tree_text(tree), str(calls), ";".join(path.decode() for path in paths)]
             yield "\t".join(call), stands_text(after, paths)
 

@@ -177,14 +177,14 @@ def nodes_seen(before, after):
     return [before] + ([None] if before and after and kinds[0] != kinds[1] else []) + ([after] if after != before else [])
 
 
-def seen_line(label, system, call):
+def seen_line(label, system, call, nodes=None):
     """What others read at each path that the call changes, and at one that it doesn't."""
     after, said = call.on(system)
     old, new = system.root.outer, after.root.outer
     paths = [path for path in sorted(old.keys() | new.keys()) if old.get(path) != new.get(path)] + [b"/var"]
     told = []
     for path in paths:
-        nodes = nodes_seen(old.get(path), new.get(path))
-        told.append("".join(";" + (node_word(path, node, shown) if node else "nothing " + path.decode()) for node in nodes))
-    line = "\t".join(["seen", label, root_field(system.root.nodes()), ",".join(path.decode() for path in paths), call.words])
+        there = nodes_seen(old.get(path), new.get(path))
+        told.append("".join(";" + (node_word(path, node, shown) if node else "nothing " + path.decode()) for node in there))
+    line = "\t".join(["seen", label, root_field(nodes or system.root.nodes()), ",".join(path.decode() for path in paths), call.words])
     return line, "\t".join([said, *told])

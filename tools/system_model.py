@@ -45,10 +45,6 @@ class Trove(lists.Trove):
         made = {path: stream_record(one, owner) for path, one in self.records.items()}
         super().__init__(name, revision, flavor, refs, requires, provides, made)
 
-    @property
-    def version(self):
-        return f"/h@n:t/{self.revision}"
-
 
 def database_size(troves):
     """How many bytes the database of these troves has, whatever the numbers of its jobs: one item more for each of them."""

@@ -9,6 +9,7 @@ other; `stop` cuts one off after each number of calls of the disk, takes the cra
 the call again; `fail` lets each call of the disk fail in turn; `seen` tells what others read at paths meanwhile. The answers come
 from tools/system_model.py, which shares nothing with the program that is tested.
 """
+import hashlib
 import itertools
 import random
 import sys
@@ -17,13 +18,16 @@ import sys
 sys.dont_write_bytecode = True
 
 from plan_model import COLLIDING, contents
+from record_model import read_record, record_bytes
 from root_model import BASE, parent, record_path, saved_path
+from stack_vectors import OLD_DATABASE_2_BY_HAND, OLD_RECORD_2_BY_HAND, OLD_RECORD_BY_HAND
+from state_vectors import database_bytes
 from stream_model import Owner
 from system_lines import ROLLBACK, Call, Edit, adopt, erase, fail_line, root_field, rollback_to, run_line, seen_line, standing, stop_lines, update, verify
 from system_model import System, Trove, cut_off
 
 SEED = 20261128
-PICKS = (0, 1, 4_294_967_295)
+PICKS = (0, 1, 4_294_967_295, 0x5555555555555555)
 
 # ---- troves and roots
 
@@ -430,7 +434,8 @@ def steps():
     yield "adopt", INSTALLED.edit("/etc/foo", stands("abX")), adopt([M2, OTHER], carried, replacing), PICKS, True
     yield "verify_edit", EDITED, verify(far=["abc"]), PICKS[1:2], True
     yield "kinds", kinds.update(KINDS_2, (), list(map(contents, KINDS_TEXTS)))[0], ROLLBACK, (), False
-    yield "several", edited.on(EDITED)[0], rollback_to(1), PICKS, True
+    yield "several", edited.on(EDITED)[0], rollback_to(1), PICKS[:1], False
+    yield "several", update([M2], carried).on(INSTALLED)[0], rollback_to(1), PICKS, True
     yield "list alone", INSTALLED, update([M3], carried), (), False
     yield "nothing changes", INSTALLED, update([M], carried), PICKS[:1], True
     yield "edited_file_refused", EDITED, update([M2], carried), PICKS[:1], True
@@ -477,6 +482,66 @@ def unready_line(label, nodes, why, *calls):
     """A root that can't be made ready: each call says why, and nothing changes."""
     line = "\t".join(["run", label, root_field(nodes), *(call.words for call in calls)])
     return line, "\t".join([why] * (len(calls) + 1) + [standing(nodes)])
+
+
+def unready_failures(label, nodes, why, call):
+    """The same where a call of the disk fails, and where the call is cut off."""
+    texts = [f"{answer}, {why}, {hashlib.sha1(standing(nodes).encode()).hexdigest()}, again {why}" for answer in ("failed", why)]
+    yield "\t".join(["fail", label, root_field(nodes), call.words]), "\t".join(["failed", *texts])
+    for pick in PICKS:
+        yield "\t".join(["stop", label, root_field(nodes), str(pick), call.words]), "\t".join(["stopped", texts[0].removeprefix("failed, ")])
+
+
+def fixed_dirs_lines():
+    """Roots without one of their fixed directories, which are only read."""
+    calls = [update([M], ["abc"]), erase(["foo:runtime"]), adopt([M], ["abc"]), ROLLBACK, rollback_to(1), verify()]
+    outer = {b"/etc": dir_(), b"/etc/foo": stands("abc")}
+    for node in (None, stands("no directory"), link_("etc")):
+        there = {} if node is None else {b"/var": node}
+        below = {b"/var": dir_()} if node is None else {b"/var": dir_(), b"/var/lib": node}
+        for nodes, path in (({**outer, **there}, "/var"), ({**outer, **below}, "/var/lib")):
+            yield unready_line("fixed directories", nodes, f"parent {path}", *calls)
+            yield from unready_failures("fixed directories", nodes, f"parent {path}", calls[0])
+    # any mode does
+    for mode in (0o700, 0o1777):
+        system = EMPTY.edit("/var", dir_(mode)).edit("/var/lib", dir_(mode))
+        yield run_line("fixed directories", system, calls[0], ROLLBACK)
+
+
+def in_format_1(system):
+    """The files of a root as format 1 has them."""
+    nodes = system.root.nodes()
+    nodes[BASE + b"/db"] = "f", 0o644, database_bytes(1, system.root.troves, *system.root.numbers())
+    for job in system.root.jobs:
+        record = read_record(nodes[record_path(job.number)][2], 2)
+        nodes[record_path(job.number)] = "f", 0o644, record_bytes(record, 1)
+    return nodes
+
+
+def migrated_lines():
+    """Roots of format 1: the first call on them brings them to format 2, whatever it is and whatever it answers."""
+    replaced, _ = update([foo("abcd", "2.0-1-1")], ["abcd"], options=("replace",)).on(EDITED)
+    nodes = in_format_1(replaced)
+    assert nodes[BASE + b"/db"][2] == OLD_DATABASE_2_BY_HAND
+    assert [nodes[record_path(number)][2] for number in (1, 2)] == [OLD_RECORD_BY_HAND, OLD_RECORD_2_BY_HAND]
+    calls = [ROLLBACK, rollback_to(1), rollback_to(3), update([M3], ["abc"]), update([M2]), erase(["foo:runtime"]), erase(["absent:lib"]), adopt([OTHER]), verify()]
+    yield run_line("format 1", replaced, nodes=nodes)
+    for call in calls:
+        yield run_line("format 1", replaced, call, ROLLBACK, ROLLBACK, nodes=nodes)
+        yield fail_line("format 1", replaced, call, nodes)
+    for call in (ROLLBACK, update([M3], ["abc"])):
+        yield from stop_lines("format 1", replaced, call, PICKS, nodes)
+        yield seen_line("format 1", replaced, call, nodes)
+    yield run_line("format 1", INSTALLED, update([M2], ["abcd"]), ROLLBACK, ROLLBACK, nodes=in_format_1(INSTALLED))
+    empty = EMPTY.numbered(0, 0)
+    yield run_line("format 1", empty, update([M], ["abc"]), ROLLBACK, nodes=in_format_1(empty))
+    # its files are read before anything is written
+    for number in (1, 2):
+        path = record_path(number)
+        for text in (OLD_RECORD_BY_HAND[:-1], replaced.root.nodes()[path][2]):
+            yield unready_line("format 1", {**nodes, path: ("f", 0o644, text)}, f"damaged {path.decode()}", *calls)
+    database = BASE + b"/db"
+    yield unready_line("format 1", {**nodes, database: ("f", 0o644, nodes[database][2][:-1])}, f"damaged {database.decode()}", *calls)
 
 
 def hostile_lines():
@@ -620,7 +685,7 @@ def random_lines():
 
 
 def lines():
-    topics = [worked_rows, verify_lines, dropped_lines, places_lines, refusal_lines, large_lines, sources_lines, nothing_lines, kinds_lines, several_lines, step_lines, half_done_lines, hostile_lines, random_lines]
+    topics = [worked_rows, verify_lines, dropped_lines, places_lines, refusal_lines, large_lines, sources_lines, nothing_lines, kinds_lines, several_lines, step_lines, half_done_lines, fixed_dirs_lines, migrated_lines, hostile_lines, random_lines]
     for topic in topics:
         yield from topic()
 

@@ -1,17 +1,15 @@
 //! The database of a root.
 ghost use Rattle.std.specs.Prelude.{IfOk};
-ghost use Rattle.local_db.specs.Database.{IsDb};
 ghost use Rattle.system_state.specs.declared.format.Format.TheVariants.{Two};
 ghost use Rattle.system_state.specs.Stores.{IsDatabase};
 
 use crate::ends::end_text;
 use crate::quiet::Quiet;
-use cny_base::{Fault, Path, Stop as DiskEnd};
-use local_db::{Db, encode, load};
+use cny_base::Stop as DiskEnd;
+use local_db::Db;
+use root_ready::ready;
 use state_words::Stop;
 use std::alloc::Global;
-use system_state::{base_path, distinct_databases};
-use tree_journal::recover;
 use trove_id::{TroveId, id_text};
 
 fn push_id(alloc: Global, line: &mut String, id: &TroveId) -> Result<(), Stop> {
@@ -65,62 +63,13 @@ impl Drop for Unready {
     }
 }
 
-// Why a database has no stream.
-fn unwritten(fault: Fault) -> Stop {
-    match fault {
-        Fault::Memory => Stop::Memory,
-        Fault::Refused(_) => Stop::Unreadable,
-    }
-}
-
-// Nothing, where the database has room in format 2.
-fn check_room(alloc: Global, db: &Db) -> Result<(), Stop>
-    requires { IsDb db.now }
-    ensures { IfOk result (λ done. IsDatabase Two db.now.installed db.now.oldest db.now.newest) }
-{
-    distinct_databases();
-    match encode(alloc, db) {
-        Ok(_) => Ok(()),
-        Err(fault) => Err(unwritten(fault)),
-    }
-}
-
-fn with_room(alloc: Global, db: Db) -> Result<Db, Unready>
-    requires { IsDb db }
-    ensures { IfOk result (λ same. IsDatabase Two same.installed same.oldest same.newest) }
-{
-    match check_room(alloc, &db) {
-        Ok(()) => Ok(db),
-        Err(stop) => Err(Unready::Stopped(stop)),
-    }
-}
-
-/// The database of a disk.
-pub fn loaded(alloc: Global, disk: &mut Quiet) -> Result<Db, Unready>
-    ensures { IfOk result (λ db. IsDatabase Two db.installed db.oldest db.newest) }
-{
-    match load(alloc, disk) {
-        Ok(db) => with_room(alloc, db),
-        Err(end) => Err(Unready::of(alloc, end)),
-    }
-}
-
-fn recovered(alloc: Global, disk: &mut Quiet, base: &Path) -> Result<Db, Unready>
-    ensures { IfOk result (λ db. IsDatabase Two db.installed db.oldest db.newest) }
-{
-    match recover(alloc, disk, base) {
-        Ok(_) => loaded(alloc, disk),
-        Err(end) => Err(Unready::of(alloc, end)),
-    }
-}
-
-/// The database of a disk once it is recovered.
+/// The database of a disk once it is made ready.
 pub fn readied(alloc: Global, disk: &mut Quiet) -> Result<Db, Unready>
     ensures { IfOk result (λ db. IsDatabase Two db.installed db.oldest db.newest) }
 {
-    match base_path(alloc) {
-        Ok(base) => recovered(alloc, disk, &base),
-        Err(_) => Err(Unready::Stopped(Stop::Memory)),
+    match ready(alloc, disk) {
+        Ok(db) => Ok(db),
+        Err(end) => Err(Unready::of(alloc, end)),
     }
 }
 
@@ -129,7 +78,7 @@ fn told(alloc: Global, db: Db) -> Result<String, Stop> {
     db_text(alloc, &db)
 }
 
-/// The text of the database of a disk once it is recovered, or of why there is none.
+/// The text of the database of a disk once it is made ready, or of why there is none.
 pub fn ready_text(alloc: Global, disk: &mut Quiet) -> Result<String, Stop> {
     match readied(alloc, disk) {
         Ok(db) => told(alloc, db),

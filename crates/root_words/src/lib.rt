@@ -14,7 +14,7 @@ mod quiet;
 
 pub use carried::{are_in_order, carried_of};
 pub use contents::{content_of, contents_of};
-pub use databases::{Unready, db_text, loaded, readied, ready_text};
+pub use databases::{Unready, db_text, readied, ready_text};
 pub use ends::{end_text, is_refusal};
 pub use failing::{Call, failed_once, stopped};
 pub use far::{Far, far_of};

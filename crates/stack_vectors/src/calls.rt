@@ -144,6 +144,13 @@ fn migrate_on(alloc: Global, disk: &mut Quiet) -> Result<(), DiskEnd> {
     Ok(())
 }
 
+fn pick_at(parts: &[String], place: usize) -> Result<u64, Stop> {
+    match text_at(parts, place)?.parse::<u64>() {
+        Ok(pick) => Ok(pick),
+        Err(_) => Err(Stop::Unreadable),
+    }
+}
+
 // What stands at the paths once the root is brought to format 2.
 fn migrated_text(alloc: Global, disk: &mut Quiet, paths: &str) -> Result<String, Stop> {
     match migrate_on(alloc, disk) {
@@ -153,19 +160,19 @@ fn migrated_text(alloc: Global, disk: &mut Quiet, paths: &str) -> Result<String,
 }
 
 // The root that a crash leaves, after bringing it to format 2 was stopped after so many calls of the disk.
-fn stopped_root(alloc: Global, nodes: &str, calls: u32, pick: u32) -> Result<Quiet, Stop> {
+fn stopped_root(alloc: Global, nodes: &str, calls: u32, pick: u64) -> Result<Quiet, Stop> {
     let mut disk = root_of(alloc, nodes, 0)?;
     disk.tree.stop_after(calls);
     if let Err(stop) = migrate_on(alloc, &mut disk) {
         let _text = stop_text(alloc, stop)?;
     }
-    Ok(Quiet::new(disk.tree.crash(alloc, u64::from(pick))?))
+    Ok(Quiet::new(disk.tree.crash(alloc, pick)?))
 }
 
 // `migrate PICK TREE CALLS PATHS`: what stands at the paths once the root is brought to format 2, after that was stopped after so
 // many calls of the disk, and then crashed as the number picks.
 fn migrate(alloc: Global, parts: &[String]) -> Result<String, Stop> {
-    let (pick, calls) = (number_at(parts, 1)?, number_at(parts, 3)?);
+    let (pick, calls) = (pick_at(parts, 1)?, number_at(parts, 3)?);
     let mut disk = stopped_root(alloc, text_at(parts, 2)?, calls, pick)?;
     migrated_text(alloc, &mut disk, text_at(parts, 4)?)
 }
