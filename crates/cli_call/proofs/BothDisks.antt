@@ -2,15 +2,16 @@
 use Rattle.std.proofs.Common.{◌≡◌, Result, Ok, Err, IfOk, refl, sym, ◌∙◌, subst, inl, inr}
 use Rattle.cny_base.specs.declared.stop.Stop.{Stop}
 use Rattle.tree_disk.specs.Disk.{DiskModel}
+use Rattle.local_db.specs.declared.db.Db.{Db}
 use Rattle.repo_index.specs.Catalogue.{CatalogueParts}
 use Rattle.repo_state.specs.Files.{HoldsCatalogue}
 use Rattle.repository.specs.Loading.{IsCatalogue}
 use Rattle.cli_call.specs.declared.failure.Failure.{Failure}
 use Rattle.cli_call.specs.Call.{OpensBoth}
-use Rattle.cli_call.specs.FixedDirs.{fixed_dirs}
-use Rattle.cli_call.specs.Opening.{Opens, no_test, nothing_read}
+use Rattle.cli_call.specs.Opening.{Opens, no_test}
+use Rattle.cli_call.specs.RootOpening.{OpensSystem}
 use Rattle.cli_call.specs.Stops.{root_result, repository_result}
-use Rattle.cli_call.specs.Stores.{root_store, repository_store}
+use Rattle.cli_call.specs.Stores.{repository_store}
 
 same_failure : {X : Type 0} {f e : Failure} → ◌≡◌ {A = Result X Failure} (Err f) (Err e) → f ≡ e
 same_failure h = cc h
@@ -18,23 +19,23 @@ same_failure h = cc h
 same_value : {X : Type 0} {a b : X} → ◌≡◌ {A = Result X Failure} (Ok a) (Ok b) → a ≡ b
 same_value h = cc h
 
-opened_root : {T : Type 0} {root_disk : DiskModel T} (root root' : T) (r : Result (Unit {0}) Stop) (s : Result (Unit {0}) Failure) (u : Unit {0}) → s ≡ root_result r → s ≡ Ok u → Opens root_store root_disk fixed_dirs nothing_read root root' r → Opens root_store root_disk fixed_dirs nothing_read root root' (Ok tt)
-opened_root root root' (Ok x) s u is was opens = opens
+opened_root : {T : Type 0} {root_disk : DiskModel T} (root root' : T) (r : Result Db Stop) (s : Result Db Failure) (u : Db) → s ≡ root_result r → s ≡ Ok u → OpensSystem root_disk root root' r → OpensSystem root_disk root root' (Ok u)
+opened_root {root_disk = root_disk} root root' (Ok x) s u is was opens = subst (λ (d : Db). OpensSystem root_disk root root' (Ok d)) (same_value {X = Db} (sym is ∙ was)) opens
 opened_root root root' (Err st) s u is was opens = absurd (cc (is, was))
 
 module _ {T P : Type 0} {root_disk : DiskModel T} {repo_disk : DiskModel P} (root root' : T) where
-  pub root_stopped : (repo : P) (r : Result (Unit {0}) Stop) (s : Result (Unit {0}) Failure) (e : Failure) → s ≡ root_result r → s ≡ Err e → Opens root_store root_disk fixed_dirs nothing_read root root' r → OpensBoth root_disk repo_disk root root' repo repo (Err e)
+  pub root_stopped : (repo : P) (r : Result Db Stop) (s : Result Db Failure) (e : Failure) → s ≡ root_result r → s ≡ Err e → OpensSystem root_disk root root' r → OpensBoth root_disk repo_disk root root' repo repo (Err e)
   root_stopped repo (Ok x) s e is was opens = absurd (cc (is, was))
-  root_stopped repo (Err st) s e is was opens = inl (record { stop = st; is = sym (same_failure {X = Unit {0}} (sym is ∙ was)); opens = opens; same = refl })
+  root_stopped repo (Err st) s e is was opens = inl (record { stop = st; is = sym (same_failure {X = Db} (sym is ∙ was)); opens = opens; same = refl })
 
-  pub repository_stopped : (repo repo' : P) (r0 : Result (Unit {0}) Stop) (s0 : Result (Unit {0}) Failure) (u : Unit {0}) → s0 ≡ root_result r0 → s0 ≡ Ok u → Opens root_store root_disk fixed_dirs nothing_read root root' r0
+  pub repository_stopped : (repo repo' : P) (r0 : Result Db Stop) (s0 : Result Db Failure) (u : Db) → s0 ≡ root_result r0 → s0 ≡ Ok u → OpensSystem root_disk root root' r0
       → (r : Result CatalogueParts Stop) (s : Result CatalogueParts Failure) (e : Failure) → s ≡ repository_result r → s ≡ Err e → Opens repository_store repo_disk no_test HoldsCatalogue repo repo' r → OpensBoth root_disk repo_disk root root' repo repo' (Err e)
   repository_stopped repo repo' r0 s0 u is0 was0 first (Ok x) s e is was opens = absurd (cc (is, was))
   repository_stopped repo repo' r0 s0 u is0 was0 first (Err st) s e is was opens =
-      inr (record { stop = st; is = sym (same_failure {X = CatalogueParts} (sym is ∙ was)); opens_root = opened_root root root' r0 s0 u is0 was0 first; opens = opens })
+      inr (record { stop = st; is = sym (same_failure {X = CatalogueParts} (sym is ∙ was)); db = u; opens_root = opened_root root root' r0 s0 u is0 was0 first; opens = opens })
 
-  pub both_opened : (repo repo' : P) (r0 : Result (Unit {0}) Stop) (s0 : Result (Unit {0}) Failure) (u : Unit {0}) → s0 ≡ root_result r0 → s0 ≡ Ok u → Opens root_store root_disk fixed_dirs nothing_read root root' r0
-      → (r : Result CatalogueParts Stop) (s : Result CatalogueParts Failure) (c : CatalogueParts) → s ≡ repository_result r → s ≡ Ok c → Opens repository_store repo_disk no_test HoldsCatalogue repo repo' r → IfOk r IsCatalogue → OpensBoth root_disk repo_disk root root' repo repo' (Ok (record { catalogue = c }))
+  pub both_opened : (repo repo' : P) (r0 : Result Db Stop) (s0 : Result Db Failure) (u : Db) → s0 ≡ root_result r0 → s0 ≡ Ok u → OpensSystem root_disk root root' r0
+      → (r : Result CatalogueParts Stop) (s : Result CatalogueParts Failure) (c : CatalogueParts) → s ≡ repository_result r → s ≡ Ok c → Opens repository_store repo_disk no_test HoldsCatalogue repo repo' r → IfOk r IsCatalogue → OpensBoth root_disk repo_disk root root' repo repo' (Ok (record { db = u; catalogue = c }))
   both_opened repo repo' r0 s0 u is0 was0 first (Err st) s c is was opens rules = absurd (cc (is, was))
   both_opened repo repo' r0 s0 u is0 was0 first (Ok x) s c is was opens rules =
       let same : x ≡ c = same_value {X = CatalogueParts} (sym is ∙ was) in

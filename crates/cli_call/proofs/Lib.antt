@@ -1,6 +1,6 @@
 pub mod InputBytes
-pub mod Recovering
 pub mod OpeningDisks
+pub mod OpeningRoot
 pub mod LoadingRepository
 pub mod BothDisks
 pub mod Passing

@@ -10,8 +10,8 @@ use Rattle.repo_index.specs.Catalogue.{CatalogueParts}
 use Rattle.repo_state.specs.Damage.{IsDamagedCommit}
 use Rattle.repo_state.specs.Files.{HoldsCatalogue}
 use Rattle.repository.specs.Looks.{Looks}
-use Rattle.cli_call.specs.Opening.{RecoversAt, IsOpen, Opens, OpeningStops, no_test}
-use Rattle.cli_call.specs.Recovered.{IsKept}
+use Rattle.cli_call.specs.Opening.{IsOpen, Opens, OpeningStops, no_test}
+use Rattle.root_ready.specs.Recovered.{RecoversAt, IsKept}
 use Rattle.cli_call.specs.StoreLaws.{nothing_done}
 use Rattle.cli_call.specs.Stores.{repository_store}
 use Rattle.cli_call.proofs.OpeningDisks.{is_open, opens_loaded, recovered_on}

@@ -10,17 +10,15 @@ use Rattle.tree_disk.specs.Disk.{DiskModel, IsDisk, IsImageOf, HasRead}
 use Rattle.tree_disk.specs.Confined.{Among, LeavesOnly}
 use Rattle.tree_disk.specs.ConfinedLaws.{confined_read, confined_then, leaves_then, leaves_step, leaves_weaker}
 use Rattle.tree_disk.specs.Moments.{rose_before, same_images}
-use Rattle.tree_disk.specs.Steps.{no_name, Found, Tests}
+use Rattle.tree_disk.specs.Steps.{no_name}
 use Rattle.tree_disk.specs.Unfailed.{UnlessFailed, unfailed_then, unfailed_weaker}
 use Rattle.tree_journal.specs.Recovery.{is_committed, RecoversTo, at_rest, by_log, RecoversAsThen, IsRecovered, IsDamagedAt}
 use Rattle.tree_journal.specs.Recovering.{IsVisibleIn}
 use Rattle.tree_journal.specs.Staging.{outcome}
 use Rattle.cli_call.specs.CommandLaws.{read_shown}
-use Rattle.cli_call.specs.Opening.{RecoversAt, RecoveryStops, IsOpen, Opens, OpeningStops, nothing_read}
-use Rattle.cli_call.specs.FixedDirs.{RefusesPath}
-use Rattle.cli_call.specs.Recovered.{RecoversToNone, IsKept, RefusesLog}
+use Rattle.cli_call.specs.Opening.{IsOpen, Opens, OpeningStops}
+use Rattle.root_ready.specs.Recovered.{RecoversAt, RecoveryStops, RecoversToNone, IsKept, RefusesLog}
 use Rattle.cli_call.specs.Store.{Store}
-use Rattle.cli_call.specs.StoreLaws.{kept_so}
 
 visible_itself : (base : Name) (t : Tree) → IsVisibleIn base t t
 visible_itself base t tree r q out = inl refl
@@ -32,21 +30,6 @@ module _ {D X : Type 0} (store : Store X) {disk : DiskModel D} (laws : IsDisk di
 
   read_visible : (old new : D) → HasRead disk old new (Unit {0}) → UnlessFailed disk old new (IsVisibleIn store.base (disk.reads old))
   read_visible old new read = unfailed_weaker (λ t is. subst (IsVisibleIn store.base (disk.reads old)) (sym is) (visible_itself store.base (disk.reads old))) (read_shown laws read)
-
-  -- ---- the disk was only read
-
-  pub opens_read : {V : Type 0} {tests : Tree → Result (Unit {0}) Refusal} {IsRead : Tree → V → Type 0} (old new : D) (e : Stop) → disk.faults old ≤ disk.faults new → (IsTrue disk.tells → HasRead disk old new (Unit {0})) → OpeningStops store disk tests old new e → Opens store disk tests IsRead old new (Err e)
-  opens_read old new e later read stops = record {
-    later = later;
-    images = λ told. read_leaves old new (read told);
-    seen = λ told. read_visible old new (read told);
-    opened = λ told. tt;
-    kept = λ told. subst (IsKept store.base (disk.reads old)) (sym (read told).same.reads) (kept_so store.base (disk.reads old));
-    missing = λ told r is. read told;
-    untouched = λ told none. confined_read laws (Among no_name) (read told);
-    clear = λ told off. confined_read laws (Among no_name) (read told);
-    stops = stops;
-  }
 
   -- ---- it was recovered
 
@@ -141,29 +124,8 @@ module _ {D X : Type 0} (store : Store X) {disk : DiskModel D} (laws : IsDisk di
     had_log = recovered.had_log;
   }
 
-  -- ---- the two ways
-
-  -- the tests stopped
-  found_stops : (tests : Tree → Result (Unit {0}) Refusal) (told : Bool) (expected : Result (Unit {0}) Refusal) (e : Stop) (old new : D) → disk.tells ≡ told → expected ≡ tests (disk.reads old) → (IsTrue disk.tells → HasRead disk old new (Unit {0})) → Found (λ (d : Unit {0}). d) told expected (Err e) (disk.faults old) (disk.faults new) → RefusesPath e → OpeningStops store disk tests old new e
-  found_stops tests told expected stop.Failed old new is same read found of_path = found
-  found_stops tests told expected stop.Memory old new is same read found of_path = tt
-  found_stops tests told expected (stop.Refused r) old new is same read found of_path = record { of_path = of_path; told = λ t. record { same = (read t).same.reads; cause = inr (sym same ∙ found (sym is ∙ t)) } }
-  found_stops tests told expected (stop.Damaged path) old new is same read found of_path = absurd found
-  found_stops tests told expected stop.FarFailed old new is same read found of_path = absurd found
-  found_stops tests told expected (stop.FarDamaged path) old new is same read found of_path = absurd found
-
-  pub tests_stopped : {V : Type 0} {tests : Tree → Result (Unit {0}) Refusal} {IsRead : Tree → V → Type 0} (old new : D) (e : Stop) → Tests disk (λ (d : Unit {0}). d) tests old new (Err e) → RefusesPath e → Opens store disk tests IsRead old new (Err e)
-  tests_stopped {tests = tests} old new e checks of_path = opens_read old new e checks.later checks.same (found_stops tests disk.tells (tests (disk.reads old)) e old new refl refl checks.same checks.found of_path)
-
   pub opens_stopped : {V : Type 0} {tests : Tree → Result (Unit {0}) Refusal} {IsRead : Tree → V → Type 0} (old mid new : D) (s : Result (Unit {0}) Stop) (e : Stop) → s ≡ Err e → (IsTrue disk.tells → HasRead disk old mid (Unit {0})) → (IsTrue disk.tells → tests (disk.reads old) ≡ Ok tt) → disk.faults old ≤ disk.faults mid → RecoversAt disk store.base mid new s → Opens store disk tests IsRead old new (Err e)
   opens_stopped old mid new (Ok x) e is read fixed later recovers = absurd (cc is)
   opens_stopped {tests = tests} {IsRead = IsRead} old mid new (Err f) e is read fixed later recovers =
       let same : f ≡ e = cc is in
       subst (λ (x : Stop). Opens store disk tests IsRead old new (Err x)) same (opens_recovered old mid new (Err f) later read fixed recovers (λ told. tt) (stops_on tests old mid new f later read recovers.stops))
-
-module _ {D X : Type 0} (store : Store X) {disk : DiskModel D} (laws : IsDisk disk) {tests : Tree → Result (Unit {0}) Refusal} where
-  -- a disk of which nothing is read, after its tests
-  pub checked_opens : (old mid new : D) (s : Result (Unit {0}) Stop) → Tests disk (λ (d : Unit {0}). d) tests old mid (Ok tt) → RecoversAt disk store.base mid new s → Opens store disk tests nothing_read old new s
-  checked_opens old mid new (Ok x) checks recovers = opens_recovered store laws old mid new (Ok x) checks.later checks.same checks.found recovers
-      (λ told. is_open store laws old mid new x (checks.same told) (checks.found told) (recovers.recovered told) (recovers.kept told) tt) tt
-  checked_opens old mid new (Err e) checks recovers = opens_stopped store laws old mid new (Err e) e refl checks.same checks.found checks.later recovers

@@ -2,6 +2,7 @@
 use Rattle.std.proofs.Common.{◌≡◌, ℕ, List, Result, Ok, Err, refl, ap, inl}
 use Rattle.std.specs.Prelude.{IsTrue}
 use Rattle.std.specs.FinMap.{get}
+use Rattle.cny_base.specs.declared.refusal.Refusal.{Refusal}
 use Rattle.tree_disk.specs.Tree.{Tree}
 use Rattle.tree_disk.specs.Disk.{DiskModel, IsDisk, HasRead}
 use Rattle.tree_disk.specs.Unfailed.{unfailed_weaker}
@@ -9,8 +10,8 @@ use Rattle.cli_call.specs.declared.failure.Failure.{Failure}
 use Rattle.cli_call.specs.declared.failure.Failure.TheVariants as failure
 use Rattle.cli_call.specs.Alone.{PerformsAlone}
 use Rattle.cli_call.specs.Command.{Disks, Answers, end_of}
-use Rattle.cli_call.specs.CommandLaws.{goes_read, read_shown}
-use Rattle.cli_call.specs.State.{State, nothing, Meaning}
+use Rattle.cli_call.specs.CommandLaws.{answers_more, goes_read, read_shown, shown_more}
+use Rattle.cli_call.specs.State.{State, nothing, Effect, Meaning}
 use Rattle.cli_call.specs.Store.{IsStore, RestsAt}
 use Rattle.cli_call.specs.Stores.{root_store}
 
@@ -21,7 +22,7 @@ AnswersAlone root_disk m input root (Err (failure.Refused r)) = IsTrue root_disk
 AnswersAlone root_disk m input root (Err failure.RootFault) = Unit {0}
 AnswersAlone root_disk m input root (Err failure.Memory) = Unit {0}
 AnswersAlone root_disk m input root (Err failure.RepositoryFault) = ⊥
-AnswersAlone root_disk m input root (Err (failure.Damaged path)) = ⊥
+AnswersAlone root_disk m input root (Err (failure.Damaged path)) = IsTrue root_disk.tells → (s : State) → RestsAt root_store root_disk root s.root → ⊥
 AnswersAlone root_disk m input root (Err failure.Usage) = ⊥
 AnswersAlone root_disk m input root (Err failure.InputFault) = ⊥
 AnswersAlone root_disk m input root (Err failure.OutputFault) = ⊥
@@ -33,7 +34,7 @@ module _ {T P : Type 0} {root_disk : DiskModel T} (repo_disk : DiskModel P) (roo
   answers_alone s told rests (Err failure.RootFault) h = inl refl
   answers_alone s told rests (Err failure.Memory) h = inl refl
   answers_alone s told rests (Err failure.RepositoryFault) h = absurd h
-  answers_alone s told rests (Err (failure.Damaged path)) h = absurd h
+  answers_alone s told rests (Err (failure.Damaged path)) h = absurd (h told s rests)
   answers_alone s told rests (Err failure.Usage) h = absurd h
   answers_alone s told rests (Err failure.InputFault) h = absurd h
   answers_alone s told rests (Err failure.OutputFault) h = absurd h
@@ -50,3 +51,18 @@ module _ {T P : Type 0} {root_disk : DiskModel T} (repo_disk : DiskModel P) (roo
       seen = unfailed_weaker (λ t is. inl is) (read_shown root_laws (read told));
     };
   }
+
+-- a meaning that has all outcomes of another was performed too
+pub alone_more : {T P : Type 0} {root_disk : DiskModel T} {repo_disk : DiskModel P} (one two : Meaning) (from input : List ℕ) → ((s : State) (outcome : Result Effect Refusal) → one.IsOutcome s from outcome → two.IsOutcome s input outcome)
+    → (old new : Disks T P) (result : Result (List ℕ) Failure) → PerformsAlone root_disk repo_disk one from old new result → PerformsAlone root_disk repo_disk two input old new result
+alone_more {root_disk = root_disk} one two from input more old new result done = record {
+  repo = done.repo;
+  told = λ told s rests. let d = done.told told s rests in record {
+    next = d.next;
+    answers = answers_more (more s) s d.next result d.answers;
+    stays = d.stays;
+    root = d.root;
+    outside = λ q out left. d.outside q out (λ e is. left e (more s (Ok e) is));
+    seen = unfailed_weaker (shown_more (more s) s (root_disk.reads old.root)) d.seen;
+  };
+}

@@ -9,14 +9,15 @@ use Rattle.repository.specs.Loading.{IsCatalogue}
 use Rattle.cli_call.specs.declared.failure.Failure.{Failure}
 use Rattle.cli_call.specs.declared.opened.Opened.{Opened}
 use Rattle.cli_call.specs.Command.{disks}
-use Rattle.cli_call.specs.FixedDirs.{fixed_dirs}
 use Rattle.cli_call.specs.Line.{Moment, RunsLine}
-use Rattle.cli_call.specs.Opening.{Opens, no_test, nothing_read}
+use Rattle.cli_call.specs.Opening.{Opens, no_test}
 use Rattle.cli_call.specs.Reading.{ReadsGiven}
 use Rattle.cli_call.specs.Report.{End}
+use Rattle.cli_call.specs.RootOpening.{OpensSystem}
 use Rattle.cli_call.specs.State.{Meaning}
 use Rattle.cli_call.specs.Stops.{root_failure, repository_failure}
-use Rattle.cli_call.specs.Stores.{root_store, repository_store}
+use Rattle.cli_call.specs.Stores.{repository_store}
+use Rattle.local_db.specs.declared.db.Db.{Db}
 
 -- all that a call works on but the error output, at one moment
 pub record CallState (T P : Type 0) : Type 0 where
@@ -31,9 +32,9 @@ call_state source sink input out root repo = record { input = source_state sourc
 module _ {T P : Type 0} (root_disk : DiskModel T) (repo_disk : DiskModel P) where
   -- ---- opening
 
-  -- the root was opened
-  abbrev pub OpensRoot : T → T → Result (Unit {0}) Stop → Type 0
-  OpensRoot old new result = Opens root_store root_disk fixed_dirs nothing_read old new result
+  -- the root was opened, and this is its database
+  abbrev pub OpensRoot : T → T → Result Db Stop → Type 0
+  OpensRoot old new result = OpensSystem root_disk old new result
 
   -- the repository was opened, and this is its catalogue
   abbrev pub OpensRepository : P → P → Result CatalogueParts Stop → Type 0
@@ -50,7 +51,8 @@ module _ {T P : Type 0} (root_disk : DiskModel T) (repo_disk : DiskModel P) wher
   pub record StopsAtRepository (root root' : T) (repo repo' : P) (e : Failure) : Type 0 where
     pub stop : Stop
     pub is : e ≡ repository_failure stop
-    pub opens_root : OpensRoot root root' (Ok tt)
+    pub db : Db
+    pub opens_root : OpensRoot root root' (Ok db)
     pub opens : OpensRepository repo repo' (Err stop)
 
   abbrev pub StopsOpening : T → T → P → P → Failure → Type 0
@@ -58,7 +60,7 @@ module _ {T P : Type 0} (root_disk : DiskModel T) (repo_disk : DiskModel P) wher
 
   -- Both were opened.
   pub record AreOpened (root root' : T) (repo repo' : P) (opened : Opened) : Type 0 where
-    pub opens_root : OpensRoot root root' (Ok tt)
+    pub opens_root : OpensRoot root root' (Ok opened.db)
     pub opens : OpensRepository repo repo' (Ok opened.catalogue)
     pub rules : IsCatalogue opened.catalogue
 

@@ -9,7 +9,7 @@ use Rattle.tree_disk.specs.Tree.{Tree}
 use Rattle.cli_call.specs.declared.failure.Failure.{Failure}
 use Rattle.cli_call.specs.declared.failure.Failure.TheVariants as failure
 use Rattle.cli_call.specs.Command.{IsShown}
-use Rattle.cli_call.specs.FixedDirs.{fixed_dirs}
+use Rattle.root_ready.specs.FixedDirs.{fixed_dirs}
 use Rattle.cli_call.specs.InputLaws.{left_err, left_ok, some_so}
 use Rattle.cli_call.specs.Line.{Ends}
 use Rattle.cli_call.specs.LineLaws.{takes_so}

@@ -20,17 +20,19 @@ use Rattle.cli_call.specs.declared.failure.Failure.TheVariants as failure
 use Rattle.cli_call.specs.declared.opened.Opened.{Opened}
 use Rattle.cli_call.specs.Call.{CallState, OpensRoot, OpensRepository, AreOpened, StopsReading, RunsWith, NotOpened, RunsCall}
 use Rattle.cli_call.specs.Command.{disks, ChangesNothing}
-use Rattle.cli_call.specs.FixedDirs.{fixed_dirs}
+use Rattle.root_ready.specs.FixedDirs.{fixed_dirs}
 use Rattle.cli_call.specs.Line.{Moment, LineCause, RunsLine}
 use Rattle.cli_call.specs.LineLaws.{keeps_still}
 use Rattle.cli_call.specs.Reading.{ReadsGiven}
-use Rattle.cli_call.specs.Recovered.{RecoversToNone, IsKept, IsPathRefusal, RefusesLog}
+use Rattle.root_ready.specs.Recovered.{RecoversToNone, IsKept, IsPathRefusal, RefusesLog}
 use Rattle.cli_call.specs.Report.{End, status_of}
+use Rattle.cli_call.specs.RootOpening.{IsRootKept}
 use Rattle.cli_call.specs.State.{Meaning}
 use Rattle.cli_call.specs.Stops.{root_failure, repository_failure}
 use Rattle.cli_call.specs.Store.{IsSettled}
 use Rattle.cli_call.specs.StoreLaws.{kept_so}
 use Rattle.cli_call.specs.Stores.{root_store, repository_store}
+use Rattle.local_db.specs.declared.db.Db.{Db}
 use Rattle.cli_call.specs.WholeCall.{AreKept, RecoversToCatalogue, RestOpened, IsDamage, OnlyRead}
 
 -- of two causes that are known where a disk is told, the first, or the second by itself
@@ -106,10 +108,18 @@ module _ {T P : Type 0} {root_disk : DiskModel T} {repo_disk : DiskModel P} (roo
   same_repo : now.repo ≡ before.repo → IsKept repository_store.base (repo_disk.reads before.repo) (repo_disk.reads now.repo)
   same_repo same = subst (λ (d : P). IsKept repository_store.base (repo_disk.reads before.repo) (repo_disk.reads d)) (sym same) (kept_so repository_store.base (repo_disk.reads before.repo))
 
+  root_kept : (e : Stop) → OpensRoot root_disk repo_disk before.root now.root (Err e) → IsTrue root_disk.tells → ChangesNothing (Err (root_failure e)) → IsRootKept (root_disk.reads before.root) (root_disk.reads now.root)
+  root_kept (stop.FarDamaged path) opens told none = absurd opens.stops
+  root_kept (stop.Refused r) opens told none = opens.kept told tt
+  root_kept (stop.Damaged path) opens told none = opens.kept told tt
+  root_kept stop.Failed opens told none = absurd none
+  root_kept stop.Memory opens told none = absurd none
+  root_kept stop.FarFailed opens told none = absurd opens.stops
+
   at_root : (e : Stop) → OpensRoot root_disk repo_disk before.root now.root (Err e) → now.repo ≡ before.repo → now.input ≡ before.input → now.out ≡ before.out → CallFacts root_disk repo_disk before now (Err (root_failure e))
   at_root e opens same unread silent = record {
     cause = root_cause e opens unread silent;
-    kept = λ none. record { root = opens.kept; repo = λ told. same_repo same };
+    kept = λ none. record { root = λ told. root_kept e opens told none; repo = λ told. same_repo same };
     settles = root_settles e opens unread;
     root_untouched = opens.untouched;
     repo_untouched = λ told none. subst (λ (d : P). Confined repo_disk (Among no_name) before.repo d) (sym same) (confined_start repo_laws (Among no_name) before.repo);
@@ -141,12 +151,12 @@ module _ {T P : Type 0} {root_disk : DiskModel T} {repo_disk : DiskModel P} (roo
   repo_settles stop.FarFailed opens unread le = absurd opens.stops
   repo_settles (stop.FarDamaged path) opens unread le = absurd opens.stops
 
-  at_repository : (e : Stop) → OpensRoot root_disk repo_disk before.root now.root (Ok tt) → OpensRepository root_disk repo_disk before.repo now.repo (Err e) → now.input ≡ before.input → now.out ≡ before.out → CallFacts root_disk repo_disk before now (Err (repository_failure e))
-  at_repository e opens_root opens unread silent = record {
+  at_repository : (e : Stop) (db : Db) → OpensRoot root_disk repo_disk before.root now.root (Ok db) → OpensRepository root_disk repo_disk before.repo now.repo (Err e) → now.input ≡ before.input → now.out ≡ before.out → CallFacts root_disk repo_disk before now (Err (repository_failure e))
+  at_repository e db opens_root opens unread silent = record {
     cause = repo_cause e opens unread silent;
-    kept = λ none. record { root = opens_root.kept; repo = opens.kept };
+    kept = λ none. record { root = λ told. opens_root.kept told tt; repo = opens.kept };
     settles = repo_settles e opens unread;
-    root_untouched = λ told none. absurd (none (root_disk.reads now.root) (opens_root.opened told).recovers);
+    root_untouched = λ told none. absurd (none (opens_root.opened told).reached.recovered (opens_root.opened told).reached.recovers);
     repo_untouched = opens.untouched;
     repo_within = λ told off. confined_wider (λ p none. absurd cc) (opens.clear told off);
     missing = λ told r is. absurd (never_fixed (opens_root.opened told).fixed is);
@@ -155,7 +165,7 @@ module _ {T P : Type 0} {root_disk : DiskModel T} {repo_disk : DiskModel P} (roo
   pub not_opened : (end : End) → NotOpened root_disk repo_disk before now end → CallFacts root_disk repo_disk before now end
   not_opened end stops = ⊎_elim
       (λ at. subst (λ (x : End). CallFacts root_disk repo_disk before now x) (sym (stops.is ∙ ap Err at.is)) (at_root at.stop at.opens at.same stops.unread stops.silent))
-      (λ at. subst (λ (x : End). CallFacts root_disk repo_disk before now x) (sym (stops.is ∙ ap Err at.is)) (at_repository at.stop at.opens_root at.opens stops.unread stops.silent))
+      (λ at. subst (λ (x : End). CallFacts root_disk repo_disk before now x) (sym (stops.is ∙ ap Err at.is)) (at_repository at.stop at.db at.opens_root at.opens stops.unread stops.silent))
       stops.stops
 
   -- ---- both were opened
@@ -168,7 +178,7 @@ module _ {T P : Type 0} {root_disk : DiskModel T} {repo_disk : DiskModel P} (roo
     last = record { at = disks now.root now.repo opened'; out = now.out }
 
     open_root_untouched : IsTrue root_disk.tells → RecoversToNone root_store.base (root_disk.reads before.root) → Confined root_disk (Among no_name) before.root now.root
-    open_root_untouched told none = absurd (none (root_disk.reads root) (opens.opens_root.opened told).recovers)
+    open_root_untouched told none = absurd (none (opens.opens_root.opened told).reached.recovered (opens.opens_root.opened told).reached.recovers)
 
     open_repo_untouched : IsTrue repo_disk.tells → RecoversToNone repository_store.base (repo_disk.reads before.repo) → Confined repo_disk (Among no_name) before.repo now.repo
     open_repo_untouched told none = absurd (none (repo_disk.reads repo) (opens.opens.opened told).recovers)
@@ -179,8 +189,8 @@ module _ {T P : Type 0} {root_disk : DiskModel T} {repo_disk : DiskModel P} (roo
     open_missing : IsTrue root_disk.tells → (r : Refusal) → fixed_dirs (root_disk.reads before.root) ≡ Err r → OnlyRead root_disk repo_disk before now
     open_missing told r is = absurd (never_fixed (opens.opens_root.opened told).fixed is)
 
-    kept_root : root_disk.reads now.root ≡ root_disk.reads root → IsTrue root_disk.tells → IsKept root_store.base (root_disk.reads before.root) (root_disk.reads now.root)
-    kept_root same told = subst (λ (t : Tree). IsKept root_store.base (root_disk.reads before.root) t) (sym same) (opens.opens_root.kept told)
+    kept_root : root_disk.reads now.root ≡ root_disk.reads root → IsTrue root_disk.tells → IsRootKept (root_disk.reads before.root) (root_disk.reads now.root)
+    kept_root same told = subst (λ (t : Tree). IsRootKept (root_disk.reads before.root) t) (sym same) (opens.opens_root.kept told tt)
 
     kept_repo : repo_disk.reads now.repo ≡ repo_disk.reads repo → IsTrue repo_disk.tells → IsKept repository_store.base (repo_disk.reads before.repo) (repo_disk.reads now.repo)
     kept_repo same told = subst (λ (t : Tree). IsKept repository_store.base (repo_disk.reads before.repo) t) (sym same) (opens.opens.kept told)

@@ -10,16 +10,13 @@ use Rattle.cny_flow.specs.Flow.{SinkState}
 use Rattle.cny_base.specs.declared.stop.Stop.TheVariants as stop
 use Rattle.tree_disk.specs.Disk.{DiskModel, IsDisk}
 use Rattle.tree_disk.specs.Confined.{Among}
-use Rattle.tree_disk.specs.ConfinedLaws.{confined_start}
+use Rattle.tree_disk.specs.ConfinedLaws.{confined_start, leaves_weaker}
 use Rattle.tree_disk.specs.Steps.{no_name}
 use Rattle.tree_disk.specs.Unfailed.{unfailed_start}
-use Rattle.tree_journal.specs.Recovering.{IsVisibleIn}
 use Rattle.cli_call.specs.declared.failure.Failure.{Failure}
 use Rattle.cli_call.specs.declared.failure.Failure.TheVariants as failure
 use Rattle.cli_call.specs.declared.opened.Opened.{Opened}
 use Rattle.cli_call.specs.Command.{disks, AreReady}
-use Rattle.cli_call.specs.FixedDirsLaws.{same_fixed}
-use Rattle.cli_call.specs.FixedPaths.{directory_path}
 use Rattle.cli_call.specs.Call.{CallState, AreOpened, RunsCall}
 use Rattle.cli_call.specs.CallFacts.{SettlesSo, CallFacts, call_facts}
 use Rattle.cli_call.specs.CallEnds.{CallEnds, next_any}
@@ -30,9 +27,11 @@ use Rattle.cli_call.specs.InputLaws.{some_so}
 use Rattle.cli_call.specs.Reading.{ReadsGiven}
 use Rattle.cli_call.specs.Report.{End, status_of, Tells, Reports}
 use Rattle.cli_call.specs.RootCallLaws.{root_call}
-use Rattle.cli_call.specs.State.{State, Effect, Meaning}
+use Rattle.cli_call.specs.State.{State, Effect, Meaning, tree_of}
+use Rattle.cli_call.specs.RootLaws.{reached_dirs}
+use Rattle.cli_call.specs.RootOpening.{ShowsBetween}
 use Rattle.cli_call.specs.Store.{IsStore}
-use Rattle.cli_call.specs.StoreLaws.{nothing_done, kept_so, none_yet}
+use Rattle.cli_call.specs.StoreLaws.{as_state, nothing_done, none_yet}
 use Rattle.cli_call.specs.Stores.{root_store, repository_store}
 use Rattle.cli_call.specs.WholeCall.{Outcome, FromStates, RestBoth, IsRefused, Answers, LiveBoth, Settles, HasInputFault, HasOutputFault, IsCutShort, IsCut, HasRootFault, HasRepositoryFault, HasDamage, NoFaults, IsCallOf, ErrorLine}
 
@@ -368,13 +367,17 @@ memory_call {root_disk = root_disk} root_laws of_root m before = inl (record {
     is = refl;
     opens = record {
       later = omega arith;
-      images = λ told. none_yet root_laws root_store.base before.root;
-      seen = λ told. unfailed_start before.root (IsVisibleIn root_store.base (root_disk.reads before.root));
+      from = λ told s rec. record {
+        images = leaves_weaker (as_state root_disk before.root s rec) (none_yet root_laws root_store.base before.root);
+        seen = unfailed_start before.root (ShowsBetween (root_disk.reads before.root) (tree_of s));
+        reads = rec;
+        outside = λ clear q out. refl;
+      };
       opened = λ told. tt;
-      kept = λ told. kept_so root_store.base (root_disk.reads before.root);
+      kept = λ told none. absurd none;
       missing = λ told r is. nothing_done root_laws before.root;
       untouched = λ told none. confined_start root_laws (Among no_name) before.root;
-      clear = λ told off. confined_start root_laws (Among no_name) before.root;
+      rules = tt;
       stops = tt;
     };
     same = refl;
@@ -387,10 +390,12 @@ memory_call {root_disk = root_disk} root_laws of_root m before = inl (record {
 pub opened_ready : {T P : Type 0} {root_disk : DiskModel T} {repo_disk : DiskModel P} → IsDisk root_disk → (root root' : T) (repo repo' : P) (opened : Opened) → AreOpened root_disk repo_disk root root' repo repo' opened → AreReady root_disk repo_disk (disks root' repo' opened)
 opened_ready {root_disk = root_disk} root_laws root root' repo repo' opened opens = record {
   root = λ told. let is = opens.opens_root.opened told in record {
-    fixed = same_fixed (root_disk.reads root) (root_disk.reads root') (root_laws.reads_well_formed root) directory_path is.recovers ∙ is.fixed;
+    fixed = reached_dirs (root_disk.reads root) (root_disk.reads root') (root_laws.reads_well_formed root) is.reached ∙ is.fixed;
     flag_clear = is.settled.flag_clear;
     synced = is.settled.synced;
+    holds = is.holds;
   };
+  database = opens.opens_root.rules;
   repo = λ told. let is = opens.opens.opened told in record { settled = is.settled; catalogue = is.value_is };
   rules = opens.rules;
 }

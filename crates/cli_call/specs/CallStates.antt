@@ -4,28 +4,28 @@ use Rattle.std.specs.Prelude.{IsTrue}
 use Rattle.std.specs.FinMap.{get}
 use Rattle.cny_base.specs.declared.stop.Stop.{Stop}
 use Rattle.cny_base.specs.declared.stop.Stop.TheVariants as stop
-use Rattle.tree_disk.specs.Tree.{Tree}
 use Rattle.tree_disk.specs.Disk.{DiskModel, IsDisk}
 use Rattle.tree_disk.specs.Confined.{LeavesOnly}
 use Rattle.tree_disk.specs.Unfailed.{UnlessFailed, unfailed_start, unfailed_weaker}
 use Rattle.tree_journal.specs.Recovery.{is_committed, RecoversAsThen}
+use Rattle.local_db.specs.declared.db.Db.{Db}
 use Rattle.cli_call.specs.declared.failure.Failure.{Failure}
 use Rattle.cli_call.specs.declared.opened.Opened.{Opened}
 use Rattle.cli_call.specs.Call.{CallState, OpensRoot, OpensRepository, AreOpened, NotOpened}
 use Rattle.cli_call.specs.CallEnds.{HasEffect, CallEnds, small, no_root_effect, no_repo_effect, no_unread_effect, outcome_of, read_left, run_ends, shown_so, unread_ends, unread_left}
 use Rattle.cli_call.specs.Command.{disks, KeepsOthers, IsShown}
-use Rattle.cli_call.specs.FixedDirs.{fixed_dirs}
+use Rattle.root_ready.specs.FixedDirs.{fixed_dirs}
 use Rattle.cli_call.specs.Line.{Moment, RunsLine}
 use Rattle.cli_call.specs.Reading.{given, Gives, ReadsGiven}
 use Rattle.cli_call.specs.Report.{End, status_of}
-use Rattle.cli_call.specs.RootLaws.{root_laws}
+use Rattle.cli_call.specs.RootLaws.{root_laws, opened_root_rests}
 use Rattle.cli_call.specs.RootStates.{fixed_state, root_ends, root_left}
 use Rattle.cli_call.specs.State.{State, Meaning, tree_of, OneDisk}
 use Rattle.cli_call.specs.Stops.{root_failure, repository_failure}
-use Rattle.cli_call.specs.Store.{IsStore, Recovers, OneOf, RestsAt}
+use Rattle.cli_call.specs.Store.{IsStore, Recovers, OneOf, IsEntryOr, RestsAt}
 use Rattle.cli_call.specs.StoreLaws.{none_yet, never_blocked, never_damaged, rest_reads, opened_rests, kept_recovers}
 use Rattle.cli_call.specs.Stores.{root_store, repository_store}
-use Rattle.cli_call.specs.WholeCall.{Outcome, left_of, RecoversBoth, RestBoth, LivesCall, ShowsCall}
+use Rattle.cli_call.specs.WholeCall.{Outcome, left_of, RecoversBoth, RestBoth, LivesRoot, LivesRepository, ShowsCall}
 
 module _ {T P : Type 0} (root_disk : DiskModel T) (repo_disk : DiskModel P) where
   -- the state after the call, and what each disk went through
@@ -33,8 +33,8 @@ module _ {T P : Type 0} (root_disk : DiskModel T) (repo_disk : DiskModel P) wher
     pub next : State
     pub ends : CallEnds (Outcome m s input) s next before.out now.out end
     pub apart : OneDisk s next
-    pub root : LivesCall root_store root_disk s.root next.root before.root now.root
-    pub repo : LivesCall repository_store repo_disk s.repository next.repository before.repo now.repo
+    pub root : LivesRoot root_disk s.root next.root before.root now.root
+    pub repo : LivesRepository repo_disk s.repository next.repository before.repo now.repo
     pub rests : HasEffect end → RestBoth root_disk repo_disk now next
     pub root_reads : OneOf root_store s.root next.root (root_disk.reads now.root)
     pub repo_reads : OneOf repository_store s.repository next.repository (repo_disk.reads now.repo)
@@ -53,18 +53,18 @@ module _ {T P : Type 0} {root_disk : DiskModel T} {repo_disk : DiskModel P} (roo
     next = s;
     ends = root_ends repo_disk root_disk_laws m before now input root_told s recovers.root e opens;
     apart = inl refl;
-    root = inl (opens.images root_told);
+    root = inl (opens.from root_told s.root recovers.root).images;
     repo = inl (subst (λ (d : P). LeavesOnly repo_disk before.repo d (RecoversAsThen repo_disk repository_store.base before.repo)) (sym same) (none_yet repo_disk_laws repository_store.base before.repo));
     rests = λ h. absurd (no_root_effect e h);
-    root_reads = inl (kept_recovers root_laws (root_disk.reads before.root) (root_disk.reads now.root) s.root (opens.kept root_told) recovers.root);
+    root_reads = inl (opens.from root_told s.root recovers.root).reads;
     repo_reads = inl (subst (λ (d : P). Recovers repository_store (repo_disk.reads d) s.repository) (sym same) recovers.repo);
-    outside = λ clear q out left. ap (λ (t : Tree). get t q) ((opens.kept root_told).same clear);
+    outside = λ clear q out left. (opens.from root_told s.root recovers.root).outside clear q out;
     seen = record {
       ready = now.root;
       reached = inr refl;
       recovery_later = opens.later;
       command_later = omega arith;
-      recovery = opens.seen root_told;
+      recovery = (opens.from root_told s.root recovers.root).seen;
       command = unfailed_start now.root (IsShown (Outcome m s input) s (root_disk.reads now.root));
     };
     left = root_left repo_disk root_disk_laws m before now root_told s recovers.root e opens unread;
@@ -88,23 +88,23 @@ module _ {T P : Type 0} {root_disk : DiskModel T} {repo_disk : DiskModel P} (roo
   repo_left stop.FarFailed opens le = absurd opens.stops
   repo_left (stop.FarDamaged path) opens le = absurd opens.stops
 
-  from_repository : (e : Stop) → OpensRoot root_disk repo_disk before.root now.root (Ok tt) → OpensRepository root_disk repo_disk before.repo now.repo (Err e) → CallFrom root_disk repo_disk m input s before now (Err (repository_failure e))
-  from_repository e first opens = record {
+  from_repository : (e : Stop) (db : Db) → OpensRoot root_disk repo_disk before.root now.root (Ok db) → OpensRepository root_disk repo_disk before.repo now.repo (Err e) → CallFrom root_disk repo_disk m input s before now (Err (repository_failure e))
+  from_repository e db first opens = record {
     next = s;
     ends = repo_ends e opens;
     apart = inl refl;
-    root = inl (first.images root_told);
+    root = inl (first.from root_told s.root recovers.root).images;
     repo = inl (opens.images repo_told);
     rests = λ h. absurd (no_repo_effect e h);
-    root_reads = inl (kept_recovers root_laws (root_disk.reads before.root) (root_disk.reads now.root) s.root (first.kept root_told) recovers.root);
+    root_reads = inl (first.from root_told s.root recovers.root).reads;
     repo_reads = inl (kept_recovers repo_laws (repo_disk.reads before.repo) (repo_disk.reads now.repo) s.repository (opens.kept repo_told) recovers.repo);
-    outside = λ clear q out left. ap (λ (t : Tree). get t q) ((first.kept root_told).same clear);
+    outside = λ clear q out left. (first.from root_told s.root recovers.root).outside clear q out;
     seen = record {
       ready = now.root;
       reached = inr refl;
       recovery_later = first.later;
       command_later = omega arith;
-      recovery = first.seen root_told;
+      recovery = (first.from root_told s.root recovers.root).seen;
       command = unfailed_start now.root (IsShown (Outcome m s input) s (root_disk.reads now.root));
     };
     left = λ le. absurd (repo_left e opens le);
@@ -113,7 +113,7 @@ module _ {T P : Type 0} {root_disk : DiskModel T} {repo_disk : DiskModel P} (roo
   pub from_unopened : (end : End) → NotOpened root_disk repo_disk before now end → CallFrom root_disk repo_disk m input s before now end
   from_unopened end stops = ⊎_elim
       (λ at. subst (λ (x : End). CallFrom root_disk repo_disk m input s before now x) (sym (stops.is ∙ ap Err at.is)) (from_root at.stop at.opens at.same stops.unread))
-      (λ at. subst (λ (x : End). CallFrom root_disk repo_disk m input s before now x) (sym (stops.is ∙ ap Err at.is)) (from_repository at.stop at.opens_root at.opens))
+      (λ at. subst (λ (x : End). CallFrom root_disk repo_disk m input s before now x) (sym (stops.is ∙ ap Err at.is)) (from_repository at.stop at.db at.opens_root at.opens))
       stops.stops
 
   -- ---- both were opened
@@ -126,10 +126,10 @@ module _ {T P : Type 0} {root_disk : DiskModel T} {repo_disk : DiskModel P} (roo
     last_ = record { at = disks now.root now.repo opened'; out = now.out }
 
     fixed : fixed_dirs (tree_of s.root) ≡ Ok tt
-    fixed = fixed_state root_disk_laws before root_told s recovers.root root (opens.opens_root.opened root_told)
+    fixed = fixed_state root_disk_laws before root_told s recovers.root root opened.db (opens.opens_root.opened root_told)
 
     root_rests : RestsAt root_store root_disk root s.root
-    root_rests = opened_rests root_laws before.root root tt s.root (opens.opens_root.opened root_told) recovers.root
+    root_rests = opened_root_rests before.root root opened.db s.root (opens.opens_root.opened root_told) recovers.root
 
     repo_rests : RestsAt repository_store repo_disk repo s.repository
     repo_rests = opened_rests repo_laws before.repo repo opened.catalogue s.repository (opens.opens.opened repo_told) recovers.repo
@@ -144,18 +144,18 @@ module _ {T P : Type 0} {root_disk : DiskModel T} {repo_disk : DiskModel P} (roo
           next = s;
           ends = unread_ends m s input fixed before.out now.out e reads gives;
           apart = inl refl;
-          root = inl (subst (λ (d : T). LeavesOnly root_disk before.root d (RecoversAsThen root_disk root_store.base before.root)) (sym same_root) (opens.opens_root.images root_told));
+          root = inl (subst (λ (d : T). LeavesOnly root_disk before.root d (IsEntryOr root_store root_disk before.root s.root)) (sym same_root) (opens.opens_root.from root_told s.root recovers.root).images);
           repo = inl (subst (λ (d : P). LeavesOnly repo_disk before.repo d (RecoversAsThen repo_disk repository_store.base before.repo)) (sym same_repo) (opens.opens.images repo_told));
           rests = λ h. absurd (no_unread_effect e reads h);
           root_reads = inl (subst (λ (d : T). Recovers root_store (root_disk.reads d) s.root) (sym same_root) (rest_reads root_laws root s.root root_rests));
           repo_reads = inl (subst (λ (d : P). Recovers repository_store (repo_disk.reads d) s.repository) (sym same_repo) (rest_reads repo_laws repo s.repository repo_rests));
-          outside = λ clear q out left. ap (λ (d : T). get (root_disk.reads d) q) same_root ∙ ap (λ (t : Tree). get t q) ((opens.opens_root.kept root_told).same clear);
+          outside = λ clear q out left. ap (λ (d : T). get (root_disk.reads d) q) same_root ∙ (opens.opens_root.from root_told s.root recovers.root).outside clear q out;
           seen = record {
             ready = root;
-            reached = inl (opens.opens_root.opened root_told).recovers;
+            reached = inl (opens.opens_root.opened root_told).reached;
             recovery_later = opens.opens_root.later;
             command_later = omega (arith, ap root_disk.faults same_root);
-            recovery = opens.opens_root.seen root_told;
+            recovery = (opens.opens_root.from root_told s.root recovers.root).seen;
             command = subst (λ (d : T). UnlessFailed root_disk root d (IsShown (Outcome m s input) s (root_disk.reads root))) (sym same_root) (unfailed_start root (IsShown (Outcome m s input) s (root_disk.reads root)));
           };
           left = unread_left m s fixed e reads;
@@ -171,19 +171,19 @@ module _ {T P : Type 0} {root_disk : DiskModel T} {repo_disk : DiskModel P} (roo
             next = f.next;
             ends = run_ends m s input fixed bytes gives before.out now.out f.next end f.ends;
             apart = f.apart;
-            root = inr (record { opened = root; opening = opens.opens_root.images root_told; lives = f.root.images });
+            root = inr (record { opened = root; opening = (opens.opens_root.from root_told s.root recovers.root).images; lives = f.root.images });
             repo = inr (record { opened = repo; opening = opens.opens.images repo_told; lives = f.repo.images });
             rests = λ h. record { root = f.root.rests (small end h); repo = f.repo.rests (small end h) };
             root_reads = f.root.reads;
             repo_reads = f.repo.reads;
             outside = λ clear q out left.
-                f.outside q out (λ e of. left e (outcome_of m s input bytes (Ok e) fixed gives of)) ∙ ap (λ (t : Tree). get t q) ((opens.opens_root.kept root_told).same clear);
+                f.outside q out (λ e of. left e (outcome_of m s input bytes (Ok e) fixed gives of)) ∙ (opens.opens_root.from root_told s.root recovers.root).outside clear q out;
             seen = record {
               ready = root;
-              reached = inl (opens.opens_root.opened root_told).recovers;
+              reached = inl (opens.opens_root.opened root_told).reached;
               recovery_later = opens.opens_root.later;
               command_later = runs.root_later;
-              recovery = opens.opens_root.seen root_told;
+              recovery = (opens.opens_root.from root_told s.root recovers.root).seen;
               command = unfailed_weaker (shown_so m s input fixed bytes gives) f.seen;
             };
             left = λ le. read_left m s fixed bytes reads;

@@ -1,24 +1,27 @@
 -- What a command's own function does over two disks that are open.
-use Rattle.std.specs.Prelude.{◌≡◌, ◌⊎◌, ℕ, ◌≤◌, false, IsTrue, List, Result, Ok, Err}
+use Rattle.std.specs.Prelude.{◌≡◌, ◌⊎◌, ℕ, ◌≤◌, ◌<◌, false, IsTrue, List, Result, Ok, Err, Contains}
 use Rattle.std.specs.FinMap.{get}
 use Rattle.cny_base.specs.Count.{Rose}
+use Rattle.cny_base.specs.Reserved.{is_reserved}
 use Rattle.cny_base.specs.declared.refusal.Refusal.{Refusal}
 use Rattle.tree_disk.specs.Tree.{Name, Tree}
 use Rattle.tree_disk.specs.Disk.{DiskModel}
 use Rattle.tree_disk.specs.Clear.{is_within}
 use Rattle.tree_disk.specs.Confined.{Among, Confined, IsSynced, LeavesOnly}
 use Rattle.tree_disk.specs.Unfailed.{UnlessFailed}
-use Rattle.journal_log.specs.Own.{is_own}
 use Rattle.repo_state.specs.Files.{repository_base, HoldsCatalogue}
 use Rattle.repository.specs.Loading.{IsCatalogue}
+use Rattle.system_state.specs.declared.format.Format.TheVariants.{Two}
+use Rattle.system_state.specs.Stores.{HoldsDatabase, IsDatabase}
+use Rattle.system_state.specs.SystemState.{StackItem, is_listed, newest}
 use Rattle.tree_journal.specs.Recovery.{is_committed}
-use Rattle.tree_journal.specs.Visible.{IsVisible}
 use Rattle.cli_call.specs.declared.failure.Failure.{Failure}
 use Rattle.cli_call.specs.declared.failure.Failure.TheVariants as failure
 use Rattle.cli_call.specs.declared.opened.Opened.{Opened}
-use Rattle.cli_call.specs.FixedDirs.{fixed_dirs}
+use Rattle.root_ready.specs.FixedDirs.{fixed_dirs}
 use Rattle.cli_call.specs.Report.{End, status_of}
-use Rattle.cli_call.specs.State.{State, Effect, Meaning, tree_of, after, Takes, IsNext, OneDisk}
+use Rattle.cli_call.specs.RootOpening.{ShowsBetween}
+use Rattle.cli_call.specs.State.{RootState, State, Effect, Meaning, tree_of, after, Takes, IsNext, OneDisk}
 use Rattle.cli_call.specs.Store.{Store, OneOf, HasDamagedFile, IsSettled, RestsAt}
 use Rattle.cli_call.specs.Stores.{root_store, repository_store}
 
@@ -33,11 +36,12 @@ pub record Disks (T P : Type 0) : Type 0 where
 abbrev pub disks : {T P : Type 0} → T → P → Opened → Disks T P
 disks root repo opened = record { root = root; repo = repo; opened = opened }
 
--- a root on which a command begins: the fixed directories stand, and it is at rest
-pub record IsReady {D : Type 0} (disk : DiskModel D) (d : D) : Type 0 where
+-- a root on which a command begins: the fixed directories stand, it is at rest, and holds this database in format 2
+pub record IsReady {D : Type 0} (disk : DiskModel D) (opened : Opened) (d : D) : Type 0 where
   pub fixed : fixed_dirs (disk.reads d) ≡ Ok tt
   pub flag_clear : is_committed root_store.base (disk.reads d) ≡ false
   pub synced : IsSynced disk d
+  pub holds : HoldsDatabase Two (disk.reads d) opened.db.installed opened.db.oldest opened.db.newest
 
 -- a repository on which a command begins: it is at rest, and this is its catalogue
 pub record IsLoaded {D : Type 0} (disk : DiskModel D) (opened : Opened) (d : D) : Type 0 where
@@ -77,18 +81,29 @@ Answers IsOutcome s next (Err failure.InputFault) = ⊥
 Answers IsOutcome s next (Err failure.OutputFault) = ⊥
 Answers IsOutcome s next (Err (failure.Damaged path)) = ⊥
 
--- no effect that is an outcome changes this name of the root
+-- the path of none of the jobs of the one stack that are newer than those of the other
+abbrev pub IsNoPath : List StackItem → List StackItem → Name → Type 0
+IsNoPath stack other q = (o : StackItem) → Contains stack o → newest other < o.number → is_listed o.paths q ≡ false
+
+-- From the one system to the other this name isn't touched: its node is the same, and it is no path of a job that was taken back or
+-- added.
+pub record LeavesName (s t : RootState) (q : Name) : Type 0 where
+  pub node : get (tree_of t) q ≡ get (tree_of s) q
+  pub undone : IsNoPath s.stack t.stack q
+  pub added : IsNoPath t.stack s.stack q
+
+-- no effect that is an outcome touches this name of the root
 abbrev pub IsLeft : (Result Effect Refusal → Type 0) → State → Name → Type 0
-IsLeft IsOutcome s q = (e : Effect) → IsOutcome (Ok e) → get (tree_of (after s e.change).root) q ≡ get (tree_of s.root) q
+IsLeft IsOutcome s q = (e : Effect) → IsOutcome (Ok e) → LeavesName s.root (after s e.change).root q
 
--- Each name of the root but the journal's own that no such effect changes reads as before, however the command ends.
+-- Each name of the root outside its private directory that no such effect touches reads as before, however the command ends.
 abbrev pub KeepsOthers : (Result Effect Refusal → Type 0) → State → Tree → Tree → Type 0
-KeepsOthers IsOutcome s before now = (q : Name) → is_own root_store.base q ≡ false → IsLeft IsOutcome s q → get now q ≡ get before q
+KeepsOthers IsOutcome s before now = (q : Name) → is_reserved q ≡ false → IsLeft IsOutcome s q → get now q ≡ get before q
 
--- What readers of the root see: the tree before; or, at each name but the journal's own, its node, that of an effect which is an
--- outcome, or nothing where just one of the two is a directory.
+-- What readers of the root see: the tree before; or, at each name outside its private directory, the node of the state, that of an
+-- effect which is an outcome, or nothing where just one of the two is a directory.
 abbrev pub IsShown : (Result Effect Refusal → Type 0) → State → Tree → Tree → Type 0
-IsShown IsOutcome s before t = (t ≡ before) ⊎ ((e : Effect) × IsOutcome (Ok e) × IsVisible root_store.base (tree_of s.root) (tree_of (after s e.change).root) t)
+IsShown IsOutcome s before t = (t ≡ before) ⊎ ((e : Effect) × IsOutcome (Ok e) × ShowsBetween (tree_of s.root) (tree_of (after s e.change).root) t)
 
 module _ {T P : Type 0} (root_disk : DiskModel T) (repo_disk : DiskModel P) where
   -- both disks rest and store the state
@@ -98,7 +113,8 @@ module _ {T P : Type 0} (root_disk : DiskModel T) (repo_disk : DiskModel P) wher
 
   -- a command may begin
   pub record AreReady (m : Disks T P) : Type 0 where
-    pub root : IsTrue root_disk.tells → IsReady root_disk m.root
+    pub root : IsTrue root_disk.tells → IsReady root_disk m.opened m.root
+    pub database : IsDatabase Two m.opened.db.installed m.opened.db.oldest m.opened.db.newest
     pub repo : IsTrue repo_disk.tells → IsLoaded repo_disk m.opened m.repo
     pub rules : IsCatalogue m.opened.catalogue
 

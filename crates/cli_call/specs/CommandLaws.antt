@@ -163,7 +163,7 @@ module _ {One Two : Result Effect Refusal → Type 0} (more : (outcome : Result 
   next_more (inl same) = inl same
   next_more (inr takes) = inr (takes_more takes)
 
-  answers_more : (s next : State) (result : Result (List ℕ) Failure) → Answers One s next result → Answers Two s next result
+  pub answers_more : (s next : State) (result : Result (List ℕ) Failure) → Answers One s next result → Answers Two s next result
   answers_more s next (Ok text) h = takes_more h
   answers_more s next (Err (failure.Refused r)) h = (more (Err r) h.0, h.1)
   answers_more s next (Err failure.RootFault) h = next_more h
@@ -174,7 +174,7 @@ module _ {One Two : Result Effect Refusal → Type 0} (more : (outcome : Result 
   answers_more s next (Err failure.InputFault) h = h
   answers_more s next (Err failure.OutputFault) h = h
 
-  shown_more : (s : State) (before t : Tree) → IsShown One s before t → IsShown Two s before t
+  pub shown_more : (s : State) (before t : Tree) → IsShown One s before t → IsShown Two s before t
   shown_more s before t (inl same) = inl same
   shown_more s before t (inr h) = inr (h.0, more (Ok h.0) h.1, h.2)
 

@@ -1,5 +1,5 @@
 -- How a disk is opened: what a crash left is recovered, and what it stores is read.
-use Rattle.std.specs.Prelude.{◌≡◌, ◌⊎◌, ◌≤◌, false, IsTrue, Result, Ok, Err, OnOk, IfOk, IfErr}
+use Rattle.std.specs.Prelude.{◌≡◌, ◌⊎◌, ◌≤◌, false, IsTrue, Result, Ok, Err, IfOk, IfErr}
 use Rattle.cny_base.specs.Count.{Rose}
 use Rattle.cny_base.specs.declared.refusal.Refusal.{Refusal}
 use Rattle.cny_base.specs.declared.stop.Stop.{Stop}
@@ -11,38 +11,9 @@ use Rattle.tree_disk.specs.Steps.{no_name}
 use Rattle.tree_disk.specs.Unfailed.{UnlessFailed}
 use Rattle.journal_log.specs.Own.{StoresSame}
 use Rattle.tree_journal.specs.Recovering.{IsVisibleIn}
-use Rattle.tree_journal.specs.Recovery.{is_committed, RecoversTo, RecoversAsThen, IsRecovered, IsDamagedAt}
-use Rattle.cli_call.specs.Recovered.{RecoversToNone, IsKept, IsPathRefusal, RefusesLog}
+use Rattle.tree_journal.specs.Recovery.{is_committed, RecoversTo, RecoversAsThen}
+use Rattle.root_ready.specs.Recovered.{HasDamagedLog, RecoversToNone, IsKept, IsPathRefusal, RefusesLog}
 use Rattle.cli_call.specs.Store.{Store, HasDamageAtOpening, IsSettled}
-
--- ---- recovering
-
--- the log behind its set commit flag, or a file that it stages, is damaged, and the tree is as it was
-pub record HasDamagedLog {D : Type 0} (disk : DiskModel D) (base : Name) (old new : D) (path : Name) : Type 0 where
-  pub damaged : IsDamagedAt base (disk.reads old) path
-  pub same : disk.reads new ≡ disk.reads old
-
--- why a disk isn't recovered
-abbrev pub RecoveryStops : {D : Type 0} → DiskModel D → Name → D → D → Stop → Type 0
-RecoveryStops disk base old new stop.Failed = Rose (disk.faults old) (disk.faults new)
-RecoveryStops disk base old new stop.Memory = Unit {0}
-RecoveryStops disk base old new (stop.Refused r) = IsPathRefusal r × (IsTrue disk.tells → (disk.reads new ≡ disk.reads old) × RefusesLog base (disk.reads old) r)
-RecoveryStops disk base old new (stop.Damaged path) = IsTrue disk.tells → HasDamagedLog disk base old new path
-RecoveryStops disk base old new stop.FarFailed = ⊥
-RecoveryStops disk base old new (stop.FarDamaged path) = ⊥
-
--- What a crash left of a disk is recovered.
-pub record RecoversAt {D : Type 0} (disk : DiskModel D) (base : Name) (old new : D) (result : Result (Unit {0}) Stop) : Type 0 where
-  pub later : disk.faults old ≤ disk.faults new
-  pub images : IsTrue disk.tells → LeavesOnly disk old new (RecoversAsThen disk base old)
-  pub seen : IsTrue disk.tells → UnlessFailed disk old new (IsVisibleIn base (disk.reads old))
-  pub recovered : IsTrue disk.tells → OnOk result (IsRecovered disk base old new)
-  pub kept : IsTrue disk.tells → IsKept base (disk.reads old) (disk.reads new)
-  pub untouched : IsTrue disk.tells → RecoversToNone base (disk.reads old) → Confined disk (Among no_name) old new
-  pub clear : IsTrue disk.tells → is_committed base (disk.reads old) ≡ false → Confined disk (Among no_name) old new
-  pub stops : IfErr result (RecoveryStops disk base old new)
-
--- ---- opening
 
 -- A disk that was opened: it rests, a crash leaves just what it reads, it stores the same as all that it recovered to, and this is what was read of it.
 pub record IsOpen {D X V : Type 0} (store : Store X) (disk : DiskModel D) (tests : Tree → Result (Unit {0}) Refusal) (IsRead : Tree → V → Type 0) (old new : D) (value : V) : Type 0 where
@@ -92,7 +63,3 @@ pub record Opens {D X V : Type 0} (store : Store X) (disk : DiskModel D) (tests 
 -- a disk without tests
 abbrev pub no_test : Tree → Result (Unit {0}) Refusal
 no_test tree = Ok tt
-
--- of which nothing is read
-abbrev pub nothing_read : Tree → Unit {0} → Type 0
-nothing_read tree value = Unit {0}

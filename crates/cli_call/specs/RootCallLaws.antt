@@ -13,7 +13,7 @@ use Rattle.cli_call.specs.Call.{CallState, OpensRepository}
 use Rattle.cli_call.specs.CallFacts.{CallFacts}
 use Rattle.cli_call.specs.CallKnown.{KnownAlone}
 use Rattle.cli_call.specs.Opening.{MeetsDamage}
-use Rattle.cli_call.specs.Recovered.{IsPathRefusal, RefusesLog}
+use Rattle.root_ready.specs.Recovered.{IsPathRefusal, RefusesLog}
 use Rattle.cli_call.specs.Report.{End, status_of, Tells, Reports}
 use Rattle.cli_call.specs.RootStates.{CallOnRoot}
 use Rattle.cli_call.specs.State.{State, Effect, Meaning, after}

@@ -1,21 +1,46 @@
--- The laws of the root's store.
-use Rattle.std.proofs.Common.{◌≡◌, sym, ◌∙◌}
-use Rattle.tree_disk.specs.Tree.{Tree, WellFormed}
-use Rattle.cli_call.specs.FixedDirs.{fixed_dirs}
-use Rattle.cli_call.specs.FixedDirsLaws.{same_dirs, same_fixed}
-use Rattle.cli_call.specs.FixedPaths.{directory_path}
+-- The laws of the root's store; what follows of a root that recovers to a system, and of one that was opened.
+use Rattle.std.proofs.Common.{◌≡◌, refl, sym, ◌∙◌, inl, inr, ⊎_elim, codes}
+use Rattle.cny_base.specs.Reserved.{is_reserved}
+use Rattle.tree_disk.specs.Tree.{Tree, AgreesOutside, WellFormed}
+use Rattle.tree_disk.specs.Disk.{DiskModel}
+use Rattle.local_db.specs.declared.db.Db.{Db}
+use Rattle.system_state.specs.declared.format.Format.TheVariants.{One, Two}
+use Rattle.system_state.specs.Stores.{StoresSystem}
+use Rattle.system_state.proofs.Frame.{stores_still}
+use Rattle.system_state.proofs.Places.{own_doesnt_count}
+use Rattle.root_ready.specs.FixedDirs.{fixed_dirs}
+use Rattle.root_ready.specs.FixedDirsLaws.{same_fixed}
+use Rattle.root_ready.specs.FixedPaths.{directory_path}
+use Rattle.cli_call.specs.RootOpening.{IsRootOpen, RecoversOutside}
 use Rattle.cli_call.specs.State.{RootState, tree_of}
-use Rattle.cli_call.specs.Store.{IsStore, Recovers}
+use Rattle.cli_call.specs.Store.{IsStore, Recovers, RestsAt}
+use Rattle.cli_call.specs.StoreLaws.{settled_rests}
 use Rattle.cli_call.specs.Stores.{root_store}
 
 pub root_laws : IsStore root_store
 root_laws = record {
-  counted = λ t u x stored same. (stored.0, λ q out. same q out ∙ stored.1 q out);
-  own = λ x q counts. counts;
-  whole = λ t path x damaged stored. damaged;
-  at_opening = λ t path damaged. damaged;
+  counted = λ t u s stored same. ⊎_elim (λ one. inl (stores_still One t u s same one)) (λ two. inr (stores_still Two t u s same two)) stored;
+  own = own_doesnt_count;
+  whole = λ t path s damaged stored. damaged.1 s stored;
+  at_opening = λ t path damaged. (inl damaged.0, damaged.1);
 }
 
+-- outside the private directory a tree is that of each system that it stores
+pub stored_outside : (tree : Tree) (s : RootState) → StoresSystem tree s → AgreesOutside is_reserved tree (tree_of s)
+stored_outside tree s stored = ⊎_elim (λ one. one.managed) (λ two. two.managed) stored
+
+-- trees that are equal outside the private directory have the same fixed directories
+outer_dirs : (t u : Tree) → AgreesOutside is_reserved t u → fixed_dirs t ≡ fixed_dirs u
+outer_dirs t u same = rw (same (codes "/") refl, same (codes "/var") refl, same (codes "/var/lib") refl) refl
+
 -- the fixed directories of a state to which a root recovers
-pub state_dirs : (tree : Tree) (x : RootState) → WellFormed tree → Recovers root_store tree x → fixed_dirs (tree_of x) ≡ fixed_dirs tree
-state_dirs tree x well rec = sym (same_dirs rec.tree x rec.stored.1) ∙ same_fixed tree rec.tree well directory_path rec.recovers
+pub state_dirs : (tree : Tree) (s : RootState) → WellFormed tree → Recovers root_store tree s → fixed_dirs (tree_of s) ≡ fixed_dirs tree
+state_dirs tree s well rec = sym (outer_dirs rec.tree (tree_of s) (stored_outside rec.tree s rec.stored)) ∙ same_fixed tree rec.tree well directory_path rec.recovers
+
+-- and of what an opening reached
+pub reached_dirs : (image tree : Tree) → WellFormed image → RecoversOutside image tree → fixed_dirs tree ≡ fixed_dirs image
+reached_dirs image tree well reached = outer_dirs tree reached.recovered reached.outer ∙ same_fixed image reached.recovered well directory_path reached.recovers
+
+-- a root that was opened rests at each state to which it recovered
+pub opened_root_rests : {D : Type 0} {disk : DiskModel D} (old new : D) (db : Db) (s : RootState) → IsRootOpen disk old new db → Recovers root_store (disk.reads old) s → RestsAt root_store disk new s
+opened_root_rests old new db s is rec = settled_rests root_laws new s is.settled (is.stores s rec)

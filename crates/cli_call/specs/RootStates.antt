@@ -6,30 +6,30 @@ use Rattle.cny_base.specs.declared.refusal.Refusal.{Refusal}
 use Rattle.cny_base.specs.declared.stop.Stop.{Stop}
 use Rattle.cny_base.specs.declared.stop.Stop.TheVariants as stop
 use Rattle.cny_flow.specs.Flow.{SourceState}
-use Rattle.tree_disk.specs.Tree.{Tree}
 use Rattle.tree_disk.specs.Disk.{DiskModel, IsDisk}
 use Rattle.tree_disk.specs.Confined.{LeavesOnly}
 use Rattle.tree_disk.specs.Unfailed.{UnlessFailed, unfailed_start, unfailed_weaker}
 use Rattle.tree_journal.specs.Recovery.{is_committed, RecoversAsThen}
+use Rattle.local_db.specs.declared.db.Db.{Db}
 use Rattle.cli_call.specs.declared.failure.Failure.{Failure}
 use Rattle.cli_call.specs.declared.opened.Opened.{Opened}
 use Rattle.cli_call.specs.Call.{CallState, OpensRoot, OpensRepository, AreOpened, NotOpened}
 use Rattle.cli_call.specs.CallEnds.{HasEffect, CallEnds, small, next_any, no_root_effect, no_repo_effect, no_unread_effect, outcome_of, dir_missing, run_ends, shown_so, unread_ends}
 use Rattle.cli_call.specs.Command.{disks, KeepsOthers, IsShown}
-use Rattle.cli_call.specs.FixedDirs.{fixed_dirs}
+use Rattle.root_ready.specs.FixedDirs.{fixed_dirs}
 use Rattle.cli_call.specs.InputLaws.{some_is}
 use Rattle.cli_call.specs.Line.{Moment, RunsLine}
-use Rattle.cli_call.specs.Opening.{IsOpen, nothing_read}
 use Rattle.cli_call.specs.Reading.{given, Gives, ReadsGiven}
-use Rattle.cli_call.specs.Recovered.{IsKept}
+use Rattle.root_ready.specs.Recovered.{IsKept}
 use Rattle.cli_call.specs.Report.{End, status_of}
-use Rattle.cli_call.specs.RootLaws.{root_laws, state_dirs}
+use Rattle.cli_call.specs.RootLaws.{root_laws, state_dirs, opened_root_rests}
+use Rattle.cli_call.specs.RootOpening.{IsRootOpen}
 use Rattle.cli_call.specs.State.{State, Meaning, tree_of, IsNext}
 use Rattle.cli_call.specs.Stops.{root_failure, repository_failure}
-use Rattle.cli_call.specs.Store.{Recovers, OneOf, RestsAt}
-use Rattle.cli_call.specs.StoreLaws.{never_blocked, never_damaged, rest_reads, opened_rests, kept_recovers, kept_so, none_yet}
+use Rattle.cli_call.specs.Store.{Recovers, OneOf, IsEntryOr, RestsAt}
+use Rattle.cli_call.specs.StoreLaws.{never_blocked, never_damaged, rest_reads, kept_so, none_yet}
 use Rattle.cli_call.specs.Stores.{root_store, repository_store}
-use Rattle.cli_call.specs.WholeCall.{Outcome, left_when, left_of, LivesCall, ShowsCall, IsOpenedOnly}
+use Rattle.cli_call.specs.WholeCall.{Outcome, left_when, left_of, LivesRoot, ShowsCall, IsOpenedOnly}
 
 module _ {T P : Type 0} (root_disk : DiskModel T) (repo_disk : DiskModel P) where
   -- The root was opened, and the repository wasn't.
@@ -45,7 +45,7 @@ module _ {T P : Type 0} (root_disk : DiskModel T) (repo_disk : DiskModel P) wher
     pub ends : StopsForRepository before now end ⊎ CallEnds (Outcome m s input) s next before.out now.out end
     pub is_next : IsNext (Outcome m s input) s next
     pub stays : next.repository ≡ s.repository
-    pub root : LivesCall root_store root_disk s.root next.root before.root now.root
+    pub root : LivesRoot root_disk s.root next.root before.root now.root
     pub rests : HasEffect end → RestsAt root_store root_disk now.root next.root
     pub reads : OneOf root_store s.root next.root (root_disk.reads now.root)
     pub outside : is_committed root_store.base (root_disk.reads before.root) ≡ false → KeepsOthers (Outcome m s input) s (root_disk.reads before.root) (root_disk.reads now.root)
@@ -57,8 +57,8 @@ module _ {T P : Type 0} {root_disk : DiskModel T} (root_disk_laws : IsDisk root_
   dirs : fixed_dirs (tree_of s.root) ≡ fixed_dirs (root_disk.reads before.root)
   dirs = state_dirs (root_disk.reads before.root) s.root (root_disk_laws.reads_well_formed before.root) recovers
 
-  pub fixed_state : (root : T) → IsOpen root_store root_disk fixed_dirs nothing_read before.root root tt → fixed_dirs (tree_of s.root) ≡ Ok tt
-  fixed_state root is_open = dirs ∙ is_open.fixed
+  pub fixed_state : (root : T) (db : Db) → IsRootOpen root_disk before.root root db → fixed_dirs (tree_of s.root) ≡ Ok tt
+  fixed_state root db is_open = dirs ∙ is_open.fixed
 
 -- ---- the root wasn't opened
 
@@ -68,7 +68,7 @@ module _ {T P : Type 0} {root_disk : DiskModel T} (repo_disk : DiskModel P) (roo
     root_ends stop.Failed opens = inl refl
     root_ends stop.Memory opens = inl refl
     root_ends (stop.Refused r) opens = (dir_missing m s input r (dirs root_disk_laws before root_told s recovers ∙ ⊎_elim (λ log. absurd (never_blocked log recovers.recovers)) (λ is. is) (opens.stops.told root_told).cause), refl)
-    root_ends (stop.Damaged path) opens = absurd (never_damaged root_laws root_disk before.root now.root path s.root root_told opens.stops recovers (kept_recovers root_laws (root_disk.reads before.root) (root_disk.reads now.root) s.root (opens.kept root_told) recovers))
+    root_ends (stop.Damaged path) opens = absurd (never_damaged root_laws root_disk before.root now.root path s.root root_told opens.stops recovers (opens.from root_told s.root recovers).reads)
     root_ends stop.FarFailed opens = absurd opens.stops
     root_ends (stop.FarDamaged path) opens = absurd opens.stops
 
@@ -94,36 +94,36 @@ module _ {T P : Type 0} {root_disk : DiskModel T} {repo_disk : DiskModel P} (roo
     ends = inr (root_ends repo_disk root_disk_laws m before now input root_told s recovers e opens);
     is_next = inl refl;
     stays = refl;
-    root = inl (opens.images root_told);
+    root = inl (opens.from root_told s.root recovers).images;
     rests = λ h. absurd (no_root_effect e h);
-    reads = inl (kept_recovers root_laws (root_disk.reads before.root) (root_disk.reads now.root) s.root (opens.kept root_told) recovers);
-    outside = λ clear q out left. ap (λ (t : Tree). get t q) ((opens.kept root_told).same clear);
+    reads = inl (opens.from root_told s.root recovers).reads;
+    outside = λ clear q out left. (opens.from root_told s.root recovers).outside clear q out;
     seen = record {
       ready = now.root;
       reached = inr refl;
       recovery_later = opens.later;
       command_later = omega arith;
-      recovery = opens.seen root_told;
+      recovery = (opens.from root_told s.root recovers).seen;
       command = unfailed_start now.root (IsShown (Outcome m s input) s (root_disk.reads now.root));
     };
   }
 
-  repository_stopped : (e : Stop) → OpensRoot root_disk repo_disk before.root now.root (Ok tt) → OpensRepository root_disk repo_disk before.repo now.repo (Err e) → now.input ≡ before.input → CallOnRoot root_disk repo_disk m input s before now (Err (repository_failure e))
-  repository_stopped e first opens unread = record {
+  repository_stopped : (e : Stop) (db : Db) → OpensRoot root_disk repo_disk before.root now.root (Ok db) → OpensRepository root_disk repo_disk before.repo now.repo (Err e) → now.input ≡ before.input → CallOnRoot root_disk repo_disk m input s before now (Err (repository_failure e))
+  repository_stopped e db first opens unread = record {
     next = s;
     ends = inl (record { stop = e; is = refl; opens = opens; unread = unread });
     is_next = inl refl;
     stays = refl;
-    root = inl (first.images root_told);
+    root = inl (first.from root_told s.root recovers).images;
     rests = λ h. absurd (no_repo_effect e h);
-    reads = inl (kept_recovers root_laws (root_disk.reads before.root) (root_disk.reads now.root) s.root (first.kept root_told) recovers);
-    outside = λ clear q out left. ap (λ (t : Tree). get t q) ((first.kept root_told).same clear);
+    reads = inl (first.from root_told s.root recovers).reads;
+    outside = λ clear q out left. (first.from root_told s.root recovers).outside clear q out;
     seen = record {
       ready = now.root;
       reached = inr refl;
       recovery_later = first.later;
       command_later = omega arith;
-      recovery = first.seen root_told;
+      recovery = (first.from root_told s.root recovers).seen;
       command = unfailed_start now.root (IsShown (Outcome m s input) s (root_disk.reads now.root));
     };
   }
@@ -131,7 +131,7 @@ module _ {T P : Type 0} {root_disk : DiskModel T} {repo_disk : DiskModel P} (roo
   pub root_unopened : (end : End) → NotOpened root_disk repo_disk before now end → CallOnRoot root_disk repo_disk m input s before now end
   root_unopened end stops = ⊎_elim
       (λ at. subst (λ (x : End). CallOnRoot root_disk repo_disk m input s before now x) (sym (stops.is ∙ ap Err at.is)) (root_stopped at.stop at.opens))
-      (λ at. subst (λ (x : End). CallOnRoot root_disk repo_disk m input s before now x) (sym (stops.is ∙ ap Err at.is)) (repository_stopped at.stop at.opens_root at.opens stops.unread))
+      (λ at. subst (λ (x : End). CallOnRoot root_disk repo_disk m input s before now x) (sym (stops.is ∙ ap Err at.is)) (repository_stopped at.stop at.db at.opens_root at.opens stops.unread))
       stops.stops
 
   -- ---- both were opened
@@ -144,10 +144,10 @@ module _ {T P : Type 0} {root_disk : DiskModel T} {repo_disk : DiskModel P} (roo
     to_ = record { at = disks now.root now.repo opened'; out = now.out }
 
     fixed : fixed_dirs (tree_of s.root) ≡ Ok tt
-    fixed = fixed_state root_disk_laws before root_told s recovers root (opens.opens_root.opened root_told)
+    fixed = fixed_state root_disk_laws before root_told s recovers root opened.db (opens.opens_root.opened root_told)
 
     root_rests : RestsAt root_store root_disk root s.root
-    root_rests = opened_rests root_laws before.root root tt s.root (opens.opens_root.opened root_told) recovers
+    root_rests = opened_root_rests before.root root opened.db s.root (opens.opens_root.opened root_told) recovers
 
     -- the input wasn't read
     pub root_unread : (e : Failure) → ReadsGiven m.takes_input before.input now.input (Err e) → Gives m.takes_input input (Err e) → to_ ≡ from_ → CallOnRoot root_disk repo_disk m input s before now (Err e)
@@ -158,16 +158,16 @@ module _ {T P : Type 0} {root_disk : DiskModel T} {repo_disk : DiskModel P} (roo
           ends = inr (unread_ends m s input fixed before.out now.out e reads gives);
           is_next = inl refl;
           stays = refl;
-          root = inl (subst (λ (d : T). LeavesOnly root_disk before.root d (RecoversAsThen root_disk root_store.base before.root)) (sym same_root) (opens.opens_root.images root_told));
+          root = inl (subst (λ (d : T). LeavesOnly root_disk before.root d (IsEntryOr root_store root_disk before.root s.root)) (sym same_root) (opens.opens_root.from root_told s.root recovers).images);
           rests = λ h. absurd (no_unread_effect e reads h);
           reads = inl (subst (λ (d : T). Recovers root_store (root_disk.reads d) s.root) (sym same_root) (rest_reads root_laws root s.root root_rests));
-          outside = λ clear q out left. ap (λ (d : T). get (root_disk.reads d) q) same_root ∙ ap (λ (t : Tree). get t q) ((opens.opens_root.kept root_told).same clear);
+          outside = λ clear q out left. ap (λ (d : T). get (root_disk.reads d) q) same_root ∙ (opens.opens_root.from root_told s.root recovers).outside clear q out;
           seen = record {
             ready = root;
-            reached = inl (opens.opens_root.opened root_told).recovers;
+            reached = inl (opens.opens_root.opened root_told).reached;
             recovery_later = opens.opens_root.later;
             command_later = omega (arith, ap root_disk.faults same_root);
-            recovery = opens.opens_root.seen root_told;
+            recovery = (opens.opens_root.from root_told s.root recovers).seen;
             command = subst (λ (d : T). UnlessFailed root_disk root d (IsShown (Outcome m s input) s (root_disk.reads root))) (sym same_root) (unfailed_start root (IsShown (Outcome m s input) s (root_disk.reads root)));
           };
         }
@@ -182,17 +182,17 @@ module _ {T P : Type 0} {root_disk : DiskModel T} {repo_disk : DiskModel P} (roo
           ends = inr ended;
           is_next = next_any (Outcome m s input) s f.next before.out now.out end ended;
           stays = f.stays;
-          root = inr (record { opened = root; opening = opens.opens_root.images root_told; lives = f.root.images });
+          root = inr (record { opened = root; opening = (opens.opens_root.from root_told s.root recovers).images; lives = f.root.images });
           rests = λ h. f.root.rests (small end h);
           reads = f.root.reads;
           outside = λ clear q out left.
-              f.outside q out (λ e of. left e (outcome_of m s input bytes (Ok e) fixed gives of)) ∙ ap (λ (t : Tree). get t q) ((opens.opens_root.kept root_told).same clear);
+              f.outside q out (λ e of. left e (outcome_of m s input bytes (Ok e) fixed gives of)) ∙ (opens.opens_root.from root_told s.root recovers).outside clear q out;
           seen = record {
             ready = root;
-            reached = inl (opens.opens_root.opened root_told).recovers;
+            reached = inl (opens.opens_root.opened root_told).reached;
             recovery_later = opens.opens_root.later;
             command_later = runs.root_later;
-            recovery = opens.opens_root.seen root_told;
+            recovery = (opens.opens_root.from root_told s.root recovers).seen;
             command = unfailed_weaker (shown_so m s input fixed bytes gives) f.seen;
           };
         }

@@ -3,13 +3,15 @@ use Rattle.std.specs.Prelude.{◌≡◌, ◌⊎◌, ℕ, Bool, List, Result, Ok,
 use Rattle.cny_base.specs.declared.refusal.Refusal.{Refusal}
 use Rattle.tree_disk.specs.Tree.{Tree}
 use Rattle.repo_state.specs.State.{RepositoryState}
+use Rattle.system_state.specs.SystemState.{SystemState}
 
--- what a root stores: its tree
+-- what a root stores: its tree, the installed troves, and the stack of its jobs
 abbrev pub RootState : Type 0
-RootState = Tree
+RootState = SystemState
 
+-- the tree outside the private directory
 abbrev pub tree_of : RootState → Tree
-tree_of x = x
+tree_of x = x.tree
 
 -- what both disks store
 pub record State : Type 0 where

@@ -2,7 +2,7 @@
 use Rattle.std.specs.Prelude.{◌≡◌, ◌⊎◌, false}
 use Rattle.std.specs.FinMap.{get}
 use Rattle.tree_disk.specs.Tree.{Name, Tree}
-use Rattle.tree_disk.specs.Disk.{DiskModel}
+use Rattle.tree_disk.specs.Disk.{DiskModel, IsImageOf}
 use Rattle.tree_disk.specs.Confined.{IsSynced}
 use Rattle.journal_log.specs.Own.{gate, is_own}
 use Rattle.tree_journal.specs.Recovery.{is_committed, RecoversTo}
@@ -40,6 +40,10 @@ pub record Recovers {X : Type 0} (store : Store X) (image : Tree) (x : X) : Type
 -- it recovers to the one state or to the other
 abbrev pub OneOf : {X : Type 0} → Store X → X → X → Tree → Type 0
 OneOf store x y image = Recovers store image x ⊎ Recovers store image y
+
+-- Until a disk is open a crash leaves an image of it at entry, or a tree that recovers to the state.
+abbrev pub IsEntryOr : {D X : Type 0} → Store X → DiskModel D → D → X → Tree → Type 0
+IsEntryOr store disk d x image = IsImageOf disk d image ⊎ Recovers store image x
 
 -- The commit flag isn't set, and this file is damaged.
 pub record HasDamagedFile {X : Type 0} (store : Store X) (tree : Tree) (path : Name) : Type 0 where

@@ -1,5 +1,5 @@
 -- What follows of a disk at rest, and of a disk that recovers to a state.
-use Rattle.std.proofs.Common.{◌≡◌, true, false, Result, refl, sym, ap, ◌∙◌, subst, inl, ⊎_elim, arith}
+use Rattle.std.proofs.Common.{◌≡◌, true, false, Result, refl, sym, ap, ◌∙◌, subst, inl, inr, ⊎_elim, arith}
 use Rattle.std.specs.Prelude.{IsTrue, List, All}
 use Rattle.std.proofs.lemmas.List.Elements.{All-contains}
 use Rattle.cny_base.specs.declared.refusal.Refusal.{Refusal}
@@ -14,8 +14,8 @@ use Rattle.tree_journal.specs.CanBePut.{CanBePut}
 use Rattle.tree_journal.specs.Recovery.{is_flag, is_committed, RecoversTo, at_rest, by_log, RecoversAsThen, IsDamagedAt, log_damaged, staged_damaged}
 use Rattle.tree_journal.specs.Staging.{has_content}
 use Rattle.cli_call.specs.Opening.{IsOpen, MeetsDamage}
-use Rattle.cli_call.specs.Recovered.{IsKept, RefusesLog}
-use Rattle.cli_call.specs.Store.{Store, IsStore, Recovers, HasDamagedFile, HasDamageAtOpening, IsSettled, RestsAt}
+use Rattle.root_ready.specs.Recovered.{IsKept, RefusesLog}
+use Rattle.cli_call.specs.Store.{Store, IsStore, Recovers, IsEntryOr, HasDamagedFile, HasDamageAtOpening, IsSettled, RestsAt}
 
 -- nothing was done
 pub nothing_done : {D : Type 0} {disk : DiskModel D} → IsDisk disk → (d : D) → HasRead disk d d (Unit {0})
@@ -51,6 +51,13 @@ never_damaged_log {base = base} {tree = tree} (staged_damaged set puts holds onl
     let stands : has_content base tree first.write.want ≡ true = All-contains (λ (p : Put). IsTrue (has_content base tree p.want)) puts first.write all first.listed in
     let fails : has_content base tree first.write.want ≡ false = first.fails in
     absurd (cc (stands, fails))
+
+-- what recovers to all that a disk recovers to recovers to each of its states
+pub as_state : {D X : Type 0} {store : Store X} (disk : DiskModel D) (d : D) (x : X) → Recovers store (disk.reads d) x → (image : Tree) → RecoversAsThen disk store.base d image → IsEntryOr store disk d x image
+as_state disk d x rec image h = ⊎_elim
+    (λ is. inl is)
+    (λ all. inr (record { tree = rec.tree; recovers = all rec.tree rec.recovers; stored = rec.stored }))
+    h
 
 module _ {X : Type 0} {store : Store X} (laws : IsStore store) where
   pub same_stores : (t u : Tree) (x : X) → StoresSame store.base t u → store.IsStored t x → store.IsStored u x

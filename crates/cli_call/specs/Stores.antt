@@ -1,9 +1,8 @@
 -- How the root and the repository are stored.
-use Rattle.std.specs.Prelude.{◌≡◌, ◌⊎◌, false, IsTrue, List, ℕ, length, Some}
+use Rattle.std.specs.Prelude.{◌≡◌, ◌⊎◌, true, IsTrue, List, ℕ, length, Some}
 use Rattle.sha1.specs.Sha1.{sha1}
 use Rattle.cny_base.specs.Reserved.{private_directory}
-use Rattle.tree_disk.specs.Tree.{Name, Tree, WellFormed}
-use Rattle.journal_log.specs.Own.{is_own, StoresSame}
+use Rattle.tree_disk.specs.Tree.{Name, Tree}
 use Rattle.content_store.specs.Store.{content_path, stored}
 use Rattle.repo_index.specs.Catalogue.{CatalogueParts, records_content}
 use Rattle.repo_state.specs.Counts.{Counts}
@@ -11,18 +10,42 @@ use Rattle.repo_state.specs.Damage.{IsDamagedCommit}
 use Rattle.repo_state.specs.Files.{contents_dir, repository_base, HoldsCatalogue, StoresRepository}
 use Rattle.repo_state.specs.State.{RepositoryState}
 use Rattle.repository.specs.Contents.{IsDamagedContent}
+use Rattle.local_db.specs.declared.db.Db.{Db}
+use Rattle.job_records.specs.Reading.{IsDamagedRecord}
+use Rattle.rollback_stack.specs.Inverse.{IsDamagedContent as IsDamagedSaved, IsDamagedJob}
+use Rattle.rollback_stack.specs.Numbers.{job_count}
+use Rattle.rollback_stack.specs.Reading.{IsDamagedNewest}
+use Rattle.root_ready.specs.Migrating.{IsDamagedStore}
+use Rattle.system_state.specs.declared.format.Format.TheVariants.{Two}
+use Rattle.system_state.specs.Names.{counts}
+use Rattle.system_state.specs.Stores.{HoldsDatabase, StoresSystem}
 use Rattle.cli_call.specs.State.{RootState}
 use Rattle.cli_call.specs.Store.{Store}
 
--- A root stores a tree that is well formed and equal at every name but the journal's own. None of its files can be damaged.
+-- ---- the root
+
+-- it stores no system
+abbrev pub StoresNone : Tree → Type 0
+StoresNone tree = (s : RootState) → StoresSystem tree s → ⊥
+
+-- Behind this database a record is damaged, or a content that a job saved.
+pub record HasDamagedJob (tree : Tree) (path : Name) : Type 0 where
+  pub db : Db
+  pub holds : HoldsDatabase Two tree db.installed db.oldest db.newest
+  pub damaged : IsDamagedNewest tree db path ⊎ (IsDamagedRecord Two tree (job_count db.oldest db.newest) db.newest db.installed path
+      ⊎ ((number : ℕ) × (IsDamagedJob tree db number path ⊎ IsDamagedSaved tree db number path)))
+
+-- A root stores its system, in format 1 or in format 2. One of which a file is damaged stores none.
 abbrev pub root_store : Store RootState
 root_store = record {
   base = private_directory;
-  IsStored = λ tree x. WellFormed x × StoresSame private_directory tree x;
-  Counts = λ x q. is_own private_directory q ≡ false;
-  IsDamaged = λ tree path. ⊥;
-  IsDamagedAtOpening = λ tree path. ⊥;
+  IsStored = StoresSystem;
+  Counts = λ s q. counts s q ≡ true;
+  IsDamaged = λ tree path. (IsDamagedStore tree path ⊎ HasDamagedJob tree path) × StoresNone tree;
+  IsDamagedAtOpening = λ tree path. IsDamagedStore tree path × StoresNone tree;
 }
+
+-- ---- the repository
 
 -- a content that a committed trove names doesn't stand under its name with a size that is recorded
 pub record HasDamagedContent (tree : Tree) (path : Name) : Type 0 where

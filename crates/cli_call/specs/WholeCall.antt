@@ -12,23 +12,24 @@ use Rattle.tree_disk.specs.Confined.{Among, Confined, LeavesOnly}
 use Rattle.tree_disk.specs.Steps.{no_name}
 use Rattle.tree_disk.specs.Unfailed.{UnlessFailed}
 use Rattle.journal_log.specs.Own.{StoresSame}
-use Rattle.tree_journal.specs.Recovering.{IsVisibleIn}
 use Rattle.tree_journal.specs.Recovery.{is_committed, RecoversTo, RecoversAsThen}
 use Rattle.repo_index.specs.Catalogue.{CatalogueParts}
 use Rattle.repo_state.specs.Files.{repository_base, HoldsCatalogue}
+use Rattle.repo_state.specs.State.{RepositoryState}
 use Rattle.repository.specs.Loading.{IsCatalogue}
 use Rattle.cli_call.specs.declared.failure.Failure.{Failure}
 use Rattle.cli_call.specs.declared.failure.Failure.TheVariants as failure
 use Rattle.cli_call.specs.Call.{CallState, RunsOpen, RunsCall, after_opening}
 use Rattle.cli_call.specs.Command.{disks, KeepsOthers, IsShown}
-use Rattle.cli_call.specs.FixedDirs.{fixed_dirs}
+use Rattle.root_ready.specs.FixedDirs.{fixed_dirs}
 use Rattle.cli_call.specs.Line.{Moment}
 use Rattle.cli_call.specs.Opening.{MeetsDamage}
 use Rattle.cli_call.specs.Reading.{given, left_by, Gives, IsInput}
-use Rattle.cli_call.specs.Recovered.{RecoversToNone, IsKept, IsPathRefusal, RefusesLog}
+use Rattle.root_ready.specs.Recovered.{RecoversToNone, IsKept, IsPathRefusal, RefusesLog}
 use Rattle.cli_call.specs.Report.{End, Tells, Reports}
-use Rattle.cli_call.specs.State.{State, Effect, Meaning, tree_of, after, IsNext, OneDisk, Then}
-use Rattle.cli_call.specs.Store.{Store, Recovers, OneOf, HasDamagedFile, IsSettled, RestsAt}
+use Rattle.cli_call.specs.RootOpening.{IsRootKept, RecoversOutside, ShowsBetween}
+use Rattle.cli_call.specs.State.{RootState, State, Effect, Meaning, tree_of, after, IsNext, OneDisk, Then}
+use Rattle.cli_call.specs.Store.{Store, Recovers, OneOf, IsEntryOr, HasDamagedFile, IsSettled, RestsAt}
 use Rattle.cli_call.specs.Stores.{root_store, repository_store}
 
 -- ---- what a command means, with the tests that all commands share
@@ -48,16 +49,25 @@ left_of m s input = left_when (fixed_dirs (tree_of s.root)) m input
 
 -- ---- what one disk lives
 
--- What a disk lives: until it is opened, a crash leaves an image at entry, or a tree that recovers to all that the disk, as it
--- read at entry, recovers to; and from then on one that recovers to the one state or to the other.
-pub record LivesFrom {D X : Type 0} (store : Store X) (disk : DiskModel D) (x y : X) (old new : D) : Type 0 where
+-- What a disk lives: until it is opened, a crash leaves such a tree; and from then on one that recovers to the one state or to the
+-- other.
+pub record LivesFrom {D X : Type 0} (store : Store X) (disk : DiskModel D) (Before : Tree → Type 0) (x y : X) (old new : D) : Type 0 where
   pub opened : D
-  pub opening : LeavesOnly disk old opened (RecoversAsThen disk store.base old)
+  pub opening : LeavesOnly disk old opened Before
   pub lives : LeavesOnly disk opened new (OneOf store x y)
 
 -- or it isn't opened
-abbrev pub LivesCall : {D X : Type 0} → Store X → DiskModel D → X → X → D → D → Type 0
-LivesCall store disk x y old new = LeavesOnly disk old new (RecoversAsThen disk store.base old) ⊎ LivesFrom store disk x y old new
+abbrev pub LivesCall : {D X : Type 0} → Store X → DiskModel D → (Tree → Type 0) → X → X → D → D → Type 0
+LivesCall store disk Before x y old new = LeavesOnly disk old new Before ⊎ LivesFrom store disk Before x y old new
+
+-- The root: until it is opened, an image at entry, or a tree that recovers to the state before.
+abbrev pub LivesRoot : {D : Type 0} → DiskModel D → RootState → RootState → D → D → Type 0
+LivesRoot disk x y old new = LivesCall root_store disk (IsEntryOr root_store disk old x) x y old new
+
+-- The repository: until it is opened, an image at entry, or a tree that recovers to all that the disk, as it read at entry,
+-- recovers to.
+abbrev pub LivesRepository : {D : Type 0} → DiskModel D → RepositoryState → RepositoryState → D → D → Type 0
+LivesRepository disk x y old new = LivesCall repository_store disk (RecoversAsThen disk repository_store.base old) x y old new
 
 -- The tree of a repository recovers to one that holds this catalogue, and to none that doesn't store the same.
 pub record RecoversToCatalogue (image : Tree) : Type 0 where
@@ -95,9 +105,10 @@ module _ {T P : Type 0} (root_disk : DiskModel T) (repo_disk : DiskModel P) wher
     pub root : RestsAt root_store root_disk m.root s.root
     pub repo : RestsAt repository_store repo_disk m.repo s.repository
 
-  -- each disk that is told recovers to what it recovered to; where its commit flag wasn't set, its tree is as it was
+  -- Each disk that is told recovers to what it recovered to; where its commit flag wasn't set, its tree is as it was, but that a root
+  -- of format 1 was brought to format 2.
   pub record AreKept (before now : CallState T P) : Type 0 where
-    pub root : IsTrue root_disk.tells → IsKept root_store.base (root_disk.reads before.root) (root_disk.reads now.root)
+    pub root : IsTrue root_disk.tells → IsRootKept (root_disk.reads before.root) (root_disk.reads now.root)
     pub repo : IsTrue repo_disk.tells → IsKept repository_store.base (repo_disk.reads before.repo) (repo_disk.reads now.repo)
 
   -- status 0: both disks rest and store the state after the effect, and its bytes were written
@@ -128,20 +139,20 @@ module _ {T P : Type 0} (root_disk : DiskModel T) (repo_disk : DiskModel P) wher
     pub next : State
     pub is_next : IsNext IsOutcome s next
     pub apart : OneDisk s next
-    pub root : LivesCall root_store root_disk s.root next.root before.root now.root
-    pub repo : LivesCall repository_store repo_disk s.repository next.repository before.repo now.repo
+    pub root : LivesRoot root_disk s.root next.root before.root now.root
+    pub repo : LivesRepository repo_disk s.repository next.repository before.repo now.repo
 
   -- ---- readers
 
-  -- Until the root is open, readers see at each name but the journal's own what stood there, what it recovers to, or nothing where
-  -- just one of the two is a directory; and from then on what the command shows. The count of faults at that moment is between the
+  -- Until the root is open, readers see at each name outside its private directory what stood there, what it recovers to, or nothing
+  -- where just one of the two is a directory; and from then on what the command shows. The count of faults at that moment is between the
   -- two others: where none rose over the whole call, it rose in neither part.
   pub record ShowsCall (IsOutcome : Result Effect Refusal → Type 0) (s : State) (old new : T) : Type 0 where
     pub ready : T
-    pub reached : RecoversTo root_store.base (root_disk.reads old) (root_disk.reads ready) ⊎ (ready ≡ new)
+    pub reached : RecoversOutside (root_disk.reads old) (root_disk.reads ready) ⊎ (ready ≡ new)
     pub recovery_later : root_disk.faults old ≤ root_disk.faults ready
     pub command_later : root_disk.faults ready ≤ root_disk.faults new
-    pub recovery : UnlessFailed root_disk old ready (IsVisibleIn root_store.base (root_disk.reads old))
+    pub recovery : UnlessFailed root_disk old ready (ShowsBetween (root_disk.reads old) (tree_of s.root))
     pub command : UnlessFailed root_disk ready new (IsShown IsOutcome s (root_disk.reads ready))
 
   -- ---- both disks at rest
@@ -283,7 +294,7 @@ module _ {T P : Type 0} (root_disk : DiskModel T) (repo_disk : DiskModel P) wher
     pub next : State
     pub is_next : IsNext IsOutcome s next
     pub stays : next.repository ≡ s.repository
-    pub root : LivesCall root_store root_disk s.root next.root before.root now.root
+    pub root : LivesRoot root_disk s.root next.root before.root now.root
     pub reads : OneOf root_store s.root next.root (root_disk.reads now.root)
     pub outside : is_committed root_store.base (root_disk.reads before.root) ≡ false → KeepsOthers IsOutcome s (root_disk.reads before.root) (root_disk.reads now.root)
 
@@ -349,7 +360,7 @@ module _ {T P : Type 0} (root_disk : DiskModel T) (repo_disk : DiskModel P) wher
     -- At every moment, also inside each call of a disk and where one fails, each disk lives its state before and the command's state
     -- after, which differ on one disk at most.
     pub lives : FromStates before (λ s. LiveBoth (Outcome m s input) s before now)
-    -- Where no call of the root's disk failed, readers see at each name but the journal's own, until the root is recovered, what
+    -- Where no call of the root's disk failed, readers see at each name outside its private directory, until the root is recovered, what
     -- stood there, what it recovers to, or nothing where just one of the two is a directory; and from then on the same of what was
     -- recovered and of the command's effect, or what was recovered alone.
     pub seen : FromStates before (λ s. ShowsCall (Outcome m s input) s before.root now.root)

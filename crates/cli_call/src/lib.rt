@@ -6,12 +6,10 @@
 #![tactic(auto)]
 
 mod failure;
-mod fixed_dirs;
 mod input;
 mod laws;
 mod opened;
 mod opening;
-mod recovered;
 mod reporting;
 mod stops;
 mod texts;
@@ -22,7 +20,6 @@ pub use input::read_given;
 pub use laws::store_laws;
 pub use opened::Opened;
 pub use opening::open_disks;
-pub use recovered::private_directory;
 pub use reporting::report;
 pub use stops::{on_repository, on_root};
 pub use texts::{joined, text_of_path};

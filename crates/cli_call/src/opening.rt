@@ -3,29 +3,28 @@ ghost use Rattle.std.specs.Prelude.{IfOk};
 ghost use Rattle.repo_state.specs.Files.{HoldsCatalogue};
 ghost use Rattle.repository.specs.Loading.{IsCatalogue};
 ghost use Rattle.cli_call.specs.Call.{OpensBoth};
-ghost use Rattle.cli_call.specs.FixedDirs.{fixed_dirs};
-ghost use Rattle.cli_call.specs.Opening.{no_test, nothing_read, Opens};
-ghost use Rattle.cli_call.specs.Stores.{root_store, repository_store};
+ghost use Rattle.cli_call.specs.Opening.{no_test, Opens};
+ghost use Rattle.cli_call.specs.RootOpening.{OpensSystem};
+ghost use Rattle.cli_call.specs.Stores.{repository_store};
 
 use crate::failure::Failure;
-use crate::fixed_dirs::check_fixed_dirs;
 use crate::opened::Opened;
-use crate::recovered::{private_directory, recover_disk};
 use crate::stops::{on_repository, on_root};
 use cny_base::Stop;
+use local_db::Db;
 use repo_index::Catalogue;
 use repo_state::base_path;
 use repository::load;
+use root_ready::{ready, recover_disk};
 use std::alloc::Global;
 use tree_disk::TreeDisk;
 
-// Tests the fixed directories on the root as it reads, and recovers it.
-fn open_root<T: TreeDisk>(alloc: Global, root: &mut T) -> Result<(), Stop>
-    ensures { Opens root_store T.disk fixed_dirs nothing_read root.old root.new result }
+// Makes the root ready for a command, and answers its database.
+fn open_root<T: TreeDisk>(alloc: Global, root: &mut T) -> Result<Db, Stop>
+    ensures { OpensSystem T.disk root.old root.new result }
 {
-    check_fixed_dirs(alloc, root)?;
-    let directory = private_directory(alloc)?;
-    recover_disk(alloc, root, &directory)
+    let db = ready(alloc, root)?;
+    Ok(db)
 }
 
 // Recovers the repository, and loads its catalogue.
@@ -46,7 +45,7 @@ pub fn open_disks<T: TreeDisk, P: TreeDisk>(
 ) -> Result<Opened, Failure>
     ensures { OpensBoth T.disk P.disk root.old root.new repo.old repo.new result }
 {
-    on_root(open_root(alloc, root))?;
+    let db = on_root(open_root(alloc, root))?;
     let catalogue = on_repository(open_repository(alloc, repo))?;
-    Ok(Opened { catalogue })
+    Ok(Opened { db, catalogue })
 }

@@ -1,6 +1,7 @@
 -- How reading words ends, by how the reading of their parts ends.
 use Rattle.std.proofs.Common.{◌≡◌, List, ℕ, Result, Ok, Err, refl, sym, ap, subst}
 use Rattle.std.specs.Prelude.{IsErrAnd}
+use Rattle.cny_base.specs.declared.text.TextFault.{TextFault}
 use Rattle.cli_call.specs.declared.failure.Failure.{Failure}
 use Rattle.cli_call.specs.declared.failure.Failure.TheVariants as failure
 use Rattle.cli_words.specs.declared.words.Command.{Command}
@@ -12,6 +13,10 @@ use Rattle.cli_words.specs.Words.{ReadsOnly, IsOrUsage, IsSend, IsMove, ReadsWor
 pub err_is : {X E : Type 0} (P : Result X E → Type 0) (s : Result X E) (f : E) → IsErrAnd s (λ e. e ≡ f) → P (Err f) → P s
 err_is P (Ok x) f is h = absurd is
 err_is P (Err e) f is h = subst (λ x. P (Err x)) (sym is) h
+
+-- the fault that was returned is the one that was passed on
+pub handed_on : {T : Type 0} (r : Result T TextFault) (met told : TextFault) → ((e : TextFault) × (r ≡ Err e) × (e ≡ met)) → r ≡ Err told → met ≡ told
+handed_on r met told given is = cc (given.1, given.2, is)
 
 -- where a part is none, the whole is none
 pub passed_on : {A B : Type 0} (Is : A → Type 0) (Has : B → Type 0) → ((whole : B) → Has whole → (part : A) × Is part) → (e : Failure) → ReadsOnly Is (Err e) → ReadsOnly Has (Err e)

@@ -1,8 +1,10 @@
 -- The words of the command line: which lists of them are commands.
-use Rattle.std.specs.Prelude.{◌≡◌, IsTrue, Option, List, [], ◌∷◌, ℕ, length, nat_le, Bool, true, false, Some, None, Result, Ok, Err, if◌then◌else◌, codes}
-use Rattle.std.specs.List.{list_any}
+use Rattle.std.specs.Prelude.{◌≡◌, IsTrue, Option, List, [], ◌∷◌, ℕ, length, nat_le, Bool, true, false, Some, None, Result, Ok, Err, if◌then◌else◌, ◌&&◌, ◌==◌, not, codes}
+use Rattle.std.specs.List.{list_all, list_any}
 use Rattle.std.specs.Str.{bytes_eq}
 use Rattle.cny_base.specs.Name.{is_name}
+use Rattle.cny_base.specs.Number.{is_decimal, decimal_value}
+use Rattle.cny_base.specs.declared.options.Options.{Options}
 use Rattle.cny_version.specs.Label.{LabelParts, label_text, is_label}
 use Rattle.trove_spec.specs.Spec.{IsSpecText}
 use Rattle.repo_shadow.specs.declared.way.Way.{Way}
@@ -22,26 +24,96 @@ is_among words word = list_any (bytes_eq word) words
 -- the commands that aren't built yet
 abbrev pub planned_commands : List (List ℕ)
 planned_commands =
-    codes "update"
-    ∷ codes "erase" ∷ codes "rollback" ∷ codes "rblist" ∷ codes "q" ∷ codes "verify" ∷ codes "localcs" ∷ codes "batch" ∷ codes "demo" ∷ []
-
--- the options of `install` that aren't built yet
-abbrev pub planned_options : List (List ℕ)
-planned_options = codes "--replace" ∷ codes "--keep" ∷ []
+    codes "update" ∷ codes "rblist" ∷ codes "localcs" ∷ codes "batch" ∷ codes "demo" ∷ []
 
 unfoldable pub is_planned_command : List ℕ → Bool
 is_planned_command word = is_among planned_commands word
 
-unfoldable pub is_planned_option : List ℕ → Bool
-is_planned_option word = is_among planned_options word
-
 abbrev pub not_built : List ℕ → Failure
 not_built word = failure.Refused (NotBuilt word)
 
--- `install`: each option stands directly after it. The first that isn't built decides, whatever follows, and any other word is usage.
+-- ---- the options of a job
+
+-- no option
+abbrev pub no_options : Options
+no_options = record { replace = false; keep = false }
+
+-- With the first of the words, where it is an option that wasn't given before; and the words that are left.
+abbrev pub option_at : Options → List (List ℕ) → Options × List (List ℕ)
+option_at options [] = (options, [])
+option_at options (word ∷ words) =
+    if bytes_eq word (codes "--replace") && not options.replace then (record { replace = true; keep = options.keep }, words)
+    else if bytes_eq word (codes "--keep") && not options.keep then (record { replace = options.replace; keep = true }, words)
+    else (options, word ∷ words)
+
+-- The options at the front of the words, and the words that are left: each at most once, in any order, so two words at most.
+abbrev pub options_at : List (List ℕ) → Options × List (List ℕ)
+options_at words = let first = option_at no_options words in option_at first.0 first.1
+
+-- ---- the commands that take no specification
+
+-- behind the options of `install` nothing stands
+abbrev pub install_with : Options → List (List ℕ) → Result Command Failure
+install_with options [] = Ok (command.Install options)
+install_with options (word ∷ words) = Err failure.Usage
+
+-- `install`, with its options directly behind it
 abbrev pub install_of : List (List ℕ) → Result Command Failure
-install_of [] = Ok command.Install
-install_of (word ∷ words) = if is_planned_option word then Err (not_built word) else Err failure.Usage
+install_of words = let read = options_at words in install_with read.0 read.1
+
+-- each word is a name, and they aren't more than a command takes
+abbrev pub are_names : List (List ℕ) → Bool
+are_names words = nat_le (length words) 64 && list_all is_name words
+
+-- at least one word, and they are names
+abbrev pub are_some_names : List (List ℕ) → Bool
+are_some_names [] = false
+are_some_names (word ∷ words) = are_names (word ∷ words)
+
+-- behind the option of `erase` stand names, at most 64
+abbrev pub erase_with : Bool → List (List ℕ) → Result Command Failure
+erase_with replace words = if are_some_names words then Ok (command.Erase words replace) else Err failure.Usage
+
+-- `erase`: names, with `--replace` before them or not
+abbrev pub erase_of : List (List ℕ) → Result Command Failure
+erase_of [] = Err failure.Usage
+erase_of (word ∷ words) = if bytes_eq word (codes "--replace") then erase_with true words else erase_with false (word ∷ words)
+
+-- the number of a job: from 1 to 4,294,967,295, in decimal digits without a leading zero
+abbrev pub is_job_number : List ℕ → Bool
+is_job_number digits = is_decimal digits && (nat_le 1 (decimal_value digits) && nat_le (decimal_value digits) 4294967295)
+
+-- a job: `r.` and its number
+abbrev pub job_number : List ℕ → Option ℕ
+job_number (first ∷ dot ∷ digits) =
+    if first == 114 && (dot == 46 && is_job_number digits) then Some (decimal_value digits) else None
+job_number _ = None
+
+-- the jobs down to this one are rolled back
+abbrev pub rollback_to : Option ℕ → Result Command Failure
+rollback_to None = Err failure.Usage
+rollback_to (Some number) = Ok (command.Rollback (Some number))
+
+-- `rollback`: of the newest job, or of the jobs down to one
+abbrev pub rollback_of : List (List ℕ) → Result Command Failure
+rollback_of [] = Ok (command.Rollback None)
+rollback_of (word ∷ []) = rollback_to (job_number word)
+rollback_of (word ∷ other ∷ words) = Err failure.Usage
+
+-- `q`: all installed troves, or the one of a name; another word is usage
+abbrev pub installed_of : List (List ℕ) → Result Command Failure
+installed_of [] = Ok (command.ListInstalled None)
+installed_of (word ∷ []) = if is_name word then Ok (command.ListInstalled (Some word)) else Err failure.Usage
+installed_of (word ∷ other ∷ words) = Err failure.Usage
+
+-- whether the first word is the option of `verify`
+abbrev pub is_full : List (List ℕ) → Bool
+is_full [] = false
+is_full (word ∷ words) = bytes_eq word (codes "--full")
+
+-- `verify`: names, at most 64, or none. Its option, which isn't built yet, stands directly behind it and decides, whatever follows.
+abbrev pub verify_of : List (List ℕ) → Result Command Failure
+verify_of words = if is_full words then Err (not_built (codes "--full")) else if are_names words then Ok (command.Verify words) else Err failure.Usage
 
 -- `showcs` stands alone
 abbrev pub show_of : List (List ℕ) → Result Command Failure
@@ -74,6 +146,10 @@ command_of (word ∷ words) =
     else if bytes_eq word (codes "cook") then cook_of words
     else if bytes_eq word (codes "commit") then commit_of words
     else if bytes_eq word (codes "rq") then list_of words
+    else if bytes_eq word (codes "erase") then erase_of words
+    else if bytes_eq word (codes "rollback") then rollback_of words
+    else if bytes_eq word (codes "q") then installed_of words
+    else if bytes_eq word (codes "verify") then verify_of words
     else if is_planned_command word then Err (not_built word)
     else Err failure.Usage
 

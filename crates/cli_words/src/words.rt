@@ -1,12 +1,15 @@
 //! The words of the command line.
-ghost use Rattle.std.specs.Prelude.{◌≡◌, ◌∷◌, [], ℕ, List, string_bytes, map, Result};
+ghost use Rattle.std.specs.Prelude.{◌≡◌, ◌∷◌, [], ℕ, List, string_bytes, map, Result, Err, IfOk, IsErrOf, IsTrue, true, false};
+ghost use Rattle.std.specs.List.{list_all};
+ghost use Rattle.cny_base.specs.Name.{is_name};
+ghost use Rattle.cny_base.specs.declared.text.TextFault.TheVariants as TextFault;
 ghost use Rattle.trove_spec.specs.Spec.{IsSpecText};
 ghost use Rattle.cli_call.specs.declared.failure.Failure.{Failure};
 ghost use Rattle.cli_words.specs.declared.words.Command.{Command};
-ghost use Rattle.cli_words.specs.Words.{AreSomething, AreWords, behind, form_of, IsGiven, IsLabelWord, IsMove, IsSend, is_short_word, is_planned_command, is_planned_option, command_of, commit_of, cook_of, install_of, list_of, show_of, OrMemory, ReadsOnly, ReadsWords, not_built};
+ghost use Rattle.cli_words.specs.Words.{AreSomething, AreWords, behind, form_of, IsGiven, IsLabelWord, IsMove, IsSend, is_short_word, are_names, is_planned_command, is_job_number, job_number, is_full, erase_of, erase_with, installed_of, no_options, option_at, options_at, rollback_of, rollback_to, verify_of, command_of, commit_of, cook_of, install_of, list_of, show_of, OrMemory, ReadsOnly, ReadsWords, not_built};
 
 use cli_call::Failure;
-use cny_base::{Name, Refusal, Text, TextFault};
+use cny_base::{ListOf, Name, Options, Refusal, Text, TextFault, read_decimal};
 use cny_version::Label;
 use repo_shadow::Way;
 use spec_commands::GivenSpec;
@@ -15,12 +18,19 @@ use trove_spec::Spec;
 
 // A word that is a specification has so many bytes at most.
 const WORD_LIMIT: usize = 4_096;
+// A command takes at most so many names.
+const NAMES_LIMIT: usize = 64;
+
+/// Names, in the order in which they were given.
+pub type NameList = ListOf<Name>;
 
 /// A command with its words.
 #[derive(Drop)]
 pub enum Command {
-    /// Puts the files of a manifest's component into the root.
-    Install,
+    /// Installs the troves that a manifest makes.
+    Install {
+        options: Options,
+    },
     /// Describes a change set.
     ShowChangeSet,
     /// Commits what a manifest makes, with the next version of its branch or as it is.
@@ -32,6 +42,23 @@ pub enum Command {
     /// Lists committed troves, all or those of a name.
     ListCommitted {
         name: Option<Name>,
+    },
+    /// Takes the troves of these names away, also where their paths were edited or only where they weren't.
+    Erase {
+        names: NameList,
+        replace: bool,
+    },
+    /// Undoes the newest job, or the jobs down to the one of a number.
+    Rollback {
+        number: Option<u32>,
+    },
+    /// Lists installed troves, all or that of a name.
+    ListInstalled {
+        name: Option<Name>,
+    },
+    /// Compares the tree with what is recorded of all installed troves, or of those of these names.
+    Verify {
+        names: NameList,
     },
     /// Answers the change set that leads to what a specification means: from what another one means, or from nothing.
     SendChanges {
@@ -62,18 +89,7 @@ enum Form {
 fn is_planned(word: &str) -> bool
     ensures { result ≡ is_planned_command word.now }
 {
-    matches!(
-        word,
-        "update" | "erase" | "rollback" | "rblist" | "q" | "verify" | "localcs" | "batch" | "demo"
-    )
-}
-
-/// Whether the word is an option of `install` that isn't built yet.
-#[tactic(auto, unfolding(crate::specs::Words::is_planned_option))]
-fn is_install_option(word: &str) -> bool
-    ensures { result ≡ is_planned_option word.now }
-{
-    matches!(word, "--replace" | "--keep")
+    matches!(word, "update" | "rblist" | "localcs" | "batch" | "demo")
 }
 
 // The refusal of a word that isn't built yet.
@@ -84,17 +100,175 @@ fn not_built_yet(alloc: Global, word: &str) -> Result<Command, Failure>
     Err(Failure::Refused(Refusal::NotBuilt { word }))
 }
 
+// With the first of the words, where it is an option that wasn't given before; and the words that are left.
+fn option_at(options: Options, words: &[String]) -> (Options, &[String])
+    ensures { (result.0, map string_bytes result.1.now) ≡ option_at options (map string_bytes words.now) }
+{
+    let [word, rest @ ..] = words else {
+        return (options, words);
+    };
+    if word.as_str() == "--replace" && !options.replace {
+        let options = Options {
+            replace: true,
+            keep: options.keep,
+        };
+        return (options, rest);
+    }
+    if word.as_str() == "--keep" && !options.keep {
+        let options = Options {
+            replace: options.replace,
+            keep: true,
+        };
+        return (options, rest);
+    }
+    (options, words)
+}
+
+// The options at the front of the words, and the words that are left.
+fn options_at(words: &[String]) -> (Options, &[String])
+    ensures { (result.0, map string_bytes result.1.now) ≡ options_at (map string_bytes words.now) }
+{
+    let none = Options {
+        replace: false,
+        keep: false,
+    };
+    let (options, rest) = option_at(none, words);
+    option_at(options, rest)
+}
+
 // The words after `install`.
-fn read_install(alloc: Global, words: &[String]) -> Result<Command, Failure>
+fn read_install(words: &[String]) -> Result<Command, Failure>
     ensures { ReadsWords (install_of (map string_bytes words.now)) result }
 {
-    let [word, ..] = words else {
-        return Ok(Command::Install);
-    };
-    if is_install_option(word.as_str()) {
-        return not_built_yet(alloc, word.as_str());
+    let (options, rest) = options_at(words);
+    if rest.is_empty() {
+        return Ok(Command::Install { options });
     }
     Err(Failure::Usage)
+}
+
+// The names that the words are, in their order. `Bad` exactly where they are too many, or one of them isn't a name.
+fn read_names(alloc: Global, words: &[String]) -> Result<NameList, TextFault>
+    ensures value { IfOk result (λ names. names ≡ map string_bytes words.now) }
+    ensures ok { IfOk result (λ names. are_names (map string_bytes words.now) ≡ true) }
+    ensures bad { IsErrOf result TextFault.Bad → are_names (map string_bytes words.now) ≡ false }
+{
+    if words.len() > NAMES_LIMIT {
+        return Err(TextFault::Bad);
+    }
+    read_each(alloc, words)
+}
+
+fn read_each(alloc: Global, words: &[String]) -> Result<NameList, TextFault>
+    ensures value { IfOk result (λ names. names ≡ map string_bytes words.now) }
+    ensures ok { IfOk result (λ names. list_all is_name (map string_bytes words.now) ≡ true) }
+    ensures bad { IsErrOf result TextFault.Bad → list_all is_name (map string_bytes words.now) ≡ false }
+{
+    let mut names = Vec::new(alloc);
+    for word in words {
+        names.push(Name::read(alloc, word.as_str())?)?;
+    }
+    Ok(ListOf::new(names))
+}
+
+// The names after the option of `erase`.
+fn read_erased(alloc: Global, replace: bool, words: &[String]) -> Result<Command, Failure>
+    ensures { ReadsWords (erase_with replace (map string_bytes words.now)) result }
+{
+    if words.is_empty() {
+        return Err(Failure::Usage);
+    }
+    match read_names(alloc, words) {
+        Ok(names) => Ok(Command::Erase { names, replace }),
+        Err(TextFault::Bad) => Err(Failure::Usage),
+        Err(TextFault::Memory) => Err(Failure::Memory),
+    }
+}
+
+// The words after `erase`.
+fn read_erase(alloc: Global, words: &[String]) -> Result<Command, Failure>
+    ensures { ReadsWords (erase_of (map string_bytes words.now)) result }
+{
+    let [word, rest @ ..] = words else {
+        return Err(Failure::Usage);
+    };
+    if word.as_str() == "--replace" {
+        return read_erased(alloc, true, rest);
+    }
+    read_erased(alloc, false, words)
+}
+
+// The number of a job that a word is: `r.` and decimal digits.
+fn job_number(word: &[u8]) -> Option<u32>
+    ensures { result ≡ job_number word.now }
+{
+    let [b'r', b'.', digits @ ..] = word else {
+        return None;
+    };
+    let number = u32::try_from(read_decimal(digits)?).ok()?;
+    if number == 0 {
+        return None;
+    }
+    Some(number)
+}
+
+// The words after `rollback`.
+fn read_rollback(words: &[String]) -> Result<Command, Failure>
+    ensures { ReadsWords (rollback_of (map string_bytes words.now)) result }
+{
+    let [word, rest @ ..] = words else {
+        return Ok(Command::Rollback { number: None });
+    };
+    if !rest.is_empty() {
+        return Err(Failure::Usage);
+    }
+    match job_number(word.as_bytes()) {
+        Some(number) => Ok(Command::Rollback {
+            number: Some(number),
+        }),
+        None => Err(Failure::Usage),
+    }
+}
+
+// The words after `q`.
+fn read_installed(alloc: Global, words: &[String]) -> Result<Command, Failure>
+    ensures { ReadsWords (installed_of (map string_bytes words.now)) result }
+{
+    let [word, rest @ ..] = words else {
+        return Ok(Command::ListInstalled { name: None });
+    };
+    if !rest.is_empty() {
+        return Err(Failure::Usage);
+    }
+    match Name::read(alloc, word.as_str()) {
+        Ok(name) => Ok(Command::ListInstalled { name: Some(name) }),
+        Err(TextFault::Bad) => Err(Failure::Usage),
+        Err(TextFault::Memory) => Err(Failure::Memory),
+    }
+}
+
+// Whether the first word is the option of `verify`.
+fn is_full(words: &[String]) -> bool
+    ensures { result ≡ is_full (map string_bytes words.now) }
+{
+    let [word, ..] = words else {
+        return false;
+    };
+    word.as_str() == "--full"
+}
+
+// The words after `verify`.
+fn read_verify(alloc: Global, words: &[String]) -> Result<Command, Failure>
+    ensures { ReadsWords (verify_of (map string_bytes words.now)) result }
+{
+    if is_full(words) {
+        return not_built_yet(alloc, "--full");
+    }
+    match read_names(alloc, words) {
+        Ok(names) => Ok(Command::Verify { names }),
+        Err(TextFault::Bad) => Err(Failure::Usage),
+        Err(TextFault::Memory) => Err(Failure::Memory),
+    }
 }
 
 // The words after `showcs`.
@@ -260,7 +434,7 @@ fn read_others(alloc: Global, words: &[String]) -> Result<Command, Failure>
         return Err(Failure::Usage);
     };
     if word.as_str() == "install" {
-        return read_install(alloc, rest);
+        return read_install(rest);
     }
     if word.as_str() == "showcs" {
         return read_show(rest);
@@ -273,6 +447,18 @@ fn read_others(alloc: Global, words: &[String]) -> Result<Command, Failure>
     }
     if word.as_str() == "rq" {
         return read_list(alloc, rest);
+    }
+    if word.as_str() == "erase" {
+        return read_erase(alloc, rest);
+    }
+    if word.as_str() == "rollback" {
+        return read_rollback(rest);
+    }
+    if word.as_str() == "q" {
+        return read_installed(alloc, rest);
+    }
+    if word.as_str() == "verify" {
+        return read_verify(alloc, rest);
     }
     if is_planned(word.as_str()) {
         return not_built_yet(alloc, word.as_str());

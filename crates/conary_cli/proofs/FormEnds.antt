@@ -1,35 +1,26 @@
 -- The form of the input decides how a command ends.
 use Rattle.std.proofs.Common.{◌≡◌, ℕ, ◌+◌, ◌≤◌, Bool, true, cond, List, length, Result, Ok, Err, refl, ap, ◌∙◌, subst, inl, inr, ⊎_elim}
 use Rattle.std.proofs.lemmas.Bool.{le-ltb}
+use Rattle.cny_base.specs.declared.options.Options.{Options}
 use Rattle.cny_base.specs.declared.refusal.Refusal.{Refusal}
 use Rattle.cny_base.specs.declared.refusal.Refusal.TheVariants as refusal
 use Rattle.cny_base.specs.declared.refusal.What.TheVariants.{Input}
 use Rattle.cny_flow.specs.Flow.{SinkState}
-use Rattle.tree_disk.specs.Tree.{Tree}
 use Rattle.tree_disk.specs.Disk.{DiskModel}
 use Rattle.change_set.specs.declared.change.ChangeSet.{ChangeSet}
 use Rattle.change_set.specs.ChangeSet.{IsSetStream}
 use Rattle.cli_call.specs.Call.{CallState}
-use Rattle.cli_call.specs.FixedDirs.{◌>>=◌, fixed_dirs}
+use Rattle.root_ready.specs.FixedDirs.{fixed_dirs}
 use Rattle.cli_call.specs.Input.{input_limit, within_limit}
 use Rattle.cli_call.specs.Reading.{given}
 use Rattle.cli_call.specs.State.{State, Effect, Meaning, tree_of, Then}
 use Rattle.cli_call.specs.WholeCall.{Outcome, IsAnswered, IsAnsweredOnRoot, IsCallOf}
 use Rattle.cli_words.specs.declared.words.Command.{Command}
 use Rattle.cli_words.specs.declared.words.Command.TheVariants as command
-use Rattle.conary_cli.specs.declared.manifest.types.Manifest.{Manifest}
-use Rattle.conary_cli.specs.declared.manifest.fault.Unread.{Unread}
-use Rattle.conary_cli.specs.declared.manifest.fault.Unread.TheVariants as unread
 use Rattle.conary_cli.specs.Commands.{meaning, is_of_root}
-use Rattle.conary_cli.specs.FormDecides.{IsFormRefusal, DecidesForm, DecidesSet, FormDecides}
-use Rattle.conary_cli.specs.Install.{install, install_outcome, installs, on_both}
-use Rattle.conary_cli.specs.ManifestForm.{IsManifest, IsManifestText, spelling, max_items}
-use Rattle.conary_cli.specs.ManifestReading.{manifest_at, planned_text}
-use Rattle.conary_cli.specs.ReadManifest.{refusal_of, manifest_in}
-use Rattle.conary_cli.specs.ReadManifest as reading
+use Rattle.conary_cli.specs.FormDecides.{DecidesForm, DecidesSet, FormDecides}
+use Rattle.job_commands.specs.Install.{install}
 use Rattle.conary_cli.specs.ShowChangeSet.{described, IsDescribed, show_change_set}
-use Rattle.conary_cli.proofs.ManifestText.Takes.{manifest_takes}
-use Rattle.conary_cli.proofs.ManifestText.Again.{manifest_again}
 
 -- ---- the outcome by the form
 
@@ -43,43 +34,14 @@ own_outcome m s input o takes dirs le is =
     subst (λ (g : Result (List ℕ) Refusal). Then g (m.IsOutcome s) o) is_given
     (subst (λ (d : Result (Unit {0}) Refusal). Then d (λ _. Then (given m.takes_input input) (m.IsOutcome s)) o) dirs is)
 
-spelled : (m : Manifest) (input : List ℕ) → IsManifest m → input ≡ spelling m → manifest_in input ≡ Ok m
-unfolding manifest_in
-spelled m input is same = rw (same, manifest_again max_items m refl is) refl
-
-form_of : (size : ℕ) (f : Unread) → IsFormRefusal (refusal_of size f)
-form_of size (unread.At left) = inl (_, refl)
-form_of size (unread.TooLarge n) = inr (inl (n, refl))
-form_of size (unread.NotBuilt word) = inr (inr (planned_text word, refl))
-
-no_manifest : (input : List ℕ) (r : Result Manifest Unread) → manifest_at max_items input ≡ r → (IsManifestText input → ⊥) → (refused : Refusal) × IsFormRefusal refused × (reading.or_refused (length input) r ≡ Err refused)
-no_manifest input (Ok m) is none =
-    let read = manifest_takes max_items input m refl is in
-    absurd (none (record { manifest = m; valid = read.0; spelled = read.1 }))
-no_manifest input (Err f) is none = (refusal_of (length input) f, form_of (length input) f, refl)
-
-outside : (input : List ℕ) → (IsManifestText input → ⊥) → (refused : Refusal) × IsFormRefusal refused × (manifest_in input ≡ Err refused)
-unfolding manifest_in
-outside input none = no_manifest input (manifest_at max_items input) refl none
-
-outcome_by : (tree : Tree) (input : List ℕ) (r : Result Manifest Refusal) → manifest_in input ≡ r → on_both (install_outcome tree input) ≡ on_both (r >>= λ m. installs m tree)
-outcome_by tree input r is = ap (λ (x : Result Manifest Refusal). on_both (x >>= λ m. installs m tree)) is
-
 -- ---- how a call ends
 
 -- bytes are the stream of one change set at most
 abbrev pub OneSet : Type 0
 OneSet = (set other : ChangeSet) (bytes : List ℕ) → IsSetStream set bytes → IsSetStream other bytes → set ≡ other
 
-decides : (Ended : Result Effect Refusal → Type 0) (input : List ℕ) (s : State) (o : Result Effect Refusal) → Outcome install s input o → Ended o → fixed_dirs (tree_of s.root) ≡ Ok tt → length input ≤ input_limit → DecidesForm input s Ended
-decides Ended input s o is ended dirs le =
-    let own = own_outcome install s input o refl dirs le is in
-    record {
-      taken = λ m valid same. subst Ended (own ∙ outcome_by (tree_of s.root) input (Ok m) (spelled m input valid same)) ended;
-      refused = λ none.
-          let out = outside input none in
-          (out.0, out.1, subst Ended (own ∙ outcome_by (tree_of s.root) input (Err out.0) out.2) ended);
-    }
+decides : (options : Options) (Ended : Result Effect Refusal → Type 0) (input : List ℕ) (s : State) (o : Result Effect Refusal) → Outcome (install options) s input o → Ended o → fixed_dirs (tree_of s.root) ≡ Ok tt → length input ≤ input_limit → DecidesForm options input s Ended
+decides options Ended input s o is ended dirs le = record { outcome = o; is = own_outcome (install options) s input o refl dirs le is; ended = ended }
 
 shown_as : OneSet → (Ended : Result Effect Refusal → Type 0) (input : List ℕ) (o : Result Effect Refusal) → IsDescribed input o → Ended o → DecidesSet input Ended
 shown_as one Ended input (Ok e) is ended = record {
@@ -102,19 +64,19 @@ module _ {T P : Type 0} (root_disk : DiskModel T) (repo_disk : DiskModel P) (bef
   abbrev OnRoot : State → Result Effect Refusal → Type 0
   OnRoot s = λ o. IsAnsweredOnRoot root_disk repo_disk s o before now err err' status
 
-  as_form : (Ended : Result Effect Refusal → Type 0) (input : List ℕ) (s : State) → HasEnd s input Ended command.Install → fixed_dirs (tree_of s.root) ≡ Ok tt → length input ≤ input_limit → DecidesForm input s Ended
-  as_form Ended input s a dirs le = decides Ended input s a.0 a.1 a.2 dirs le
+  as_form : (options : Options) (Ended : Result Effect Refusal → Type 0) (input : List ℕ) (s : State) → HasEnd s input Ended (command.Install options) → fixed_dirs (tree_of s.root) ≡ Ok tt → length input ≤ input_limit → DecidesForm options input s Ended
+  as_form options Ended input s a dirs le = decides options Ended input s a.0 a.1 a.2 dirs le
 
   as_set : OneSet → (Ended : Result Effect Refusal → Type 0) (input : List ℕ) (s : State) → HasEnd s input Ended command.ShowChangeSet → fixed_dirs (tree_of s.root) ≡ Ok tt → length input ≤ input_limit → DecidesSet input Ended
   as_set one Ended input s a dirs le = shown_as one Ended input a.0 (own_outcome show_change_set s input a.0 refl dirs le a.1) a.2
 
   pub form_decides : OneSet → (c : Command) (call : IsCallOf root_disk repo_disk (is_of_root c) (meaning c) before now err err' status) → FormDecides root_disk repo_disk c call.input before now err err' status
   form_decides one c call = record {
-    manifest = λ is root repo s recovers dirs le small. as_form (Answered s) call.input s (subst (HasEnd s call.input (Answered s)) is (call.answers small root repo s recovers)) dirs le;
+    manifest = λ options is root repo s recovers dirs le small. as_form options (Answered s) call.input s (subst (HasEnd s call.input (Answered s)) is (call.answers small root repo s recovers)) dirs le;
     set = λ is root repo s recovers dirs le small. as_set one (Answered s) call.input s (subst (HasEnd s call.input (Answered s)) is (call.answers small root repo s recovers)) dirs le;
-    manifest_alone = λ is root s recovers dirs le small. ⊎_elim
+    manifest_alone = λ options is root s recovers dirs le small. ⊎_elim
         (λ refused. inl refused)
-        (λ a. inr (as_form (OnRoot s) call.input s (subst (HasEnd s call.input (OnRoot s)) is a) dirs le))
+        (λ a. inr (as_form options (OnRoot s) call.input s (subst (HasEnd s call.input (OnRoot s)) is a) dirs le))
         ((call.alone (ap is_of_root is)).answers small root s recovers);
     set_alone = λ is root s recovers dirs le small. ⊎_elim
         (λ refused. inl refused)

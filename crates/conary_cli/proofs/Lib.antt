@@ -1,5 +1,3 @@
-pub mod ManifestText
-pub mod Installation
 pub mod Passing
 pub mod ShowEnds
 pub mod FormEnds

@@ -1,5 +1,6 @@
 -- The table of commands: what each means.
 use Rattle.std.specs.Prelude.{◌≡◌, ◌⊎◌, ℕ, Bool, true, false, List, Result, Ok, Err}
+use Rattle.cny_base.specs.declared.options.Options.{Options}
 use Rattle.cny_flow.specs.Flow.{SinkState}
 use Rattle.tree_disk.specs.Disk.{DiskModel}
 use Rattle.cli_call.specs.declared.failure.Failure.{Failure}
@@ -12,27 +13,43 @@ use Rattle.repo_commands.specs.Commit.{commit}
 use Rattle.repo_commands.specs.Cook.{cook}
 use Rattle.repo_commands.specs.Listing.{list_committed}
 use Rattle.spec_commands.specs.Sending.{changeset}
+use Rattle.job_commands.specs.Erase.{erase}
+use Rattle.job_commands.specs.Install.{install}
+use Rattle.root_commands.specs.Listing.{list_installed}
+use Rattle.root_commands.specs.RollingBack.{roll_back}
+use Rattle.root_commands.specs.Verifying.{verify_installed}
 use Rattle.move_commands.specs.Moving.{move}
 use Rattle.cli_words.specs.declared.words.Command.{Command}
 use Rattle.cli_words.specs.declared.words.Command.TheVariants as command
 use Rattle.cli_words.specs.Words.{AreWords}
 use Rattle.conary_cli.specs.FormDecides.{FormDecides}
-use Rattle.conary_cli.specs.Install.{install}
 use Rattle.conary_cli.specs.ShowChangeSet.{show_change_set}
 
+-- what takes troves away keeps no file
+abbrev pub erasing : Bool → Options
+erasing replace = record { replace = replace; keep = false }
+
 abbrev pub meaning : Command → Meaning
-meaning command.Install = install
+meaning (command.Install options) = install options
 meaning command.ShowChangeSet = show_change_set
 meaning (command.Cook next) = cook next
 meaning command.Commit = commit
 meaning (command.ListCommitted name) = list_committed name
+meaning (command.Erase names replace) = erase names (erasing replace)
+meaning (command.Rollback number) = roll_back number
+meaning (command.ListInstalled name) = list_installed name
+meaning (command.Verify names) = verify_installed names
 meaning (command.SendChanges from to) = changeset from to
 meaning (command.Move way label given) = move way label given
 
 -- the commands that work on the root alone
 abbrev pub is_of_root : Command → Bool
-is_of_root command.Install = true
+is_of_root (command.Install options) = true
 is_of_root command.ShowChangeSet = true
+is_of_root (command.Erase names replace) = true
+is_of_root (command.Rollback number) = true
+is_of_root (command.ListInstalled name) = true
+is_of_root (command.Verify names) = true
 is_of_root _ = false
 
 module _ {T P : Type 0} (root_disk : DiskModel T) (repo_disk : DiskModel P) where

@@ -1,12 +1,3 @@
-pub mod ManifestForm
-pub mod ManifestReading
-pub mod ReadManifest
-pub mod RootEffect
-pub mod Install
-pub mod Seen
-pub mod Parents
-pub mod NewPuts
-pub mod OnRoot
 pub mod ShowChangeSet
-pub mod Commands
 pub mod FormDecides
+pub mod Commands

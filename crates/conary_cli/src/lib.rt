@@ -2,8 +2,6 @@
 #![tactic(auto)]
 
 mod commands;
-mod install;
-mod manifest;
 mod program;
 mod show;
 

@@ -5,3 +5,4 @@ pub mod Numbers
 pub mod Stored
 pub mod Running
 pub mod Ending
+pub mod Resting

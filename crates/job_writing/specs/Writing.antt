@@ -99,6 +99,13 @@ pub record IsJobFrom (s : SystemState) (puts : List Put) (undo : Undo) (db : Db)
   pub oldest_is : db.oldest ≡ oldest (pushed (old_of puts s) s.stack)
   pub gives : GivesBack undo.back undo.after db.installed s.installed
 
+-- ---- at rest
+
+-- The commit flag isn't set, and a crash leaves just what the root reads.
+pub record IsSettled {D : Type 0} (disk : DiskModel D) (d : D) : Type 0 where
+  pub flag_clear : is_committed private_directory (disk.reads d) ≡ false
+  pub synced : IsSynced disk d
+
 -- ---- how it ends
 
 abbrev pub done : Result (Unit {0}) Stop

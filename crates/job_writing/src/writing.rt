@@ -1,5 +1,5 @@
 //! A job, written.
-ghost use Rattle.std.specs.Prelude.{◌≡◌, ◌↔◌, ◌⊎◌, ◌≤◌, [], false, All, IfErr, IfNone, IfOk, IfSome, IsTrue};
+ghost use Rattle.std.specs.Prelude.{◌≡◌, ◌↔◌, ◌⊎◌, ◌≤◌, [], false, All, IfErr, IfNone, IfOk, IfSome, IsTrue, OnOk};
 ghost use Rattle.cny_base.specs.Count.{Rose};
 ghost use Rattle.journal_log.specs.declared.put.Put as declared;
 ghost use Rattle.update_job.specs.declared.comparing.Change as comparing;
@@ -15,7 +15,7 @@ ghost use Rattle.job_undo.specs.Undo.{FitsDb};
 ghost use Rattle.job_pushing.specs.Pushing.{IsPushStop};
 ghost use Rattle.root_writing.specs.Writing.{Goes};
 ghost use Rattle.job_writing.specs.Last.{ChangesNothing, IsRefusedOrMemory, PassesLast};
-ghost use Rattle.job_writing.specs.Writing.{AnswersJob, AreTargets, CanPutJob, CanWriteJob, IsJobFrom, IsJobOf, IsJobStop, JobEnds};
+ghost use Rattle.job_writing.specs.Writing.{AnswersJob, AreTargets, CanPutJob, CanWriteJob, IsJobFrom, IsJobOf, IsJobStop, IsSettled, JobEnds};
 
 use crate::last::{database_of, db_after};
 use crate::undoing::undo_of;
@@ -109,6 +109,8 @@ fn put_job<T: TreeDisk>(
     requires told { IsTrue T.disk.tells → CanPutJob T.disk targets undo.now.entries root.old }
     ensures goes { IsTrue T.disk.tells → (s : SystemState) → StoresIn Two (T.disk.reads root.old) s → IsJobFrom s targets undo.now db.now
         → Goes T.disk Two s (after_job targets db.now.installed s) targets root.old root.new result }
+    // Also on a root that stores no system.
+    ensures rests { IsTrue T.disk.tells → OnOk result (IsSettled T.disk root.new) }
     ensures stops { IfErr result (IsPushStop T.disk.tells (Rose (T.disk.faults root.old) (T.disk.faults root.new))) }
     ensures later { T.disk.faults root.old ≤ T.disk.faults root.new }
 {
@@ -148,6 +150,8 @@ pub fn write_job<T: TreeDisk>(
     // After Ok the root holds the database.
     ensures holds { IsTrue T.disk.tells → (s : SystemState) → StoresIn Two (T.disk.reads root.old) s
         → IfOk result (λ number. HoldsDatabase Two (T.disk.reads root.new) db.new.installed db.new.oldest db.new.newest) }
+    // After Ok the root is at rest, also where it stores no system.
+    ensures rests { IsTrue T.disk.tells → OnOk result (IsSettled T.disk root.new) }
     // On every disk.
     ensures answers { AnswersJob db.old list puts db.new result }
     ensures rules { IsDatabase Two db.new.installed db.new.oldest db.new.newest }

@@ -1,8 +1,8 @@
 -- How a command that takes specifications ends where nothing was changed.
-use Rattle.std.proofs.Common.{◌≡◌, ◌≤◌, ℕ, false, List, Result, Ok, Err, IfErr, IfOk, refl, ap, ◌∙◌, subst, arith}
+use Rattle.std.proofs.Common.{◌≡◌, ◌≤◌, ℕ, false, List, Result, Ok, Err, IfErr, IfOk, refl, sym, ap, ◌∙◌, subst, arith}
 use Rattle.std.specs.Prelude.{IsTrue}
 use Rattle.std.specs.FinMap.{get}
-use Rattle.cny_base.specs.Reserved.{private_directory}
+use Rattle.cny_base.specs.Reserved.{is_reserved}
 use Rattle.cny_base.specs.declared.node.Node.{Node}
 use Rattle.std.specs.Prelude.{Option}
 use Rattle.cny_base.specs.declared.refusal.Fault.{Fault}
@@ -14,11 +14,13 @@ use Rattle.tree_disk.specs.Tree.{Tree}
 use Rattle.tree_disk.specs.Disk.{DiskModel, IsDisk, HasRead}
 use Rattle.tree_disk.specs.Rows.{bytes_of}
 use Rattle.trove_spec.specs.declared.config.Config.{Config}
-use Rattle.journal_log.specs.Own.{is_own}
 use Rattle.tree_journal.specs.Recovery.{is_committed}
 use Rattle.repo_index.specs.Catalogue.{CatalogueParts}
 use Rattle.repo_state.specs.Files.{HoldsCatalogue, StoresRepository}
 use Rattle.repo_state.specs.State.{catalogue_of, troves_of, RepositoryState}
+use Rattle.root_ready.specs.FixedDirs.{fixed_dirs}
+use Rattle.system_state.specs.declared.format.Format.TheVariants.{Two}
+use Rattle.system_state.specs.Stores.{HoldsDatabase}
 use Rattle.root_config.specs.RootConfig.{config_path, within_limit, HasConfig, HasConfigIn, ReadsConfig}
 use Rattle.cli_call.specs.declared.failure.Failure.{Failure}
 use Rattle.cli_call.specs.declared.failure.Failure.TheVariants as failure
@@ -26,8 +28,7 @@ use Rattle.cli_call.specs.declared.opened.Opened.{Opened}
 use Rattle.cli_call.specs.Command.{Disks, disks, AreReady, Performs, StandsFor}
 use Rattle.cli_call.specs.CommandLaws.{AreRead, performs_reading}
 use Rattle.cli_call.specs.Failures.{failure_of_fault}
-use Rattle.cli_call.specs.FixedDirs.{fixed_dirs}
-use Rattle.cli_call.specs.RootLaws.{root_laws}
+use Rattle.cli_call.specs.RootLaws.{root_laws, stored_outside}
 use Rattle.cli_call.specs.State.{tree_of, Meaning, State}
 use Rattle.cli_call.specs.Stops.{root_result}
 use Rattle.cli_call.specs.Store.{IsStore}
@@ -40,8 +41,8 @@ CatalogueIs = (x : Tree) (r : RepositoryState) (c : CatalogueParts) → StoresRe
 
 -- ---- the configuration
 
--- the configuration file isn't one of the journal's own
-foreign : is_own private_directory config_path ≡ false
+-- the configuration file isn't in the private directory
+foreign : is_reserved config_path ≡ false
 foreign = refl
 
 same_config : (t u : Tree) (r : Result Config Refusal) → get t config_path ≡ get u config_path → HasConfig t r → HasConfig u r
@@ -55,7 +56,7 @@ config_made disk old new (Err e) reads config is = absurd (cc is)
 module _ {T P : Type 0} {root_disk : DiskModel T} {repo_disk : DiskModel P} where
   -- the state has the configuration that was read
   pub config_of : (old : Disks T P) (r : Result Config Refusal) → HasConfig (root_disk.reads old.root) r → (s : State) → StandsFor root_disk repo_disk old s → HasConfig (tree_of s.root) r
-  config_of old r has s stands = same_config (root_disk.reads old.root) (tree_of s.root) r (stands.root.stored.1 config_path foreign) has
+  config_of old r has s stands = same_config (root_disk.reads old.root) (tree_of s.root) r (stored_outside (root_disk.reads old.root) s.root stands.root.stored config_path foreign) has
 
   -- the state has the troves that were loaded
   pub troves_are : CatalogueIs → (old : Disks T P) → AreReady root_disk repo_disk old → IsTrue repo_disk.tells → (s : State) → StandsFor root_disk repo_disk old s → old.opened.catalogue.troves ≡ troves_of s.repository.commits
@@ -68,7 +69,9 @@ module _ {T P : Type 0} {root_disk : DiskModel T} {repo_disk : DiskModel P} wher
       fixed = ap fixed_dirs (read told).same.reads ∙ (ready.root told).fixed;
       flag_clear = ap (is_committed root_store.base) (read told).same.reads ∙ (ready.root told).flag_clear;
       synced = λ p. (read told).same.unsynced p ∙ (ready.root told).synced p;
+      holds = subst (λ (t : Tree). HoldsDatabase Two t opened.db.installed opened.db.oldest opened.db.newest) (sym (read told).same.reads) (ready.root told).holds;
     };
+    database = ready.database;
     repo = ready.repo;
     rules = ready.rules;
   }

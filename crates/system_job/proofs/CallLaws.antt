@@ -61,7 +61,7 @@ refusal_by from step s list leads why (no_job l is h) = no_job l (led step list 
 module _ {D : Type 0} (disk : DiskModel D) (from : Sources) (step : ListStep) (s : SystemState) (old new : D) (db : Db) (list : List TroveParts) (leads : step.leads list) where
   way_by : (e : Stop) → IsOnTheWay disk from (to_list list) s old new e → IsOnTheWay disk from step s old new e
   way_by e (reading read) = reading read
-  way_by e (writing l is puts passes last goes) = writing l (led step list l leads is) puts passes last goes
+  way_by e (writing l is puts passes last changes are goes) = writing l (led step list l leads is) puts passes last changes are goes
 
   pub ends_by : (r : Result Done Stop) → Ends disk from (to_list list) s old new db r → Ends disk from step s old new db r
   ends_by (Ok made) is = record { list = is.list; leads = led step list is.list leads is.leads; puts = is.puts; passes = is.passes; ends = is.ends; changes = is.changes }

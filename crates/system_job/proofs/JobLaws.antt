@@ -132,28 +132,28 @@ module _ {D : Type 0} {disk : DiskModel D} (laws : IsDisk disk) (tells : IsTrue 
 
       -- the writing stopped
       -- it was still to begin, or on its way behind the last tests
-      way : (e : Stop) → (new ≡ mid) ⊎ PassesLast db list made.puts → Goes disk Two s (after_job made.puts list s) made.puts mid new (Err e) → IsOnTheWay disk from (to_list list) s old new e
-      way e tested goes = ⊎_elim
+      way : (changes : List Change) → AreChanges db.installed list changes → (e : Stop) → (new ≡ mid) ⊎ PassesLast db list made.puts → Goes disk Two s (after_job made.puts list s) made.puts mid new (Err e) → IsOnTheWay disk from (to_list list) s old new e
+      way changes are e tested goes = ⊎_elim
           (λ (same : new ≡ mid). reading (still same))
-          (λ (passed : PassesLast db list made.puts). writing list refl made.puts (passes made (run.ends tells)) (subst (λ (d : Db). PassesLast d list made.puts) db_is passed) (went goes))
+          (λ (passed : PassesLast db list made.puts). writing list refl made.puts (passes made (run.ends tells)) (subst (λ (d : Db). PassesLast d list made.puts) db_is passed) changes (subst (λ (l : List TroveParts). AreChanges l list changes) parts.lists are) (went goes))
           tested
 
-      write_end : (now : Db) (e : Stop) → JobEnds disk made.puts list s mid new (Err e) → (IsTrue disk.tells → (why : Refusal) → e ≡ Refused why → IsRefusedLast db list made.puts why)
+      write_end : (changes : List Change) → AreChanges db.installed list changes → (now : Db) (e : Stop) → JobEnds disk made.puts list s mid new (Err e) → (IsTrue disk.tells → (why : Refusal) → e ≡ Refused why → IsRefusedLast db list made.puts why)
           → (new ≡ mid) ⊎ PassesLast db list made.puts → Ends disk from (to_list list) s old new now (Err e)
-      write_end now (Refused why) ends stops tested =
+      write_end changes are now (Refused why) ends stops tested =
           read_as (still ends) (no_job list refl (last made.puts (passes made (run.ends tells)) (subst (λ (d : Db). IsRefusedLast d list made.puts why) db_is (stops tells why refl))))
-      write_end now Memory ends stops tested = way Memory tested ends
-      write_end now Failed ends stops tested = way Failed tested ends
-      write_end now (Damaged path) ends stops tested = ends
-      write_end now FarFailed ends stops tested = absurd ends
-      write_end now (FarDamaged path) ends stops tested = absurd ends
+      write_end changes are now Memory ends stops tested = way changes are Memory tested ends
+      write_end changes are now Failed ends stops tested = way changes are Failed tested ends
+      write_end changes are now (Damaged path) ends stops tested = ends
+      write_end changes are now FarFailed ends stops tested = absurd ends
+      write_end changes are now (FarDamaged path) ends stops tested = absurd ends
 
       refusal_of_stop : (rose : Type 0) (e : Stop) → IsJobStop disk.tells rose db list made.puts e → IsTrue disk.tells → (why : Refusal) → e ≡ Refused why → IsRefusedLast db list made.puts why
       refusal_of_stop rose e stops told why is = (subst (IsJobStop disk.tells rose db list made.puts) is stops) told
 
-      pub write_stop : (rose : Type 0) (now : Db) (e : Stop) (r : Result Done Stop) → IsErrAnd r (λ x. x ≡ e) → JobEnds disk made.puts list s mid new (Err e) → IsJobStop disk.tells rose db list made.puts e
+      pub write_stop : (changes : List Change) → AreChanges db.installed list changes → (rose : Type 0) (now : Db) (e : Stop) (r : Result Done Stop) → IsErrAnd r (λ x. x ≡ e) → JobEnds disk made.puts list s mid new (Err e) → IsJobStop disk.tells rose db list made.puts e
           → (new ≡ mid) ⊎ PassesLast db list made.puts → Ends disk from (to_list list) s old new now r
-      write_stop rose now e r is ends stops tested = subst (Ends disk from (to_list list) s old new now) (sym (err_is r e is)) (write_end now e ends (refusal_of_stop rose e stops) tested)
+      write_stop changes are rose now e r is ends stops tested = subst (Ends disk from (to_list list) s old new now) (sym (err_is r e is)) (write_end changes are now e ends (refusal_of_stop rose e stops) tested)
 
       -- the database afterwards
       db_then : (now : Db) (t : SystemState) → HoldsDatabase Two (disk.reads new) now.installed now.oldest now.newest → StoresIn Two (disk.reads new) t → now ≡ db_of t

@@ -15,6 +15,7 @@ use Rattle.system_state.specs.declared.format.Format.TheVariants.{Two}
 use Rattle.system_state.specs.SystemState.{SystemState, newest}
 use Rattle.system_state.specs.Steps.{after_job}
 use Rattle.local_db.specs.declared.db.Db.{Db}
+use Rattle.update_job.specs.declared.comparing.Change.{Change}
 use Rattle.update_job.specs.Changes.{AreChanges}
 use Rattle.root_writing.specs.Writing.{Goes}
 use Rattle.job_targets.specs.Gathering.{IsDamage}
@@ -52,7 +53,7 @@ pub data IsRefusal (from : Sources) (step : ListStep) (s : SystemState) (why : R
 pub data IsOnTheWay {D : Type 0} (disk : DiskModel D) (from : Sources) (step : ListStep) (s : SystemState) (old new : D) (stop : Stop) : Type 0 where
   reading : HasRead disk old new (Unit {0}) → IsOnTheWay disk from step s old new stop
   writing : (list : List TroveParts) → step.leads list → (puts : List Put) → PassesTests from s list puts → PassesLast (db_of s) list puts
-      → Goes disk Two s (after_job puts list s) puts old new (Err stop) → IsOnTheWay disk from step s old new stop
+      → (changes : List Change) → AreChanges s.installed list changes → Goes disk Two s (after_job puts list s) puts old new (Err stop) → IsOnTheWay disk from step s old new stop
 
 -- How a job ends, from a system that the root stores. What is refused changes nothing.
 abbrev pub Ends : {D : Type 0} → DiskModel D → Sources → ListStep → SystemState → D → D → Db → Result Done Stop → Type 0

@@ -1,5 +1,5 @@
 //! The calls that make a job.
-ghost use Rattle.std.specs.Prelude.{◌≡◌, ◌≤◌, [], All, IfErr, IsTrue, OnErr};
+ghost use Rattle.std.specs.Prelude.{◌≡◌, ◌≤◌, [], All, IfErr, IsTrue, OnErr, OnOk};
 ghost use Rattle.std.specs.List.Sorted.{IsStrictlySortedBy};
 ghost use Rattle.sha1.specs.Sha1.{sha1};
 ghost use Rattle.cny_base.specs.Count.{Rose};
@@ -9,6 +9,7 @@ ghost use Rattle.content_store.specs.Contents.{KeepsContents};
 ghost use Rattle.system_state.specs.declared.format.Format.TheVariants.{Two};
 ghost use Rattle.system_state.specs.SystemState.{SystemState};
 ghost use Rattle.system_state.specs.Stores.{IsDatabase, StoresIn};
+ghost use Rattle.job_writing.specs.Writing.{IsSettled};
 ghost use Rattle.system_job.specs.Answers.{AnswersCall};
 ghost use Rattle.system_job.specs.Job.{no_answers, sources_of};
 ghost use Rattle.system_job.specs.Lists.{AreAllowed, to_erased, to_list, to_updated};
@@ -59,6 +60,8 @@ pub fn update<T: TreeDisk, C: Contents>(
     // By each system that the root stores.
     ensures ends { IsTrue T.disk.tells → (s : SystemState) → StoresIn Two (T.disk.reads root.old) s
         → Ends T.disk (sources_of carried.now (C.contents.answers far.old) options.now) (to_updated s.installed come.now) s root.old root.new db.new result }
+    // After Ok the root is at rest, also where it stores no system.
+    ensures rests { IsTrue T.disk.tells → OnOk result (IsSettled T.disk root.new) }
     // On every disk, also where it tells nothing.
     ensures answers { AnswersCall T.disk (sources_of carried.now (C.contents.answers far.old) options.now) (to_updated db.old.installed come.now) db.old root.old root.new db.new result }
     ensures rules { IsDatabase Two db.new.installed db.new.oldest db.new.newest }
@@ -91,6 +94,8 @@ pub fn erase<T: TreeDisk>(
         → Ends T.disk (sources_of [] no_answers options.now) (to_erased s.installed names.now) s root.old root.new db.new result }
     // What an erasure may be refused by.
     ensures refusals { IsTrue T.disk.tells → (s : SystemState) → StoresIn Two (T.disk.reads root.old) s → IfErr result IsErasureStop }
+    // After Ok the root is at rest, also where it stores no system.
+    ensures rests { IsTrue T.disk.tells → OnOk result (IsSettled T.disk root.new) }
     // On every disk, also where it tells nothing.
     ensures answers { AnswersCall T.disk (sources_of [] no_answers options.now) (to_erased db.old.installed names.now) db.old root.old root.new db.new result }
     ensures rules { IsDatabase Two db.new.installed db.new.oldest db.new.newest }
@@ -123,6 +128,8 @@ pub fn adopt<T: TreeDisk, C: Contents>(
     requires ready { IsTrue T.disk.tells → IsReady T.disk db.old root.old }
     ensures ends { IsTrue T.disk.tells → (s : SystemState) → StoresIn Two (T.disk.reads root.old) s
         → Ends T.disk (sources_of [] (C.contents.answers far.old) options.now) (to_list list) s root.old root.new db.new result }
+    // After Ok the root is at rest, also where it stores no system.
+    ensures rests { IsTrue T.disk.tells → OnOk result (IsSettled T.disk root.new) }
     // On every disk, also where it tells nothing.
     ensures answers { AnswersCall T.disk (sources_of [] (C.contents.answers far.old) options.now) (to_list list) db.old root.old root.new db.new result }
     ensures rules { IsDatabase Two db.new.installed db.new.oldest db.new.newest }

@@ -1,4 +1,4 @@
-use Rattle.std.proofs.Common.{List, ℕ, map}
+use Rattle.std.proofs.Common.{map}
 use Rattle.std.specs.Prelude.{string_bytes}
 use Rattle.cny_flow.specs.Flow.{sink_state}
 use Rattle.cli_call.specs.Call.{call_state}

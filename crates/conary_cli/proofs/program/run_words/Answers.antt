@@ -1,4 +1,4 @@
-use Rattle.std.proofs.Common.{List, ℕ, Ok, map, inl, sym, subst}
+use Rattle.std.proofs.Common.{Ok, map, inl, sym, subst}
 use Rattle.std.specs.Prelude.{string_bytes}
 use Rattle.cli_call.specs.Call.{call_state}
 use Rattle.conary_cli.specs.Commands.{RunsSome, RunsWords}

@@ -8,6 +8,7 @@ use Rattle.system_state.specs.Steps.{after_job, IsUnion}
 use Rattle.job_saving.specs.Saving.{dropped_below}
 use Rattle.job_writing.specs.Writing.{database_write}
 use Rattle.job_writing.proofs.Running.{after_stored, can_write, joined, next_job, settled, stopped_before}
+use Rattle.job_writing.proofs.Resting.{put_rests}
 use Rattle.job_writing.proofs.Ending.{last_stops}
 use Rattle.job_writing.proofs.writing.put_job.Goals as goal
 
@@ -61,3 +62,6 @@ returns-clause-goes g c tells s stores from =
 
 pub returns-clause-stops : goal.returns-clause-stops
 returns-clause-stops g c = last_stops g.T.TreeDisk.disk.tells _ _ _ c.write_all.result c.in_ok-pushed.ensures.later c.write_all.ensures.failed c.write_all.ensures.stops
+
+pub returns-clause-rests : goal.returns-clause-rests
+returns-clause-rests g c tells = put_rests g.T.TreeDisk.disk c.in_ok-all.all c.push_puts.new.disk c.write_all.new.root c.write_all.result (c.write_all.ensures.put tells)

@@ -10,7 +10,7 @@ use Rattle.repo_commands.proofs.committing.commit_set.Goals as goal
 pub returns-in_err-ids : goal.returns-in_err-ids
 returns-in_err-ids g c input =
     let old = disks c.args.root.now c.args.repo.now c.args.opened.now in
-    let new = disks c.args.root.now c.commit.new.disk (record { catalogue = c.commit.new.catalogue }) in
+    let new = disks c.args.root.now c.commit.new.disk (record { db = c.args.opened.now.db; catalogue = c.commit.new.catalogue }) in
     let laws : CommitLaws = record { catalogue = c.stored_state.ensures.catalogue; contents = c.stored_state.ensures.contents; same = c.same_contents.ensures; one = c.commit_step.ensures.one; store = c.store_laws.ensures } in
     let done : Committing g.P.TreeDisk.disk c.args.set.now c.args.opened.now.catalogue c.commit.new.catalogue c.args.repo.now c.commit.new.disk c.commit.result = record { ends = c.commit.ensures.ends; any_moment = c.commit.ensures.any_moment; within = c.commit.ensures.confined; later = c.commit.ensures.later; causes = c.commit.ensures.causes } in
     err_is (Performs g.T.TreeDisk.disk g.P.TreeDisk.disk (commit_of c.args.set.now) input old new) c.from_residual.result c.in_err-ids.field-0.0 c.from_residual.ensures.1
@@ -19,7 +19,7 @@ returns-in_err-ids g c input =
 pub returns-in_err-committed_text : goal.returns-in_err-committed_text
 returns-in_err-committed_text g c input =
     let old = disks c.args.root.now c.args.repo.now c.args.opened.now in
-    let new = disks c.args.root.now c.commit.new.disk (record { catalogue = c.commit.new.catalogue }) in
+    let new = disks c.args.root.now c.commit.new.disk (record { db = c.args.opened.now.db; catalogue = c.commit.new.catalogue }) in
     let laws : CommitLaws = record { catalogue = c.stored_state.ensures.catalogue; contents = c.stored_state.ensures.contents; same = c.same_contents.ensures; one = c.commit_step.ensures.one; store = c.store_laws.ensures } in
     let done : Committing g.P.TreeDisk.disk c.args.set.now c.args.opened.now.catalogue c.commit.new.catalogue c.args.repo.now c.commit.new.disk c.commit.result = record { ends = c.commit.ensures.ends; any_moment = c.commit.ensures.any_moment; within = c.commit.ensures.confined; later = c.commit.ensures.later; causes = c.commit.ensures.causes } in
     let made = commit_made g.met.T.TreeDisk.laws g.met.P.TreeDisk.laws laws c.args.set.now input old new c.requires.ready refl c.commit.new.catalogue c.commit.result done c.in_ok-ids.ids (sym c.on_repository.ensures ∙ c.in_ok-ids.was) in
@@ -29,7 +29,7 @@ returns-in_err-committed_text g c input =
 pub returns : goal.returns
 returns g c input =
     let old = disks c.args.root.now c.args.repo.now c.args.opened.now in
-    let new = disks c.args.root.now c.commit.new.disk (record { catalogue = c.commit.new.catalogue }) in
+    let new = disks c.args.root.now c.commit.new.disk (record { db = c.args.opened.now.db; catalogue = c.commit.new.catalogue }) in
     let laws : CommitLaws = record { catalogue = c.stored_state.ensures.catalogue; contents = c.stored_state.ensures.contents; same = c.same_contents.ensures; one = c.commit_step.ensures.one; store = c.store_laws.ensures } in
     let done : Committing g.P.TreeDisk.disk c.args.set.now c.args.opened.now.catalogue c.commit.new.catalogue c.args.repo.now c.commit.new.disk c.commit.result = record { ends = c.commit.ensures.ends; any_moment = c.commit.ensures.any_moment; within = c.commit.ensures.confined; later = c.commit.ensures.later; causes = c.commit.ensures.causes } in
     let made = commit_made g.met.T.TreeDisk.laws g.met.P.TreeDisk.laws laws c.args.set.now input old new c.requires.ready refl c.commit.new.catalogue c.commit.result done c.in_ok-ids.ids (sym c.on_repository.ensures ∙ c.in_ok-ids.was) in

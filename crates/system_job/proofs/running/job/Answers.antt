@@ -32,7 +32,7 @@ returns-in_err-number-clause-ends g c tells s stores =
     let at = stored g.met.T.TreeDisk.laws tells _ c.args.db.now c.args.list c.requires.db.installed c.in_ok-made.ensures.troves c.requires.allowed c.args.root.now (c.requires.ready tells) c.distinct_databases.ensures.unique s stores
     c.in_ok-made.made c.in_ok-made.ensures.gathers in
     write_stop g.met.T.TreeDisk.laws tells _ c.args.db.now c.args.list c.requires.db.installed c.in_ok-made.ensures.troves c.requires.allowed c.args.root.now (c.requires.ready tells) c.distinct_databases.ensures.unique s stores
-    c.in_ok-made.made c.in_ok-made.ensures.gathers c.in_err-number.ensures.later _ c.write_job.new.db c.in_err-number.field-0.0 c.from_residual-in_err-number.result c.from_residual-in_err-number.ensures.1
+    c.in_ok-made.made c.in_ok-made.ensures.gathers c.in_err-number.ensures.later c.in_ok-changes.changes c.in_ok-changes.ensures _ c.write_job.new.db c.in_err-number.field-0.0 c.from_residual-in_err-number.result c.from_residual-in_err-number.ensures.1
     (c.in_err-number.ensures.ends tells s at) c.in_err-number.ensures.stops c.in_err-number.ensures.tested
 
 pub returns-in_err-number-clause-causes : goal.returns-in_err-number-clause-causes

@@ -1,0 +1,179 @@
+-- The root that was made ready, as one that was opened.
+use Rattle.std.proofs.Common.{◌≡◌, ◌≤◌, Bool, true, false, Result, Ok, Err, IfOk, IfErr, refl, sym, ◌∙◌, subst, inl, inr, ⊎_elim}
+use Rattle.std.specs.Prelude.{◌⊎◌, IsTrue}
+use Rattle.std.specs.FinMap.{get}
+use Rattle.cny_base.specs.Reserved.{private_directory, is_reserved}
+use Rattle.cny_base.specs.declared.refusal.Refusal.{Refusal}
+use Rattle.cny_base.specs.declared.stop.Stop.{Stop}
+use Rattle.cny_base.specs.declared.stop.Stop.TheVariants as stop
+use Rattle.tree_disk.specs.Tree.{Name, Tree, AgreesOutside}
+use Rattle.tree_disk.specs.Disk.{DiskModel, HasRead}
+use Rattle.tree_disk.specs.Confined.{Among, Confined}
+use Rattle.tree_disk.specs.ConfinedLaws.{leaves_weaker}
+use Rattle.tree_disk.specs.Laws.{same_tree}
+use Rattle.tree_disk.specs.Steps.{no_name}
+use Rattle.journal_log.specs.Own.{is_own, StoresSame}
+use Rattle.tree_journal.specs.Recovery.{is_committed, RecoversTo, at_rest, by_log}
+use Rattle.local_db.specs.declared.db.Db.{Db}
+use Rattle.rollback_stack.specs.Migrated.{is_up_to_date}
+use Rattle.system_state.specs.declared.format.Format.TheVariants.{Two}
+use Rattle.system_state.specs.Names.{database}
+use Rattle.system_state.specs.Stores.{IsDatabase, RecoversToSystem}
+use Rattle.system_state.proofs.Places.{own_reserved}
+use Rattle.root_ready.specs.FixedDirs.{fixed_dirs}
+use Rattle.root_ready.specs.Ready.{HasReadied, IsReadyStop, MakesReady, MeetsDamagedStore}
+use Rattle.root_ready.specs.Recovered.{RecoversToNone}
+use Rattle.cli_call.specs.Opening.{OpeningStops}
+use Rattle.cli_call.specs.RootOpening.{IsBrought, IsDecided, IsRootKept, IsRootOpen, OpensFrom, OpensSystem}
+use Rattle.cli_call.specs.State.{RootState}
+use Rattle.cli_call.specs.Store.{Recovers, HasDamageAtOpening}
+use Rattle.cli_call.specs.Stores.{root_store}
+
+-- ---- names and trees
+
+is_false : (b : Bool) → (b ≡ true → ⊥) → b ≡ false
+is_false true h = absurd (h refl)
+is_false false h = refl
+
+differ : (b : Bool) → b ≡ true → b ≡ false → ⊥
+differ b h k = cc (h, k)
+
+-- what isn't reserved isn't the journal's own
+not_own : (q : Name) → is_reserved q ≡ false → is_own private_directory q ≡ false
+not_own q free = is_false (is_own private_directory q) (λ own. differ (is_reserved q) (own_reserved q own) free)
+
+-- what a root recovers to stores the same as other trees to which it recovers
+recovers_same : {base : Name} {image tree other : Tree} → RecoversTo base image tree → StoresSame base other tree → RecoversTo base image other
+recovers_same (at_rest clear stores) same = at_rest clear (λ q out. stores q out ∙ sym (same q out))
+recovers_same (by_log set puts holds stand can stores) same = by_log set puts holds stand can (λ q out. stores q out ∙ sym (same q out))
+
+as_system : (tree : Tree) (s : RootState) → Recovers root_store tree s → RecoversToSystem tree s
+as_system tree s rec = (rec.tree, rec.recovers, rec.stored)
+
+of_system : (tree : Tree) (s : RootState) → RecoversToSystem tree s → Recovers root_store tree s
+of_system tree s rec = record { tree = rec.0; recovers = rec.1; stored = rec.2 }
+
+-- nothing was changed
+untouched_tree : {D : Type 0} {disk : DiskModel D} {old new : D} → Confined disk (Among no_name) old new → disk.reads new ≡ disk.reads old
+untouched_tree {disk = disk} {old = old} {new = new} confined = same_tree (disk.reads new) (disk.reads old) (λ p. confined.reads p (λ among. absurd cc))
+
+kept_itself : (tree : Tree) → IsRootKept tree tree
+kept_itself tree = record {
+  still = λ s rec. rec;
+  outer = λ x rec. record { recovered = x; recovers = rec; outer = λ q out. refl };
+  same = λ clear. inl refl;
+}
+
+-- ---- what was promised of the root
+
+pub record Ready {D : Type 0} (disk : DiskModel D) (old new : D) (result : Result Db Stop) : Type 0 where
+  pub ready : IsTrue disk.tells → IfOk result (HasReadied disk old new)
+  pub makes : IsTrue disk.tells → (s : RootState) → RecoversToSystem (disk.reads old) s → MakesReady disk s old new result
+  pub missing : IsTrue disk.tells → (why : Refusal) → fixed_dirs (disk.reads old) ≡ Err why → HasRead disk old new (Unit {0})
+  pub untouched : IsTrue disk.tells → RecoversToNone private_directory (disk.reads old) → Confined disk (Among no_name) old new
+  pub clear : IsTrue disk.tells → is_committed private_directory (disk.reads old) ≡ false → is_up_to_date (get (disk.reads old) database) ≡ true → Confined disk (Among no_name) old new
+  pub outer : IsTrue disk.tells → is_committed private_directory (disk.reads old) ≡ false → AgreesOutside is_reserved (disk.reads new) (disk.reads old)
+  pub database : IfOk result (λ db. IsDatabase Two db.installed db.oldest db.newest)
+  pub stops : IfErr result (IsReadyStop disk old new)
+  pub later : disk.faults old ≤ disk.faults new
+
+module _ {D : Type 0} {disk : DiskModel D} (old new : D) where
+  from_ready : (result : Result Db Stop) → Ready disk old new result → IsTrue disk.tells → (s : RootState) → Recovers root_store (disk.reads old) s → OpensFrom disk s old new
+  from_ready result ready told s rec =
+      let m = ready.makes told s (as_system (disk.reads old) s rec) in
+      record {
+        images = leaves_weaker (λ image is. ⊎_elim (λ entry. inl entry) (λ r. inr (of_system image s r)) is) m.images;
+        seen = m.shown;
+        reads = of_system (disk.reads new) s m.reads;
+        outside = ready.outer told;
+      }
+
+  -- ---- it is open
+
+  is_open : (db : Db) → Ready disk old new (Ok db) → IsTrue disk.tells → IsRootOpen disk old new db
+  is_open db ready told =
+      let h : HasReadied disk old new db = ready.ready told in
+      record {
+        settled = record { flag_clear = h.ready.flag_clear; synced = h.ready.synced };
+        fixed = h.fixed;
+        reached = record { recovered = h.recovered.0; recovers = h.recovered.1; outer = (h.readied h.recovered.0 h.recovered.1).outer };
+        stores = λ s rec. inr (ready.makes told s (as_system (disk.reads old) s rec)).rests.stores;
+        holds = h.ready.holds;
+      }
+
+  -- ---- it is kept
+
+  -- where the commit flag wasn't set
+  same_or_brought : (result : Result Db Stop) → Ready disk old new result → IsTrue disk.tells → is_committed private_directory (disk.reads old) ≡ false → (b : Bool) → is_up_to_date (get (disk.reads old) database) ≡ b
+      → (disk.reads new ≡ disk.reads old) ⊎ IsBrought (disk.reads old) (disk.reads new)
+  same_or_brought result ready told off true is = inl (untouched_tree (ready.clear told off is))
+  same_or_brought result ready told off false is = inr (record { old = is; outer = ready.outer told off })
+
+  -- at rest it stores each tree to which it recovered, outside the private directory
+  kept_at_rest : (result : Result Db Stop) → Ready disk old new result → IsTrue disk.tells → is_committed private_directory (disk.reads new) ≡ false
+      → ((x : Tree) → RecoversTo private_directory (disk.reads old) x → AgreesOutside is_reserved (disk.reads new) x) → IsRootKept (disk.reads old) (disk.reads new)
+  kept_at_rest result ready told rests outer = record {
+    still = λ s rec. (from_ready result ready told s rec).reads;
+    outer = λ x rec. record { recovered = disk.reads new; recovers = at_rest rests (λ q out. refl); outer = λ q out. sym (outer x rec q out) };
+    same = λ off. same_or_brought result ready told off (is_up_to_date (get (disk.reads old) database)) refl;
+  }
+
+  kept_untouched : Confined disk (Among no_name) old new → IsRootKept (disk.reads old) (disk.reads new)
+  kept_untouched confined = subst (IsRootKept (disk.reads old)) (sym (untouched_tree confined)) (kept_itself (disk.reads old))
+
+  is_kept : (result : Result Db Stop) → Ready disk old new result → IsTrue disk.tells → IsDecided result → IsRootKept (disk.reads old) (disk.reads new)
+  is_kept (Ok db) ready told decided = let h : HasReadied disk old new db = ready.ready told in kept_at_rest (Ok db) ready told h.ready.flag_clear (λ x rec. (h.readied x rec).outer)
+  is_kept (Err (stop.Refused r)) ready told decided = kept_untouched (ready.stops.1 told).kept
+  is_kept (Err (stop.Damaged path)) ready told decided = ⊎_elim
+      (λ log. kept_untouched log.kept)
+      (λ file. kept_at_rest (Err (stop.Damaged path)) ready told file.rests.flag_clear (λ x rec q out. file.stores x rec q (not_own q out)))
+      (ready.stops told)
+  is_kept (Err stop.Failed) ready told decided = absurd decided
+  is_kept (Err stop.Memory) ready told decided = absurd decided
+  is_kept (Err stop.FarFailed) ready told decided = absurd decided
+  is_kept (Err (stop.FarDamaged path)) ready told decided = absurd decided
+
+  -- ---- why it isn't opened
+
+  -- of the tree that it reads then the file is damaged, and that tree stores no system
+  damaged_file : (path : Name) → Ready disk old new (Err (stop.Damaged path)) → IsTrue disk.tells → MeetsDamagedStore disk old new path → HasDamageAtOpening root_store (disk.reads new) path
+  damaged_file path ready told file =
+      let now : RecoversTo private_directory (disk.reads old) (disk.reads new) = recovers_same file.recovered.1 (file.stores file.recovered.0 file.recovered.1) in
+      record {
+        flag_clear = file.rests.flag_clear;
+        damaged = (file.damaged (disk.reads new) now, λ s stored. (ready.makes told s (disk.reads new, now, stored)).ends);
+      }
+
+  stops_at : (e : Stop) → Ready disk old new (Err e) → OpeningStops root_store disk fixed_dirs old new e
+  stops_at stop.Failed ready = ready.stops
+  stops_at stop.Memory ready = tt
+  stops_at (stop.Refused r) ready = record {
+    of_path = ready.stops.0;
+    told = λ told. record { same = untouched_tree (ready.stops.1 told).kept; cause = ⊎_elim (λ dir. inr dir) (λ log. inl log) (ready.stops.1 told).cause };
+  }
+  stops_at (stop.Damaged path) ready = λ told. ⊎_elim
+      (λ log. inl (record { damaged = log.damaged; same = untouched_tree log.kept }))
+      (λ file. inr (damaged_file path ready told file))
+      (ready.stops told)
+  stops_at stop.FarFailed ready = absurd ready.stops
+  stops_at (stop.FarDamaged path) ready = absurd ready.stops
+
+  opened_so : (result : Result Db Stop) → Ready disk old new result → IsTrue disk.tells → IfOk result (IsRootOpen disk old new)
+  opened_so (Ok db) ready told = is_open db ready told
+  opened_so (Err e) ready told = tt
+
+  stopped_so : (result : Result Db Stop) → Ready disk old new result → IfErr result (OpeningStops root_store disk fixed_dirs old new)
+  stopped_so (Ok db) ready = tt
+  stopped_so (Err e) ready = stops_at e ready
+
+  pub opens_ready : (result : Result Db Stop) → Ready disk old new result → OpensSystem disk old new result
+  opens_ready result ready = record {
+    later = ready.later;
+    from = from_ready result ready;
+    opened = opened_so result ready;
+    kept = is_kept result ready;
+    missing = ready.missing;
+    untouched = ready.untouched;
+    rules = ready.database;
+    stops = stopped_so result ready;
+  }

@@ -1,0 +1,93 @@
+-- How the root is opened: what a crash left is recovered, a root of format 1 is brought to format 2, and its database is read.
+use Rattle.std.specs.Prelude.{◌≡◌, ◌⊎◌, ◌≤◌, false, IsTrue, Result, Ok, Err, IfOk, IfErr}
+use Rattle.std.specs.FinMap.{get}
+use Rattle.cny_base.specs.Reserved.{private_directory, is_reserved}
+use Rattle.cny_base.specs.declared.refusal.Refusal.{Refusal}
+use Rattle.cny_base.specs.declared.stop.Stop.{Stop}
+use Rattle.cny_base.specs.declared.stop.Stop.TheVariants as stop
+use Rattle.tree_disk.specs.Tree.{Name, Tree, AgreesOutside}
+use Rattle.tree_disk.specs.Disk.{DiskModel, HasRead}
+use Rattle.tree_disk.specs.Confined.{Among, Confined, LeavesOnly}
+use Rattle.tree_disk.specs.Steps.{no_name}
+use Rattle.tree_disk.specs.Unfailed.{UnlessFailed}
+use Rattle.tree_journal.specs.Recovery.{is_committed, RecoversTo}
+use Rattle.tree_journal.specs.Visible.{ShowsNode}
+use Rattle.local_db.specs.declared.db.Db.{Db}
+use Rattle.rollback_stack.specs.Migrated.{is_up_to_date}
+use Rattle.system_state.specs.declared.format.Format.TheVariants.{Two}
+use Rattle.system_state.specs.Names.{database}
+use Rattle.system_state.specs.Stores.{HoldsDatabase, IsDatabase}
+use Rattle.root_ready.specs.FixedDirs.{fixed_dirs}
+use Rattle.cli_call.specs.Opening.{OpeningStops}
+use Rattle.root_ready.specs.Recovered.{RecoversToNone}
+use Rattle.cli_call.specs.State.{RootState, tree_of}
+use Rattle.cli_call.specs.Store.{Recovers, IsEntryOr, IsSettled}
+use Rattle.cli_call.specs.Stores.{root_store}
+
+-- ---- trees
+
+-- the image recovers to a tree that is equal to this one outside the private directory
+pub record RecoversOutside (image tree : Tree) : Type 0 where
+  pub recovered : Tree
+  pub recovers : RecoversTo private_directory image recovered
+  pub outer : AgreesOutside is_reserved tree recovered
+
+-- A root of format 1 was brought to format 2, which changes its private directory alone.
+pub record IsBrought (before after : Tree) : Type 0 where
+  pub old : is_up_to_date (get before database) ≡ false
+  pub outer : AgreesOutside is_reserved after before
+
+-- The root recovers to each system that it recovered to before, and outside its private directory to each tree; where its commit
+-- flag wasn't set, it is the same, or one of format 1 was brought to format 2.
+pub record IsRootKept (before after : Tree) : Type 0 where
+  pub still : (s : RootState) → Recovers root_store before s → Recovers root_store after s
+  pub outer : (tree : Tree) → RecoversTo private_directory before tree → RecoversOutside after tree
+  pub same : is_committed private_directory before ≡ false → (after ≡ before) ⊎ IsBrought before after
+
+-- Readers see at each name outside the private directory the node of the one tree, that of the other, or nothing where just one of
+-- the two is a directory.
+abbrev pub ShowsBetween : Tree → Tree → Tree → Type 0
+ShowsBetween before after shown = (q : Name) → is_reserved q ≡ false → ShowsNode (get before q) (get after q) (get shown q)
+
+-- ---- the opening
+
+-- A root that was opened: it rests, a crash leaves just what it reads, it stores each system that it recovered to, and holds this
+-- database in format 2.
+pub record IsRootOpen {D : Type 0} (disk : DiskModel D) (old new : D) (db : Db) : Type 0 where
+  pub settled : IsSettled disk private_directory new
+  pub fixed : fixed_dirs (disk.reads old) ≡ Ok tt
+  pub reached : RecoversOutside (disk.reads old) (disk.reads new)
+  pub stores : (s : RootState) → Recovers root_store (disk.reads old) s → root_store.IsStored (disk.reads new) s
+  pub holds : HoldsDatabase Two (disk.reads new) db.installed db.oldest db.newest
+
+-- By a system that the root recovers to, however the opening ends: until then a crash leaves an image at entry or a tree that
+-- recovers to the system, and readers see what stood at entry or the system; as it reads, the root recovers to the system; where
+-- its commit flag wasn't set, no name outside the private directory is another than at entry.
+pub record OpensFrom {D : Type 0} (disk : DiskModel D) (s : RootState) (old new : D) : Type 0 where
+  pub images : LeavesOnly disk old new (IsEntryOr root_store disk old s)
+  pub seen : UnlessFailed disk old new (ShowsBetween (disk.reads old) (tree_of s))
+  pub reads : Recovers root_store (disk.reads new) s
+  pub outside : is_committed private_directory (disk.reads old) ≡ false → AgreesOutside is_reserved (disk.reads new) (disk.reads old)
+
+-- neither a fault of the disk nor want of memory ended it
+abbrev pub IsDecided : {V : Type 0} → Result V Stop → Type 0
+IsDecided (Ok value) = Unit {0}
+IsDecided (Err (stop.Refused r)) = Unit {0}
+IsDecided (Err (stop.Damaged path)) = Unit {0}
+IsDecided (Err stop.Failed) = ⊥
+IsDecided (Err stop.Memory) = ⊥
+IsDecided (Err stop.FarFailed) = ⊥
+IsDecided (Err (stop.FarDamaged path)) = ⊥
+
+-- The root is opened.
+pub record OpensSystem {D : Type 0} (disk : DiskModel D) (old new : D) (result : Result Db Stop) : Type 0 where
+  pub later : disk.faults old ≤ disk.faults new
+  pub from : IsTrue disk.tells → (s : RootState) → Recovers root_store (disk.reads old) s → OpensFrom disk s old new
+  pub opened : IsTrue disk.tells → IfOk result (IsRootOpen disk old new)
+  pub kept : IsTrue disk.tells → IsDecided result → IsRootKept (disk.reads old) (disk.reads new)
+  -- where a fixed directory isn't one, it is only read; where it recovers to no tree, it is left as it stands
+  pub missing : IsTrue disk.tells → (r : Refusal) → fixed_dirs (disk.reads old) ≡ Err r → HasRead disk old new (Unit {0})
+  pub untouched : IsTrue disk.tells → RecoversToNone private_directory (disk.reads old) → Confined disk (Among no_name) old new
+  -- whatever the disk tells
+  pub rules : IfOk result (λ db. IsDatabase Two db.installed db.oldest db.newest)
+  pub stops : IfErr result (OpeningStops root_store disk fixed_dirs old new)

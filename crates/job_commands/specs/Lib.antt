@@ -1,0 +1,3 @@
+pub mod JobOutcome
+pub mod Erase
+pub mod Install

@@ -1,0 +1,64 @@
+use Rattle.std.proofs.Common.{◌≡◌, Result, Ok, Err, IfOk, OnOk, sym, ◌∙◌, subst}
+use Rattle.cny_base.specs.declared.stop.Stop.{Stop}
+use Rattle.tree_scan.specs.declared.verification.Verified.{Verified}
+use Rattle.tree_verify.specs.Verify.{asked, verified}
+use Rattle.update_job.specs.Lists.{AreInstalled}
+use Rattle.cli_call.specs.Alone.{PerformsAlone}
+use Rattle.cli_call.specs.Command.{disks, Performs}
+use Rattle.cli_call.specs.declared.failure.Failure.TheVariants as failure
+use Rattle.root_commands.specs.Verifying as spec
+use Rattle.root_commands.proofs.Passing.{err_is}
+use Rattle.cli_call.specs.ReadingRoot.{read_alone, read_performed}
+use Rattle.root_commands.proofs.VerifyEnds.{failed_ends, found_ends, found_is}
+use Rattle.root_commands.proofs.verifying.verify_installed.Goals as goal
+
+pub returns-in_err-found-clause-performs : goal.returns-in_err-found-clause-performs
+returns-in_err-found-clause-performs g c = λ input.
+    let names = c.args.names.now in
+    let failed = failed_ends g.T.TreeDisk.disk g.P.TreeDisk.disk c.distinct_databases.ensures.unique names input c.args.root.now c.verify.new.root c.args.repo.now c.args.opened.now c.requires _ _
+    c.verify.result c.in_err-found.field-0.0 (sym c.on_root.ensures ∙ c.in_err-found.was) c.verify.ensures.verified in
+    err_is (Performs g.T.TreeDisk.disk g.P.TreeDisk.disk (spec.verify_installed names) input (disks c.args.root.now c.args.repo.now c.args.opened.now) (disks c.verify.new.root c.args.repo.now c.args.opened.now)) c.from_residual.result c.in_err-found.field-0.0 c.from_residual.ensures.1
+    (read_performed g.P.TreeDisk.disk g.met.T.TreeDisk.laws c.args.root.now c.verify.new.root c.args.repo.now c.args.opened.now (spec.verify_installed names) input c.verify.ensures.verified.same (Err c.in_err-found.field-0.0) failed.0
+    g.met.P.TreeDisk.laws c.store_laws.ensures c.requires c.verify.ensures.verified.later failed.1)
+
+pub returns-in_err-found-clause-alone : goal.returns-in_err-found-clause-alone
+returns-in_err-found-clause-alone g c = λ input.
+    let names = c.args.names.now in
+    let failed = failed_ends g.T.TreeDisk.disk g.P.TreeDisk.disk c.distinct_databases.ensures.unique names input c.args.root.now c.verify.new.root c.args.repo.now c.args.opened.now c.requires _ _
+    c.verify.result c.in_err-found.field-0.0 (sym c.on_root.ensures ∙ c.in_err-found.was) c.verify.ensures.verified in
+    err_is (PerformsAlone g.T.TreeDisk.disk g.P.TreeDisk.disk (spec.verify_installed names) input (disks c.args.root.now c.args.repo.now c.args.opened.now) (disks c.verify.new.root c.args.repo.now c.args.opened.now)) c.from_residual.result c.in_err-found.field-0.0 c.from_residual.ensures.1
+    (read_alone g.P.TreeDisk.disk g.met.T.TreeDisk.laws c.args.root.now c.verify.new.root c.args.repo.now c.args.opened.now (spec.verify_installed names) input c.verify.ensures.verified.same (Err c.in_err-found.field-0.0) failed.0)
+
+pub returns-in_err-verified_text-clause-performs : goal.returns-in_err-verified_text-clause-performs
+returns-in_err-verified_text-clause-performs g c = λ input.
+    let names = c.args.names.now in
+    err_is (Performs g.T.TreeDisk.disk g.P.TreeDisk.disk (spec.verify_installed names) input (disks c.args.root.now c.args.repo.now c.args.opened.now) (disks c.verify.new.root c.args.repo.now c.args.opened.now)) c.from_residual-in_err-verified_text.result failure.Memory c.from_residual-in_err-verified_text.ensures.1
+    (read_performed g.P.TreeDisk.disk g.met.T.TreeDisk.laws c.args.root.now c.verify.new.root c.args.repo.now c.args.opened.now (spec.verify_installed names) input c.verify.ensures.verified.same (Err failure.Memory) tt
+    g.met.P.TreeDisk.laws c.store_laws.ensures c.requires c.verify.ensures.verified.later tt)
+
+pub returns-in_err-verified_text-clause-alone : goal.returns-in_err-verified_text-clause-alone
+returns-in_err-verified_text-clause-alone g c = λ input.
+    let names = c.args.names.now in
+    err_is (PerformsAlone g.T.TreeDisk.disk g.P.TreeDisk.disk (spec.verify_installed names) input (disks c.args.root.now c.args.repo.now c.args.opened.now) (disks c.verify.new.root c.args.repo.now c.args.opened.now)) c.from_residual-in_err-verified_text.result failure.Memory c.from_residual-in_err-verified_text.ensures.1
+    (read_alone g.P.TreeDisk.disk g.met.T.TreeDisk.laws c.args.root.now c.verify.new.root c.args.repo.now c.args.opened.now (spec.verify_installed names) input c.verify.ensures.verified.same (Err failure.Memory) tt)
+
+pub returns-clause-performs : goal.returns-clause-performs
+returns-clause-performs g c = λ input.
+    let names = c.args.names.now in
+    let is = found_is c.verify.result c.in_ok-found.found (sym c.on_root.ensures ∙ c.in_ok-found.was) in
+    let ends = found_ends g.T.TreeDisk.disk g.P.TreeDisk.disk c.distinct_databases.ensures.unique names input c.args.root.now c.verify.new.root c.args.repo.now c.args.opened.now c.requires _ _ c.in_ok-found.found
+    (λ map told none. subst (λ (r : Result Verified Stop). IfOk r (λ found. found ≡ verified map (g.T.TreeDisk.disk.reads c.args.root.now) (asked names c.args.opened.now.db.installed))) is (c.verify.ensures.mapped map told none))
+    (subst (λ (r : Result Verified Stop). OnOk r (AreInstalled c.args.opened.now.db.installed names)) is c.verify.ensures.installed)
+    c.in_ok-verified_text.field-0 c.in_ok-verified_text.ensures.value in
+    read_performed g.P.TreeDisk.disk g.met.T.TreeDisk.laws c.args.root.now c.verify.new.root c.args.repo.now c.args.opened.now (spec.verify_installed names) input c.verify.ensures.verified.same (Ok c.in_ok-verified_text.field-0) ends
+    g.met.P.TreeDisk.laws c.store_laws.ensures c.requires c.verify.ensures.verified.later tt
+
+pub returns-clause-alone : goal.returns-clause-alone
+returns-clause-alone g c = λ input.
+    let names = c.args.names.now in
+    let is = found_is c.verify.result c.in_ok-found.found (sym c.on_root.ensures ∙ c.in_ok-found.was) in
+    let ends = found_ends g.T.TreeDisk.disk g.P.TreeDisk.disk c.distinct_databases.ensures.unique names input c.args.root.now c.verify.new.root c.args.repo.now c.args.opened.now c.requires _ _ c.in_ok-found.found
+    (λ map told none. subst (λ (r : Result Verified Stop). IfOk r (λ found. found ≡ verified map (g.T.TreeDisk.disk.reads c.args.root.now) (asked names c.args.opened.now.db.installed))) is (c.verify.ensures.mapped map told none))
+    (subst (λ (r : Result Verified Stop). OnOk r (AreInstalled c.args.opened.now.db.installed names)) is c.verify.ensures.installed)
+    c.in_ok-verified_text.field-0 c.in_ok-verified_text.ensures.value in
+    read_alone g.P.TreeDisk.disk g.met.T.TreeDisk.laws c.args.root.now c.verify.new.root c.args.repo.now c.args.opened.now (spec.verify_installed names) input c.verify.ensures.verified.same (Ok c.in_ok-verified_text.field-0) ends

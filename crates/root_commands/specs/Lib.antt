@@ -1,0 +1,4 @@
+pub mod Answer
+pub mod Listing
+pub mod Verifying
+pub mod RollingBack

@@ -1,0 +1,22 @@
+-- What `verify` means.
+use Rattle.std.specs.Prelude.{◌≡◌, ℕ, false, List, None, Result, Ok, Err}
+use Rattle.cny_base.specs.declared.refusal.Refusal.{Refusal}
+use Rattle.content_store.specs.Contents.{ContentMap}
+use Rattle.update_job.specs.Lists.{AreInstalled, IsNotInstalled}
+use Rattle.tree_verify.specs.Verify.{asked, verified}
+use Rattle.cny_report.specs.Verified.{verified_text}
+use Rattle.cli_call.specs.State.{tree_of, Effect, Meaning, RootState}
+use Rattle.root_commands.specs.Answer.{answer}
+
+-- no content is known
+abbrev pub no_contents : ContentMap
+no_contents name = None
+
+-- Each of these names is installed, and this is how the tree differs from what the troves of these names record, or all troves where
+-- there are no names; or the first of the names isn't installed.
+abbrev pub Verifies : List (List ℕ) → RootState → Result Effect Refusal → Type 0
+Verifies names s (Ok effect) = AreInstalled s.installed names × (effect ≡ answer (verified_text (verified no_contents (tree_of s) (asked names s.installed))))
+Verifies names s (Err refused) = IsNotInstalled s.installed names refused
+
+abbrev pub verify_installed : List (List ℕ) → Meaning
+verify_installed names = record { takes_input = false; IsOutcome = λ s input. Verifies names s.root }

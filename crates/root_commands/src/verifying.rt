@@ -1,0 +1,37 @@
+//! The command that compares the root with what its troves record.
+ghost use Rattle.std.specs.Prelude.{List, ℕ};
+ghost use Rattle.cli_call.specs.Alone.{PerformsAlone};
+ghost use Rattle.cli_call.specs.Command.{disks, AreReady, Performs};
+ghost use Rattle.root_commands.specs.Verifying as spec;
+
+use cli_call::{Failure, Opened, on_root, store_laws};
+use cny_base::{Name, Text};
+use cny_report::verified_text;
+use content_store::NoContents;
+use std::alloc::Global;
+use system_state::distinct_databases;
+use tree_disk::TreeDisk;
+use tree_verify::verify;
+
+/// Compares the root with what the installed troves of these names record, or all where there are none: a line for each recorded path
+/// at which something else stands, or nothing, and last how many paths were looked at and how many differ. `NotInstalled` for the first
+/// of the names that isn't installed. No name of a disk changes.
+pub fn verify_installed<T: TreeDisk, P: TreeDisk>(
+    alloc: Global,
+    names: &[Name],
+    opened: &Opened,
+    repo: &P,
+    root: &mut T,
+) -> Result<Text, Failure>
+    requires { AreReady T.disk P.disk (disks root.old repo.now opened.now) }
+    ensures performs { (input : List ℕ) → Performs T.disk P.disk (spec.verify_installed names.now) input (disks root.old repo.now opened.now)
+        (disks root.new repo.now opened.now) result }
+    ensures alone { (input : List ℕ) → PerformsAlone T.disk P.disk (spec.verify_installed names.now) input (disks root.old repo.now opened.now)
+        (disks root.new repo.now opened.now) result }
+{
+    store_laws();
+    distinct_databases();
+    let mut far = NoContents;
+    let found = on_root(verify(alloc, root, &opened.db.installed, names, &mut far))?;
+    Ok(verified_text(alloc, &found)?)
+}
