@@ -1,8 +1,9 @@
 #!/usr/bin/env python3
 """Writes the script of the program command_vectors (crates/command_vectors/stdin), or what it has to answer (stdout).
 
-The answers come from the model of the program in program_model.py, which is made from the rules of docs/COMMANDS.md,
-docs/FORMATS.md and docs/CRASH_SAFETY.md alone and shares nothing with the program that is tested with it. Of the lines only
+The answers come from the model of the program in program_model.py and job_commands_model.py, which is made from the rules of docs/COMMANDS.md,
+docs/FORMATS.md and docs/CRASH_SAFETY.md alone and shares nothing with the program that is tested with it. More lines on the
+commands of a root are those of root_command_lines.py. Of the lines only
 those of `cut` and `from` depend on how many calls of its disks a command makes.
 
 Usage: tools/command_vectors.py (stdin|stdout|count) >FILE
@@ -15,7 +16,8 @@ sys.dont_write_bytecode = True
 import program_model as root_side
 import repository_model as repo_side
 from disk_model import DIR, Damaged, Refused, Tree, is_within, item, parent_of, str_field
-from program_model import PLANNED_COMMANDS, Call, Streams, manifest_of
+from job_commands_model import PLANNED_COMMANDS, Call
+from program_model import Streams, manifest_of
 from rel_vectors import relative_of
 from repository_vectors import commit_bytes
 from stream_model import ChangeSet, Id, Trove, asked_by, directory, regular, set_bytes
@@ -202,7 +204,7 @@ def log_of(puts):
 
 
 LABEL, STABLE = b"conary.example.com@ex:devel", b"conary.example.com@ex:stable"
-HEAD = b"manifest 1\ncomponent a:b\nversion /v\n"
+HEAD = b"manifest 1\ncomponent a:b\nversion /a@b:c/1-1-1\n"
 
 
 def manifest(name, revision, lines=(), first=b"manifest 1", label=b"/" + LABEL):
@@ -354,9 +356,7 @@ def words_cases(script):
         "branch\n/a@b:c\nfoo", "branch\na@b:c\nfoo=", "branches\na@b:c\nfoo", "changeset\n" + LONGER_SPEC,
     ]  # fmt: skip
     planned = [
-        "update\n-", "update\n--replace\nx", "erase", "rollback\nx", "rblist", "q\na\nb\nc", "verify\n--full", "localcs", "batch",
-        "demo\n0", "demo", "install\n--replace", "install\n--keep", "install\n--keep\n--replace", "install\n--replace\n--keep",
-        "install\n--keep\n--keep", "install\n--keep\nx", "install\n--replace\n--frob", "update\n" + LONGER_SPEC,
+        "batch", "demo\n0", "demo", "install\n--keep\n--keep", "install\n--keep\nx", "install\n--replace\n--frob", "update\n" + LONGER_SPEC,
     ]  # fmt: skip
     for line in usage + planned:
         words = line.encode().split(b"\n") if line else []
@@ -1167,6 +1167,10 @@ def main():
     for cases, needed in GROUPS:
         if are_built(needed):
             cases(script)
+    # Behind the other lines, since that file takes what it needs of this one.
+    import root_command_lines
+
+    root_command_lines.say_all(script)
     if sys.argv[1:] == ["count"]:
         for group, count in script.cases.items():
             print(count, group)
@@ -1175,4 +1179,5 @@ def main():
     sys.stdout.write("".join(line + "\n" for line in lines))
 
 
-main()
+if __name__ == "__main__":
+    main()

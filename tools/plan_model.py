@@ -10,7 +10,9 @@ PINNED = ('/', '/var', '/var/lib')
 
 
 def contents(text):
-    """The bytes of contents as they are written in a line."""
+    """The bytes of contents as they are written in a line, or that are given as bytes."""
+    if isinstance(text, bytes):
+        return text
     if text == '-':
         return b''
     out = b''
@@ -36,6 +38,9 @@ def mark(node):
 
 
 def mark_of_record(rec):
+    """The fingerprint that a record wants; the record of a file may tell the size and the name in place of the contents."""
+    if rec[0] == 'file' and len(rec) == 5:
+        return ('file', rec[1], rec[3], rec[4].hex())
     if rec[0] == 'file':
         data = contents(rec[3])
         return ('file', rec[1], len(data), hashlib.sha1(data).hexdigest())

@@ -4,14 +4,12 @@ statuses, made from the rules of docs/COMMANDS.md and docs/FORMATS.md alone.
 The disks and their journals are those of disk_model.py, the repository is that of repository_model.py, whole manifests are read
 by manifest_model.py and change sets by stream_model.py.
 """
-import re
-
 import manifest_model
 import repository_model as repository
 import text_model as texts
-from disk_model import Damaged, Failed, Journal, Refused, is_of, is_within, read_whole
+from disk_model import Damaged, Failed, Journal, Refused, is_of, read_whole
 from repository_model import id_text
-from stream_model import ChangeSet, Fault, Id, Owner, Trove, directory, is_label, is_name, is_path, link, read_set, regular, set_bytes, set_text
+from stream_model import ChangeSet, Fault, Id, Owner, Trove, directory, link, read_set, regular, set_bytes
 
 BASE = b"/var/lib/conarydb"
 JOURNAL = Journal(BASE)
@@ -26,9 +24,6 @@ class Ended(Exception):
 
 # ---- the words
 
-PLANNED_COMMANDS = b"update erase rollback rblist q verify localcs batch demo".split()
-PLANNED_OPTIONS = {b"install": (b"--replace", b"--keep")}
-OPTIONS = {b"cook": (b"--next",)}
 LONGEST_WORD, MOST_WORDS = 4096, 1024
 
 
@@ -40,136 +35,7 @@ def is_spec(text):
     return True
 
 
-# What stands behind the command and its options.
-WORDS = {
-    b"install": [[]],
-    b"cook": [[]],
-    b"commit": [[]],
-    b"showcs": [[]],
-    b"rq": [[], [is_name]],
-    b"changeset": [[is_spec], [is_spec, is_spec]],
-    b"shadow": [[is_label, is_spec]],
-    b"branch": [[is_label, is_spec]],
-}
 TAKES_INPUT = (b"install", b"cook", b"commit", b"showcs")
-
-
-def command_of(words):
-    """The command, its options and what stands behind them."""
-    if not words:
-        raise Ended(2, b"")
-    command, rest = words[0], list(words[1:])
-    if command in PLANNED_COMMANDS:
-        raise Refused(b"not built " + command)
-    planned, options = PLANNED_OPTIONS.get(command, ()), []
-    while rest and rest[0] in OPTIONS.get(command, ()) + planned:
-        if rest[0] in planned:
-            raise Refused(b"not built " + rest[0])
-        options.append(rest.pop(0))
-    forms = [form for form in WORDS.get(command, []) if len(form) == len(rest)]
-    short = len(words) <= MOST_WORDS and all(len(word) <= LONGEST_WORD for word in words)
-    if not short or len(set(options)) != len(options) or not any(all(test(word) for test, word in zip(form, rest)) for form in forms):
-        raise Ended(2, b"")
-    return command, options, rest
-
-
-# ---- the manifest of `install`
-
-PLANNED_LINES = (b"package", b"group", b"flavor", b"ref", b"requires", b"provides", b"link")
-PLANNED_FLAGS = (b"config", b"initial", b"transient")
-LARGEST_CONTENT = 16_777_216
-
-
-def number(digits):
-    """1 to 19 digits without a leading 0 but in `0`; else None."""
-    return int(digits) if re.fullmatch(b"0|[1-9][0-9]{0,18}", digits) else None
-
-
-def mode_of(digits):
-    return int(digits, 8) if re.fullmatch(b"[0-7]{4}", digits) else None
-
-
-def is_component(name):
-    return b":" in name and is_name(name)
-
-
-def is_visible_version(text):
-    return len(text) <= 512 and re.fullmatch(b"/[!-~]*", text)
-
-
-class Reading:
-    """The input, and the place up to which it is read."""
-
-    def __init__(self, data):
-        self.data, self.at = data, 0
-
-    def refuse(self, at):
-        raise Refused(b"malformed at %d" % at)
-
-    def line(self):
-        """The line at the place, with the place of its first byte."""
-        start = self.at
-        end = self.data.find(b"\n", start, start + 2049)
-        if end < 0:
-            self.refuse(start if len(self.data) - start >= 2049 else len(self.data))
-        self.at = end + 1
-        return self.data[start:end], start
-
-    def refuse_line(self, line, start):
-        fields = line.split(b" ")
-        if fields[0] in PLANNED_LINES:
-            raise Refused(b"not built " + fields[0])
-        if fields[0] == b"file" and len(fields) > 3 and fields[3] in PLANNED_FLAGS:
-            raise Refused(b"not built " + fields[3])
-        self.refuse(start)
-
-    def content(self, size):
-        start, end = self.at, self.at + size
-        if len(self.data) <= end:
-            self.refuse(len(self.data))
-        if self.data[end : end + 1] != b"\n":
-            self.refuse(start)
-        self.at = end + 1
-        return self.data[start:end]
-
-
-def item_of(reading, line, start, last):
-    """The item of a line: its path and node."""
-    kind, *fields = line.split(b" ", 3 if line.startswith(b"file ") else 2)
-    wanted = {b"dir": 2, b"file": 3}.get(kind)
-    mode = mode_of(fields[0]) if wanted == len(fields) else None
-    size = number(fields[1]) if wanted == 3 and mode is not None else None
-    if mode is None or (wanted == 3 and size is None) or not is_path(fields[-1]) or fields[-1] <= last:
-        reading.refuse_line(line, start)
-    if wanted == 2:
-        return fields[-1], ("dir", mode)
-    if size > LARGEST_CONTENT:
-        raise Refused(b"too large: content %d" % size)
-    return fields[-1], ("file", mode, reading.content(size))
-
-
-def component_of(data):
-    """The name, the version and the items of a manifest of one component."""
-    reading = Reading(data)
-    line, start = reading.line()
-    if line != b"manifest 1":
-        reading.refuse_line(line, start)
-    values = []
-    for word, holds in ((b"component ", is_component), (b"version ", is_visible_version)):
-        line, start = reading.line()
-        values.append(line[len(word) :])
-        if not line.startswith(word) or not holds(values[-1]):
-            reading.refuse_line(line, start)
-    items, last = [], b""
-    while True:
-        line, start = reading.line()
-        if line == b"end":
-            break
-        items.append(item_of(reading, line, start, last))
-        last = items[-1][0]
-    if reading.at != len(data):
-        reading.refuse(reading.at)
-    return values[0], values[1], items
 
 
 # ---- whole manifests and change sets
@@ -229,7 +95,7 @@ class Streams:
 
 
 class Call:
-    """A whole call of the program."""
+    """A whole call of the program: the streams, the repository, and how it ends. What it performs is in job_commands_model.py."""
 
     def __init__(self, words, streams, root, repo):
         self.words, self.streams, self.root, self.repo = list(words), streams, root, repo
@@ -258,25 +124,6 @@ class Call:
             raise Ended(4, b"output fault")
         self.out = text
 
-    def perform(self):
-        command, options, rest = command_of(self.words)
-        for path in FIXED:
-            if not is_of(self.root.look(path), "dir"):
-                raise Refused(b"parent " + path)
-        JOURNAL.recover(self.root)
-        repository.JOURNAL.recover(self.repo)
-        self.catalogue = repository.load(self.repo)
-        data = self.read_input() if command in TAKES_INPUT else b""
-        if command == b"cook":
-            return self.cook(data, options)
-        if command in TAKES_INPUT:
-            return {b"install": self.install, b"commit": self.commit, b"showcs": lambda data: set_text(change_set_of(data))}[command](data)
-        if command == b"rq":
-            return self.list_troves(*rest)
-        if command == b"changeset":
-            return self.change_set(rest)
-        return self.move(command.decode(), *rest)
-
     def read_input(self):
         streams, calls = self.streams, 0
         while True:
@@ -287,32 +134,6 @@ class Call:
             self.taken += count
             if count == 0:
                 return streams.data
-
-    # ---- the root
-
-    def install(self, data):
-        name, version, items = component_of(data)
-        for path, node in items:
-            if is_within(path, BASE) or (path in FIXED and node[0] != "dir"):
-                raise Refused(b"reserved " + path)
-        for path, node in items:
-            self.check_owned(path, node)
-        dirs = [path for path, node in items if node[0] == "dir"]
-        for path, _ in items:
-            parent = path[: path.rindex(b"/")] or b"/"
-            above = self.root.look(parent)
-            if (above is None and parent not in dirs) or (above is not None and above[0] != "dir"):
-                raise Refused(b"parent " + path)
-        JOURNAL.apply(self.root, [(path, node) for path, node in items if self.root.look(path) is None])
-        return b"installed " + name + b"=" + version + b"\n"
-
-    def check_owned(self, path, node):
-        stands = self.root.look(path)
-        if stands is None or (stands[0] == "dir" and node[0] == "dir"):
-            return
-        alike = is_of(stands, "file") and is_of(node, "file") and (stands[1], len(stands[2])) == (node[1], len(node[2]))
-        if not alike or self.root.read_at(path) != node[2]:
-            raise Refused(b"unowned " + path)
 
     # ---- the repository
 

@@ -213,4 +213,5 @@ def main():
     sys.stdout.write("".join(line + "\n" for line in lines))
 
 
-main()
+if __name__ == "__main__":
+    main()

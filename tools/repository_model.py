@@ -165,9 +165,9 @@ def resolve(catalogue, spec, config):
     raise Refused(b"missing trove " + spec.text)
 
 
-def expand(catalogue, root):
-    """The troves that a root reaches by references, each once, in the order of ids."""
-    reached = {root}
+def expand(catalogue, *roots):
+    """The troves that roots reach by references, each once, in the order of ids."""
+    reached = set(roots)
     while (more := reached | {ref for trove in catalogue.troves if trove.identity in reached for ref in trove.refs}) != reached:
         reached = more
     found = sorted(trove for trove in catalogue.troves if trove.identity in reached)
