@@ -21,10 +21,11 @@ use Rattle.system_state.specs.Names.{database}
 use Rattle.system_state.specs.Stores.{IsDatabase, RecoversToSystem}
 use Rattle.system_state.proofs.Places.{own_reserved}
 use Rattle.root_ready.specs.FixedDirs.{fixed_dirs}
+use Rattle.root_ready.specs.Migrating.{RecoversInAFormat}
 use Rattle.root_ready.specs.Ready.{HasReadied, IsReadyStop, MakesReady, MeetsDamagedStore}
 use Rattle.root_ready.specs.Recovered.{RecoversToNone}
 use Rattle.cli_call.specs.Opening.{OpeningStops}
-use Rattle.cli_call.specs.RootOpening.{IsBrought, IsDecided, IsRootKept, IsRootOpen, OpensFrom, OpensSystem}
+use Rattle.cli_call.specs.RootOpening.{IsOfOldFormat, IsDecided, IsRootKept, IsRootOpen, OpensFrom, OpensSystem}
 use Rattle.cli_call.specs.State.{RootState}
 use Rattle.cli_call.specs.Store.{Recovers, HasDamageAtOpening}
 use Rattle.cli_call.specs.Stores.{root_store}
@@ -60,6 +61,7 @@ untouched_tree {disk = disk} {old = old} {new = new} confined = same_tree (disk.
 kept_itself : (tree : Tree) → IsRootKept tree tree
 kept_itself tree = record {
   still = λ s rec. rec;
+  stored = λ x rec. inl rec;
   outer = λ x rec. record { recovered = x; recovers = rec; outer = λ q out. refl };
   same = λ clear. inl refl;
 }
@@ -69,6 +71,7 @@ kept_itself tree = record {
 pub record Ready {D : Type 0} (disk : DiskModel D) (old new : D) (result : Result Db Stop) : Type 0 where
   pub ready : IsTrue disk.tells → IfOk result (HasReadied disk old new)
   pub makes : IsTrue disk.tells → (s : RootState) → RecoversToSystem (disk.reads old) s → MakesReady disk s old new result
+  pub reads : IsTrue disk.tells → (x : Tree) → RecoversTo private_directory (disk.reads old) x → RecoversInAFormat x (disk.reads new)
   pub missing : IsTrue disk.tells → (why : Refusal) → fixed_dirs (disk.reads old) ≡ Err why → HasRead disk old new (Unit {0})
   pub untouched : IsTrue disk.tells → RecoversToNone private_directory (disk.reads old) → Confined disk (Among no_name) old new
   pub clear : IsTrue disk.tells → is_committed private_directory (disk.reads old) ≡ false → is_up_to_date (get (disk.reads old) database) ≡ true → Confined disk (Among no_name) old new
@@ -99,13 +102,15 @@ module _ {D : Type 0} {disk : DiskModel D} (old new : D) where
         reached = record { recovered = h.recovered.0; recovers = h.recovered.1; outer = (h.readied h.recovered.0 h.recovered.1).outer };
         stores = λ s rec. inr (ready.makes told s (as_system (disk.reads old) s rec)).rests.stores;
         holds = h.ready.holds;
+        database = record { tree = h.recovered.0; recovers = h.recovered.1; held = λ x rec. (h.readied x rec).held };
+        brought = λ x rec. (h.readied x rec).brought;
       }
 
   -- ---- it is kept
 
   -- where the commit flag wasn't set
   same_or_brought : (result : Result Db Stop) → Ready disk old new result → IsTrue disk.tells → is_committed private_directory (disk.reads old) ≡ false → (b : Bool) → is_up_to_date (get (disk.reads old) database) ≡ b
-      → (disk.reads new ≡ disk.reads old) ⊎ IsBrought (disk.reads old) (disk.reads new)
+      → (disk.reads new ≡ disk.reads old) ⊎ IsOfOldFormat (disk.reads old) (disk.reads new)
   same_or_brought result ready told off true is = inl (untouched_tree (ready.clear told off is))
   same_or_brought result ready told off false is = inr (record { old = is; outer = ready.outer told off })
 
@@ -114,6 +119,7 @@ module _ {D : Type 0} {disk : DiskModel D} (old new : D) where
       → ((x : Tree) → RecoversTo private_directory (disk.reads old) x → AgreesOutside is_reserved (disk.reads new) x) → IsRootKept (disk.reads old) (disk.reads new)
   kept_at_rest result ready told rests outer = record {
     still = λ s rec. (from_ready result ready told s rec).reads;
+    stored = ready.reads told;
     outer = λ x rec. record { recovered = disk.reads new; recovers = at_rest rests (λ q out. refl); outer = λ q out. sym (outer x rec q out) };
     same = λ off. same_or_brought result ready told off (is_up_to_date (get (disk.reads old) database)) refl;
   }

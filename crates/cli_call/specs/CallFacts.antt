@@ -222,6 +222,7 @@ module _ {T P : Type 0} {root_disk : DiskModel T} {repo_disk : DiskModel P} (roo
       fixed = λ told. (opens.opens_root.opened told).fixed;
       root = λ told. subst (λ (d : T). IsSettled root_disk root_store.base d) (sym same_root) (opens.opens_root.opened told).settled;
       repo = λ told. subst (λ (d : P). IsSettled repo_disk repository_store.base d) (sym same_repo') (opens.opens.opened told).settled;
+      database = λ told. (opened.db, (opens.opens_root.opened told).database);
       loaded = loaded_repo;
     }
 
@@ -257,7 +258,7 @@ module _ {T P : Type 0} {root_disk : DiskModel T} {repo_disk : DiskModel P} (roo
     run_facts of_root m bytes end runs = record {
       cause = run_cause end runs.cause;
       kept = λ none. record { root = λ told. kept_root ((runs.same none).root told) told; repo = λ told. kept_repo ((runs.same none).repo told) told };
-      settles = λ le. inl (record { fixed = λ told. (opens.opens_root.opened told).fixed; root = (runs.rest le).root; repo = (runs.rest le).repo; loaded = loaded_repo });
+      settles = λ le. inl (record { fixed = λ told. (opens.opens_root.opened told).fixed; root = (runs.rest le).root; repo = (runs.rest le).repo; database = λ told. (opened.db, (opens.opens_root.opened told).database); loaded = loaded_repo });
       root_untouched = open_root_untouched;
       repo_untouched = open_repo_untouched;
       repo_within = λ told off. confined_then (opened_within told off) (runs.within told);

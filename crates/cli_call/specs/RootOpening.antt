@@ -13,11 +13,13 @@ use Rattle.tree_disk.specs.Unfailed.{UnlessFailed}
 use Rattle.tree_journal.specs.Recovery.{is_committed, RecoversTo}
 use Rattle.tree_journal.specs.Visible.{ShowsNode}
 use Rattle.local_db.specs.declared.db.Db.{Db}
+use Rattle.local_db.specs.Loading.{HoldsDb}
 use Rattle.rollback_stack.specs.Migrated.{is_up_to_date}
 use Rattle.system_state.specs.declared.format.Format.TheVariants.{Two}
 use Rattle.system_state.specs.Names.{database}
 use Rattle.system_state.specs.Stores.{HoldsDatabase, IsDatabase}
 use Rattle.root_ready.specs.FixedDirs.{fixed_dirs}
+use Rattle.root_ready.specs.Migrating.{IsBrought, RecoversInAFormat}
 use Rattle.cli_call.specs.Opening.{OpeningStops}
 use Rattle.root_ready.specs.Recovered.{RecoversToNone}
 use Rattle.cli_call.specs.State.{RootState, tree_of}
@@ -32,17 +34,18 @@ pub record RecoversOutside (image tree : Tree) : Type 0 where
   pub recovers : RecoversTo private_directory image recovered
   pub outer : AgreesOutside is_reserved tree recovered
 
--- A root of format 1 was brought to format 2, which changes its private directory alone.
-pub record IsBrought (before after : Tree) : Type 0 where
+-- A root whose database isn't up to date: no name outside the private directory changed.
+pub record IsOfOldFormat (before after : Tree) : Type 0 where
   pub old : is_up_to_date (get before database) ≡ false
   pub outer : AgreesOutside is_reserved after before
 
--- The root recovers to each system that it recovered to before, and outside its private directory to each tree; where its commit
--- flag wasn't set, it is the same, or one of format 1 was brought to format 2.
+-- The root recovers to each system that it recovered to before; and to each tree, as it is or brought from format 1 to format 2, which
+-- changes no name outside the private directory. Where its commit flag wasn't set and its database was up to date, it is the same.
 pub record IsRootKept (before after : Tree) : Type 0 where
   pub still : (s : RootState) → Recovers root_store before s → Recovers root_store after s
+  pub stored : (tree : Tree) → RecoversTo private_directory before tree → RecoversInAFormat tree after
   pub outer : (tree : Tree) → RecoversTo private_directory before tree → RecoversOutside after tree
-  pub same : is_committed private_directory before ≡ false → (after ≡ before) ⊎ IsBrought before after
+  pub same : is_committed private_directory before ≡ false → (after ≡ before) ⊎ IsOfOldFormat before after
 
 -- Readers see at each name outside the private directory the node of the one tree, that of the other, or nothing where just one of
 -- the two is a directory.
@@ -51,14 +54,22 @@ ShowsBetween before after shown = (q : Name) → is_reserved q ≡ false → Sho
 
 -- ---- the opening
 
--- A root that was opened: it rests, a crash leaves just what it reads, it stores each system that it recovered to, and holds this
--- database in format 2.
+-- The root recovers to a tree, and each tree to which it recovers holds this database, in one of the formats.
+pub record RecoversToDatabase (image : Tree) (db : Db) : Type 0 where
+  pub tree : Tree
+  pub recovers : RecoversTo private_directory image tree
+  pub held : (other : Tree) → RecoversTo private_directory image other → HoldsDb other db
+
+-- A root that was opened: it rests, a crash leaves just what it reads, it stores each system that it recovered to, and each tree in
+-- format 2, and holds this database, which is the one that it recovered to.
 pub record IsRootOpen {D : Type 0} (disk : DiskModel D) (old new : D) (db : Db) : Type 0 where
   pub settled : IsSettled disk private_directory new
   pub fixed : fixed_dirs (disk.reads old) ≡ Ok tt
   pub reached : RecoversOutside (disk.reads old) (disk.reads new)
   pub stores : (s : RootState) → Recovers root_store (disk.reads old) s → root_store.IsStored (disk.reads new) s
   pub holds : HoldsDatabase Two (disk.reads new) db.installed db.oldest db.newest
+  pub database : RecoversToDatabase (disk.reads old) db
+  pub brought : (tree : Tree) → RecoversTo private_directory (disk.reads old) tree → IsBrought tree (disk.reads new)
 
 -- By a system that the root recovers to, however the opening ends: until then a crash leaves an image at entry or a tree that
 -- recovers to the system, and readers see what stood at entry or the system; as it reads, the root recovers to the system; where

@@ -14,6 +14,7 @@ use Rattle.tree_disk.specs.Unfailed.{UnlessFailed}
 use Rattle.journal_log.specs.Own.{StoresSame}
 use Rattle.tree_journal.specs.Recovery.{is_committed, RecoversTo, RecoversAsThen}
 use Rattle.repo_index.specs.Catalogue.{CatalogueParts}
+use Rattle.local_db.specs.declared.db.Db.{Db}
 use Rattle.repo_state.specs.Files.{repository_base, HoldsCatalogue}
 use Rattle.repo_state.specs.State.{RepositoryState}
 use Rattle.repository.specs.Loading.{IsCatalogue}
@@ -27,7 +28,7 @@ use Rattle.cli_call.specs.Opening.{MeetsDamage}
 use Rattle.cli_call.specs.Reading.{given, left_by, Gives, IsInput}
 use Rattle.root_ready.specs.Recovered.{RecoversToNone, IsKept, IsPathRefusal, RefusesLog}
 use Rattle.cli_call.specs.Report.{End, Tells, Reports}
-use Rattle.cli_call.specs.RootOpening.{IsRootKept, RecoversOutside, ShowsBetween}
+use Rattle.cli_call.specs.RootOpening.{IsRootKept, RecoversOutside, RecoversToDatabase, ShowsBetween}
 use Rattle.cli_call.specs.State.{RootState, State, Effect, Meaning, tree_of, after, IsNext, OneDisk, Then}
 use Rattle.cli_call.specs.Store.{Store, Recovers, OneOf, IsEntryOr, HasDamagedFile, IsSettled, RestsAt}
 use Rattle.cli_call.specs.Stores.{root_store, repository_store}
@@ -173,12 +174,13 @@ module _ {T P : Type 0} (root_disk : DiskModel T) (repo_disk : DiskModel P) wher
     pub unread : now.input ≡ before.input
     pub refused : IsRefused refusal before now err err' status
 
-  -- Both disks were opened: each that is told rests, and a crash leaves just what it reads; and the repository was one that recovers to
-  -- a catalogue, so that none of its commits' files was damaged.
+  -- Both disks were opened: each that is told rests, and a crash leaves just what it reads; the root was one that recovers to a
+  -- database, and the repository one that recovers to a catalogue, so that neither the database nor a commit's file was damaged.
   pub record RestOpened (before now : CallState T P) : Type 0 where
     pub fixed : IsTrue root_disk.tells → fixed_dirs (root_disk.reads before.root) ≡ Ok tt
     pub root : IsTrue root_disk.tells → IsSettled root_disk root_store.base now.root
     pub repo : IsTrue repo_disk.tells → IsSettled repo_disk repository_store.base now.repo
+    pub database : IsTrue root_disk.tells → (db : Db) × RecoversToDatabase (root_disk.reads before.root) db
     pub loaded : IsTrue repo_disk.tells → RecoversToCatalogue (repo_disk.reads before.repo)
 
   abbrev pub Settles : CallState T P → CallState T P → SinkState → SinkState → ℕ → Type 0
