@@ -16,7 +16,7 @@ sys.dont_write_bytecode = True
 import program_model as root_side
 import repository_model as repo_side
 from disk_model import DIR, Damaged, Refused, Tree, is_within, item, parent_of, str_field
-from job_commands_model import PLANNED_COMMANDS, Call
+from job_commands_model import PLANNED_COMMANDS, Call, is_later
 from program_model import Streams, manifest_of
 from rel_vectors import relative_of
 from repository_vectors import commit_bytes
@@ -49,18 +49,37 @@ class Script:
 
     def __init__(self):
         self.lines, self.answers, self.cases = [], [], {}
+        # The answer to the line before, also where that is left out; whether lines are left out up to the next set-up.
+        self.answer, self.is_cut, self.said = "", False, 0
+        # Whether calls of what isn't built yet are left out.
+        self.leaves_out = False
 
     def case(self, group):
-        self.cases[group] = self.cases.get(group, 0) + 1
+        if len(self.lines) > self.said:
+            self.cases[group] = self.cases.get(group, 0) + 1
+        self.said = len(self.lines)
 
     def say(self, line, answer="ok"):
-        self.lines.append(line)
-        self.answers.append(answer)
+        self.answer = answer
+        if not self.is_cut:
+            self.lines.append(line)
+            self.answers.append(answer)
+
+    def is_left_out(self, words):
+        return self.leaves_out and is_later(words)
+
+    def left_out(self, words):
+        """A call that isn't said. Where it changes a disk, or calls of one are counted, no line is said up to the next set-up."""
+        before = disks_text(self.trees)
+        call = self.called(words, self.trees)
+        self.answer = answer_text(call) + disks_text(self.trees)
+        self.is_cut = self.is_cut or before != disks_text(self.trees) or self.counts
+        return call.out
 
     def disks(self, edits=(), repo_edits=(), root_fails=0, repo_fails=0):
         """A root with `/`, `/var` and `/var/lib`, a repository with `/` alone, and then what the edits put."""
         self.trees = {"root": Tree((b"/var", b"/var/lib"), root_fails), "repo": Tree((), repo_fails)}
-        self.streams = Streams()
+        self.streams, self.is_cut, self.counts = Streams(), False, root_fails + repo_fails > 0
         self.say(f"disks {root_fails} {repo_fails}")
         self.edit("root", edits)
         self.edit("repo", repo_edits)
@@ -88,6 +107,8 @@ class Script:
         return Call(words, self.streams, trees["root"], trees["repo"])
 
     def run(self, *words):
+        if self.is_left_out(words):
+            return self.left_out(words)
         call = self.called(words, self.trees)
         self.say(" ".join(["run", *map(given, words)]), answer_text(call) + disks_text(self.trees))
         return call.out
@@ -101,6 +122,7 @@ class Script:
         self.trees[side].left = calls
         answer = answer_text(self.called(words, self.trees)) + recovered_text(side, self.trees[side], pick)
         self.trees = crashed(self.trees, side, pick)
+        self.is_cut = self.is_cut or self.is_left_out(words)
         self.say(" ".join(["cut", side, str(calls), str(pick), *map(given, words)]), answer)
 
     def again_text(self, words, trees):
@@ -138,10 +160,14 @@ class Script:
         self.say("from", " ".join(["from"] + [str(number) for number, _ in found]))
 
     def stops(self, side, pick, *words):
+        if self.is_left_out(words):
+            return
         found = self.sweep(side, lambda calls: self.stopped(words, side, pick, calls))
         self.say_sweep(["stops", side, str(pick), *map(given, words)], found)
 
     def faults(self, side, *words):
+        if self.is_left_out(words):
+            return
         found = self.sweep(side, lambda calls: self.failed(words, side, calls + 1))
         self.say_sweep(["faults", side, *map(given, words)], found)
 

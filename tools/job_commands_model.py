@@ -47,7 +47,8 @@ class Built:
 
 
 def is_later(words):
-    return words[:1] != [] and (words[0] in LATER_COMMANDS or words[1:2] == [LATER_OPTIONS.get(words[0])])
+    command, option = [*words, b"", b""][:2]
+    return command in LATER_COMMANDS or option == LATER_OPTIONS.get(command)
 OPTIONS = {
     b"cook": (b"--next",), b"install": (b"--replace", b"--keep"), b"update": (b"--replace", b"--keep"), b"erase": (b"--replace",),
     b"verify": (b"--full",),

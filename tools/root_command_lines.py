@@ -16,7 +16,7 @@ import command_vectors as others
 import plan_model as plans
 from command_vectors import ABC, BASE, DIR, GATE, LABEL, PICKS, at, carried, component, cooked, file, manifest, plain, word
 from disk_model import Tree
-from job_commands_model import DATABASE, Built, Job, is_later, standing
+from job_commands_model import DATABASE, Built, Job, standing
 from rel_vectors import relative_of
 from root_examples import ABX, EXAMPLES, F1, F2, FOO, M, M2, WRONG, Examples, calls_to, config, is_journals
 from root_model import Job as RootJob
@@ -136,7 +136,7 @@ def refused_root(script, repo_edits=()):
 
 
 def expect_first(script, faults):
-    said = script.answers[-1].split(" ")[2]
+    said = script.answer.split(" ")[2]
     if faults[0].replace("-", "%20") not in said:
         WRONG.append(f"refusals {faults}: {said}")
 
@@ -456,34 +456,12 @@ CASES = (
 
 
 def say_all(script, groups=EXAMPLES + CASES):
-    """Says all lines whose commands are built; what an example answers has to be what is written here."""
-    begin = len(script.lines)
-    Built.everything = True
+    """Says all lines but the calls of what isn't built yet; what an example answers has to be what is written here."""
+    Built.everything = script.leaves_out = True
     for cases in groups:
         cases(script)
-    Built.everything = False
+    Built.everything = script.leaves_out = False
     assert not WRONG, "\n".join(WRONG)
-    leave_out_later(script, begin)
-
-
-def is_later_call(line):
-    """Whether the line calls what isn't built yet."""
-    name, *rest = line.split(" ")
-    front = {"run": 0, "cut": 3, "stops": 2, "faults": 1}.get(name)
-    return front is not None and is_later([one.encode() for one in rest[front:]])
-
-
-def leave_out_later(script, begin):
-    """Leaves out the lines behind this one that are set up together with a call of what isn't built yet."""
-    groups, group = [], []
-    for one in zip(script.lines[begin:], script.answers[begin:]):
-        if one[0].startswith("disks "):
-            groups.append(group)
-            group = []
-        group.append(one)
-    groups.append(group)
-    kept = [one for group in groups if not any(is_later_call(line) for line, _ in group) for one in group]
-    script.lines[begin:], script.answers[begin:] = [line for line, _ in kept], [answer for _, answer in kept]
 
 
 def nodes_of(tree):
@@ -529,6 +507,7 @@ def nodes_of_one(node):
 def check():
     found = []
     compare_jobs(found)
+    Built.everything = True
     script = others.Script()
     for cases in EXAMPLES:
         cases(script)

@@ -55,7 +55,7 @@ class Examples:
         self.compare(words, "%d %s %s" % (wanted[0], word(wanted[1]), word(wanted[2])), stands)
 
     def compare(self, words, wanted, stands):
-        said = self.script.answers[-1].split(" taken ")[0]
+        said = self.script.answer.split(" taken ")[0]
         there = self.script.trees["root"].nodes
         if said != wanted:
             WRONG.append(f"{self.name}: {b' '.join(words).decode()}\n  said   {said}\n  wanted {wanted}")
