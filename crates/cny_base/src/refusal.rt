@@ -37,7 +37,7 @@ pub enum What {
 }
 
 /// Why a command is refused. A refusal leaves everything as it was.
-#[derive(Debug, Drop)]
+#[derive(Debug)]
 pub enum Refusal {
     /// The input isn't in its grammar; `at` is the byte at which that shows.
     Malformed {
@@ -116,7 +116,7 @@ pub enum Refusal {
     BadConfig {
         line: u32,
     },
-    /// A command, option or manifest word that isn't built yet.
+    /// A command or option that isn't built yet.
     NotBuilt {
         word: Text,
     },
@@ -130,6 +130,44 @@ pub enum Refusal {
     BadModel {
         line: u32,
     },
+}
+
+// Written by hand, so that to let a refusal go is a single call wherever a function ends early.
+impl Drop for Refusal {
+    fn drop(self) {
+        match self {
+            Refusal::Malformed { at: _ } => (),
+            Refusal::TooLarge { what: _, size: _ } => (),
+            Refusal::Exists { trove: _trove } => (),
+            Refusal::MissingTrove { spec: _spec } => (),
+            Refusal::MissingBase { trove: _trove } => (),
+            Refusal::MissingContent { name: _ } => (),
+            Refusal::Collision { name: _, at: _ } => (),
+            Refusal::MissingRef { name: _name } => (),
+            Refusal::NotInstalled { name: _name } => (),
+            Refusal::Unmet {
+                name: _name,
+                dep: _dep,
+            } => (),
+            Refusal::Owned {
+                path: _path,
+                first: _first,
+                second: _second,
+            } => (),
+            Refusal::Unowned { path: _path } => (),
+            Refusal::Edited { path: _path } => (),
+            Refusal::Parent { path: _path } => (),
+            Refusal::StackEmpty => (),
+            Refusal::Reserved { path: _path } => (),
+            Refusal::NoLabel => (),
+            Refusal::SameLabel { label: _label } => (),
+            Refusal::BadConfig { line: _ } => (),
+            Refusal::NotBuilt { word: _word } => (),
+            Refusal::NoJob { number: _ } => (),
+            Refusal::NoModel => (),
+            Refusal::BadModel { line: _ } => (),
+        }
+    }
 }
 
 impl Copies for Refusal {

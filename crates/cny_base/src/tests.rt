@@ -98,7 +98,7 @@ fn copies(rt: HostRuntime) -> Result<(), Fail> {
     let bytes = grown_bytes(rt.alloc())?;
     assert!(rt; bytes.get() == b"abc".as_slice());
     assert!(rt; is_file_copied(bytes)?);
-    assert!(rt; matches!(copied_stop()?, Stop::Refused(Refusal::StackEmpty)));
+    assert!(rt; matches!(&copied_stop()?, Stop::Refused(Refusal::StackEmpty)));
     Ok(())
 }
 

@@ -56,11 +56,11 @@ fn digits(alloc: Global, name: &[u8; 20]) -> Result<String, Stop> {
 
 // Why a step of the store stops.
 fn stopped(alloc: Global, stop: DiskEnd) -> Result<String, Stop> {
-    match stop {
+    match &stop {
         DiskEnd::Failed => text(alloc, "failed"),
         DiskEnd::Memory => Err(Stop::Memory),
         DiskEnd::Refused(Refusal::Collision { name, at }) => {
-            let digits = digits(alloc, &name)?;
+            let digits = digits(alloc, name)?;
             Ok(format!(in alloc; "collision {digits} {at}")?)
         }
         _ => text(alloc, "another end"),

@@ -123,11 +123,14 @@ fn with_path(alloc: Global, word: &str, path: &str) -> Result<String, Fail> {
 
 // What a recovery answers, as a text.
 fn answer_text(alloc: Global, answer: Result<bool, Stop>) -> Result<String, Fail> {
-    match answer {
-        Ok(was) => Ok(String::from_str(alloc, if was { "true" } else { "false" })?),
-        Err(Stop::Damaged { path }) => with_path(alloc, "damaged ", path.text()),
-        Err(Stop::Refused(Refusal::Parent { path })) => with_path(alloc, "parent ", path.get()),
-        Err(stop) => Err(Fail::from(stop)),
+    let stop = match answer {
+        Ok(was) => return Ok(String::from_str(alloc, if was { "true" } else { "false" })?),
+        Err(stop) => stop,
+    };
+    match &stop {
+        Stop::Damaged { path } => with_path(alloc, "damaged ", path.text()),
+        Stop::Refused(Refusal::Parent { path }) => with_path(alloc, "parent ", path.get()),
+        _ => Err(Fail::from(stop)),
     }
 }
 
