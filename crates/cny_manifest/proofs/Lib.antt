@@ -11,3 +11,4 @@ pub mod FieldTexts
 pub mod LineTexts
 pub mod Adding
 pub mod Leading
+pub mod OneManifest

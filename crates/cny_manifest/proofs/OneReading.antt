@@ -88,7 +88,7 @@ one_manifest bytes b other run is =
     (sym run.spelled ∙ is.spelled ∙ sym (append-nil (flat_map with_feed is.texts))) in
     ended_is b other same.1
 
-one_spelling : (bytes : List ℕ) (b other : Body) → Runs AtMagic bytes (Ended b) [] → IsSpelling bytes other → other ≡ b
+pub one_spelling : (bytes : List ℕ) (b other : Body) → Runs AtMagic bytes (Ended b) [] → IsSpelling bytes other → other ≡ b
 one_spelling bytes b other run is = one_manifest bytes b other run (spelling_manifest bytes other is)
 
 no_stop : (bytes : List ℕ) (b : Body) (f : Unread) → Runs AtMagic bytes (Ended b) [] → StopsBehind bytes f → ⊥

@@ -15,7 +15,7 @@ mod order;
 mod reading;
 mod words;
 
-pub use laws::spelled;
+pub use laws::{one_manifest, spelled};
 pub use made::Made;
 pub use manifest_troves::{Troves, component_of};
 pub use reading::read;
