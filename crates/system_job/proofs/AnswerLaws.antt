@@ -91,8 +91,8 @@ module _ {D C : Type 0} {disk : DiskModel D} {contents : ContentsModel C} (from 
   tests_answer now Memory run stops = tt
   tests_answer now Failed run stops = (list, refl, stops)
   tests_answer now (Damaged path) run stops = absurd stops
-  tests_answer now FarFailed run stops = (list, refl, stops)
-  tests_answer now (FarDamaged path) run stops = (list, refl, stops)
+  tests_answer now FarFailed run stops = ((list, refl, stops), run.same)
+  tests_answer now (FarDamaged path) run stops = ((list, refl, stops), run.same)
 
   module _ (made : Targets) (run : Gathers disk contents (IsTested from db.installed list) (IsTestRefusal from db.installed list) old mid far far' (Ok made)) (passes : PassesListTests list) where
     refused_last : {new : D} (tested : (new ≡ mid) ⊎ PassesLast db list made.puts) (why : Refusal) → (IsTrue disk.tells → IsRefusedLast db list made.puts why) → AnswersCall disk from (to_list list) db old new db (Err (Refused why))
@@ -160,8 +160,8 @@ module _ {D : Type 0} (disk : DiskModel D) (from : Sources) (step : ListStep) (d
     answer_by (Err Memory) is = tt
     answer_by (Err Failed) is = list_by is
     answer_by (Err (Damaged path)) is = is
-    answer_by (Err FarFailed) is = list_by is
-    answer_by (Err (FarDamaged path)) is = list_by is
+    answer_by (Err FarFailed) is = (list_by is.0, is.1)
+    answer_by (Err (FarDamaged path)) is = (list_by is.0, is.1)
 
     pub answer_stop_by : (e : Stop) (r : Result Done Stop) → IsErrAnd r (λ x. x ≡ e) → AnswersCall disk from (to_list list) db old new now (Err e) → AnswersCall disk from step db old new now r
     answer_stop_by e r is answers = answer_stop e r is (answer_by (Err e) answers)

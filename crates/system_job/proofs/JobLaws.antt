@@ -13,7 +13,7 @@ use Rattle.trove_stream.specs.declared.parts.TroveParts.{TroveParts}
 use Rattle.trove_stream.specs.Trove.{IsTrove}
 use Rattle.tree_disk.specs.Tree.{Tree}
 use Rattle.tree_disk.specs.Disk.{DiskModel, HasRead, IsDisk}
-use Rattle.tree_disk.specs.Moments.{rose_before}
+use Rattle.tree_disk.specs.Moments.{rose_before, same_start, time_start}
 use Rattle.content_store.specs.Contents.{ContentsModel}
 use Rattle.journal_log.specs.declared.put.Put.{Put}
 use Rattle.local_db.specs.declared.db.Db.{Db}
@@ -74,6 +74,12 @@ memory_cause contents far far' rose r is = cause_of contents far far' rose Memor
 
 -- ---- by a system
 
+-- no memory was left for the changes
+pub memory_stop : {D : Type 0} {disk : DiskModel D} (laws : IsDisk disk) (from : Sources) (list : List TroveParts) (s : SystemState) (old : D) (now : Db) (r : Result Done Stop) → IsErrAnd r (λ x. x ≡ Memory)
+    → Ends disk from (to_list list) s old old now r
+memory_stop {disk = disk} laws from list s old now r is =
+    subst (Ends disk from (to_list list) s old old now) (sym (err_is r Memory is)) (reading (record { answer = tt; same = same_start disk old; time = time_start laws old }))
+
 module _ {D : Type 0} {disk : DiskModel D} (laws : IsDisk disk) (tells : IsTrue disk.tells) (from : Sources) (db : Db) (list : List TroveParts) (is_db : IsInstalled db.installed)
     (troves : All IsTrove list) (allowed : AreAllowed list) (old : D) (ready : IsReady disk db old) (unique : OneDatabase) (s : SystemState) (stores : StoresIn Two (disk.reads old) s) where
   parts : SameParts db.installed s.installed db.oldest db.newest (oldest s.stack) (newest s.stack)
@@ -118,10 +124,6 @@ module _ {D : Type 0} {disk : DiskModel D} (laws : IsDisk disk) (tells : IsTrue 
 
     pub stored : StoresIn Two (disk.reads mid) s
     stored = subst (λ (x : Tree). StoresIn Two x s) (sym read.same.reads) stores
-
-    -- no memory was left for the changes
-    pub memory_stop : (now : Db) (r : Result Done Stop) → IsErrAnd r (λ x. x ≡ Memory) → Ends disk from (to_list list) s old mid now r
-    memory_stop now r is = subst (Ends disk from (to_list list) s old mid now) (sym (err_is r Memory is)) (reading read)
 
     module _ {new : D} (late : disk.faults mid ≤ disk.faults new) where
       went : {w : Result (Unit {0}) Stop} → Goes disk Two s (after_job made.puts list s) made.puts mid new w → Goes disk Two s (after_job made.puts list s) made.puts old new w

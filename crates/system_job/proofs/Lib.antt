@@ -8,6 +8,7 @@ pub mod Managed
 pub mod ManagedTargets
 pub mod Held
 pub mod ReadFirst
+pub mod Changing
 pub mod TestLaws
 pub mod JobLaws
 pub mod AnswerLaws

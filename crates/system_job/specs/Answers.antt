@@ -82,12 +82,13 @@ pub data AnswersRefusal {D : Type 0} (disk : DiskModel D) (from : Sources) (step
 abbrev pub HasList : ListStep → Type 0
 HasList step = (list : List TroveParts) × step.leads list × PassesListTests list
 
--- What a call answers, by the database and the list that it is called with. A fault comes only once the list has passed its tests.
+-- What a call answers, by the database and the list that it is called with. A fault comes only once the list has passed its tests, and
+-- one of the contents behind it only while the root is read.
 abbrev pub AnswersCall : {D : Type 0} → DiskModel D → Sources → ListStep → Db → D → D → Db → Result Done Stop → Type 0
 AnswersCall disk from step db old new now (Ok made) = AnswersDone disk from step db old now made
 AnswersCall disk from step db old new now (Err (Refused why)) = AnswersRefusal disk from step db old new why
 AnswersCall disk from step db old new now (Err Memory) = Unit {0}
 AnswersCall disk from step db old new now (Err Failed) = HasList step
 AnswersCall disk from step db old new now (Err (Damaged path)) = ⊥
-AnswersCall disk from step db old new now (Err FarFailed) = HasList step
-AnswersCall disk from step db old new now (Err (FarDamaged path)) = HasList step
+AnswersCall disk from step db old new now (Err FarFailed) = HasList step × Reads disk old new (Unit {0})
+AnswersCall disk from step db old new now (Err (FarDamaged path)) = HasList step × Reads disk old new (Unit {0})

@@ -1,4 +1,5 @@
 pub mod Answers
+pub mod Changing
 pub mod Job
 pub mod Lists
 pub mod Something

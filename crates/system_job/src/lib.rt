@@ -6,6 +6,7 @@
 #![tactic(auto)]
 
 mod calls;
+mod closure;
 mod done;
 mod listed;
 mod running;

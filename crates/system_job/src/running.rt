@@ -59,9 +59,18 @@ pub(crate) fn job<T: TreeDisk, C: Contents>(
 {
     // A tree holds one database.
     distinct_databases();
-    let made = tested(alloc, root, &db.installed, &list, carried, far, options)?;
-    let Targets { puts, entries } = made;
     let changes = changed(alloc, &db.installed, &list)?;
+    let made = tested(
+        alloc,
+        root,
+        &db.installed,
+        &list,
+        changes.get(),
+        carried,
+        far,
+        options,
+    )?;
+    let Targets { puts, entries } = made;
     let number = write_job(alloc, root, db, list, puts, entries)?;
     Ok(Done { changes, number })
 }

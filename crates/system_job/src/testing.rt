@@ -4,29 +4,32 @@ ghost use Rattle.std.specs.List.Sorted.{IsStrictlySortedBy};
 ghost use Rattle.sha1.specs.Sha1.{sha1};
 ghost use Rattle.change_set.specs.declared.change.Carried as carried_content;
 ghost use Rattle.change_set.specs.ChangeSet.{content_cmp};
+ghost use Rattle.dep_closure.specs.Closed.{IsClosed};
 ghost use Rattle.installed_list.specs.Installed.{IsRising};
 ghost use Rattle.job_targets.specs.Gathering.{Gathers};
 ghost use Rattle.job_writing.specs.Writing.{AreTargets, AreTargetsOf};
 ghost use Rattle.trove_stream.specs.Trove.{IsTrove};
 ghost use Rattle.system_state.specs.Installed.{IsInstalled};
+ghost use Rattle.update_job.specs.Changes.{AreChanges};
 ghost use Rattle.system_job.specs.Answers.{IsTestStop, PassesListTests};
 ghost use Rattle.system_job.specs.Job.{IsTested, IsTestRefusal, sources_of};
 ghost use Rattle.system_job.specs.Lists.{AreAllowed};
 
+use crate::closure::test_closure;
 use crate::listed::troves_keep_rules;
 use crate::something::check_something;
 use change_set::Carried;
 use cny_base::{Options, Stop};
 use conflict_plan::plan;
 use content_store::Contents;
-use dep_closure::closed;
 use installed_list::Installed;
 use job_targets::{Targets, planned_is_seen, targets_of};
 use std::alloc::Global;
 use tree_disk::TreeDisk;
 use trove_stream::Trove;
+use update_job::Change;
 
-// The same, of lists as slices, the new one in the order of its names.
+// The same, of lists as slices, once the new one, in the order of its names, is closed.
 fn tests_of<T: TreeDisk, C: Contents>(
     alloc: Global,
     root: &mut T,
@@ -38,6 +41,7 @@ fn tests_of<T: TreeDisk, C: Contents>(
 ) -> Result<Targets, Stop>
     requires before { IsInstalled before.now }
     requires in_order { IsRising list.now }
+    requires closed { IsClosed list.now }
     requires allowed { AreAllowed list.now }
     requires hash { All (λ (content : carried_content.Carried). content.name ≡ sha1 content.bytes) carried.now }
     requires rising { IsStrictlySortedBy content_cmp carried.now }
@@ -54,26 +58,27 @@ fn tests_of<T: TreeDisk, C: Contents>(
 {
     planned_is_seen();
     troves_keep_rules(list);
-    closed(alloc, list)?;
     let planned = plan(alloc, root, before, list, options)?;
     let made = targets_of(alloc, root, planned.get(), carried, far)?;
     check_something(alloc, made.entries.get())?;
     Ok(made)
 }
 
-/// The writes of a job that leads from the one list to the other, and what stood at its paths, once the tests of the list and of
-/// the tree have passed, in their order: `Unmet` for the first requirement that the new list doesn't meet; `Owned`, `Unowned`, `Edited`
-/// and `Parent` by its plan; `MissingContent`, `TooLarge` and `Collision` by what is to be written and replaced.
+/// The writes of a job that leads from the one list to the other by these changes, and what stood at its paths, once the tests of
+/// the list and of the tree have passed, in their order: `Unmet` for the first requirement that the new list doesn't meet; `Owned`,
+/// `Unowned`, `Edited` and `Parent` by its plan; `MissingContent`, `TooLarge` and `Collision` by what is to be written and replaced.
 pub(crate) fn tested<T: TreeDisk, C: Contents>(
     alloc: Global,
     root: &mut T,
     before: &Installed,
     list: &Installed,
+    changes: &[Change],
     carried: &[Carried],
     far: &mut C,
     options: &Options,
 ) -> Result<Targets, Stop>
     requires before { IsInstalled before.now }
+    requires changes { AreChanges before.now list.now changes.now }
     requires allowed { AreAllowed list.now }
     requires hash { All (λ (content : carried_content.Carried). content.name ≡ sha1 content.bytes) carried.now }
     requires rising { IsStrictlySortedBy content_cmp carried.now }
@@ -89,6 +94,7 @@ pub(crate) fn tested<T: TreeDisk, C: Contents>(
     ensures stops { IfErr result (IsTestStop list.now) }
     ensures troves { All IsTrove list.now }
 {
+    test_closure(alloc, before, list, changes)?;
     tests_of(
         alloc,
         root,

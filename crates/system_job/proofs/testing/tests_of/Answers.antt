@@ -6,17 +6,13 @@ use Rattle.conflict_plan.specs.Plan.{planned_cmp}
 use Rattle.job_targets.specs.Targets.{IsChange}
 use Rattle.tree_disk.specs.Tree.{Tree}
 use Rattle.system_job.specs.Job.{sources_of}
-use Rattle.system_job.proofs.AnswerLaws.{closed_answer, lack_answer, plan_answer, stop_answer, target_answer}
-use Rattle.system_job.proofs.TestLaws.{as_targets, closed_stop, installed_after, lack_stop, over_tree, plan_stop, targets_run, targets_stop}
+use Rattle.system_job.proofs.AnswerLaws.{lack_answer, plan_answer, stop_answer, target_answer}
+use Rattle.system_job.proofs.TestLaws.{as_targets, installed_after, lack_stop, over_tree, plan_stop, targets_run, targets_stop}
 use Rattle.system_job.proofs.testing.tests_of.Goals as goal
-
-pub returns-in_err-closed-clause-gathers : goal.returns-in_err-closed-clause-gathers
-returns-in_err-closed-clause-gathers g c =
-    closed_stop g.met.C.Contents.laws g.met.T.TreeDisk.laws _ c.args.before.now c.args.list.now c.args.root.now c.args.far.now c.in_err-closed.field-0.0 c.from_residual.result c.from_residual.ensures.1 c.in_err-closed.ensures.fault
 
 pub returns-in_err-planned-clause-gathers : goal.returns-in_err-planned-clause-gathers
 returns-in_err-planned-clause-gathers g c =
-    plan_stop g.met.C.Contents.laws g.met.T.TreeDisk.laws _ c.args.before.now c.args.list.now c.args.far.now c.in_err-planned.field-0.0 c.from_residual-in_err-planned.result c.in_ok-closed.ensures.ok c.from_residual-in_err-planned.ensures.1
+    plan_stop g.met.C.Contents.laws g.met.T.TreeDisk.laws _ c.args.before.now c.args.list.now c.args.far.now c.in_err-planned.field-0.0 c.from_residual.result c.requires.closed c.from_residual.ensures.1
     c.in_err-planned.ensures.plans
 
 pub targets_of-requires-clause-seen : goal.targets_of-requires-clause-seen
@@ -32,7 +28,7 @@ targets_of-requires-clause-in_order g c = subst (IsStrictlySortedBy planned_cmp)
 
 pub returns-in_err-made-clause-gathers : goal.returns-in_err-made-clause-gathers
 returns-in_err-made-clause-gathers g c =
-    targets_stop g.met.C.Contents.laws g.met.T.TreeDisk.laws _ c.args.before.now c.args.list.now c.in_ok-planned.planned c.get.result.now c.get.ensures c.in_err-made.field-0.0 c.from_residual-in_err-made.result c.in_ok-closed.ensures.ok
+    targets_stop g.met.C.Contents.laws g.met.T.TreeDisk.laws _ c.args.before.now c.args.list.now c.in_ok-planned.planned c.get.result.now c.get.ensures c.in_err-made.field-0.0 c.from_residual-in_err-made.result c.requires.closed
     c.from_residual-in_err-made.ensures.1 c.in_ok-planned.ensures.plans c.in_err-made.ensures.gathers
 
 pub returns-in_err-check_something-clause-gathers : goal.returns-in_err-check_something-clause-gathers
@@ -41,7 +37,7 @@ returns-in_err-check_something-clause-gathers g c =
     let run = c.in_ok-planned.ensures.plans in
     lack_stop g.met.C.Contents.laws g.met.T.TreeDisk.laws _ c.args.before.now c.args.list.now c.in_ok-made.made c.get-2.result.now c.get-2.ensures c.in_err-check_something.field-0.0 c.from_residual-in_err-check_something.result
     c.from_residual-in_err-check_something.ensures.1
-    (targets_run g.met.C.Contents.laws g.met.T.TreeDisk.laws _ c.args.before.now c.args.list.now c.in_ok-planned.planned c.get.result.now c.get.ensures (Ok c.in_ok-made.made) c.in_ok-closed.ensures.ok run c.in_ok-made.ensures.gathers)
+    (targets_run g.met.C.Contents.laws g.met.T.TreeDisk.laws _ c.args.before.now c.args.list.now c.in_ok-planned.planned c.get.result.now c.get.ensures (Ok c.in_ok-made.made) c.requires.closed run c.in_ok-made.ensures.gathers)
     (λ tells.
     over_tree g.met.C.Contents.laws g.met.T.TreeDisk.laws (sources_of c.args.carried.now (g.C.Contents.contents.answers c.args.far.now) c.args.options.now) c.args.before.now c.args.list.now c.in_ok-planned.planned c.get.result.now c.get.ensures c.in_ok-made.made run c.in_ok-planned.ensures.plannable c.in_ok-made.ensures.fits c.in_ok-made.ensures.puts
     c.requires.before c.troves_keep_rules.ensures c.requires.allowed tells (c.in_ok-made.ensures.over tells)
@@ -51,7 +47,7 @@ returns-in_err-check_something-clause-gathers g c =
 
 pub returns-clause-gathers : goal.returns-clause-gathers
 returns-clause-gathers g c =
-    targets_run g.met.C.Contents.laws g.met.T.TreeDisk.laws _ c.args.before.now c.args.list.now c.in_ok-planned.planned c.get.result.now c.get.ensures (Ok c.in_ok-made.made) c.in_ok-closed.ensures.ok c.in_ok-planned.ensures.plans
+    targets_run g.met.C.Contents.laws g.met.T.TreeDisk.laws _ c.args.before.now c.args.list.now c.in_ok-planned.planned c.get.result.now c.get.ensures (Ok c.in_ok-made.made) c.requires.closed c.in_ok-planned.ensures.plans
     c.in_ok-made.ensures.gathers
 
 pub returns-clause-over : goal.returns-clause-over
@@ -71,23 +67,20 @@ returns-clause-targets g c =
 pub returns-clause-list : goal.returns-clause-list
 returns-clause-list g c = installed_after c.args.list.now c.troves_keep_rules.ensures c.requires.in_order c.requires.allowed c.in_ok-planned.ensures.owned
 
-pub returns-in_err-closed-clause-stops : goal.returns-in_err-closed-clause-stops
-returns-in_err-closed-clause-stops g c = stop_answer c.args.list.now c.from_residual.result _ c.from_residual.ensures.1 (closed_answer c.args.list.now c.in_err-closed.field-0.0 c.in_err-closed.ensures.fault)
-
 pub returns-in_err-planned-clause-stops : goal.returns-in_err-planned-clause-stops
 returns-in_err-planned-clause-stops g c =
-    stop_answer c.args.list.now c.from_residual-in_err-planned.result _ c.from_residual-in_err-planned.ensures.1
-    (plan_answer c.args.list.now c.in_err-planned.field-0.0 c.in_ok-closed.ensures.ok c.in_err-planned.ensures.stops c.in_err-planned.ensures.owned)
+    stop_answer c.args.list.now c.from_residual.result _ c.from_residual.ensures.1
+    (plan_answer c.args.list.now c.in_err-planned.field-0.0 c.requires.closed c.in_err-planned.ensures.stops c.in_err-planned.ensures.owned)
 
 pub returns-in_err-made-clause-stops : goal.returns-in_err-made-clause-stops
 returns-in_err-made-clause-stops g c =
     stop_answer c.args.list.now c.from_residual-in_err-made.result _ c.from_residual-in_err-made.ensures.1
-    (target_answer c.args.list.now c.in_err-made.field-0.0 (record { closed = c.in_ok-closed.ensures.ok; unshared = c.in_ok-planned.ensures.owned }) c.in_err-made.ensures.stops)
+    (target_answer c.args.list.now c.in_err-made.field-0.0 (record { closed = c.requires.closed; unshared = c.in_ok-planned.ensures.owned }) c.in_err-made.ensures.stops)
 
 pub returns-in_err-check_something-clause-stops : goal.returns-in_err-check_something-clause-stops
 returns-in_err-check_something-clause-stops g c =
     stop_answer c.args.list.now c.from_residual-in_err-check_something.result _ c.from_residual-in_err-check_something.ensures.1
-    (lack_answer c.args.list.now c.get-2.result.now c.in_err-check_something.field-0.0 (record { closed = c.in_ok-closed.ensures.ok; unshared = c.in_ok-planned.ensures.owned }) c.in_err-check_something.ensures.refused)
+    (lack_answer c.args.list.now c.get-2.result.now c.in_err-check_something.field-0.0 (record { closed = c.requires.closed; unshared = c.in_ok-planned.ensures.owned }) c.in_err-check_something.ensures.refused)
 
 pub returns-clause-passes : goal.returns-clause-passes
-returns-clause-passes g c = record { closed = c.in_ok-closed.ensures.ok; unshared = c.in_ok-planned.ensures.owned }
+returns-clause-passes g c = record { closed = c.requires.closed; unshared = c.in_ok-planned.ensures.owned }
