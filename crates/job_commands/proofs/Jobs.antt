@@ -1,68 +1,50 @@
 -- How a command ends that is a job without contents behind it.
-use Rattle.std.proofs.Common.{◌≡◌, ◌≤◌, ℕ, Bool, false, List, [], ◌∷◌, Option, Result, Ok, Err, OnOk, IfErr, refl, sym, ap, ◌∙◌, subst, inl, inr, arith}
-use Rattle.std.specs.Prelude.{◌⊎◌, ◌||◌, IsTrue}
-use Rattle.std.specs.FinMap.{get}
+use Rattle.std.proofs.Common.{◌≡◌, ◌≤◌, ℕ, false, List, Result, Ok, Err, OnOk, IfErr, refl, sym, ap, ◌∙◌, subst, arith}
+use Rattle.std.specs.Prelude.{IsTrue}
 use Rattle.cny_base.specs.Count.{Rose}
 use Rattle.cny_base.specs.declared.refusal.Refusal.{Refusal}
 use Rattle.cny_base.specs.declared.stop.Stop.{Stop}
 use Rattle.cny_base.specs.declared.stop.Stop.TheVariants as stop
-use Rattle.tree_disk.specs.Tree.{Name, Tree, same_name}
 use Rattle.tree_disk.specs.Disk.{DiskModel, IsDisk, HasRead}
-use Rattle.tree_disk.specs.ConfinedLaws.{leaves_weaker}
-use Rattle.tree_disk.specs.Unfailed.{unfailed_weaker}
 use Rattle.tree_journal.specs.Recovery.{is_committed}
-use Rattle.journal_log.specs.declared.put.Put.{Put}
-use Rattle.journal_log.specs.Targets.{is_target}
-use Rattle.trove_stream.specs.declared.parts.TroveParts.{TroveParts}
 use Rattle.local_db.specs.declared.db.Db.{Db}
-use Rattle.update_job.specs.declared.comparing.Change.{Change}
-use Rattle.update_job.specs.Changes.{AreChanges}
 use Rattle.system_state.specs.declared.format.Format.TheVariants.{Two}
-use Rattle.system_state.specs.SystemState.{is_listed}
-use Rattle.system_state.specs.Steps.{after_job, old_of, paths_of}
 use Rattle.system_state.specs.Stores.{StoresIn}
-use Rattle.system_state.proofs.Writes.{contains_first}
-use Rattle.root_writing.specs.Writing as writes
-use Rattle.job_writing.specs.Last.{ChangesNothing, PassesLast}
 use Rattle.job_writing.specs.Writing as settling
 use Rattle.system_job.specs.declared.done.Done.{Done}
 use Rattle.system_job.specs.Answers.{AnswersCall, AnswersRefusal, no_list, untested, last}
-use Rattle.system_job.specs.Job.{PassesTests, Sources, db_of}
+use Rattle.system_job.specs.Job.{Sources}
 use Rattle.system_job.specs.Lists.{ListStep}
-use Rattle.system_job.specs.Steps.{Ends, EndsWith, HasOwnCause, IsDone, IsOnTheWay, changed, reading, unchanged, writing}
+use Rattle.system_job.specs.Steps.{Ends, HasOwnCause}
 use Rattle.cny_report.specs.Jobs.{changes_text}
 use Rattle.cli_call.specs.declared.failure.Failure.{Failure}
 use Rattle.cli_call.specs.declared.failure.Failure.TheVariants as failure
 use Rattle.cli_call.specs.declared.opened.Opened.{Opened}
 use Rattle.cli_call.specs.Alone.{PerformsAlone}
-use Rattle.cli_call.specs.ChangingRoot.{ChangesRoot, alone_on_root, of_either, performs_on_root}
-use Rattle.cli_call.specs.Command.{disks, Answers, AreReady, ChangesNothing as KeepsAll, HasCause, Performs, end_of}
-use Rattle.cli_call.specs.CommandLaws.{goes_read, read_shown}
+use Rattle.cli_call.specs.ChangingRoot.{ChangesRoot, alone_on_root, performs_on_root}
+use Rattle.cli_call.specs.Command.{disks, AreReady, ChangesNothing as KeepsAll, HasCause, Performs, end_of}
 use Rattle.cli_call.specs.Report.{status_of}
 use Rattle.cli_call.specs.RootDatabase.{OneDatabase, one_format}
-use Rattle.cli_call.specs.RootLaws.{root_laws}
-use Rattle.cli_call.specs.State.{nothing, on_root, Effect, Meaning, RootState, State, Takes}
+use Rattle.cli_call.specs.State.{Effect, Meaning, RootState, State}
 use Rattle.cli_call.specs.Stops.{root_failure, root_result}
 use Rattle.cli_call.specs.Store.{IsSettled, IsStore, RestsAt}
-use Rattle.cli_call.specs.StoreLaws.{nothing_done, settled_rests}
+use Rattle.cli_call.specs.StoreLaws.{nothing_done}
 use Rattle.cli_call.specs.Stores.{root_store, repository_store}
 use Rattle.job_commands.specs.JobOutcome.{JobOutcome}
+use Rattle.job_commands.proofs.JobStates as states
+use Rattle.job_commands.proofs.JobStates.{IsUndamaged}
 
-same_failure : (e f : Failure) → ◌≡◌ {A = Result Done Failure} (Err e) (Err f) → e ≡ f
+pub same_failure : (e f : Failure) → ◌≡◌ {A = Result Done Failure} (Err e) (Err f) → e ≡ f
 same_failure e f is = cc is
 
-ok_by : (r : Result Done Stop) (made : Done) → root_result r ≡ Ok made → r ≡ Ok made
+pub ok_by : (r : Result Done Stop) (made : Done) → root_result r ≡ Ok made → r ≡ Ok made
 ok_by (Ok m) made is = cc is
 ok_by (Err e) made is = absurd (cc is)
 
--- a name is a target where it is among the paths
-listed_target : (puts : List Put) (q : Name) → is_listed (paths_of puts) q ≡ is_target puts q
-listed_target [] q = refl
-listed_target (p ∷ puts) q = ap (λ (b : Bool). same_name q p.path || b) (listed_target puts q)
-
--- what a refusal leaves, on each root
+-- what a refusal leaves, or a stop at a damaged content, on each root
 abbrev pub ReadsAtRefusal : {D : Type 0} → DiskModel D → D → D → Stop → Type 0
 ReadsAtRefusal disk old new (stop.Refused why) = HasRead disk old new (Unit {0})
+ReadsAtRefusal disk old new (stop.FarDamaged path) = HasRead disk old new (Unit {0})
 ReadsAtRefusal disk old new _ = Unit {0}
 
 module _ {D : Type 0} {disk : DiskModel D} (laws : IsDisk disk) (from : Sources) (step : ListStep) (db : Db) (old new : D) (now : Db) where
@@ -77,11 +59,20 @@ module _ {D : Type 0} {disk : DiskModel D} (laws : IsDisk disk) (from : Sources)
   read_at stop.Memory answers told = tt
   read_at (stop.Damaged path) answers told = tt
   read_at stop.FarFailed answers told = tt
-  read_at (stop.FarDamaged path) answers told = tt
+  read_at (stop.FarDamaged path) answers told = answers.1 told
 
   pub reads_refused : (r : Result Done Stop) → AnswersCall disk from step db old new now r → IsTrue disk.tells → IfErr r (ReadsAtRefusal disk old new)
   reads_refused (Ok made) answers told = tt
   reads_refused (Err e) answers told = read_at e answers told
+
+-- no content lies behind it
+own_undamaged : (rose : Type 0) (e : Stop) → HasOwnCause rose e → IsUndamaged e
+own_undamaged rose (stop.Refused why) cause = tt
+own_undamaged rose stop.Failed cause = tt
+own_undamaged rose stop.Memory cause = tt
+own_undamaged rose (stop.Damaged path) cause = tt
+own_undamaged rose stop.FarFailed cause = tt
+own_undamaged rose (stop.FarDamaged path) cause = cause
 
 -- a job ran: by each system that the root stores, and on each root
 pub record Ran {T : Type 0} (root_disk : DiskModel T) (from : Sources) (step : RootState → ListStep) (root root' : T) (now : Db) (r : Result Done Stop) : Type 0 where
@@ -105,95 +96,14 @@ module _ {T P : Type 0} {root_disk : DiskModel T} (root_disk_laws : IsDisk root_
     stores : StoresIn Two (root_disk.reads root) s.root
     stores = one_format law (root_disk.reads root) opened.db.installed opened.db.oldest opened.db.newest s.root (ready.root told).holds rests.stored
 
-    -- it was only read
-    still : (f : Result (List ℕ) Failure) → HasRead root_disk root root' (Unit {0}) → Answers (IsOutcome s.root) s s f → ChangesRoot root_disk (IsOutcome s.root) s root root' f
-    still f read answers = record {
-      next = s.root;
-      answers = answers;
-      goes = goes_read root_laws root_disk_laws root root' s.root (end_of f) read rests;
-      outside = λ q out left. ap (λ (t : Tree). get t q) read.same.reads;
-      seen = unfailed_weaker (λ t is. inl is) (read_shown root_disk_laws read);
-    }
-
-    -- a job that passed its tests
-    module _ (list : List TroveParts) (leads : (step s.root).leads list) (puts : List Put) (passes : PassesTests from s.root list puts) (changes : List Change) (are : AreChanges s.root.installed list changes) where
-      -- neither the tree nor the list changes
-      abbrev same_effect : Effect
-      same_effect = record { change = nothing; out = changes_text changes }
-
-      same_is : ChangesNothing (db_of s.root) list puts → IsOutcome s.root (Ok same_effect)
-      same_is none = record { list = list; leads = leads; puts = puts; passes = passes; changes = changes; are = are; change = inl (none, refl); out = refl }
-
-      module _ (passed : PassesLast (db_of s.root) list puts) where
-        abbrev then : RootState
-        then = after_job puts list s.root
-
-        abbrev effect : Effect
-        effect = record { change = on_root then; out = changes_text changes }
-
-        effect_is : IsOutcome s.root (Ok effect)
-        effect_is = record { list = list; leads = leads; puts = puts; passes = passes; changes = changes; are = are; change = inr (passed, refl); out = refl }
-
-        moved : (w : Result (Unit {0}) Stop) (f : Result (List ℕ) Failure) → writes.Goes root_disk Two s.root then puts root root' w → (status_of (end_of f) ≤ 4 → RestsAt root_store root_disk root' then)
-            → Answers (IsOutcome s.root) s (record { root = then; repository = s.repository }) f → ChangesRoot root_disk (IsOutcome s.root) s root root' f
-        moved w f goes rests_then answers = record {
-          next = then;
-          answers = answers;
-          goes = record {
-            images = leaves_weaker (of_either s.root then) goes.images;
-            rests = rests_then;
-            reads = of_either s.root then (root_disk.reads root') goes.reads;
-          };
-          outside = λ q out left.
-              let leaves = left effect effect_is in
-              goes.others q out (sym (listed_target puts q) ∙ leaves.added (old_of puts s.root) (contains_first (old_of puts s.root) _) (omega arith));
-          seen = unfailed_weaker (λ t shown. inr (effect, effect_is, shown)) goes.shown;
-        }
-
-        -- on the way from the one to the other
-        cut : (e : Stop) (f : Failure) → (status_of (Err f) ≤ 4 → ⊥) → writes.Goes root_disk Two s.root then puts root root' (Err e)
-            → ((next : State) → (next ≡ s) ⊎ Takes (IsOutcome s.root) s next (λ bytes. Unit {0}) → Answers (IsOutcome s.root) s next (Err f)) → ChangesRoot root_disk (IsOutcome s.root) s root root' (Err f)
-        cut e f high goes answers = moved (Err e) (Err f) goes (λ le. absurd (high le))
-            (answers (record { root = then; repository = s.repository }) (inr (record { effect = effect; is = effect_is; leads = refl; bytes = tt })))
-
-        stands : writes.Goes root_disk Two s.root then puts root root' settling.done → RestsAt root_store root_disk root' then
-        stands goes = settled_rests root_laws root' then (record { flag_clear = goes.rests.flag_clear; synced = goes.rests.synced }) (inr goes.rests.stores)
-
-    on_the_way : (e : Stop) (f : Failure) → (status_of (Err f) ≤ 4 → ⊥) → ((next : State) → (next ≡ s) ⊎ Takes (IsOutcome s.root) s next (λ bytes. Unit {0}) → Answers (IsOutcome s.root) s next (Err f))
-        → IsOnTheWay root_disk from (step s.root) s.root root root' e → ChangesRoot root_disk (IsOutcome s.root) s root root' (Err f)
-    on_the_way e f high answers (reading read) = still (Err f) read (answers s (inl refl))
-    on_the_way e f high answers (writing list leads puts passes passed changes are goes) = cut list leads puts passes changes are passed e f high goes answers
-
     stopped : (e : Stop) → Runs (Err e) → ChangesRoot root_disk (IsOutcome s.root) s root root' (Err (root_failure e))
-    stopped (stop.Refused why) ran = let read = ran.ends told s.root stores in still (Err (failure.Refused why)) (ran.refused told) (read.answer, refl)
-    stopped stop.Failed ran = on_the_way stop.Failed failure.RootFault (λ le. omega (arith, le)) (λ next is. is) (ran.ends told s.root stores)
-    stopped stop.Memory ran = on_the_way stop.Memory failure.Memory (λ le. omega (arith, le)) (λ next is. is) (ran.ends told s.root stores)
-    stopped (stop.Damaged path) ran = absurd (ran.ends told s.root stores)
-    stopped stop.FarFailed ran = absurd ran.causes
-    stopped (stop.FarDamaged path) ran = absurd ran.causes
-
-    -- it is done, and this was told
-    told_by : (list : List TroveParts) → (step s.root).leads list → (puts : List Put) → PassesTests from s.root list puts → (changes : List Change) → AreChanges s.root.installed list changes → (number : Option ℕ) (text : List ℕ) → text ≡ changes_text changes
-        → EndsWith root_disk s.root list puts root root' opened'.db number → ChangesRoot root_disk (IsOutcome s.root) s root root' (Ok text)
-    told_by list leads puts passes changes are number text is (unchanged none read db n) =
-        still (Ok text) read (record { effect = same_effect list leads puts passes changes are; is = same_is list leads puts passes changes are none; leads = refl; bytes = sym is })
-    told_by list leads puts passes changes are number text is (changed passed goes db n) =
-        moved list leads puts passes changes are passed settling.done (Ok text) goes (λ le. stands list leads puts passes changes are passed goes)
-        (record { effect = effect list leads puts passes changes are passed; is = effect_is list leads puts passes changes are passed; leads = refl; bytes = sym is })
-
-    -- no memory was left to tell it
-    untold_by : (list : List TroveParts) → (step s.root).leads list → (puts : List Put) → PassesTests from s.root list puts → (changes : List Change) → AreChanges s.root.installed list changes → (number : Option ℕ)
-        → EndsWith root_disk s.root list puts root root' opened'.db number → ChangesRoot root_disk (IsOutcome s.root) s root root' (Err failure.Memory)
-    untold_by list leads puts passes changes are number (unchanged none read db n) = still (Err failure.Memory) read (inl refl)
-    untold_by list leads puts passes changes are number (changed passed goes db n) =
-        moved list leads puts passes changes are passed settling.done (Err failure.Memory) goes (λ le. absurd (omega (arith, le)))
-        (inr (record { effect = effect list leads puts passes changes are passed; is = effect_is list leads puts passes changes are passed; leads = refl; bytes = tt }))
+    stopped e ran = states.stopped root_disk_laws root root' opened'.db from (step s.root) s rests e (ran.ends told s.root stores) (own_undamaged (Rose (root_disk.faults root) (root_disk.faults root')) e ran.causes)
 
     told_text : (made : Done) (text : List ℕ) → text ≡ changes_text made.changes → Runs (Ok made) → ChangesRoot root_disk (IsOutcome s.root) s root root' (Ok text)
-    told_text made text is ran = let d : IsDone root_disk from (step s.root) s.root root root' opened'.db made = ran.ends told s.root stores in told_by d.list d.leads d.puts d.passes made.changes d.changes made.number text is d.ends
+    told_text made text is ran = states.told_text root_disk_laws root root' opened'.db from (step s.root) s rests made text is (ran.ends told s.root stores)
 
     untold_text : (made : Done) → Runs (Ok made) → ChangesRoot root_disk (IsOutcome s.root) s root root' (Err failure.Memory)
-    untold_text made ran = let d : IsDone root_disk from (step s.root) s.root root root' opened'.db made = ran.ends told s.root stores in untold_by d.list d.leads d.puts d.passes made.changes d.changes made.number d.ends
+    untold_text made ran = states.untold_text root_disk_laws root root' opened'.db from (step s.root) s rests made (ran.ends told s.root stores)
 
   -- ---- on each root
 

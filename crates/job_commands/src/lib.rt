@@ -6,6 +6,10 @@
 
 mod erasing;
 mod installing;
+mod specified;
+mod updating;
 
 pub use erasing::erase_troves;
 pub use installing::install_manifest;
+pub use specified::update_specs;
+pub use updating::update_input;
