@@ -2,5 +2,11 @@ pub mod Passing
 pub mod Answering
 pub mod Verified
 pub mod VerifyEnds
+pub mod FullEnds
 pub mod TakingBack
 pub mod RollEnds
+pub mod Turning
+pub mod Changed
+pub mod JobEnds
+pub mod LocalEnds
+pub mod RecordEnds

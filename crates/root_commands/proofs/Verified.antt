@@ -40,7 +40,7 @@ append_outer : (some more : List FileAt) → AreOuter some → AreOuter more →
 append_outer [] more first second = second
 append_outer (file ∷ some) more first second = (first.0, append_outer some more first.1 second)
 
-records_outer : (troves : List TroveParts) → AllByRecursion (λ (t : TroveParts). first_forbidden t.files ≡ None) troves → AreOuter (records troves)
+pub records_outer : (troves : List TroveParts) → AllByRecursion (λ (t : TroveParts). first_forbidden t.files ≡ None) troves → AreOuter (records troves)
 records_outer [] all = tt
 records_outer (t ∷ troves) all = append_outer t.files (records troves) (files_outer t.files all.0) (records_outer troves all.1)
 

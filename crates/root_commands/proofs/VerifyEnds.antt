@@ -1,4 +1,4 @@
--- How `verify` ends.
+-- How `verify` ends without contents.
 use Rattle.std.proofs.Common.{◌≡◌, ℕ, List, None, Result, Ok, Err, IfErr, refl, ap, ◌∙◌, subst, arith}
 use Rattle.std.specs.Prelude.{IsTrue}
 use Rattle.cny_base.specs.Count.{Rose}
@@ -6,7 +6,7 @@ use Rattle.cny_base.specs.declared.stop.Stop.{Stop}
 use Rattle.cny_base.specs.declared.stop.Stop.TheVariants as stop
 use Rattle.tree_disk.specs.Disk.{DiskModel}
 use Rattle.trove_stream.specs.declared.parts.TroveParts.{TroveParts}
-use Rattle.content_store.specs.Contents.{ContentMap, empty_contents}
+use Rattle.content_store.specs.Contents.{ContentMap, ContentsModel, empty_contents}
 use Rattle.content_store.specs.declared.contents.NoContents.{NoContents}
 use Rattle.tree_scan.specs.declared.verification.Verified.{Verified}
 use Rattle.update_job.specs.Lists.{AreInstalled, IsNotInstalled}
@@ -16,7 +16,7 @@ use Rattle.cny_report.specs.Verified.{verified_text}
 use Rattle.cli_call.specs.declared.failure.Failure.{Failure}
 use Rattle.cli_call.specs.declared.opened.Opened.{Opened}
 use Rattle.cli_call.specs.AloneLaws.{AnswersAlone}
-use Rattle.cli_call.specs.Command.{disks, AreReady, HasCause}
+use Rattle.cli_call.specs.Command.{disks, AreReady, Disks, HasCause}
 use Rattle.cli_call.specs.RootDatabase.{OneDatabase, held_database}
 use Rattle.cli_call.specs.RootLaws.{stored_outside}
 use Rattle.cli_call.specs.State.{State, tree_of}
@@ -28,10 +28,18 @@ use Rattle.root_commands.specs.Verifying.{no_contents, verify_installed}
 use Rattle.root_commands.proofs.Answering.{installed_are}
 use Rattle.root_commands.proofs.Verified.{asked_outer, verified_same}
 
--- what a search of no contents says of a verification
-abbrev pub Searched : {T : Type 0} → DiskModel T → List (List ℕ) → List TroveParts → T → T → NoContents → NoContents → Result Verified Stop → Type 0
-Searched root_disk names list root root' far far' r =
-    Searches root_disk (empty_contents {C = NoContents}) (λ answers tree found. IsVerified answers tree (asked names list) found) (IsNotInstalled list names) (λ answers tree. LacksOne answers tree (records (asked names list))) root root' far far' r
+-- what a verification with these contents says
+abbrev pub Searched : {T C : Type 0} → DiskModel T → ContentsModel C → List (List ℕ) → List TroveParts → T → T → C → C → Result Verified Stop → Type 0
+Searched root_disk contents names list root root' far far' r =
+    Searches root_disk contents (λ answers tree found. IsVerified answers tree (asked names list) found) (IsNotInstalled list names) (λ answers tree. LacksOne answers tree (records (asked names list))) root root' far far' r
+
+-- what is found on the root's disk is what is found of each system that it stores
+pub found_of_system : {T P : Type 0} (root_disk : DiskModel T) (repo_disk : DiskModel P) (law : OneDatabase) (m : Disks T P) → AreReady root_disk repo_disk m → IsTrue root_disk.tells → (names : List (List ℕ)) (map : ContentMap) (s : State)
+    → RestsAt root_store root_disk m.root s.root → verified map (root_disk.reads m.root) (asked names m.opened.db.installed) ≡ verified map (tree_of s.root) (asked names s.root.installed)
+found_of_system root_disk repo_disk law m ready told names map s rests =
+    let held = held_database law (root_disk.reads m.root) m.opened.db s.root (ready.root told).holds rests.stored in
+    ap (λ (l : List TroveParts). verified map (root_disk.reads m.root) (asked names l)) held.list
+    ∙ verified_same map (root_disk.reads m.root) (tree_of s.root) (stored_outside (root_disk.reads m.root) s.root rests.stored) (asked names s.root.installed) (asked_outer names s.root.installed held.stores.system.list)
 
 none_rose : Rose 0 0 → ⊥
 none_rose rose = omega (arith, rose)
@@ -44,7 +52,7 @@ module _ {T P : Type 0} (root_disk : DiskModel T) (repo_disk : DiskModel P) (law
   Caused result = HasCause root_disk repo_disk (disks root repo opened) (disks root' repo opened) result
 
   -- it stopped
-  stopped_ends : (e : Stop) → Searched root_disk names opened.db.installed root root' far far' (Err e) → IfErr (let r : Result Verified Stop = Err e in root_result r) (λ f. Ends (Err f) × Caused (Err f))
+  stopped_ends : (e : Stop) → Searched root_disk (empty_contents {C = NoContents}) names opened.db.installed root root' far far' (Err e) → IfErr (let r : Result Verified Stop = Err e in root_result r) (λ f. Ends (Err f) × Caused (Err f))
   stopped_ends (stop.Refused why) run = (λ told s rests. subst (λ (l : List TroveParts). IsNotInstalled l names why) (installed_are law (disks root repo opened) ready told s rests) run.ends, tt)
   stopped_ends stop.Failed run = (tt, run.ends)
   stopped_ends stop.Memory run = (tt, tt)
@@ -52,7 +60,7 @@ module _ {T P : Type 0} (root_disk : DiskModel T) (repo_disk : DiskModel P) (law
   stopped_ends stop.FarFailed run = absurd (none_rose run.ends)
   stopped_ends (stop.FarDamaged path) run = absurd (run.ends.damaged refl)
 
-  pub failed_ends : (r : Result Verified Stop) (f : Failure) → root_result r ≡ Err f → Searched root_disk names opened.db.installed root root' far far' r → Ends (Err f) × Caused (Err f)
+  pub failed_ends : (r : Result Verified Stop) (f : Failure) → root_result r ≡ Err f → Searched root_disk (empty_contents {C = NoContents}) names opened.db.installed root root' far far' r → Ends (Err f) × Caused (Err f)
   failed_ends (Ok found) f is run = absurd (cc is)
   failed_ends (Err e) f is run = subst (λ (x : Result Verified Failure). IfErr x (λ g. Ends (Err g) × Caused (Err g))) is (stopped_ends e run)
 
@@ -60,11 +68,7 @@ module _ {T P : Type 0} (root_disk : DiskModel T) (repo_disk : DiskModel P) (law
   module _ (found : Verified) (mapped : (map : ContentMap) → IsTrue root_disk.tells → ((name : List ℕ) → map name ≡ None) → found ≡ verified map (root_disk.reads root) (asked names opened.db.installed))
       (installed : AreInstalled opened.db.installed names) where
     by_system : IsTrue root_disk.tells → (s : State) → RestsAt root_store root_disk root s.root → found ≡ verified no_contents (tree_of s.root) (asked names s.root.installed)
-    by_system told s rests =
-        let held = held_database law (root_disk.reads root) opened.db s.root (ready.root told).holds rests.stored in
-        mapped no_contents told (λ name. refl)
-        ∙ ap (λ (l : List TroveParts). verified no_contents (root_disk.reads root) (asked names l)) held.list
-        ∙ verified_same no_contents (root_disk.reads root) (tree_of s.root) (stored_outside (root_disk.reads root) s.root rests.stored) (asked names s.root.installed) (asked_outer names s.root.installed held.stores.system.list)
+    by_system told s rests = mapped no_contents told (λ name. refl) ∙ found_of_system root_disk repo_disk law (disks root repo opened) ready told names no_contents s rests
 
     pub found_ends : (text : List ℕ) → text ≡ verified_text found → Ends (Ok text)
     found_ends text is told s rests = (

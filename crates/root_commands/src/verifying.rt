@@ -1,4 +1,4 @@
-//! The command that compares the root with what its troves record.
+//! The commands that compare the root with what its troves record.
 ghost use Rattle.std.specs.Prelude.{List, ℕ};
 ghost use Rattle.cli_call.specs.Alone.{PerformsAlone};
 ghost use Rattle.cli_call.specs.Command.{disks, AreReady, Performs};
@@ -8,6 +8,7 @@ use cli_call::{Failure, Opened, on_root, store_laws};
 use cny_base::{Name, Text};
 use cny_report::verified_text;
 use content_store::NoContents;
+use repository::{RepoContents, stored_state};
 use std::alloc::Global;
 use system_state::distinct_databases;
 use tree_disk::TreeDisk;
@@ -33,5 +34,27 @@ pub fn verify_installed<T: TreeDisk, P: TreeDisk>(
     distinct_databases();
     let mut far = NoContents;
     let found = on_root(verify(alloc, root, &opened.db.installed, names, &mut far))?;
+    Ok(verified_text(alloc, &found)?)
+}
+
+/// The same with the contents of the repository, which is only read: where a file stands in the place of another one, and the
+/// repository has the recorded content, its line tells in how many bytes the two differ. A content is read only for such a line, so
+/// that a damaged one is `Damaged` only there. No name of a disk changes.
+pub fn verify_fully<T: TreeDisk, P: TreeDisk>(
+    alloc: Global,
+    names: &[Name],
+    opened: &Opened,
+    repo: &mut P,
+    root: &mut T,
+) -> Result<Text, Failure>
+    requires { AreReady T.disk P.disk (disks root.old repo.old opened.now) }
+    ensures { (input : List ℕ) → Performs T.disk P.disk (spec.verify_fully names.now) input (disks root.old repo.old opened.now)
+        (disks root.new repo.new opened.now) result }
+{
+    store_laws();
+    distinct_databases();
+    stored_state();
+    let mut contents = RepoContents::new(repo, &opened.catalogue);
+    let found = on_root(verify(alloc, root, &opened.db.installed, names, &mut contents))?;
     Ok(verified_text(alloc, &found)?)
 }

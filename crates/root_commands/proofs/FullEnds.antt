@@ -1,0 +1,150 @@
+-- How `verify` ends with the contents of the repository.
+use Rattle.std.proofs.Common.{◌≡◌, ℕ, List, Result, Ok, Err, OnOk, IfOk, IfErr, refl, sym, ap, ◌∙◌, subst, inl, inr}
+use Rattle.std.specs.Prelude.{IsTrue}
+use Rattle.cny_base.specs.declared.stop.Stop.{Stop}
+use Rattle.cny_base.specs.declared.stop.Stop.TheVariants as stop
+use Rattle.tree_disk.specs.Tree.{Name, Tree}
+use Rattle.tree_disk.specs.Disk.{DiskModel, IsDisk}
+use Rattle.tree_journal.specs.Recovery.{is_committed}
+use Rattle.trove_stream.specs.declared.parts.TroveParts.{TroveParts}
+use Rattle.content_store.specs.Contents.{ContentMap}
+use Rattle.repo_index.specs.Catalogue.{CatalogueParts}
+use Rattle.repo_state.specs.Files.{HoldsCatalogue, StoresRepository}
+use Rattle.repo_state.specs.State.{catalogue_of, troves_of, RepositoryState}
+use Rattle.repository.specs.Contents.{IsDamagedContent}
+use Rattle.repository.specs.RepoContents.{repo_contents, HoldsContents}
+use Rattle.repository.specs.declared.repo_contents.RepoContents.{RepoContents}
+use Rattle.tree_scan.specs.declared.verification.Verified.{Verified}
+use Rattle.update_job.specs.Lists.{AreInstalled, IsNotInstalled}
+use Rattle.tree_verify.specs.Verify.{asked, verified}
+use Rattle.cny_report.specs.Verified.{verified_text}
+use Rattle.cli_call.specs.declared.failure.Failure.{Failure}
+use Rattle.cli_call.specs.declared.failure.Failure.TheVariants as failure
+use Rattle.cli_call.specs.declared.opened.Opened.{Opened}
+use Rattle.cli_call.specs.Command.{disks, AreReady, HasCause, Performs, StandsFor}
+use Rattle.cli_call.specs.CommandLaws.{AnswersReading, AreRead, performs_reading}
+use Rattle.cli_call.specs.RootDatabase.{OneDatabase}
+use Rattle.cli_call.specs.RootLaws.{root_laws}
+use Rattle.cli_call.specs.State.{State}
+use Rattle.cli_call.specs.Stops.{root_failure, root_result}
+use Rattle.cli_call.specs.Store.{HasDamagedFile, IsStore}
+use Rattle.cli_call.specs.Stores.{repository_store}
+use Rattle.root_commands.specs.Answer.{answer}
+use Rattle.root_commands.specs.Verifying.{verify_fully}
+use Rattle.root_commands.proofs.Answering.{installed_are}
+use Rattle.root_commands.proofs.VerifyEnds.{found_of_system, Searched}
+
+-- the laws of repositories that are called upon
+pub record VerifyingLaws : Type 0 where
+  pub catalogue : (x : Tree) (r : RepositoryState) (c : CatalogueParts) → StoresRepository x r → HoldsCatalogue x c → c ≡ catalogue_of r.commits
+  pub contents : (x : Tree) (r : RepositoryState) (name : List ℕ) (path : Name) → StoresRepository x r → IsDamagedContent (troves_of r.commits) name x path → ⊥
+  pub store : IsStore repository_store
+
+module _ {T P : Type 0} {root_disk : DiskModel T} {repo_disk : DiskModel P} (root_disk_laws : IsDisk root_disk) (repo_disk_laws : IsDisk repo_disk) (law : OneDatabase) (laws : VerifyingLaws) (names : List (List ℕ)) (input : List ℕ)
+    (root root' : T) (far far' : RepoContents P) (opened : Opened) (known : far.catalogue.now ≡ opened.catalogue) (ready : AreReady root_disk repo_disk (disks root far.disk.now opened)) where
+  abbrev repo : P
+  repo = far.disk.now
+
+  abbrev repo' : P
+  repo' = far'.disk.now
+
+  abbrev Run : Result Verified Stop → Type 0
+  Run r = Searched root_disk (repo_contents repo_disk) names opened.db.installed root root' far far' r
+
+  abbrev Ends : Result (List ℕ) Failure → Type 0
+  Ends result = AnswersReading root_disk repo_disk (verify_fully names) input (disks root repo opened) result
+
+  abbrev Caused : Result (List ℕ) Failure → Type 0
+  Caused result = HasCause root_disk repo_disk (disks root repo opened) (disks root' repo' opened) result
+
+  abbrev Performed : Result (List ℕ) Failure → Type 0
+  Performed result = Performs root_disk repo_disk (verify_fully names) input (disks root repo opened) (disks root' repo' opened) result
+
+  -- what is searched is the repository's
+  holds : IsTrue repo_disk.tells → HoldsCatalogue (repo_disk.reads repo) far.catalogue.now
+  holds told = subst (HoldsCatalogue (repo_disk.reads repo)) (sym known) (ready.repo told).catalogue
+
+  -- ---- by a state that both disks store
+
+  module _ (told : IsTrue repo_disk.tells) (s : State) (stands : StandsFor root_disk repo_disk (disks root repo opened) s) where
+    catalogue_is : far.catalogue.now ≡ catalogue_of s.repository.commits
+    catalogue_is = laws.catalogue (repo_disk.reads repo) s.repository far.catalogue.now stands.repo.stored (holds told)
+
+    held : HoldsContents (repo_disk.reads repo) far.catalogue.now s.repository.contents
+    held = record { state = s.repository; stores = stands.repo.stored; catalogue_is = catalogue_is; contents = λ name. refl }
+
+    undamaged : (path : Name) → Run (Err (stop.FarDamaged path)) → ⊥
+    undamaged path run =
+        let at = run.ends.damaged told in
+        laws.contents (repo_disk.reads repo) s.repository at.name path stands.repo.stored
+        (subst (λ (c : CatalogueParts). IsDamagedContent c.troves at.name (repo_disk.reads repo) path) catalogue_is at.damaged)
+
+  -- ---- it stopped
+
+  damaged_file : (path : Name) → Run (Err (stop.FarDamaged path)) → IsTrue repo_disk.tells → HasDamagedFile repository_store (repo_disk.reads repo') path
+  damaged_file path run told =
+      let at = run.ends.damaged told in
+      let read = run.keeps.searched.same told in
+      let back : repo_disk.reads repo ≡ repo_disk.reads repo' = sym read.same.reads in record {
+        flag_clear = ap (is_committed repository_store.base) read.same.reads ∙ (ready.repo told).settled.flag_clear;
+        damaged = inr (inl (record {
+          catalogue = far.catalogue.now;
+          holds = subst (λ (t : Tree). HoldsCatalogue t far.catalogue.now) back (holds told);
+          name = at.name;
+          damaged = subst (λ (t : Tree). IsDamagedContent far.catalogue.now.troves at.name t path) back at.damaged;
+        }));
+      }
+
+  stopped_ends : (e : Stop) → Run (Err e) → Ends (Err (root_failure e)) × Caused (Err (root_failure e))
+  stopped_ends (stop.Refused why) run = (λ root_told told s stands. subst (λ (l : List TroveParts). IsNotInstalled l names why) (installed_are law (disks root repo opened) ready root_told s stands.root) run.ends, tt)
+  stopped_ends stop.Failed run = (tt, run.ends)
+  stopped_ends stop.Memory run = (tt, tt)
+  stopped_ends (stop.Damaged path) run = absurd run.ends
+  stopped_ends stop.FarFailed run = (tt, run.ends)
+  stopped_ends (stop.FarDamaged path) run = (λ root_told told s stands. undamaged told s stands path run, inr (damaged_file path run))
+
+  -- ---- the clause
+
+  are_read : (r : Result Verified Stop) → Run r → AreRead root_disk repo_disk (disks root repo opened) (disks root' repo' opened)
+  are_read r run = record { root_later = run.later; repo_later = run.keeps.searched.later; root = run.same; repo = run.keeps.searched.same }
+
+  performed : (r : Result Verified Stop) → Run r → (f : Result (List ℕ) Failure) → Caused f → Ends f → Performed f
+  performed r run f cause ends =
+      performs_reading root_disk_laws repo_disk_laws root_laws laws.store (verify_fully names) input (disks root repo opened) (disks root' repo' opened) ready (are_read r run) f cause ends
+
+  pub failed_performs : (r : Result Verified Stop) (f : Failure) → root_result r ≡ Err f → Run r → Performed (Err f)
+  failed_performs (Ok found) f is run = absurd (cc is)
+  failed_performs (Err e) f is run =
+      let ends = stopped_ends e run in
+      subst (λ (x : Result Verified Failure). IfErr x (λ g. Performed (Err g))) is (performed (Err e) run (Err (root_failure e)) ends.1 ends.0)
+
+  pub memory_performs : (r : Result Verified Stop) → Run r → Performed (Err failure.Memory)
+  memory_performs r run = performed r run (Err failure.Memory) tt tt
+
+  -- what is found with each map that the repository holds
+  abbrev Mapped : Result Verified Stop → Type 0
+  Mapped r = (map : ContentMap) → IsTrue root_disk.tells → (let contents = repo_contents repo_disk in contents.holds far map) → IfOk r (λ found. found ≡ verified map (root_disk.reads root) (asked names opened.db.installed))
+
+  found_ends : (found : Verified) (text : List ℕ) → Mapped (Ok found) → AreInstalled opened.db.installed names → text ≡ verified_text found → Ends (Ok text)
+  found_ends found text mapped installed is root_told told s stands =
+      let contents = s.repository.contents in (
+        subst (λ (l : List TroveParts). AreInstalled l names) (installed_are law (disks root repo opened) ready root_told s stands.root) installed,
+        ap answer (is ∙ ap verified_text (mapped contents root_told (told, held told s stands) ∙ found_of_system root_disk repo_disk law (disks root repo opened) ready root_told names contents s stands.root)),
+      )
+
+  pub told_performs : (r : Result Verified Stop) (found : Verified) (text : List ℕ) → root_result r ≡ Ok found → Run r → Mapped r → OnOk r (AreInstalled opened.db.installed names) → text ≡ verified_text found → Performed (Ok text)
+  told_performs (Err e) found text is run mapped installed text_is = absurd (cc is)
+  told_performs (Ok made) found text is run mapped installed text_is =
+      let same : found ≡ made = cc is in
+      performed (Ok made) run (Ok text) tt (found_ends made text mapped installed (text_is ∙ ap verified_text same))
+
+-- the same of disks under other names
+module _ {T P : Type 0} {root_disk : DiskModel T} {repo_disk : DiskModel P} (root : T) (opened : Opened) where
+  pub ready_at : (a b : P) → a ≡ b → AreReady root_disk repo_disk (disks root b opened) → AreReady root_disk repo_disk (disks root a opened)
+  ready_at a b same ready = subst (λ (d : P). AreReady root_disk repo_disk (disks root d opened)) (sym same) ready
+
+  pub performed_at : (names : List (List ℕ)) (input : List ℕ) (root' : T) (result : Result (List ℕ) Failure) (a b c d : P) → a ≡ b → c ≡ d → Performs root_disk repo_disk (verify_fully names) input (disks root a opened) (disks root' c opened) result
+      → Performs root_disk repo_disk (verify_fully names) input (disks root b opened) (disks root' d opened) result
+  performed_at names input root' result a b c d before after done =
+      subst (λ (x : P). Performs root_disk repo_disk (verify_fully names) input (disks root x opened) (disks root' d opened) result) before
+      (subst (λ (x : P). Performs root_disk repo_disk (verify_fully names) input (disks root a opened) (disks root' x opened) result) after done)

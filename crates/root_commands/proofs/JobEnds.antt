@@ -1,0 +1,178 @@
+-- How `rblist` ends.
+use Rattle.std.proofs.Common.{◌≡◌, ℕ, zero, suc, ◌+◌, ◌-◌, ◌<◌, ◌≤◌, List, [], ◌∷◌, length, map, Result, Ok, Err, IfErr, All, refl, sym, ap, ◌∙◌, subst, inl, inr, arith}
+use Rattle.std.specs.Prelude.{IsTrue}
+use Rattle.std.proofs.lemmas.List.Elements.{All-head, All-tail}
+use Rattle.cny_base.specs.Count.{Rose}
+use Rattle.cny_base.specs.declared.stop.Stop.{Stop}
+use Rattle.cny_base.specs.declared.stop.Stop.TheVariants as stop
+use Rattle.tree_disk.specs.Disk.{DiskModel, HasRead, Reads}
+use Rattle.tree_disk.specs.Tree.{Name, Tree}
+use Rattle.trove_stream.specs.declared.parts.TroveParts.{TroveParts}
+use Rattle.installed_list.specs.Installed.{IsRising}
+use Rattle.past_list.specs.Past.{AreChangedIds}
+use Rattle.local_db.specs.declared.db.Db.{Db}
+use Rattle.system_state.specs.declared.format.Format.TheVariants.{Two}
+use Rattle.system_state.specs.Record as state
+use Rattle.system_state.specs.Stores.{HoldsDatabase, HoldsStack, StoresSystem}
+use Rattle.system_state.specs.SystemState.{AreNumbered, IsStackItem, StackItem, newest, oldest}
+use Rattle.job_records.specs.Reading.{HoldsNoRecord, HoldsRecord, HoldsRecords, IsDamagedRecord}
+use Rattle.rollback_stack.specs.Numbers.{job_count}
+use Rattle.rollback_stack.specs.Reading.{AreNotes, IsAllStop}
+use Rattle.job_undo.specs.declared.undo.Note.{Note as Undone}
+use Rattle.system_rollback.proofs.Sequence.{AreFrom, from_newest}
+use Rattle.system_rollback.proofs.Stored.{OneRecord, job_record}
+use Rattle.cny_report.specs.declared.note.Note.{Note}
+use Rattle.cli_call.specs.declared.failure.Failure.{Failure}
+use Rattle.cli_call.specs.declared.opened.Opened.{Opened}
+use Rattle.cli_call.specs.AloneLaws.{AnswersAlone}
+use Rattle.cli_call.specs.Command.{disks, AreReady, HasCause}
+use Rattle.cli_call.specs.RootDatabase.{OneDatabase, held_database}
+use Rattle.cli_call.specs.State.{RootState}
+use Rattle.cli_call.specs.Stops.{root_result}
+use Rattle.cli_call.specs.Store.{HasDamagedFile}
+use Rattle.cli_call.specs.Stores.{root_store}
+use Rattle.root_commands.specs.Answer.{answer}
+use Rattle.root_commands.specs.Jobs.{AreNotesOf, list_jobs}
+use Rattle.root_commands.specs.Noting.{AreNoted, AreToldBy}
+
+-- ---- numbers of jobs
+
+numbers_by_length : (o : StackItem) (olds : List StackItem) → AreNumbered (o ∷ olds) → o.number ≡ oldest (o ∷ olds) + length olds
+numbers_by_length o [] numbered = omega arith
+numbers_by_length o (p ∷ olds) numbered =
+    let next = numbered.0 in
+    let rest = numbers_by_length p olds numbered.1 in
+    omega (arith, next, rest)
+
+some_oldest : (o : StackItem) (olds : List StackItem) → AreNumbered (o ∷ olds) → 1 ≤ oldest (o ∷ olds)
+some_oldest o [] numbered = numbered
+some_oldest o (p ∷ olds) numbered = some_oldest p olds numbered.1
+
+counted : (low high long : ℕ) → 1 ≤ low → high ≡ low + long → job_count low high ≡ long + 1
+counted zero high long some far = absurd (omega (arith, some))
+counted (suc below) high long some far = omega (arith, far)
+
+count_of : (stack : List StackItem) → AreNumbered stack → job_count (oldest stack) (newest stack) ≡ length stack
+count_of [] numbered = refl
+count_of (o ∷ olds) numbered =
+    let all = counted (oldest (o ∷ olds)) o.number (length olds) (some_oldest o olds numbered) (numbers_by_length o olds numbered) in
+    omega (arith, all)
+
+mapped_length : {A B : Type 0} (f : A → B) (xs : List A) → length (map f xs) ≡ length xs
+mapped_length f [] = refl
+mapped_length f (x ∷ xs) = ap suc (mapped_length f xs)
+
+-- ---- by the records that a stack holds
+
+module _ (one : OneRecord) (x : Tree) where
+  told_of : (stack : List StackItem) (n : ℕ) (after : List TroveParts) (jobs : List Undone) (notes : List Note) → HoldsStack Two x after stack → All IsStackItem stack → AreFrom n stack → IsRising after
+      → AreNotes x (length stack) n after jobs → AreNoted jobs notes → AreNotesOf after stack notes
+  told_of [] n after [] [] held items from rising are noted = tt
+  told_of [] n after [] (note ∷ notes) held items from rising are noted = absurd noted
+  told_of [] n after (job ∷ jobs) notes held items from rising are noted = absurd are
+  told_of (o ∷ olds) n after [] notes held items from rising are noted = absurd are
+  told_of (o ∷ olds) n after (job ∷ jobs) [] held items from rising are noted = absurd noted
+  told_of (o ∷ olds) n after (job ∷ jobs) (note ∷ notes) held items from rising are noted =
+      let item = All-head IsStackItem o olds items in
+      let same = one Two x n after are.0 o.list are.1 (state.entries_of o) are.2 (job_record x n after o held.0 item from.0) in
+      let is = are.3 in (
+        record {
+          number = noted.0.number ∙ is.number_is ∙ sym from.0;
+          changes = noted.0.changes o.list after item.list.rising rising
+              (subst (λ (l : List TroveParts). AreChangedIds l after job.before) same.0 is.before_is)
+              (subst (λ (l : List TroveParts). AreChangedIds after l job.after) same.0 is.after_is);
+          paths = noted.0.paths ∙ is.paths_are ∙ ap length same.1 ∙ mapped_length _ o.paths;
+        },
+        told_of olds (n - 1) o.list jobs notes held.1 (All-tail IsStackItem o olds items) from.1 item.list.rising
+            (subst (λ (l : List TroveParts). AreNotes x (length olds) (n - 1) l jobs) same.0 are.4) noted.1,
+      )
+
+  whole : (stack : List StackItem) (n : ℕ) (after : List TroveParts) (good : List (List state.Entry)) (before : List TroveParts) → HoldsStack Two x after stack → All IsStackItem stack → AreFrom n stack
+      → length good < length stack → HoldsRecords Two x n after good before → HoldsNoRecord Two x (n - length good) before → ⊥
+  whole [] n after good before held items from fewer holds none = absurd (omega (arith, fewer))
+  whole (o ∷ olds) n after [] before held items from fewer holds none =
+      let first : n ≡ n - 0 = omega arith in
+      none o.list (state.entries_of o) (subst (λ (k : ℕ). HoldsRecord Two x k before o.list (state.entries_of o)) first
+      (subst (λ (l : List TroveParts). HoldsRecord Two x n l o.list (state.entries_of o)) (sym holds) (job_record x n after o held.0 (All-head IsStackItem o olds items) from.0)))
+  whole (o ∷ olds) n after (es ∷ good) before held items from fewer holds none =
+      let same = one Two x n after holds.0 o.list es (state.entries_of o) holds.1 (job_record x n after o held.0 (All-head IsStackItem o olds items) from.0) in
+      let less : n - suc (length good) ≡ n - 1 - length good = omega arith in
+      whole olds (n - 1) o.list good before held.1 (All-tail IsStackItem o olds items) from.1 (omega (arith, fewer))
+      (subst (λ (l : List TroveParts). HoldsRecords Two x (n - 1) l good before) same.0 holds.2)
+      (subst (λ (k : ℕ). HoldsNoRecord Two x k before) less none)
+
+-- ---- by the database
+
+module _ (law : OneDatabase) (one : OneRecord) (x : Tree) (db : Db) (s : RootState) (holds : HoldsDatabase Two x db.installed db.oldest db.newest) (stored : StoresSystem x s) where
+  held_count : job_count db.oldest db.newest ≡ length s.stack
+  held_count = let held = held_database law x db s holds stored in (λ i. job_count (held.oldest i) (held.newest i)) ∙ count_of s.stack held.stores.system.numbered
+
+  none_damaged : (path : Name) → IsDamagedRecord Two x (job_count db.oldest db.newest) db.newest db.installed path → ⊥
+  none_damaged path damaged =
+      let held = held_database law x db s holds stored in
+      whole one x s.stack (newest s.stack) s.installed damaged.good damaged.before held.stores.olds held.stores.system.olds (from_newest s.stack held.stores.system.numbered)
+      (let few = damaged.fewer in let count = held_count in omega (arith, few, count))
+      (subst (λ (n : ℕ). HoldsRecords Two x n s.installed damaged.good damaged.before) held.newest (subst (λ (l : List TroveParts). HoldsRecords Two x db.newest l damaged.good damaged.before) held.list damaged.holds))
+      (subst (λ (n : ℕ). HoldsNoRecord Two x (n - length damaged.good) damaged.before) held.newest damaged.none)
+
+  notes_of : (jobs : List Undone) (notes : List Note) → AreNotes x (job_count db.oldest db.newest) db.newest db.installed jobs → AreNoted jobs notes → AreNotesOf s.installed s.stack notes
+  notes_of jobs notes are noted =
+      let held = held_database law x db s holds stored in
+      told_of one x s.stack (newest s.stack) s.installed jobs notes held.stores.olds held.stores.system.olds (from_newest s.stack held.stores.system.numbered) held.stores.system.list.rising
+      (subst (λ (c : ℕ). AreNotes x c (newest s.stack) s.installed jobs) held_count
+      (subst (λ (n : ℕ). AreNotes x (job_count db.oldest db.newest) n s.installed jobs) held.newest
+      (subst (λ (l : List TroveParts). AreNotes x (job_count db.oldest db.newest) db.newest l jobs) held.list are)))
+      noted
+
+-- ---- the answers
+
+-- what `all` says of its answer and of its stop
+abbrev pub Stopped : {T : Type 0} → DiskModel T → Opened → T → T → Result (List Undone) Stop → Type 0
+Stopped root_disk opened root root' r =
+    IfErr r (IsAllStop root_disk.tells (root_disk.reads root) (job_count opened.db.oldest opened.db.newest) opened.db.newest opened.db.installed (Rose (root_disk.faults root) (root_disk.faults root')))
+
+module _ {T P : Type 0} (root_disk : DiskModel T) (repo_disk : DiskModel P) (law : OneDatabase) (one : OneRecord) (input : List ℕ) (root root' : T) (repo : P) (opened : Opened) (ready : AreReady root_disk repo_disk (disks root repo opened))
+    (same : IsTrue root_disk.tells → root_disk.reads root' ≡ root_disk.reads root) where
+  abbrev Ends : Result (List ℕ) Failure → Type 0
+  Ends result = AnswersAlone root_disk list_jobs input root result
+
+  abbrev Caused : Result (List ℕ) Failure → Type 0
+  Caused result = HasCause root_disk repo_disk (disks root repo opened) (disks root' repo opened) result
+
+  abbrev Damage : Name → Type 0
+  Damage path = IsDamagedRecord Two (root_disk.reads root) (job_count opened.db.oldest opened.db.newest) opened.db.newest opened.db.installed path
+
+  damaged_file : (path : Name) → IsTrue root_disk.tells → Damage path → HasDamagedFile root_store (root_disk.reads root') path
+  damaged_file path told damaged =
+      let holds = (ready.root told).holds in
+      let here : HasDamagedFile root_store (root_disk.reads root) path = record {
+        flag_clear = (ready.root told).flag_clear;
+        damaged = (inr (record { db = opened.db; holds = holds; damaged = inr (inl damaged) }), λ s stored. none_damaged law one (root_disk.reads root) opened.db s holds stored path damaged);
+      } in
+      subst (λ (t : Tree). HasDamagedFile root_store t path) (sym (same told)) here
+
+  stopped_ends : (e : Stop) → Stopped root_disk opened root root' (Err e) → IfErr (let r : Result (List Undone) Stop = Err e in root_result r) (λ f. Ends (Err f) × Caused (Err f))
+  stopped_ends (stop.Refused why) h = absurd h
+  stopped_ends stop.Failed h = (tt, h)
+  stopped_ends stop.Memory h = (tt, tt)
+  stopped_ends (stop.Damaged path) h = (λ told s rests. none_damaged law one (root_disk.reads root) opened.db s.root (ready.root told).holds rests.stored path (h told), inl (λ told. damaged_file path told (h told)))
+  stopped_ends stop.FarFailed h = absurd h
+  stopped_ends (stop.FarDamaged path) h = absurd h
+
+  pub failed_ends : (r : Result (List Undone) Stop) (f : Failure) → root_result r ≡ Err f → Stopped root_disk opened root root' r → Ends (Err f) × Caused (Err f)
+  failed_ends (Ok found) f is run = absurd (cc is)
+  failed_ends (Err e) f is run = subst (λ (x : Result (List Undone) Failure). IfErr x (λ g. Ends (Err g) × Caused (Err g))) is (stopped_ends e run)
+
+  pub found_ends : (jobs : List Undone) (text : List ℕ) → (IsTrue root_disk.tells → AreNotes (root_disk.reads root) (job_count opened.db.oldest opened.db.newest) opened.db.newest opened.db.installed jobs) → AreToldBy jobs text → Ends (Ok text)
+  found_ends jobs text are is told s rests = record {
+    notes = is.notes;
+    are = notes_of law one (root_disk.reads root) opened.db s.root (ready.root told).holds rests.stored jobs is.notes (are told) is.noted;
+    effect_is = ap answer is.text_is;
+  }
+
+pub found_is : (r : Result (List Undone) Stop) (jobs : List Undone) → root_result r ≡ Ok jobs → r ≡ Ok jobs
+found_is (Ok x) jobs is = cc is
+found_is (Err e) jobs is = absurd (cc is)
+
+pub read_of : {T A : Type 0} (root_disk : DiskModel T) (root root' : T) → Reads root_disk root root' A → IsTrue root_disk.tells → HasRead root_disk root root' (Unit {0})
+read_of root_disk root root' value told = let h = value told in record { answer = tt; same = h.same; time = h.time }

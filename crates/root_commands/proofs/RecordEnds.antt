@@ -1,0 +1,298 @@
+-- A damaged record isn't passed over.
+use Rattle.std.proofs.Common.{◌≡◌, ⊎_elim, Bool, false, ℕ, zero, suc, ◌+◌, ◌-◌, ◌<◌, ◌≤◌, List, [], ◌∷◌, ◌++◌, length, None, Some, Result, Ok, Err, IfOk, IfErr, All, refl, sym, ap, ◌∙◌, subst, inl, inr, arith, length-append}
+use Rattle.std.specs.Prelude.{◌⊎◌, IsTrue}
+use Rattle.std.proofs.lemmas.List.Elements.{All-contains}
+use Rattle.cny_base.specs.declared.refusal.Refusal.{Refusal}
+use Rattle.cny_base.specs.declared.refusal.Refusal.TheVariants.{Edited, NoJob, Parent, StackEmpty}
+use Rattle.cny_base.specs.declared.stop.Stop.{Stop}
+use Rattle.cny_base.specs.declared.stop.Stop.TheVariants as stop
+use Rattle.journal_log.specs.declared.put.Put.{Put}
+use Rattle.journal_log.specs.declared.put.Want.{Want}
+use Rattle.journal_log.specs.declared.put.Want.TheVariants as want
+use Rattle.journal_log.specs.Targets.{node_of}
+use Rattle.tree_disk.specs.Disk.{DiskModel}
+use Rattle.tree_disk.specs.Tree.{Name, Tree}
+use Rattle.tree_scan.specs.declared.mark.Mark.{Mark}
+use Rattle.tree_scan.specs.Marks.{fingerprint}
+use Rattle.trove_stream.specs.declared.parts.TroveParts.{TroveParts}
+use Rattle.local_db.specs.declared.db.Db.{Db}
+use Rattle.saved_contents.specs.declared.entry.Entry.{Entry}
+use Rattle.saved_contents.specs.Old.{IsDamagedOld, IsSaved, is_staged}
+use Rattle.system_state.specs.declared.format.Format.TheVariants.{Two}
+use Rattle.system_state.specs.Record as state
+use Rattle.undo_check.specs.Jobs.{CanUndoAll, oldest_with, undone_all}
+use Rattle.undo_check.specs.Marks.{CanUndo, IsEdited, IsUndoRefusal, Marks, marks_of, undone}
+use Rattle.job_records.specs.Reading.{HoldsNoRecord, HoldsRecord, HoldsRecords}
+use Rattle.job_undo.specs.declared.undo.Note.{Note as Undone}
+use Rattle.job_undo.specs.declared.undo.Back.{Back}
+use Rattle.job_undo.specs.declared.undo.Undo.{Undo}
+use Rattle.job_undo.specs.Undo.{entries_of, entry_of}
+use Rattle.rollback_stack.specs.Inverse.{IsBackRefusal, IsDamagedContent, IsDamagedJob, IsOldWant, IsRefusedJob}
+use Rattle.rollback_stack.specs.Numbers.{job_count}
+use Rattle.rollback_stack.specs.Reading.{AreNotes, IsAllStop, IsDamagedAt, IsDamagedNewest, IsNewest}
+use Rattle.rollback_stack.proofs.Noting.{records_push}
+use Rattle.system_rollback.specs.Preparing.{IsRefusal}
+use Rattle.system_rollback.specs.Rollback.{HasTakenBack, StopsSo}
+use Rattle.system_rollback.specs.Several.{HasTakenBackTo, IsStepTo, StopsTo}
+use Rattle.system_rollback.proofs.Stored.{OneRecord, all_middle, split_map}
+use Rattle.cli_call.specs.declared.failure.Failure.{Failure}
+use Rattle.cli_call.specs.Stops.{root_failure, root_result}
+use Rattle.root_commands.specs.Records.{IsDamagedOfAll, ListsWhole, NoneIs, TakesBackWhole}
+
+same_some : {A : Type 0} (x y : A) → Some x ≡ Some y → x ≡ y
+same_some x y e = cc e
+
+split_at : (i j : ℕ) → (i ≤ j) ⊎ (j < i)
+split_at zero j = inl (omega arith)
+split_at (suc i) zero = inr (omega arith)
+split_at (suc i) (suc j) = ⊎_elim (λ le. inl (omega (arith, le))) (λ less. inr (omega (arith, less))) (split_at i j)
+
+-- ---- records from a number down
+
+module _ (one : OneRecord) (x : Tree) where
+  -- where some records are held, none of them is missing
+  held_whole : (n : ℕ) (after before : List TroveParts) (jobs : List (List state.Entry)) → HoldsRecords Two x n after jobs before → (good : List (List state.Entry)) (middle : List TroveParts)
+      → length good < length jobs → HoldsRecords Two x n after good middle → HoldsNoRecord Two x (n - length good) middle → ⊥
+  held_whole n after before [] held good middle fewer holds none = absurd (omega (arith, fewer))
+  held_whole n after before (es ∷ jobs) held [] middle fewer holds none =
+      let first : n ≡ n - 0 = omega arith in
+      none held.0 es (subst (λ (k : ℕ). HoldsRecord Two x k middle held.0 es) first
+      (subst (λ (l : List TroveParts). HoldsRecord Two x n l held.0 es) (sym holds) held.1))
+  held_whole n after before (es ∷ jobs) held (ds ∷ good) middle fewer holds none =
+      let same = one Two x n after holds.0 held.0 ds es holds.1 held.1 in
+      let less : n - suc (length good) ≡ n - 1 - length good = omega arith in
+      held_whole (n - 1) held.0 before jobs held.2 good middle (omega (arith, fewer))
+      (subst (λ (l : List TroveParts). HoldsRecords Two x (n - 1) l good middle) same.0 holds.2)
+      (subst (λ (k : ℕ). HoldsNoRecord Two x k middle) less none)
+
+  -- as many records are the same
+  same_jobs : (n : ℕ) (after b c : List TroveParts) (jobs others : List (List state.Entry)) → length jobs ≡ length others → HoldsRecords Two x n after jobs b → HoldsRecords Two x n after others c → jobs ≡ others
+  same_jobs n after b c [] [] long h g = refl
+  same_jobs n after b c [] (ds ∷ others) long h g = absurd (omega (arith, long))
+  same_jobs n after b c (es ∷ jobs) [] long h g = absurd (omega (arith, long))
+  same_jobs n after b c (es ∷ jobs) (ds ∷ others) long h g =
+      let first = one Two x n after h.0 g.0 es ds h.1 g.1 in
+      let shorter : length jobs ≡ length others = omega (arith, long) in
+      let tails = same_jobs (n - 1) h.0 b c jobs others shorter h.2 (subst (λ (l : List TroveParts). HoldsRecords Two x (n - 1) l others c) (sym first.0) g.2) in
+      let heads = first.1 in
+      λ i. heads i ∷ tails i
+
+  -- among jobs that can be taken back the one behind these can be
+  turn_taken : (n : ℕ) (after middle before last : List TroveParts) (jobs : List (List state.Entry)) (es : List state.Entry) → HoldsRecords Two x n after jobs middle → HoldsRecord Two x (n - length jobs) middle before es
+      → (good : List (List state.Entry)) → length jobs < length good → HoldsRecords Two x n after good last → (m : Marks) → CanUndoAll good m → CanUndo es (undone_all jobs m)
+  turn_taken n after middle before last jobs es holds here [] more held m can = absurd (omega (arith, more))
+  turn_taken n after middle before last [] es holds here (ds ∷ good) more held m can =
+      let first : n - 0 ≡ n = omega arith in
+      let same = one Two x n after held.0 before ds es held.1
+      (subst (λ (k : ℕ). HoldsRecord Two x k after before es) first (subst (λ (l : List TroveParts). HoldsRecord Two x (n - 0) l before es) holds here)) in
+      subst (λ (l : List state.Entry). CanUndo l m) same.1 can.0
+  turn_taken n after middle before last (fs ∷ jobs) es holds here (ds ∷ good) more held m can =
+      let same = one Two x n after held.0 holds.0 ds fs held.1 holds.1 in
+      let less : n - suc (length jobs) ≡ n - 1 - length jobs = omega arith in
+      turn_taken (n - 1) holds.0 middle before last jobs es holds.2 (subst (λ (k : ℕ). HoldsRecord Two x k middle before es) less here) good (omega (arith, more))
+      (subst (λ (l : List TroveParts). HoldsRecords Two x (n - 1) l good last) same.0 held.2) (undone fs m)
+      (subst (λ (l : List state.Entry). CanUndoAll good (undone l m)) same.1 can.1)
+
+-- ---- a saved content
+
+-- what is saved isn't damaged
+saved_whole : (x : Tree) (n : ℕ) (w : Want) (m : Mark) (path : Name) → is_staged w ≡ false → fingerprint (node_of w) ≡ m → IsSaved x n w → IsDamagedOld x n m path → ⊥
+saved_whole x n w m path given marked saved damaged = at w given saved (subst (λ (k : Mark). IsDamagedOld x n k path) (sym marked) damaged)
+  where
+    at : (v : Want) → is_staged v ≡ false → IsSaved x n v → IsDamagedOld x n (fingerprint (node_of v)) path → ⊥
+    at want.Nothing plain there h = h
+    at (want.Dir mode) plain there h = h
+    at (want.File mode bytes) plain there h = h.1 bytes (record { there = there; content = record { long = refl; named = refl } })
+    at (want.Link target) plain there h = h
+    at (want.Staged mode id size name) plain there h = absurd (cc plain)
+
+-- ---- all jobs told
+
+record AreTold (x : Tree) (count n : ℕ) (after : List TroveParts) : Type 0 where
+  pub jobs : List (List state.Entry)
+  pub before : List TroveParts
+  pub long : length jobs ≡ count
+  pub holds : HoldsRecords Two x n after jobs before
+
+told_records : (x : Tree) (count n : ℕ) (after : List TroveParts) (notes : List Undone) → AreNotes x count n after notes → AreTold x count n after
+told_records x zero n after [] are = record { jobs = []; before = after; long = refl; holds = refl }
+told_records x zero n after (note ∷ notes) are = absurd are
+told_records x (suc count) n after [] are = absurd are
+told_records x (suc count) n after (note ∷ notes) are =
+    let rest = told_records x count (n - 1) are.0 notes are.4 in
+    let long = rest.long in
+    record { jobs = are.1 ∷ rest.jobs; before = rest.before; long = ap suc long; holds = (are.0, are.2, rest.holds) }
+
+pub told_whole : (one : OneRecord) (x : Tree) (db : Db) (notes : List Undone) → AreNotes x (job_count db.oldest db.newest) db.newest db.installed notes → NoneIs (IsDamagedOfAll x db)
+told_whole one x db notes are path damaged =
+    let told = told_records x (job_count db.oldest db.newest) db.newest db.installed notes are in
+    let long = told.long in
+    let fewer = damaged.fewer in
+    held_whole one x db.newest db.installed told.before told.jobs told.holds damaged.good damaged.before (omega (arith, long, fewer)) damaged.holds damaged.none
+
+-- ---- the newest job taken back
+
+newest_none : (x : Tree) (db : Db) (path : Name) → IsDamagedJob x db db.newest path → HoldsNoRecord Two x db.newest db.installed
+newest_none x db path damaged = at damaged.jobs damaged.at.holds damaged.at.above damaged.none
+  where
+    at : (jobs : List (List state.Entry)) → HoldsRecords Two x db.newest db.installed jobs damaged.after → length jobs + db.newest ≤ db.newest → HoldsNoRecord Two x (db.newest - length jobs) damaged.after
+        → HoldsNoRecord Two x db.newest db.installed
+    at [] holds above none =
+        let first : db.newest - 0 ≡ db.newest = omega arith in
+        subst (λ (k : ℕ). HoldsNoRecord Two x k db.installed) first (subst (λ (l : List TroveParts). HoldsNoRecord Two x (db.newest - 0) l) holds none)
+    at (es ∷ jobs) holds above none = absurd (omega (arith, above))
+
+newest_whole : (one : OneRecord) (x : Tree) (db : Db) → ((undo : Undo) × IsNewest x db undo) → NoneIs (IsDamagedNewest x db)
+newest_whole one x db newest path damaged = at damaged.1
+  where
+    is : IsNewest x db newest.0
+    is = newest.1
+
+    held : HoldsRecord Two x db.newest db.installed is.before (entries_of newest.0.entries)
+    held = subst (λ (k : ℕ). HoldsRecord Two x k db.installed is.before (entries_of newest.0.entries)) is.leads.newest is.holds
+
+    at : IsDamagedAt x db path → ⊥
+    at (inl no_record) = no_record.1 is.before (entries_of newest.0.entries) held
+    at (inr content) =
+        let first = content.3 in
+        let same = one Two x db.newest db.installed content.0 is.before content.1 (entries_of newest.0.entries) content.2 held in
+        let split = split_map entry_of newest.0.entries first.front first.first first.rest (sym same.1 ∙ first.split) in
+        let one_is = split.one_is in
+        saved_whole x newest.0.number split.one.was (entry_of split.one).was path
+        (all_middle (λ (e : Entry). is_staged e.was ≡ false) split.before split.one split.behind (subst (All (λ (e : Entry). is_staged e.was ≡ false)) split.split is.leads.entries_are.given))
+        refl
+        (all_middle (λ (e : Entry). IsSaved x newest.0.number e.was) split.before split.one split.behind (subst (All (λ (e : Entry). IsSaved x newest.0.number e.was)) split.split is.saved))
+        (subst (λ (k : ℕ). IsDamagedOld x k (entry_of split.one).was path) (sym is.leads.newest) (subst (λ (e : state.Entry). IsDamagedOld x db.newest e.was path) one_is first.damaged))
+
+newest_refused : (x : Tree) (db : Db) (why : Refusal) → IsRefusal x db why → NoneIs (IsDamagedJob x db db.newest)
+newest_refused x db why (inl none) path damaged =
+    let some = damaged.at.on_stack.some in
+    let kept = damaged.at.on_stack.kept in
+    let empty = none.1 in
+    omega (arith, some, kept, empty)
+newest_refused x db why (inr is) path damaged = newest_none x db path damaged is.before is.es is.holds
+
+-- ---- several jobs taken back
+
+-- a job that can be taken back isn't refused
+not_both : (es : List state.Entry) (m : Marks) (why : Refusal) → CanUndo es m → IsUndoRefusal es m why → ⊥
+not_both es m (Edited path) can is = all_middle (λ (e : state.Entry). IsEdited es m e → ⊥) is.front is.first is.rest (subst (All (λ (e : state.Entry). IsEdited es m e → ⊥)) is.split can.unedited) is.edited
+not_both es m (Parent path) can is = can.no_orphan path is.orphan
+not_both es m _ can is = absurd is
+
+-- one is refused when its turn comes
+job_refused : (one : OneRecord) (x : Tree) (db : Db) (number : ℕ) (why : Refusal) → IsRefusedJob x db number why → NoneIs (IsDamagedJob x db number)
+job_refused one x db number why is path damaged = ⊎_elim earlier later (split_at (length damaged.jobs) (length is.jobs))
+  where
+    read : HoldsRecords Two x db.newest db.installed (is.jobs ++ is.es ∷ []) is.before
+    read = records_push Two x db.newest db.installed is.after is.before is.jobs is.es is.at.holds is.holds
+
+    earlier : length damaged.jobs ≤ length is.jobs → ⊥
+    earlier few = held_whole one x db.newest db.installed is.before (is.jobs ++ is.es ∷ []) read damaged.jobs damaged.after
+        (let long = length-append is.jobs (is.es ∷ []) in omega (arith, few, long)) damaged.at.holds damaged.none
+
+    later : length is.jobs < length damaged.jobs → ⊥
+    later more = not_both is.es (undone_all is.jobs (marks_of x)) why
+        (turn_taken one x db.newest db.installed is.after is.before damaged.after is.jobs is.es is.at.holds is.holds damaged.jobs more damaged.at.holds (marks_of x) damaged.at.can)
+        is.refused
+
+several_refused : (one : OneRecord) (told : Bool) (x : Tree) (db : Db) (number : ℕ) → IsTrue told → (why : Refusal) → IsBackRefusal told x db number why → NoneIs (IsDamagedJob x db number)
+several_refused one told x db number tells StackEmpty h path damaged =
+    let some = damaged.at.on_stack.some in
+    let kept = damaged.at.on_stack.kept in
+    let made = damaged.at.on_stack.made in
+    omega (arith, some, kept, made, h)
+several_refused one told x db number tells (NoJob n) h path damaged =
+    let kept = damaged.at.on_stack.kept in
+    let made = damaged.at.on_stack.made in
+    ⊎_elim (λ low. omega (arith, kept, low)) (λ high. omega (arith, made, high)) h.2
+several_refused one told x db number tells _ h path damaged = job_refused one x db number _ (h.1 tells) path damaged
+
+-- all were taken back
+module _ (one : OneRecord) (x : Tree) (db : Db) (number : ℕ) (step : Back) (is : IsStepTo x db number step) where
+  no_record : NoneIs (IsDamagedJob x db number)
+  no_record path damaged =
+      let count = is.jobs_are.count in
+      let above = damaged.at.above in
+      held_whole one x db.newest db.installed is.before is.jobs is.jobs_are.holds damaged.jobs damaged.after (omega (arith, count, above)) damaged.at.holds damaged.none
+
+  abbrev IsOldPut : Put → Type 0
+  IsOldPut p = (n : ℕ) × (oldest_with db.newest is.jobs p.path ≡ Some n) × IsOldWant x n (undone_all is.jobs (marks_of x) p.path) p.want
+
+  no_content : NoneIs (IsDamagedContent x db number)
+  no_content path content = ⊎_elim
+      (λ stays. subst (λ (m : Mark). IsDamagedOld x content.job m path) stays.wanted damaged)
+      (λ wanted. written wanted.0 (All-contains IsOldPut is.nodes (record { path = content.place; want = wanted.0 }) is.nodes_are.old wanted.1))
+      (is.nodes_are.all content.place content.job named)
+    where
+      same : content.jobs ≡ is.jobs
+      same =
+          let mine = is.jobs_are.count in
+          let its = content.jobs_are.count in
+          same_jobs one x db.newest db.installed content.before is.before content.jobs is.jobs (omega (arith, mine, its)) content.jobs_are.holds is.jobs_are.holds
+
+      named : oldest_with db.newest is.jobs content.place ≡ Some content.job
+      named = subst (λ (l : List (List state.Entry)). oldest_with db.newest l content.place ≡ Some content.job) same content.named
+
+      damaged : IsDamagedOld x content.job (undone_all is.jobs (marks_of x) content.place) path
+      damaged = subst (λ (l : List (List state.Entry)). IsDamagedOld x content.job (undone_all l (marks_of x) content.place) path) same content.damaged
+
+      written : (w : Want) → IsOldPut (record { path = content.place; want = w }) → ⊥
+      written w old =
+          let job_is : old.0 ≡ content.job = same_some old.0 content.job (sym old.1 ∙ named) in
+          let put : IsOldWant x content.job (undone_all is.jobs (marks_of x) content.place) w = subst (λ (k : ℕ). IsOldWant x k (undone_all is.jobs (marks_of x) content.place) w) job_is old.2 in
+          saved_whole x content.job w (undone_all is.jobs (marks_of x) content.place) path put.marked.given put.marked.marked put.bytes damaged
+
+-- ---- how the commands end
+
+-- all jobs told
+list_stop : (told : Bool) (x : Tree) (db : Db) (count n : ℕ) (after : List TroveParts) (rose : Type 0) (e : Stop) → IsAllStop told x count n after rose e → ListsWhole {A = List ℕ} x db (Err (root_failure e))
+list_stop told x db count n after rose (stop.Refused why) h = absurd h
+list_stop told x db count n after rose stop.Failed h = tt
+list_stop told x db count n after rose stop.Memory h = tt
+list_stop told x db count n after rose (stop.Damaged path) h = tt
+list_stop told x db count n after rose stop.FarFailed h = tt
+list_stop told x db count n after rose (stop.FarDamaged path) h = tt
+
+pub list_failed : (told : Bool) (x : Tree) (db : Db) (count n : ℕ) (after : List TroveParts) (rose : Type 0) (r : Result (List Undone) Stop) (f : Failure) → root_result r ≡ Err f → IfErr r (IsAllStop told x count n after rose) → ListsWhole {A = List ℕ} x db (Err f)
+list_failed told x db count n after rose (Ok jobs) f is h = absurd (cc is)
+list_failed told x db count n after rose (Err e) f is h = subst (λ (y : Result (List Undone) Failure). IfErr y (λ g. ListsWhole {A = List ℕ} x db (Err g))) is (list_stop told x db count n after rose e h)
+
+module _ {T : Type 0} (root_disk : DiskModel T) (root root' : T) (db db' : Db) where
+  -- the newest job
+  newest_stop : (e : Stop) → StopsSo root_disk db root root' e → TakesBackWhole {A = List ℕ} None (root_disk.reads root) db (Err (root_failure e))
+  newest_stop (stop.Refused why) h = newest_refused (root_disk.reads root) db why h.answer
+  newest_stop stop.Failed h = tt
+  newest_stop stop.Memory h = tt
+  newest_stop (stop.Damaged path) h = tt
+  newest_stop stop.FarFailed h = tt
+  newest_stop (stop.FarDamaged path) h = tt
+
+  pub newest_failed : (r : Result ℕ Stop) (f : Failure) → root_result r ≡ Err f → IfErr r (StopsSo root_disk db root root') → TakesBackWhole {A = List ℕ} None (root_disk.reads root) db (Err f)
+  newest_failed (Ok n) f is h = absurd (cc is)
+  newest_failed (Err e) f is h = subst (λ (x : Result ℕ Failure). IfErr x (λ g. TakesBackWhole {A = List ℕ} None (root_disk.reads root) db (Err g))) is (newest_stop e h)
+
+  pub newest_done : OneRecord → (r : Result ℕ Stop) (n : ℕ) → root_result r ≡ Ok n → IfOk r (HasTakenBack root_disk db db' root root') → NoneIs (IsDamagedNewest (root_disk.reads root) db)
+  newest_done one (Ok m) n is h = newest_whole one (root_disk.reads root) db (h.step_is.undo, h.step_is.newest)
+  newest_done one (Err e) n is h = absurd (cc is)
+
+  -- several jobs
+  module _ (one : OneRecord) (number : ℕ) (told : IsTrue root_disk.tells) where
+    several_stop : (e : Stop) → StopsTo root_disk db number root root' e → TakesBackWhole {A = List ℕ} (Some number) (root_disk.reads root) db (Err (root_failure e))
+    several_stop (stop.Refused why) h = several_refused one root_disk.tells (root_disk.reads root) db number told why h.answer
+    several_stop stop.Failed h = tt
+    several_stop stop.Memory h = tt
+    several_stop (stop.Damaged path) h = tt
+    several_stop stop.FarFailed h = tt
+    several_stop (stop.FarDamaged path) h = tt
+
+    pub several_failed : (r : Result ℕ Stop) (f : Failure) → root_result r ≡ Err f → IfErr r (StopsTo root_disk db number root root') → TakesBackWhole {A = List ℕ} (Some number) (root_disk.reads root) db (Err f)
+    several_failed (Ok n) f is h = absurd (cc is)
+    several_failed (Err e) f is h = subst (λ (x : Result ℕ Failure). IfErr x (λ g. TakesBackWhole {A = List ℕ} (Some number) (root_disk.reads root) db (Err g))) is (several_stop e h)
+
+    pub several_done : (r : Result ℕ Stop) (n : ℕ) → root_result r ≡ Ok n → IfOk r (HasTakenBackTo root_disk db db' number root root') → TakesBackWhole {A = List ℕ} (Some number) (root_disk.reads root) db (Ok [])
+    several_done (Ok m) n is h path damaged = ⊎_elim
+        (no_record one (root_disk.reads root) db number h.step h.step_is path)
+        (no_content one (root_disk.reads root) db number h.step h.step_is path)
+        damaged
+    several_done (Err e) n is h path damaged = absurd (cc is)

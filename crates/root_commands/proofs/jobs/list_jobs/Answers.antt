@@ -1,0 +1,105 @@
+use Rattle.std.proofs.Common.{ℕ, List, Result, Ok, Err, IfOk, sym, ◌∙◌, subst}
+use Rattle.cny_base.specs.Count.{Rose}
+use Rattle.cny_base.specs.declared.stop.Stop.{Stop}
+use Rattle.job_undo.specs.declared.undo.Note.{Note as Undone}
+use Rattle.rollback_stack.specs.Numbers.{job_count}
+use Rattle.rollback_stack.specs.Reading.{AreNotes}
+use Rattle.cli_call.specs.Alone.{PerformsAlone}
+use Rattle.cli_call.specs.Command.{disks, Performs}
+use Rattle.cli_call.specs.ReadingRoot.{read_alone, read_performed}
+use Rattle.cli_call.specs.declared.failure.Failure.TheVariants as failure
+use Rattle.root_commands.specs.Jobs as spec
+use Rattle.root_commands.specs.Noting.{AreToldBy}
+use Rattle.root_commands.specs.Records.{ListsWhole}
+use Rattle.root_commands.proofs.JobEnds.{failed_ends, found_ends, found_is, read_of}
+use Rattle.root_commands.proofs.Passing.{err_is}
+use Rattle.root_commands.proofs.RecordEnds.{list_failed, told_whole}
+use Rattle.root_commands.proofs.jobs.list_jobs.Goals as goal
+
+pub returns-in_err-jobs-clause-performs : goal.returns-in_err-jobs-clause-performs
+returns-in_err-jobs-clause-performs g c = λ input.
+    let disk = g.T.TreeDisk.disk in
+    let root = c.args.root.now in
+    let root' = c.all.new.disk in
+    let opened = c.args.opened.now in
+    let read = read_of disk root root' c.all.ensures.value in
+    let failed = failed_ends disk g.P.TreeDisk.disk c.distinct_databases.ensures.unique c.one_record.ensures.one input root root' c.args.repo.now opened c.requires (λ told. (read told).same.reads) c.all.result c.in_err-jobs.field-0.0 (sym c.on_root.ensures ∙ c.in_err-jobs.was) c.all.ensures.stops in
+    err_is (Performs disk g.P.TreeDisk.disk spec.list_jobs input (disks root c.args.repo.now opened) (disks root' c.args.repo.now opened)) c.from_residual.result c.in_err-jobs.field-0.0 c.from_residual.ensures.1
+    (read_performed g.P.TreeDisk.disk g.met.T.TreeDisk.laws root root' c.args.repo.now opened spec.list_jobs input read (Err c.in_err-jobs.field-0.0) failed.0 g.met.P.TreeDisk.laws c.store_laws.ensures c.requires c.all.ensures.later failed.1)
+
+pub returns-in_err-told-clause-performs : goal.returns-in_err-told-clause-performs
+returns-in_err-told-clause-performs g c = λ input.
+    let disk = g.T.TreeDisk.disk in
+    let root = c.args.root.now in
+    let root' = c.all.new.disk in
+    let opened = c.args.opened.now in
+    let read = read_of disk root root' c.all.ensures.value in
+    err_is (Performs disk g.P.TreeDisk.disk spec.list_jobs input (disks root c.args.repo.now opened) (disks root' c.args.repo.now opened)) c.from_residual-in_err-told.result failure.Memory c.from_residual-in_err-told.ensures.1
+    (read_performed g.P.TreeDisk.disk g.met.T.TreeDisk.laws root root' c.args.repo.now opened spec.list_jobs input read (Err failure.Memory) tt g.met.P.TreeDisk.laws c.store_laws.ensures c.requires c.all.ensures.later tt)
+
+pub returns-clause-performs : goal.returns-clause-performs
+returns-clause-performs g c = λ input.
+    let disk = g.T.TreeDisk.disk in
+    let root = c.args.root.now in
+    let root' = c.all.new.disk in
+    let opened = c.args.opened.now in
+    let read = read_of disk root root' c.all.ensures.value in
+    let is = found_is c.all.result c.in_ok-jobs.jobs (sym c.on_root.ensures ∙ c.in_ok-jobs.was) in
+    let ends = found_ends disk g.P.TreeDisk.disk c.distinct_databases.ensures.unique c.one_record.ensures.one input root root' c.args.repo.now opened c.requires (λ told. (read told).same.reads) c.in_ok-jobs.jobs c.in_ok-told.field-0
+    (λ told. subst (λ (r : Result (List Undone) Stop). IfOk r (AreNotes (disk.reads root) (job_count opened.db.oldest opened.db.newest) opened.db.newest opened.db.installed)) is (c.all.ensures.value told).answer)
+    (subst (λ (l : List Undone). AreToldBy l c.in_ok-told.field-0) c.get.ensures c.in_ok-told.ensures) in
+    read_performed g.P.TreeDisk.disk g.met.T.TreeDisk.laws root root' c.args.repo.now opened spec.list_jobs input read (Ok c.in_ok-told.field-0) ends g.met.P.TreeDisk.laws c.store_laws.ensures c.requires c.all.ensures.later tt
+
+pub returns-in_err-jobs-clause-alone : goal.returns-in_err-jobs-clause-alone
+returns-in_err-jobs-clause-alone g c = λ input.
+    let disk = g.T.TreeDisk.disk in
+    let root = c.args.root.now in
+    let root' = c.all.new.disk in
+    let opened = c.args.opened.now in
+    let read = read_of disk root root' c.all.ensures.value in
+    let failed = failed_ends disk g.P.TreeDisk.disk c.distinct_databases.ensures.unique c.one_record.ensures.one input root root' c.args.repo.now opened c.requires (λ told. (read told).same.reads) c.all.result c.in_err-jobs.field-0.0 (sym c.on_root.ensures ∙ c.in_err-jobs.was) c.all.ensures.stops in
+    err_is (PerformsAlone disk g.P.TreeDisk.disk spec.list_jobs input (disks root c.args.repo.now opened) (disks root' c.args.repo.now opened)) c.from_residual.result c.in_err-jobs.field-0.0 c.from_residual.ensures.1
+    (read_alone g.P.TreeDisk.disk g.met.T.TreeDisk.laws root root' c.args.repo.now opened spec.list_jobs input read (Err c.in_err-jobs.field-0.0) failed.0)
+
+pub returns-in_err-told-clause-alone : goal.returns-in_err-told-clause-alone
+returns-in_err-told-clause-alone g c = λ input.
+    let disk = g.T.TreeDisk.disk in
+    let root = c.args.root.now in
+    let root' = c.all.new.disk in
+    let opened = c.args.opened.now in
+    let read = read_of disk root root' c.all.ensures.value in
+    err_is (PerformsAlone disk g.P.TreeDisk.disk spec.list_jobs input (disks root c.args.repo.now opened) (disks root' c.args.repo.now opened)) c.from_residual-in_err-told.result failure.Memory c.from_residual-in_err-told.ensures.1
+    (read_alone g.P.TreeDisk.disk g.met.T.TreeDisk.laws root root' c.args.repo.now opened spec.list_jobs input read (Err failure.Memory) tt)
+
+pub returns-clause-alone : goal.returns-clause-alone
+returns-clause-alone g c = λ input.
+    let disk = g.T.TreeDisk.disk in
+    let root = c.args.root.now in
+    let root' = c.all.new.disk in
+    let opened = c.args.opened.now in
+    let read = read_of disk root root' c.all.ensures.value in
+    let is = found_is c.all.result c.in_ok-jobs.jobs (sym c.on_root.ensures ∙ c.in_ok-jobs.was) in
+    let ends = found_ends disk g.P.TreeDisk.disk c.distinct_databases.ensures.unique c.one_record.ensures.one input root root' c.args.repo.now opened c.requires (λ told. (read told).same.reads) c.in_ok-jobs.jobs c.in_ok-told.field-0
+    (λ told. subst (λ (r : Result (List Undone) Stop). IfOk r (AreNotes (disk.reads root) (job_count opened.db.oldest opened.db.newest) opened.db.newest opened.db.installed)) is (c.all.ensures.value told).answer)
+    (subst (λ (l : List Undone). AreToldBy l c.in_ok-told.field-0) c.get.ensures c.in_ok-told.ensures) in
+    read_alone g.P.TreeDisk.disk g.met.T.TreeDisk.laws root root' c.args.repo.now opened spec.list_jobs input read (Ok c.in_ok-told.field-0) ends
+
+pub returns-in_err-jobs-clause-records : goal.returns-in_err-jobs-clause-records
+returns-in_err-jobs-clause-records g c told =
+    let disk = g.T.TreeDisk.disk in
+    let root = c.args.root.now in
+    let db = c.args.opened.now.db in
+    err_is (ListsWhole {A = List ℕ} (disk.reads root) db) c.from_residual.result c.in_err-jobs.field-0.0 c.from_residual.ensures.1
+    (list_failed disk.tells (disk.reads root) db (job_count db.oldest db.newest) db.newest db.installed (Rose (disk.faults root) (disk.faults c.all.new.disk)) c.all.result c.in_err-jobs.field-0.0 (sym c.on_root.ensures ∙ c.in_err-jobs.was) c.all.ensures.stops)
+
+pub returns-in_err-told-clause-records : goal.returns-in_err-told-clause-records
+returns-in_err-told-clause-records g c told = err_is (ListsWhole {A = List ℕ} (g.T.TreeDisk.disk.reads c.args.root.now) c.args.opened.now.db) c.from_residual-in_err-told.result failure.Memory c.from_residual-in_err-told.ensures.1 tt
+
+pub returns-clause-records : goal.returns-clause-records
+returns-clause-records g c told =
+    let disk = g.T.TreeDisk.disk in
+    let root = c.args.root.now in
+    let db = c.args.opened.now.db in
+    let is = found_is c.all.result c.in_ok-jobs.jobs (sym c.on_root.ensures ∙ c.in_ok-jobs.was) in
+    told_whole c.one_record.ensures.one (disk.reads root) db c.in_ok-jobs.jobs
+    (subst (λ (r : Result (List Undone) Stop). IfOk r (AreNotes (disk.reads root) (job_count db.oldest db.newest) db.newest db.installed)) is (c.all.ensures.value told).answer)

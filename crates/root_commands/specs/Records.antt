@@ -1,0 +1,53 @@
+-- A damaged record isn't passed over by the commands that read records, also where the root stores no system.
+use Rattle.std.specs.Prelude.{◌⊎◌, ℕ, Option, None, Some, Result, Ok, Err}
+use Rattle.job_records.specs.Reading.{IsDamagedRecord}
+use Rattle.local_db.specs.declared.db.Db.{Db}
+use Rattle.rollback_stack.specs.Inverse.{IsDamagedContent, IsDamagedJob}
+use Rattle.rollback_stack.specs.Numbers.{job_count}
+use Rattle.rollback_stack.specs.Reading.{IsDamagedNewest}
+use Rattle.system_state.specs.declared.format.Format.TheVariants.{Two}
+use Rattle.tree_disk.specs.Tree.{Name, Tree}
+use Rattle.cli_call.specs.declared.failure.Failure.{Failure}
+use Rattle.cli_call.specs.declared.failure.Failure.TheVariants as failure
+
+-- no file is damaged in this way
+abbrev pub NoneIs : (Name → Type 0) → Type 0
+NoneIs IsDamaged = (path : Name) → IsDamaged path → ⊥
+
+-- After Ok no file is damaged in the one way, and after a refusal none in the other.
+abbrev pub FindsNone : {A : Type 0} → (Name → Type 0) → (Name → Type 0) → Result A Failure → Type 0
+FindsNone IsDamaged IsDamagedFirst (Ok answer) = NoneIs IsDamaged
+FindsNone IsDamaged IsDamagedFirst (Err (failure.Refused why)) = NoneIs IsDamagedFirst
+FindsNone IsDamaged IsDamagedFirst (Err failure.Usage) = Unit {0}
+FindsNone IsDamaged IsDamagedFirst (Err failure.InputFault) = Unit {0}
+FindsNone IsDamaged IsDamagedFirst (Err failure.OutputFault) = Unit {0}
+FindsNone IsDamaged IsDamagedFirst (Err failure.RootFault) = Unit {0}
+FindsNone IsDamaged IsDamagedFirst (Err failure.RepositoryFault) = Unit {0}
+FindsNone IsDamaged IsDamagedFirst (Err failure.Memory) = Unit {0}
+FindsNone IsDamaged IsDamagedFirst (Err (failure.Damaged path)) = Unit {0}
+
+-- ---- all jobs told
+
+-- This is the first record, from the newest down, that is damaged.
+abbrev pub IsDamagedOfAll : Tree → Db → Name → Type 0
+IsDamagedOfAll tree db path = IsDamagedRecord Two tree (job_count db.oldest db.newest) db.newest db.installed path
+
+-- After Ok and after a refusal no record is.
+abbrev pub ListsWhole : {A : Type 0} → Tree → Db → Result A Failure → Type 0
+ListsWhole tree db result = FindsNone (IsDamagedOfAll tree db) (IsDamagedOfAll tree db) result
+
+-- ---- jobs taken back
+
+-- the number of the oldest job that is to be taken back
+abbrev pub last_job : Option ℕ → Db → ℕ
+last_job None db = db.newest
+last_job (Some number) db = number
+
+-- The record of a job that is to be taken back is damaged, once the newer ones can be taken back; or a content that is to stand again.
+abbrev pub IsDamagedBack : Option ℕ → Tree → Db → Name → Type 0
+IsDamagedBack None tree db path = IsDamagedNewest tree db path
+IsDamagedBack (Some number) tree db path = IsDamagedJob tree db number path ⊎ IsDamagedContent tree db number path
+
+-- After Ok neither is, and after a refusal no record.
+abbrev pub TakesBackWhole : {A : Type 0} → Option ℕ → Tree → Db → Result A Failure → Type 0
+TakesBackWhole number tree db result = FindsNone (IsDamagedBack number tree db) (IsDamagedJob tree db (last_job number db)) result
