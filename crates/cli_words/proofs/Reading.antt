@@ -7,7 +7,7 @@ use Rattle.cli_call.specs.declared.failure.Failure.TheVariants as failure
 use Rattle.cli_words.specs.declared.words.Command.{Command}
 use Rattle.cli_words.specs.declared.words.Form.{Form}
 use Rattle.cli_words.specs.declared.words.Form.TheVariants as form
-use Rattle.cli_words.specs.Words.{ReadsOnly, IsOrUsage, IsSend, IsMove, ReadsWords, OrMemory, AreOfForm, AreWords, AreSomething, form_of, behind, command_of}
+use Rattle.cli_words.specs.Words.{ReadsOnly, IsOrUsage, IsSend, IsMove, IsUpdate, ReadsWords, OrMemory, AreOfForm, AreWords, AreSomething, form_of, behind, command_of}
 
 -- an error that was passed on by `?`
 pub err_is : {X E : Type 0} (P : Result X E → Type 0) (s : Result X E) (f : E) → IsErrAnd s (λ e. e ≡ f) → P (Err f) → P s
@@ -88,6 +88,7 @@ some_or_usage Is nothing = nothing (Err failure.Usage) (refl, record { none = λ
 some_of_form : (f : Form) (words : List (List ℕ)) → ((expected : Result Command Failure) → AreOfForm f words expected → ⊥) → ⊥
 some_of_form form.Specs words nothing = some_or_usage (IsSend (behind words)) nothing
 some_of_form (form.LabelAndSpec onto) words nothing = some_or_usage (IsMove onto (behind words)) nothing
+some_of_form form.Updates words nothing = some_or_usage (IsUpdate (behind words)) nothing
 some_of_form form.Others words nothing = nothing (command_of words) refl
 
 pub something : (words : List (List ℕ)) → AreSomething words

@@ -1,5 +1,5 @@
 -- The words of the command line: which lists of them are commands.
-use Rattle.std.specs.Prelude.{◌≡◌, IsTrue, Option, List, [], ◌∷◌, ℕ, length, nat_le, Bool, true, false, Some, None, Result, Ok, Err, if◌then◌else◌, ◌&&◌, ◌==◌, not, codes}
+use Rattle.std.specs.Prelude.{◌≡◌, ◌≤◌, IsTrue, Option, List, [], ◌∷◌, ℕ, length, nat_le, Bool, true, false, Some, None, Result, Ok, Err, if◌then◌else◌, ◌&&◌, ◌==◌, not, codes}
 use Rattle.std.specs.List.{list_all, list_any}
 use Rattle.std.specs.Str.{bytes_eq}
 use Rattle.cny_base.specs.Name.{is_name}
@@ -24,7 +24,7 @@ is_among words word = list_any (bytes_eq word) words
 -- the commands that aren't built yet
 abbrev pub planned_commands : List (List ℕ)
 planned_commands =
-    codes "update" ∷ codes "rblist" ∷ codes "localcs" ∷ codes "batch" ∷ codes "demo" ∷ []
+    codes "batch" ∷ codes "demo" ∷ codes "serve" ∷ codes "mirror" ∷ codes "sync" ∷ []
 
 unfoldable pub is_planned_command : List ℕ → Bool
 is_planned_command word = is_among planned_commands word
@@ -106,14 +106,25 @@ installed_of [] = Ok (command.ListInstalled None)
 installed_of (word ∷ []) = if is_name word then Ok (command.ListInstalled (Some word)) else Err failure.Usage
 installed_of (word ∷ other ∷ words) = Err failure.Usage
 
--- whether the first word is the option of `verify`
-abbrev pub is_full : List (List ℕ) → Bool
-is_full [] = false
-is_full (word ∷ words) = bytes_eq word (codes "--full")
+-- behind the option of `verify` stand names, at most 64, or none
+abbrev pub verify_with : Bool → List (List ℕ) → Result Command Failure
+verify_with full words = if are_names words then Ok (command.Verify full words) else Err failure.Usage
 
--- `verify`: names, at most 64, or none. Its option, which isn't built yet, stands directly behind it and decides, whatever follows.
+-- `verify`: names, or none, with `--full` before them or not
 abbrev pub verify_of : List (List ℕ) → Result Command Failure
-verify_of words = if is_full words then Err (not_built (codes "--full")) else if are_names words then Ok (command.Verify words) else Err failure.Usage
+verify_of [] = verify_with false []
+verify_of (word ∷ words) = if bytes_eq word (codes "--full") then verify_with true words else verify_with false (word ∷ words)
+
+-- `rblist` stands alone
+abbrev pub jobs_of : List (List ℕ) → Result Command Failure
+jobs_of [] = Ok command.ListJobs
+jobs_of (word ∷ words) = Err failure.Usage
+
+-- `localcs`: one name
+abbrev pub local_of : List (List ℕ) → Result Command Failure
+local_of [] = Err failure.Usage
+local_of (word ∷ []) = if is_name word then Ok (command.LocalChanges word) else Err failure.Usage
+local_of (word ∷ other ∷ words) = Err failure.Usage
 
 -- `showcs` stands alone
 abbrev pub show_of : List (List ℕ) → Result Command Failure
@@ -137,7 +148,26 @@ list_of [] = Ok (command.ListCommitted None)
 list_of (word ∷ []) = if is_name word then Ok (command.ListCommitted (Some word)) else Err failure.Usage
 list_of (word ∷ other ∷ words) = Err failure.Usage
 
--- The command that words are whose first one isn't `changeset`, `shadow` or `branch`. The first word alone decides whether it isn't built yet; all else is usage.
+-- the words are `-` alone
+abbrev pub is_input : List (List ℕ) → Bool
+is_input [] = false
+is_input (word ∷ []) = bytes_eq word (codes "-")
+is_input (word ∷ other ∷ words) = false
+
+-- the first of the words is the option of `update` that isn't built yet
+abbrev pub is_resolve : List (List ℕ) → Bool
+is_resolve [] = false
+is_resolve (word ∷ words) = bytes_eq word (codes "--resolve")
+
+-- behind the options of `update` where no specifications are read: an input, or the option that isn't built yet, whatever follows it
+abbrev pub update_with : Options → List (List ℕ) → Result Command Failure
+update_with options words = if is_input words then Ok (command.UpdateByInput options) else if is_resolve words then Err (not_built (codes "--resolve")) else Err failure.Usage
+
+-- `update` where no specifications are read; of specifications it is another form
+unfoldable pub update_of : List (List ℕ) → Result Command Failure
+update_of words = let read = options_at words in update_with read.0 read.1
+
+-- The command that words are which hold no specification. The first word alone decides whether it isn't built yet; all else is usage.
 abbrev pub command_of : List (List ℕ) → Result Command Failure
 command_of [] = Err failure.Usage
 command_of (word ∷ words) =
@@ -150,6 +180,9 @@ command_of (word ∷ words) =
     else if bytes_eq word (codes "rollback") then rollback_of words
     else if bytes_eq word (codes "q") then installed_of words
     else if bytes_eq word (codes "verify") then verify_of words
+    else if bytes_eq word (codes "rblist") then jobs_of words
+    else if bytes_eq word (codes "localcs") then local_of words
+    else if bytes_eq word (codes "update") then update_of words
     else if is_planned_command word then Err (not_built word)
     else Err failure.Usage
 
@@ -195,6 +228,28 @@ pub record IsMove (onto : Way) (words : List (List ℕ)) (c : Command) : Type 0 
   pub is : c ≡ command.Move onto label given
   pub both : AreLabelAndSpec words label given
 
+-- the words are these specifications, in their order
+abbrev pub AreGiven : List (List ℕ) → List GivenSpec → Type 0
+AreGiven [] [] = Unit {0}
+AreGiven (word ∷ words) (given ∷ specs) = IsGiven word given × AreGiven words specs
+AreGiven _ _ = ⊥
+
+-- behind the options of `update`: at least one specification, and at most 64
+pub record AreSomeGiven (words : List (List ℕ)) (specs : List GivenSpec) : Type 0 where
+  pub some : 1 ≤ length words
+  pub few : length words ≤ 64
+  pub given : AreGiven words specs
+
+-- such words behind these options make this command
+pub record IsUpdateWith (options : Options) (words : List (List ℕ)) (c : Command) : Type 0 where
+  pub specs : List GivenSpec
+  pub is : c ≡ command.Update specs options
+  pub given : AreSomeGiven words specs
+
+-- such words behind `update` make this command
+abbrev pub IsUpdate : List (List ℕ) → Command → Type 0
+IsUpdate words c = let read = options_at words in IsUpdateWith read.0 read.1 c
+
 -- there is none of these
 pub record HasNone {A : Type 0} (Is : A → Type 0) : Type 0 where
   pub none : (other : A) → Is other → ⊥
@@ -206,6 +261,10 @@ IsOrUsage Is (Err e) = (e ≡ failure.Usage) × HasNone Is
 
 -- ---- all words
 
+-- what stands behind `update`: specifications, or something else
+abbrev pub update_form : List (List ℕ) → Form
+update_form words = let read = options_at words in if is_input read.1 then form.Others else if is_resolve read.1 then form.Others else form.Updates
+
 -- what the first word says of the words behind it
 abbrev pub form_of : List (List ℕ) → Form
 form_of [] = form.Others
@@ -213,6 +272,7 @@ form_of (word ∷ words) =
     if bytes_eq word (codes "changeset") then form.Specs
     else if bytes_eq word (codes "shadow") then form.LabelAndSpec way.Shadow
     else if bytes_eq word (codes "branch") then form.LabelAndSpec way.Branch
+    else if bytes_eq word (codes "update") then update_form words
     else form.Others
 
 -- the words behind the first one
@@ -223,6 +283,7 @@ behind (word ∷ words) = words
 abbrev pub AreOfForm : Form → List (List ℕ) → Result Command Failure → Type 0
 AreOfForm form.Specs words expected = IsOrUsage (IsSend (behind words)) expected
 AreOfForm (form.LabelAndSpec onto) words expected = IsOrUsage (IsMove onto (behind words)) expected
+AreOfForm form.Updates words expected = IsOrUsage (IsUpdate (behind words)) expected
 AreOfForm form.Others words expected = expected ≡ command_of words
 
 -- the words are this command, or none, for this reason

@@ -5,4 +5,4 @@
 
 mod words;
 
-pub use words::{Command, NameList, read_words, some_words};
+pub use words::{Command, NameList, SpecList, read_words, some_words};

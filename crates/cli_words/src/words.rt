@@ -1,12 +1,12 @@
 //! The words of the command line.
-ghost use Rattle.std.specs.Prelude.{◌≡◌, ◌∷◌, [], ℕ, List, string_bytes, map, Result, Err, IfOk, IsErrOf, IsTrue, true, false};
+ghost use Rattle.std.specs.Prelude.{◌≡◌, ◌∷◌, [], ℕ, List, string_bytes, map, Result, Err, IfOk, IsErrOf, true, false};
 ghost use Rattle.std.specs.List.{list_all};
 ghost use Rattle.cny_base.specs.Name.{is_name};
 ghost use Rattle.cny_base.specs.declared.text.TextFault.TheVariants as TextFault;
 ghost use Rattle.trove_spec.specs.Spec.{IsSpecText};
 ghost use Rattle.cli_call.specs.declared.failure.Failure.{Failure};
 ghost use Rattle.cli_words.specs.declared.words.Command.{Command};
-ghost use Rattle.cli_words.specs.Words.{AreSomething, AreWords, behind, form_of, IsGiven, IsLabelWord, IsMove, IsSend, is_short_word, are_names, is_planned_command, is_job_number, job_number, is_full, erase_of, erase_with, installed_of, no_options, option_at, options_at, rollback_of, rollback_to, verify_of, command_of, commit_of, cook_of, install_of, list_of, show_of, OrMemory, ReadsOnly, ReadsWords, not_built};
+ghost use Rattle.cli_words.specs.Words.{AreGiven, AreSomething, AreWords, is_input, is_resolve, IsUpdate, IsUpdateWith, update_form, update_of, update_with, behind, form_of, IsGiven, IsLabelWord, IsMove, IsSend, is_short_word, are_names, is_planned_command, job_number, erase_of, erase_with, installed_of, jobs_of, local_of, verify_with, option_at, options_at, rollback_of, verify_of, command_of, commit_of, cook_of, install_of, list_of, show_of, OrMemory, ReadsOnly, ReadsWords, not_built};
 
 use cli_call::Failure;
 use cny_base::{ListOf, Name, Options, Refusal, Text, TextFault, read_decimal};
@@ -18,11 +18,14 @@ use trove_spec::Spec;
 
 // A word that is a specification has so many bytes at most.
 const WORD_LIMIT: usize = 4_096;
-// A command takes at most so many names.
-const NAMES_LIMIT: usize = 64;
+// A command takes at most so many names, or specifications.
+const LIST_LIMIT: usize = 64;
 
 /// Names, in the order in which they were given.
 pub type NameList = ListOf<Name>;
+
+/// Specifications, in the order in which they were given.
+pub type SpecList = ListOf<GivenSpec>;
 
 /// A command with its words.
 #[derive(Drop)]
@@ -43,6 +46,15 @@ pub enum Command {
     ListCommitted {
         name: Option<Name>,
     },
+    /// Installs what specifications mean and reach.
+    Update {
+        specs: SpecList,
+        options: Options,
+    },
+    /// Installs the troves of a change set.
+    UpdateByInput {
+        options: Options,
+    },
     /// Takes the troves of these names away, also where their paths were edited or only where they weren't.
     Erase {
         names: NameList,
@@ -56,9 +68,16 @@ pub enum Command {
     ListInstalled {
         name: Option<Name>,
     },
-    /// Compares the tree with what is recorded of all installed troves, or of those of these names.
+    /// Compares the tree with what is recorded of all installed troves, or of those of these names; where it is full, it tells in how many bytes a file differs.
     Verify {
+        full: bool,
         names: NameList,
+    },
+    /// Lists the jobs that can be rolled back.
+    ListJobs,
+    /// Answers the local edits of the installed trove of a name as a relative change set.
+    LocalChanges {
+        name: Name,
     },
     /// Answers the change set that leads to what a specification means: from what another one means, or from nothing.
     SendChanges {
@@ -80,6 +99,8 @@ enum Form {
     Specs,
     // A label and a specification.
     LabelAndSpec(Way),
+    // Options, and specifications, at least one.
+    Updates,
     // Those of the other commands, or of none.
     Others,
 }
@@ -89,7 +110,7 @@ enum Form {
 fn is_planned(word: &str) -> bool
     ensures { result ≡ is_planned_command word.now }
 {
-    matches!(word, "update" | "rblist" | "localcs" | "batch" | "demo")
+    matches!(word, "batch" | "demo" | "serve" | "mirror" | "sync")
 }
 
 // The refusal of a word that isn't built yet.
@@ -147,13 +168,55 @@ fn read_install(words: &[String]) -> Result<Command, Failure>
     Err(Failure::Usage)
 }
 
+// Whether the words are `-` alone.
+fn is_input(words: &[String]) -> bool
+    ensures { result ≡ is_input (map string_bytes words.now) }
+{
+    let [word, rest @ ..] = words else {
+        return false;
+    };
+    rest.is_empty() && word.as_str() == "-"
+}
+
+// Whether the first of the words is the option of `update` that isn't built yet.
+fn is_resolve(words: &[String]) -> bool
+    ensures { result ≡ is_resolve (map string_bytes words.now) }
+{
+    let [word, ..] = words else {
+        return false;
+    };
+    word.as_str() == "--resolve"
+}
+
+// The words after the options of `update`, where these are no specifications.
+fn read_update_with(alloc: Global, options: Options, words: &[String]) -> Result<Command, Failure>
+    ensures { ReadsWords (update_with options (map string_bytes words.now)) result }
+{
+    if is_input(words) {
+        return Ok(Command::UpdateByInput { options });
+    }
+    if is_resolve(words) {
+        return not_built_yet(alloc, "--resolve");
+    }
+    Err(Failure::Usage)
+}
+
+// The words after `update`, where these are no specifications.
+#[tactic(auto, unfolding(crate::specs::Words::update_of))]
+fn read_update_by_input(alloc: Global, words: &[String]) -> Result<Command, Failure>
+    ensures { ReadsWords (update_of (map string_bytes words.now)) result }
+{
+    let (options, rest) = options_at(words);
+    read_update_with(alloc, options, rest)
+}
+
 // The names that the words are, in their order. `Bad` exactly where they are too many, or one of them isn't a name.
 fn read_names(alloc: Global, words: &[String]) -> Result<NameList, TextFault>
     ensures value { IfOk result (λ names. names ≡ map string_bytes words.now) }
     ensures ok { IfOk result (λ names. are_names (map string_bytes words.now) ≡ true) }
     ensures bad { IsErrOf result TextFault.Bad → are_names (map string_bytes words.now) ≡ false }
 {
-    if words.len() > NAMES_LIMIT {
+    if words.len() > LIST_LIMIT {
         return Err(TextFault::Bad);
     }
     read_each(alloc, words)
@@ -247,25 +310,52 @@ fn read_installed(alloc: Global, words: &[String]) -> Result<Command, Failure>
     }
 }
 
-// Whether the first word is the option of `verify`.
-fn is_full(words: &[String]) -> bool
-    ensures { result ≡ is_full (map string_bytes words.now) }
+// The names after the option of `verify`.
+fn read_verified(alloc: Global, full: bool, words: &[String]) -> Result<Command, Failure>
+    ensures { ReadsWords (verify_with full (map string_bytes words.now)) result }
 {
-    let [word, ..] = words else {
-        return false;
-    };
-    word.as_str() == "--full"
+    match read_names(alloc, words) {
+        Ok(names) => Ok(Command::Verify { full, names }),
+        Err(TextFault::Bad) => Err(Failure::Usage),
+        Err(TextFault::Memory) => Err(Failure::Memory),
+    }
 }
 
 // The words after `verify`.
 fn read_verify(alloc: Global, words: &[String]) -> Result<Command, Failure>
     ensures { ReadsWords (verify_of (map string_bytes words.now)) result }
 {
-    if is_full(words) {
-        return not_built_yet(alloc, "--full");
+    let [word, rest @ ..] = words else {
+        return read_verified(alloc, false, words);
+    };
+    if word.as_str() == "--full" {
+        return read_verified(alloc, true, rest);
     }
-    match read_names(alloc, words) {
-        Ok(names) => Ok(Command::Verify { names }),
+    read_verified(alloc, false, words)
+}
+
+// The words after `rblist`.
+fn read_jobs(words: &[String]) -> Result<Command, Failure>
+    ensures { ReadsWords (jobs_of (map string_bytes words.now)) result }
+{
+    if words.is_empty() {
+        return Ok(Command::ListJobs);
+    }
+    Err(Failure::Usage)
+}
+
+// The words after `localcs`.
+fn read_local(alloc: Global, words: &[String]) -> Result<Command, Failure>
+    ensures { ReadsWords (local_of (map string_bytes words.now)) result }
+{
+    let [word, rest @ ..] = words else {
+        return Err(Failure::Usage);
+    };
+    if !rest.is_empty() {
+        return Err(Failure::Usage);
+    }
+    match Name::read(alloc, word.as_str()) {
+        Ok(name) => Ok(Command::LocalChanges { name }),
         Err(TextFault::Bad) => Err(Failure::Usage),
         Err(TextFault::Memory) => Err(Failure::Memory),
     }
@@ -426,7 +516,41 @@ fn read_move(alloc: Global, way: Way, words: &[String]) -> Result<Command, Failu
     read_label_and_spec(alloc, way, word.as_str(), other.as_str())
 }
 
-// The command that words are whose first one isn't a command that takes specifications.
+// The specifications that the words are, in their order.
+fn read_specs(alloc: Global, words: &[String]) -> Result<SpecList, Failure>
+    ensures { ReadsOnly (AreGiven (map string_bytes words.now)) result }
+{
+    let mut specs = Vec::new(alloc);
+    for word in words {
+        let given = read_spec(alloc, word.as_str())?;
+        specs.push(given)?;
+    }
+    Ok(ListOf::new(specs))
+}
+
+// The words after the options of `update`.
+fn read_updates(alloc: Global, options: Options, words: &[String]) -> Result<Command, Failure>
+    ensures { ReadsOnly (IsUpdateWith options (map string_bytes words.now)) result }
+{
+    if words.is_empty() {
+        return Err(Failure::Usage);
+    }
+    if words.len() > LIST_LIMIT {
+        return Err(Failure::Usage);
+    }
+    let specs = read_specs(alloc, words)?;
+    Ok(Command::Update { specs, options })
+}
+
+// The words after `update`, where these are specifications.
+fn read_update(alloc: Global, words: &[String]) -> Result<Command, Failure>
+    ensures { ReadsOnly (IsUpdate (map string_bytes words.now)) result }
+{
+    let (options, rest) = options_at(words);
+    read_updates(alloc, options, rest)
+}
+
+// The command that words are which hold no specification.
 fn read_others(alloc: Global, words: &[String]) -> Result<Command, Failure>
     ensures { ReadsWords (command_of (map string_bytes words.now)) result }
 {
@@ -460,17 +584,37 @@ fn read_others(alloc: Global, words: &[String]) -> Result<Command, Failure>
     if word.as_str() == "verify" {
         return read_verify(alloc, rest);
     }
+    if word.as_str() == "rblist" {
+        return read_jobs(rest);
+    }
+    if word.as_str() == "localcs" {
+        return read_local(alloc, rest);
+    }
+    if word.as_str() == "update" {
+        return read_update_by_input(alloc, rest);
+    }
     if is_planned(word.as_str()) {
         return not_built_yet(alloc, word.as_str());
     }
     Err(Failure::Usage)
 }
 
+// What stands behind `update`: specifications, or something else.
+fn update_form(words: &[String]) -> Form
+    ensures { result ≡ update_form (map string_bytes words.now) }
+{
+    let (_, rest) = options_at(words);
+    if is_input(rest) || is_resolve(rest) {
+        return Form::Others;
+    }
+    Form::Updates
+}
+
 // What the first word says of the words behind it.
 fn first_form(words: &[String]) -> Form
     ensures { result ≡ form_of (map string_bytes words.now) }
 {
-    let [word, ..] = words else {
+    let [word, rest @ ..] = words else {
         return Form::Others;
     };
     if word.as_str() == "changeset" {
@@ -481,6 +625,9 @@ fn first_form(words: &[String]) -> Form
     }
     if word.as_str() == "branch" {
         return Form::LabelAndSpec(Way::Branch);
+    }
+    if word.as_str() == "update" {
+        return update_form(rest);
     }
     Form::Others
 }
@@ -511,6 +658,7 @@ pub fn read_words(alloc: Global, words: &[String]) -> Result<Command, Failure>
     match first_form(words) {
         Form::Specs => read_send(alloc, rest),
         Form::LabelAndSpec(way) => read_move(alloc, way, rest),
+        Form::Updates => read_update(alloc, rest),
         Form::Others => read_others(alloc, words),
     }
 }

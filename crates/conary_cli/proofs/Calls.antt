@@ -16,7 +16,9 @@ use Rattle.cli_call.specs.Stores.{repository_store}
 use Rattle.cli_words.specs.declared.words.Command.{Command}
 use Rattle.conary_cli.specs.Commands.{meaning, is_of_root, RunsWords, RunsSome, IsWholeCall, IsSomeCall}
 use Rattle.cli_words.specs.Words.{AreWords, OrMemory, ReadsWords}
-use Rattle.conary_cli.proofs.FormEnds.{OneSet, form_decides}
+use Rattle.conary_cli.proofs.FormEnds.{InputLaws, form_decides}
+use Rattle.conary_cli.proofs.RecordEnds.{memory_whole, records_whole}
+use Rattle.conary_cli.proofs.RestoreEnds.{rollback_restores}
 
 module _ {T P : Type 0} {root_disk : DiskModel T} {repo_disk : DiskModel P} (of_root : Bool) (m : Meaning) (takes : Bool) (old new : SourceState) where
   -- the input wasn't read
@@ -36,7 +38,7 @@ same_end f e h = let same : f ≡ e = cc h in ap Err (sym same)
 
 -- words that weren't read as a command
 pub no_words : {T P : Type 0} {root_disk : DiskModel T} (repo_disk : DiskModel P) → IsDisk root_disk → (before : CallState T P) (words : Result Command Failure) (e : Failure) → ReadsWords words (Err e) → RunsWords root_disk repo_disk words before before (Err e)
-no_words repo_disk root_laws before (Ok c) failure.Memory reads = memory_call root_laws (is_of_root c) (meaning c) before
+no_words repo_disk root_laws before (Ok c) failure.Memory reads = (memory_call root_laws (is_of_root c) (meaning c) before, memory_whole c before before)
 no_words repo_disk root_laws before (Err f) failure.Memory reads = (refl, inr refl)
 no_words repo_disk root_laws before (Ok c) failure.Usage reads = absurd (cc reads)
 no_words repo_disk root_laws before (Err f) failure.Usage reads = (refl, inl (same_end f _ reads))
@@ -49,12 +51,17 @@ no_words repo_disk root_laws before words failure.RepositoryFault reads = absurd
 no_words repo_disk root_laws before words (failure.Damaged path) reads = absurd reads
 
 -- the whole
-pub whole_words : {T P : Type 0} {root_disk : DiskModel T} {repo_disk : DiskModel P} → IsDisk root_disk → IsDisk repo_disk → IsStore repository_store → OneSet → (before now : CallState T P) (err err' : SinkState) (status : ℕ) (end : End) (words : Result Command Failure)
+pub whole_words : {T P : Type 0} {root_disk : DiskModel T} {repo_disk : DiskModel P} → IsDisk root_disk → IsDisk repo_disk → IsStore repository_store → InputLaws → (before now : CallState T P) (err err' : SinkState) (status : ℕ) (end : End) (words : Result Command Failure)
     → RunsWords root_disk repo_disk words before now end → Reports end err err' status → IsWholeCall root_disk repo_disk words before now err err' status
-whole_words {root_disk = root_disk} {repo_disk = repo_disk} root_laws repo_laws store_laws one before now err err' status end (Ok c) runs reports =
-    let call = whole_call root_laws repo_laws store_laws (is_of_root c) (meaning c) before now err err' status end runs reports in
-    record { call = call; form = form_decides root_disk repo_disk before now err err' status one c call }
-whole_words root_laws repo_laws store_laws one before now err err' status end (Err e) runs reports = record {
+whole_words {root_disk = root_disk} {repo_disk = repo_disk} root_laws repo_laws store_laws laws before now err err' status end (Ok c) runs reports =
+    let call = whole_call root_laws repo_laws store_laws (is_of_root c) (meaning c) before now err err' status end runs.0 reports in
+    record {
+      call = call;
+      form = form_decides root_disk repo_disk before now err err' status laws c call;
+      records = records_whole root_laws repo_laws before now err err' status c end runs.1 reports;
+      restores = rollback_restores root_disk repo_disk before now err err' status c call;
+    }
+whole_words root_laws repo_laws store_laws laws before now err err' status end (Err e) runs reports = record {
   same = runs.0;
   reports = ⊎_elim
       (λ is. inl (subst (λ (x : End). Reports x err err' status) is reports))
@@ -75,10 +82,10 @@ some_unread root_disk repo_disk words before failure.RootFault are = inl (Err fa
 some_unread root_disk repo_disk words before failure.RepositoryFault are = inl (Err failure.RepositoryFault, are, (refl, inl refl))
 some_unread root_disk repo_disk words before (failure.Damaged path) are = inl (Err (failure.Damaged path), are, (refl, inl refl))
 
-pub some_words : {T P : Type 0} {root_disk : DiskModel T} {repo_disk : DiskModel P} → IsDisk root_disk → IsDisk repo_disk → IsStore repository_store → OneSet → (words : List (List ℕ)) (before now : CallState T P) (err err' : SinkState) (status : ℕ) (end : End)
+pub some_words : {T P : Type 0} {root_disk : DiskModel T} {repo_disk : DiskModel P} → IsDisk root_disk → IsDisk repo_disk → IsStore repository_store → InputLaws → (words : List (List ℕ)) (before now : CallState T P) (err err' : SinkState) (status : ℕ) (end : End)
     → RunsSome root_disk repo_disk words before now end → Reports end err err' status → IsSomeCall root_disk repo_disk words before now err err' status
-some_words root_laws repo_laws store_laws one words before now err err' status end (inl some) reports = inl (some.0, some.1, whole_words root_laws repo_laws store_laws one before now err err' status end some.0 some.2 reports)
-some_words root_laws repo_laws store_laws one words before now err err' status end (inr none) reports = inr (record {
+some_words root_laws repo_laws store_laws laws words before now err err' status end (inl some) reports = inl (some.0, some.1, whole_words root_laws repo_laws store_laws laws before now err err' status end some.0 some.2 reports)
+some_words root_laws repo_laws store_laws laws words before now err err' status end (inr none) reports = inr (record {
   same = none.0;
   reports = inr (subst (λ (x : End). Reports x err err' status) none.1 reports);
 })

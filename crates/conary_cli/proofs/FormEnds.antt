@@ -6,6 +6,9 @@ use Rattle.cny_base.specs.declared.refusal.Refusal.{Refusal}
 use Rattle.cny_base.specs.declared.refusal.Refusal.TheVariants as refusal
 use Rattle.cny_base.specs.declared.refusal.What.TheVariants.{Input}
 use Rattle.cny_flow.specs.Flow.{SinkState}
+use Rattle.cny_manifest.specs.declared.made.Made.{Made}
+use Rattle.cny_manifest.specs.FirstFault as manifest_fault
+use Rattle.cny_manifest.specs.Makes.{Makes}
 use Rattle.tree_disk.specs.Disk.{DiskModel}
 use Rattle.change_set.specs.declared.change.ChangeSet.{ChangeSet}
 use Rattle.change_set.specs.ChangeSet.{IsSetStream}
@@ -18,8 +21,11 @@ use Rattle.cli_call.specs.WholeCall.{Outcome, IsAnswered, IsAnsweredOnRoot, IsCa
 use Rattle.cli_words.specs.declared.words.Command.{Command}
 use Rattle.cli_words.specs.declared.words.Command.TheVariants as command
 use Rattle.conary_cli.specs.Commands.{meaning, is_of_root}
-use Rattle.conary_cli.specs.FormDecides.{DecidesForm, DecidesSet, FormDecides}
-use Rattle.job_commands.specs.Install.{install}
+use Rattle.conary_cli.specs.FormDecides.{HasEnd, DecidesForm, DecidesSet, DecidesUpdate, FormDecides}
+use Rattle.job_commands.specs.Install.{first_reserved, InstallsMade, UnlessReserved, install}
+use Rattle.job_commands.specs.Update.{UpdatesBy, update_input}
+use Rattle.repo_commands.specs.ManifestInput.{OfManifest}
+use Rattle.repo_commands.specs.SetInput.{OfChangeSet}
 use Rattle.conary_cli.specs.ShowChangeSet.{described, IsDescribed, show_change_set}
 
 -- ---- the outcome by the form
@@ -36,27 +42,49 @@ own_outcome m s input o takes dirs le is =
 
 -- ---- how a call ends
 
--- bytes are the stream of one change set at most
-abbrev pub OneSet : Type 0
-OneSet = (set other : ChangeSet) (bytes : List ℕ) → IsSetStream set bytes → IsSetStream other bytes → set ≡ other
+-- Bytes are the stream of one change set at most. They make one value at most, and have no first fault then.
+pub record InputLaws : Type 0 where
+  pub set : (set other : ChangeSet) (bytes : List ℕ) → IsSetStream set bytes → IsSetStream other bytes → set ≡ other
+  pub made : (bytes : List ℕ) (a b : Made) → Makes bytes a → Makes bytes b → a ≡ b
+  pub excluded : (bytes : List ℕ) (a : Made) (f : Refusal) → Makes bytes a → manifest_fault.IsFirstFault bytes f → ⊥
 
-decides : (options : Options) (Ended : Result Effect Refusal → Type 0) (input : List ℕ) (s : State) (o : Result Effect Refusal) → Outcome (install options) s input o → Ended o → fixed_dirs (tree_of s.root) ≡ Ok tt → length input ≤ input_limit → DecidesForm options input s Ended
-decides options Ended input s o is ended dirs le = record { outcome = o; is = own_outcome (install options) s input o refl dirs le is; ended = ended }
+abbrev Installs : Options → State → Made → Result Effect Refusal → Type 0
+Installs options s value = UnlessReserved (first_reserved value.troves) (InstallsMade options value s.root)
 
-shown_as : OneSet → (Ended : Result Effect Refusal → Type 0) (input : List ℕ) (o : Result Effect Refusal) → IsDescribed input o → Ended o → DecidesSet input Ended
-shown_as one Ended input (Ok e) is ended = record {
-  shown = λ set spelled. subst (λ (x : Effect). Ended (Ok x)) (is.2 ∙ ap described (one is.0 set input is.1 spelled)) ended;
+installed_as : InputLaws → (options : Options) (Ended : Result Effect Refusal → Type 0) (input : List ℕ) (s : State) (o : Result Effect Refusal) → OfManifest input (Installs options s) o → Ended o → DecidesForm options input s Ended
+installed_as laws options Ended input s o (inl makes) ended = record {
+  made = λ value is. (o, subst (λ (a : Made). Installs options s a o) (laws.made input makes.made value makes.makes is) makes.is, ended);
+  refused = λ none. absurd (none makes.made makes.makes);
+}
+installed_as laws options Ended input s o (inr faulty) ended = record {
+  made = λ value is. absurd (laws.excluded input value faulty.fault is faulty.first);
+  refused = λ none. (faulty.fault, faulty.first, subst Ended faulty.is ended);
+}
+
+updated_as : InputLaws → (options : Options) (Ended : Result Effect Refusal → Type 0) (input : List ℕ) (s : State) (o : Result Effect Refusal) → OfChangeSet input (λ (set : ChangeSet). UpdatesBy options set s) o → Ended o → DecidesUpdate options input s Ended
+updated_as laws options Ended input s o (inl spells) ended = record {
+  updated = λ set is. (o, subst (λ (c : ChangeSet). UpdatesBy options c s o) (laws.set spells.set set input spells.spelled is) spells.is, ended);
+  refused = λ none. absurd (none spells.set spells.spelled);
+}
+updated_as laws options Ended input s o (inr faulty) ended = record {
+  updated = λ set is. absurd (faulty.none set is);
+  refused = λ none. (faulty.fault, faulty.first, subst Ended faulty.is ended);
+}
+
+shown_as : InputLaws → (Ended : Result Effect Refusal → Type 0) (input : List ℕ) (o : Result Effect Refusal) → IsDescribed input o → Ended o → DecidesSet input Ended
+shown_as laws Ended input (Ok e) is ended = record {
+  shown = λ set spelled. subst (λ (x : Effect). Ended (Ok x)) (is.2 ∙ ap described (laws.set is.0 set input is.1 spelled)) ended;
   refused = λ none. absurd (none is.0 is.1);
 }
-shown_as one Ended input (Err r) is ended = record {
+shown_as laws Ended input (Err r) is ended = record {
   shown = λ set spelled. absurd (is.1 set spelled);
   refused = λ none. (r, is.0, ended);
 }
 
 module _ {T P : Type 0} (root_disk : DiskModel T) (repo_disk : DiskModel P) (before now : CallState T P) (err err' : SinkState) (status : ℕ) where
   -- an outcome of the command, by which it ended
-  abbrev HasEnd : State → List ℕ → (Result Effect Refusal → Type 0) → Command → Type 0
-  HasEnd s input Ended c = (o : Result Effect Refusal) × Outcome (meaning c) s input o × Ended o
+  abbrev HasCommandEnd : State → List ℕ → (Result Effect Refusal → Type 0) → Command → Type 0
+  HasCommandEnd s input Ended c = HasEnd (Outcome (meaning c) s input) Ended
 
   abbrev Answered : State → Result Effect Refusal → Type 0
   Answered s = λ o. IsAnswered root_disk repo_disk s o before now err err' status
@@ -64,22 +92,26 @@ module _ {T P : Type 0} (root_disk : DiskModel T) (repo_disk : DiskModel P) (bef
   abbrev OnRoot : State → Result Effect Refusal → Type 0
   OnRoot s = λ o. IsAnsweredOnRoot root_disk repo_disk s o before now err err' status
 
-  as_form : (options : Options) (Ended : Result Effect Refusal → Type 0) (input : List ℕ) (s : State) → HasEnd s input Ended (command.Install options) → fixed_dirs (tree_of s.root) ≡ Ok tt → length input ≤ input_limit → DecidesForm options input s Ended
-  as_form options Ended input s a dirs le = decides options Ended input s a.0 a.1 a.2 dirs le
+  as_form : InputLaws → (options : Options) (Ended : Result Effect Refusal → Type 0) (input : List ℕ) (s : State) → HasCommandEnd s input Ended (command.Install options) → fixed_dirs (tree_of s.root) ≡ Ok tt → length input ≤ input_limit → DecidesForm options input s Ended
+  as_form laws options Ended input s a dirs le = installed_as laws options Ended input s a.0 (own_outcome (install options) s input a.0 refl dirs le a.1) a.2
 
-  as_set : OneSet → (Ended : Result Effect Refusal → Type 0) (input : List ℕ) (s : State) → HasEnd s input Ended command.ShowChangeSet → fixed_dirs (tree_of s.root) ≡ Ok tt → length input ≤ input_limit → DecidesSet input Ended
-  as_set one Ended input s a dirs le = shown_as one Ended input a.0 (own_outcome show_change_set s input a.0 refl dirs le a.1) a.2
+  as_set : InputLaws → (Ended : Result Effect Refusal → Type 0) (input : List ℕ) (s : State) → HasCommandEnd s input Ended command.ShowChangeSet → fixed_dirs (tree_of s.root) ≡ Ok tt → length input ≤ input_limit → DecidesSet input Ended
+  as_set laws Ended input s a dirs le = shown_as laws Ended input a.0 (own_outcome show_change_set s input a.0 refl dirs le a.1) a.2
 
-  pub form_decides : OneSet → (c : Command) (call : IsCallOf root_disk repo_disk (is_of_root c) (meaning c) before now err err' status) → FormDecides root_disk repo_disk c call.input before now err err' status
-  form_decides one c call = record {
-    manifest = λ options is root repo s recovers dirs le small. as_form options (Answered s) call.input s (subst (HasEnd s call.input (Answered s)) is (call.answers small root repo s recovers)) dirs le;
-    set = λ is root repo s recovers dirs le small. as_set one (Answered s) call.input s (subst (HasEnd s call.input (Answered s)) is (call.answers small root repo s recovers)) dirs le;
+  as_update : InputLaws → (options : Options) (Ended : Result Effect Refusal → Type 0) (input : List ℕ) (s : State) → HasCommandEnd s input Ended (command.UpdateByInput options) → fixed_dirs (tree_of s.root) ≡ Ok tt → length input ≤ input_limit → DecidesUpdate options input s Ended
+  as_update laws options Ended input s a dirs le = updated_as laws options Ended input s a.0 (own_outcome (update_input options) s input a.0 refl dirs le a.1) a.2
+
+  pub form_decides : InputLaws → (c : Command) (call : IsCallOf root_disk repo_disk (is_of_root c) (meaning c) before now err err' status) → FormDecides root_disk repo_disk c call.input before now err err' status
+  form_decides laws c call = record {
+    manifest = λ options is root repo s recovers dirs le small. as_form laws options (Answered s) call.input s (subst (HasCommandEnd s call.input (Answered s)) is (call.answers small root repo s recovers)) dirs le;
+    set = λ is root repo s recovers dirs le small. as_set laws (Answered s) call.input s (subst (HasCommandEnd s call.input (Answered s)) is (call.answers small root repo s recovers)) dirs le;
+    update = λ options is root repo s recovers dirs le small. as_update laws options (Answered s) call.input s (subst (HasCommandEnd s call.input (Answered s)) is (call.answers small root repo s recovers)) dirs le;
     manifest_alone = λ options is root s recovers dirs le small. ⊎_elim
         (λ refused. inl refused)
-        (λ a. inr (as_form options (OnRoot s) call.input s (subst (HasEnd s call.input (OnRoot s)) is a) dirs le))
+        (λ a. inr (as_form laws options (OnRoot s) call.input s (subst (HasCommandEnd s call.input (OnRoot s)) is a) dirs le))
         ((call.alone (ap is_of_root is)).answers small root s recovers);
     set_alone = λ is root s recovers dirs le small. ⊎_elim
         (λ refused. inl refused)
-        (λ a. inr (as_set one (OnRoot s) call.input s (subst (HasEnd s call.input (OnRoot s)) is a) dirs le))
+        (λ a. inr (as_set laws (OnRoot s) call.input s (subst (HasCommandEnd s call.input (OnRoot s)) is a) dirs le))
         ((call.alone (ap is_of_root is)).answers small root s recovers);
   }

@@ -1,5 +1,5 @@
 -- The table of commands: what each means.
-use Rattle.std.specs.Prelude.{◌≡◌, ◌⊎◌, ℕ, Bool, true, false, List, Result, Ok, Err}
+use Rattle.std.specs.Prelude.{◌≡◌, ◌⊎◌, ℕ, ◌≤◌, Bool, true, false, not, List, Result, Ok, Err}
 use Rattle.cny_base.specs.declared.options.Options.{Options}
 use Rattle.cny_flow.specs.Flow.{SinkState}
 use Rattle.tree_disk.specs.Disk.{DiskModel}
@@ -15,19 +15,30 @@ use Rattle.repo_commands.specs.Listing.{list_committed}
 use Rattle.spec_commands.specs.Sending.{changeset}
 use Rattle.job_commands.specs.Erase.{erase}
 use Rattle.job_commands.specs.Install.{install}
+use Rattle.job_commands.specs.Update.{update_input}
+use Rattle.job_commands.specs.UpdateSpecs.{update_specs}
+use Rattle.root_commands.specs.Jobs.{list_jobs}
 use Rattle.root_commands.specs.Listing.{list_installed}
+use Rattle.root_commands.specs.LocalChanges.{change_locally}
 use Rattle.root_commands.specs.RollingBack.{roll_back}
-use Rattle.root_commands.specs.Verifying.{verify_installed}
+use Rattle.root_commands.specs.Verifying.{verify_fully, verify_installed}
 use Rattle.move_commands.specs.Moving.{move}
 use Rattle.cli_words.specs.declared.words.Command.{Command}
 use Rattle.cli_words.specs.declared.words.Command.TheVariants as command
 use Rattle.cli_words.specs.Words.{AreWords}
 use Rattle.conary_cli.specs.FormDecides.{FormDecides}
+use Rattle.conary_cli.specs.Records.{EndsOpened, RecordsAreWhole}
+use Rattle.conary_cli.specs.Restores.{RollbackRestores}
 use Rattle.conary_cli.specs.ShowChangeSet.{show_change_set}
 
 -- what takes troves away keeps no file
 abbrev pub erasing : Bool → Options
 erasing replace = record { replace = replace; keep = false }
+
+-- with the repository's contents, where it is full
+abbrev pub verify : Bool → List (List ℕ) → Meaning
+verify true names = verify_fully names
+verify false names = verify_installed names
 
 abbrev pub meaning : Command → Meaning
 meaning (command.Install options) = install options
@@ -35,33 +46,43 @@ meaning command.ShowChangeSet = show_change_set
 meaning (command.Cook next) = cook next
 meaning command.Commit = commit
 meaning (command.ListCommitted name) = list_committed name
+meaning (command.Update specs options) = update_specs options specs
+meaning (command.UpdateByInput options) = update_input options
 meaning (command.Erase names replace) = erase names (erasing replace)
 meaning (command.Rollback number) = roll_back number
 meaning (command.ListInstalled name) = list_installed name
-meaning (command.Verify names) = verify_installed names
+meaning (command.Verify full names) = verify full names
+meaning command.ListJobs = list_jobs
+meaning (command.LocalChanges name) = change_locally name
 meaning (command.SendChanges from to) = changeset from to
 meaning (command.Move way label given) = move way label given
 
--- the commands that work on the root alone
+-- the commands that work on the root alone; `verify` does so unless it is full
 abbrev pub is_of_root : Command → Bool
 is_of_root (command.Install options) = true
 is_of_root command.ShowChangeSet = true
 is_of_root (command.Erase names replace) = true
 is_of_root (command.Rollback number) = true
 is_of_root (command.ListInstalled name) = true
-is_of_root (command.Verify names) = true
+is_of_root (command.Verify full names) = not full
+is_of_root command.ListJobs = true
+is_of_root (command.LocalChanges name) = true
 is_of_root _ = false
 
 module _ {T P : Type 0} (root_disk : DiskModel T) (repo_disk : DiskModel P) where
   -- The words are a command, and it was called; or they are none, and nothing was done.
   abbrev pub RunsWords : Result Command Failure → CallState T P → CallState T P → End → Type 0
-  RunsWords (Ok c) before now end = RunsCall root_disk repo_disk (is_of_root c) (meaning c) before now end
+  RunsWords (Ok c) before now end = RunsCall root_disk repo_disk (is_of_root c) (meaning c) before now end × EndsOpened root_disk repo_disk c before now end
   RunsWords (Err e) before now end = (now ≡ before) × ((end ≡ Err e) ⊎ (end ≡ Err failure.Memory))
 
   -- a call of a command, and what the form of its input decides of it
   pub record IsCommandCall (c : Command) (before now : CallState T P) (err err' : SinkState) (status : ℕ) : Type 0 where
     pub call : IsCallOf root_disk repo_disk (is_of_root c) (meaning c) before now err err' status
     pub form : FormDecides root_disk repo_disk c call.input before now err err' status
+    -- after status 0 or 1 no record that the command read is damaged
+    pub records : status ≤ 1 → RecordsAreWhole root_disk repo_disk c before now err err' status
+    -- what `rollback` restores
+    pub restores : RollbackRestores root_disk repo_disk c before now err err' status
 
   -- what a whole call promises: as its command means, or nothing was done
   abbrev pub IsWholeCall : Result Command Failure → CallState T P → CallState T P → SinkState → SinkState → ℕ → Type 0

@@ -3,6 +3,9 @@ use Rattle.std.specs.Prelude.{◌≡◌, ◌⊎◌, ℕ, ◌≤◌, List, length
 use Rattle.cny_base.specs.declared.options.Options.{Options}
 use Rattle.cny_base.specs.declared.refusal.Refusal.{Refusal}
 use Rattle.cny_flow.specs.Flow.{SinkState}
+use Rattle.cny_manifest.specs.declared.made.Made.{Made}
+use Rattle.cny_manifest.specs.FirstFault as manifest_fault
+use Rattle.cny_manifest.specs.Makes.{Makes}
 use Rattle.tree_disk.specs.Disk.{DiskModel}
 use Rattle.change_set.specs.declared.change.ChangeSet.{ChangeSet}
 use Rattle.change_set.specs.ChangeSet.{IsSetStream}
@@ -16,20 +19,35 @@ use Rattle.repo_commands.specs.SetInput.{IsNoSetStream}
 use Rattle.cli_words.specs.declared.words.Command.{Command}
 use Rattle.cli_words.specs.declared.words.Command.TheVariants as command
 use Rattle.job_commands.specs.Install.{first_reserved, InstallsMade, UnlessReserved}
-use Rattle.repo_commands.specs.ManifestInput.{OfManifest}
+use Rattle.job_commands.specs.Update.{UpdatesBy}
 use Rattle.conary_cli.specs.ShowChangeSet.{described}
 
--- The form of a manifest decides the outcome of `install` with these options on a state: the job of what it makes, or the refusal of its first fault; and
--- by this outcome the call ended.
+-- an outcome by which the call ended
+abbrev pub HasEnd : (IsOutcome Ended : Result Effect Refusal → Type 0) → Type 0
+HasEnd IsOutcome Ended = (outcome : Result Effect Refusal) × IsOutcome outcome × Ended outcome
+
+-- the bytes make nothing
+abbrev pub IsNoManifest : List ℕ → Type 0
+IsNoManifest bytes = (value : Made) → Makes bytes value → ⊥
+
+-- whether the input makes something decides the outcome of `install` with these options on a state
 pub record DecidesForm (options : Options) (input : List ℕ) (s : State) (Ended : Result Effect Refusal → Type 0) : Type 0 where
-  pub outcome : Result Effect Refusal
-  pub is : OfManifest input (λ made. UnlessReserved (first_reserved made.troves) (InstallsMade options made s.root)) outcome
-  pub ended : Ended outcome
+  -- what it makes is installed, or refused for a path that no trove may record
+  pub made : (value : Made) → Makes input value → HasEnd (UnlessReserved (first_reserved value.troves) (InstallsMade options value s.root)) Ended
+  -- any other input is refused with its first fault
+  pub refused : IsNoManifest input → (r : Refusal) × manifest_fault.IsFirstFault input r × Ended (Err r)
 
 -- whether the input is a change set's decides the outcome of `showcs`
 pub record DecidesSet (input : List ℕ) (Ended : Result Effect Refusal → Type 0) : Type 0 where
   -- the text of a change set is described, and the disks stay as they are
   pub shown : (set : ChangeSet) → IsSetStream set input → Ended (Ok (described set))
+  -- any other input is refused with its first fault
+  pub refused : IsNoSetStream input → (r : Refusal) × IsFirstFault input r × Ended (Err r)
+
+-- whether the input is a change set's decides the outcome of `update -` with these options on a state
+pub record DecidesUpdate (options : Options) (input : List ℕ) (s : State) (Ended : Result Effect Refusal → Type 0) : Type 0 where
+  -- what the change set makes of the installed troves is put in
+  pub updated : (set : ChangeSet) → IsSetStream set input → HasEnd (UpdatesBy options set s) Ended
   -- any other input is refused with its first fault
   pub refused : IsNoSetStream input → (r : Refusal) × IsFirstFault input r × Ended (Err r)
 
@@ -39,10 +57,11 @@ IfRead input s status Decided = fixed_dirs (tree_of s.root) ≡ Ok tt → length
 
 module _ {T P : Type 0} (root_disk : DiskModel T) (repo_disk : DiskModel P) where
   -- Where the disks are told, the fixed directories stand and the input is within its limit, a status up to 2 of these commands is
-  -- decided by the form; on the root also where it alone is told, unless the repository's log can't be put.
+  -- decided by the form; of `install` and `showcs` also where the root alone is told, unless the repository's log can't be put.
   pub record FormDecides (c : Command) (input : List ℕ) (before now : CallState T P) (err err' : SinkState) (status : ℕ) : Type 0 where
     pub manifest : (options : Options) → c ≡ command.Install options → FromStates root_disk repo_disk before (λ s. IfRead input s status (DecidesForm options input s (λ outcome. IsAnswered root_disk repo_disk s outcome before now err err' status)))
     pub set : c ≡ command.ShowChangeSet → FromStates root_disk repo_disk before (λ s. IfRead input s status (DecidesSet input (λ outcome. IsAnswered root_disk repo_disk s outcome before now err err' status)))
+    pub update : (options : Options) → c ≡ command.UpdateByInput options → FromStates root_disk repo_disk before (λ s. IfRead input s status (DecidesUpdate options input s (λ outcome. IsAnswered root_disk repo_disk s outcome before now err err' status)))
     pub manifest_alone : (options : Options) → c ≡ command.Install options → FromRoots root_disk repo_disk before (λ s. IfRead input s status
         (HasRefusedRepository root_disk repo_disk before now err err' status ⊎ DecidesForm options input s (λ outcome. IsAnsweredOnRoot root_disk repo_disk s outcome before now err err' status)))
     pub set_alone : c ≡ command.ShowChangeSet → FromRoots root_disk repo_disk before (λ s. IfRead input s status

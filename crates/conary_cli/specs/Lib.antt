@@ -1,3 +1,5 @@
 pub mod ShowChangeSet
 pub mod FormDecides
+pub mod Records
+pub mod Restores
 pub mod Commands

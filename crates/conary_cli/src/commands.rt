@@ -1,17 +1,20 @@
 //! The table of commands: what each takes, and which function performs it.
-ghost use Rattle.std.specs.Prelude.{◌≡◌, true};
+ghost use Rattle.std.specs.Prelude.{◌≡◌, List, ℕ, not, true, IsTrue};
 ghost use Rattle.cli_call.specs.Alone.{PerformsAlone};
 ghost use Rattle.cli_call.specs.Command.{disks, AreReady, Performs};
-ghost use Rattle.conary_cli.specs.Commands.{erasing, meaning, is_of_root};
+ghost use Rattle.conary_cli.specs.Commands.{erasing, meaning, is_of_root, verify};
+ghost use Rattle.conary_cli.specs.Records.{EndsWhole};
 
 use crate::show::show_change_set;
 use cli_call::{Failure, Opened};
 use cli_words::Command;
-use cny_base::{Bytes, Options, Text};
-use job_commands::{erase_troves, install_manifest};
+use cny_base::{Bytes, Name, Options, Text};
+use job_commands::{erase_troves, install_manifest, update_input, update_specs};
 use move_commands::commit_moved;
 use repo_commands::{commit_input, cook_manifest, list_committed};
-use root_commands::{list_installed, roll_back, verify_installed};
+use root_commands::{
+    change_locally, list_installed, list_jobs, roll_back, verify_fully, verify_installed,
+};
 use spec_commands::send_changes;
 use std::alloc::Global;
 use tree_disk::TreeDisk;
@@ -26,10 +29,14 @@ pub fn takes_input(command: &Command) -> bool
         Command::Cook { .. } => true,
         Command::Commit => true,
         Command::ListCommitted { .. } => false,
+        Command::Update { .. } => false,
+        Command::UpdateByInput { .. } => true,
         Command::Erase { .. } => false,
         Command::Rollback { .. } => false,
         Command::ListInstalled { .. } => false,
         Command::Verify { .. } => false,
+        Command::ListJobs => false,
+        Command::LocalChanges { .. } => false,
         Command::SendChanges { .. } => false,
         Command::Move { .. } => false,
     }
@@ -55,6 +62,25 @@ fn as_bytes(answered: Result<Text, Failure>) -> Result<Bytes, Failure>
     }
 }
 
+// Compares the root with what is recorded, with the repository's contents or without.
+fn verify<T: TreeDisk, P: TreeDisk>(
+    alloc: Global,
+    full: bool,
+    names: &[Name],
+    opened: &Opened,
+    repo: &mut P,
+    root: &mut T,
+) -> Result<Text, Failure>
+    requires { AreReady T.disk P.disk (disks root.old repo.old opened.now) }
+    ensures performs { (input : List ℕ) → Performs T.disk P.disk (verify full names.now) input (disks root.old repo.old opened.now) (disks root.new repo.new opened.now) result }
+    ensures alone { not full ≡ true → (input : List ℕ) → PerformsAlone T.disk P.disk (verify full names.now) input (disks root.old repo.old opened.now) (disks root.new repo.new opened.now) result }
+{
+    if full {
+        return verify_fully(alloc, names, opened, repo, root);
+    }
+    verify_installed(alloc, names, opened, repo, root)
+}
+
 /// Performs a command over two disks that are open, with this input.
 pub fn perform<T: TreeDisk, P: TreeDisk>(
     alloc: Global,
@@ -68,6 +94,8 @@ pub fn perform<T: TreeDisk, P: TreeDisk>(
     ensures performs { Performs T.disk P.disk (meaning command.now) input.now (disks root.old repo.old opened.old) (disks root.new repo.new opened.new) result }
     // A command that works on the root alone does so whatever the repository's disk tells or stores.
     ensures alone { is_of_root command.now ≡ true → PerformsAlone T.disk P.disk (meaning command.now) input.now (disks root.old repo.old opened.old) (disks root.new repo.new opened.new) result }
+    // Also where the root stores no system.
+    ensures records { IsTrue T.disk.tells → EndsWhole command.now (T.disk.reads root.old) opened.old.db result }
 {
     match command {
         Command::Install { options } => {
@@ -81,6 +109,12 @@ pub fn perform<T: TreeDisk, P: TreeDisk>(
         Command::ListCommitted { name } => {
             as_bytes(list_committed(alloc, name, opened, repo, root))
         }
+        Command::Update { specs, options } => {
+            as_bytes(update_specs(alloc, options, specs.get(), opened, repo, root))
+        }
+        Command::UpdateByInput { options } => {
+            as_bytes(update_input(alloc, options, input, opened, repo, root))
+        }
         Command::Erase { names, replace } => {
             as_bytes(erase_troves(alloc, names.get(), &erasing(*replace), opened, repo, root))
         }
@@ -88,9 +122,11 @@ pub fn perform<T: TreeDisk, P: TreeDisk>(
         Command::ListInstalled { name } => {
             as_bytes(list_installed(alloc, name, opened, repo, root))
         }
-        Command::Verify { names } => {
-            as_bytes(verify_installed(alloc, names.get(), opened, repo, root))
+        Command::Verify { full, names } => {
+            as_bytes(verify(alloc, *full, names.get(), opened, repo, root))
         }
+        Command::ListJobs => as_bytes(list_jobs(alloc, opened, repo, root)),
+        Command::LocalChanges { name } => change_locally(alloc, name, opened, repo, root),
         Command::SendChanges { from, to } => send_changes(alloc, from, to, opened, repo, root),
         Command::Move { way, label, given } => {
             as_bytes(commit_moved(alloc, *way, label, given, opened, repo, root))

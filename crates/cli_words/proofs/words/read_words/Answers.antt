@@ -1,6 +1,6 @@
 use Rattle.std.proofs.Common.{List, ℕ, map, sym, subst, ◌∙◌}
 use Rattle.std.specs.Prelude.{string_bytes}
-use Rattle.cli_words.specs.Words.{IsMove, IsOrUsage, IsSend, OrMemory, ReadsWords}
+use Rattle.cli_words.specs.Words.{IsMove, IsOrUsage, IsSend, IsUpdate, OrMemory, ReadsWords}
 use Rattle.cli_words.proofs.Reading.{of_form, of_this_form, other_is, read_is, reads_words}
 use Rattle.cli_words.proofs.words.read_words.Goals as goal
 
@@ -39,3 +39,15 @@ pub returns-in-Others-clause-is : goal.returns-in-Others-clause-is
 returns-in-Others-clause-is c =
     of_this_form (map string_bytes c.args.words.now) _ (sym c.first_form.ensures ∙ c.in-Others.is) c.read_others.result
     (other_is _ c.read_others.result c.read_others.ensures)
+
+pub returns-in-Updates-clause-read : goal.returns-in-Updates-clause-read
+returns-in-Updates-clause-read c expected are =
+    let rest = map string_bytes c.words_behind-rest.result.now in
+    reads_words (IsUpdate rest) c.read_update.result c.read_update.ensures expected
+    (subst (λ (l : List (List ℕ)). IsOrUsage (IsUpdate l) expected) (sym c.words_behind-rest.ensures) (of_form (map string_bytes c.args.words.now) _ (sym c.first_form.ensures ∙ c.in-Updates.is) expected are))
+
+pub returns-in-Updates-clause-is : goal.returns-in-Updates-clause-is
+returns-in-Updates-clause-is c =
+    let rest = map string_bytes c.words_behind-rest.result.now in
+    of_this_form (map string_bytes c.args.words.now) _ (sym c.first_form.ensures ∙ c.in-Updates.is) c.read_update.result
+    (subst (λ (l : List (List ℕ)). OrMemory (IsOrUsage (IsUpdate l)) c.read_update.result) c.words_behind-rest.ensures (read_is (IsUpdate rest) c.read_update.result c.read_update.ensures))

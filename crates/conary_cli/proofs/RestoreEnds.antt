@@ -1,0 +1,188 @@
+-- What `rollback` restores, by how its call ended.
+use Rattle.std.proofs.Common.{◌≡◌, inl, inr, ⊎_elim, ℕ, true, false, List, ◌∷◌, ◌++◌, Option, Some, None, Result, Ok, Err, All, Contains, sym, ◌∙◌, ap, subst}
+use Rattle.std.proofs.lemmas.List.Elements.{All-contains, All-head}
+use Rattle.std.specs.FinMap.{get}
+use Rattle.cny_base.specs.Reserved.{is_reserved}
+use Rattle.cny_base.specs.declared.refusal.Refusal.{Refusal}
+use Rattle.cny_base.specs.declared.refusal.Refusal.TheVariants.{Edited, NoJob, Parent, StackEmpty}
+use Rattle.cny_flow.specs.Flow.{SinkState}
+use Rattle.journal_log.specs.Targets.{with_targets}
+use Rattle.tree_disk.specs.Tree.{Name, Tree, AgreesOutside}
+use Rattle.tree_disk.specs.Disk.{DiskModel}
+use Rattle.system_state.specs.SystemState.{IsFree, IsStackItem, IsSystemState, StackItem, SystemState, is_listed}
+use Rattle.system_state.specs.Steps.{after_rollback, backs}
+use Rattle.system_state.specs.Stores.{StoresSystem}
+use Rattle.system_state.proofs.Images.{all_restored, kept, restored}
+use Rattle.system_state.proofs.Several.{rollbacks_system}
+use Rattle.system_state.proofs.Sorted.{listed_in}
+use Rattle.system_state.proofs.Writes.{nothing_in}
+use Rattle.system_rollback.specs.Restoring.{IsException, IsRestored, IsUnedited}
+use Rattle.system_rollback.specs.RestoringAll.{AreRestored, AreUnedited, IsExceptionTo}
+use Rattle.system_rollback.specs.Rollback.{IsSystemRefusal, db_of, rolled_back, without_newest}
+use Rattle.system_rollback.specs.Several.{HasJob, IsRefusalTo, jobs_below, jobs_to, rolled_back_to}
+use Rattle.system_rollback.specs.Tests.{IsFirstEdited, IsFirstOrphan}
+use Rattle.system_rollback.proofs.Counting.{split_at}
+use Rattle.system_rollback.proofs.Restored.{left_alone, put_into}
+use Rattle.system_rollback.proofs.Sequence.{after_list, after_tree, after_whole}
+use Rattle.system_rollback.proofs.Stored.{all_front, all_middle}
+use Rattle.root_ready.specs.FixedDirs.{fixed_dirs}
+use Rattle.root_commands.specs.RollingBack.{TakesBack, TakesBackTo, roll_back, take_back}
+use Rattle.cli_call.specs.Call.{CallState}
+use Rattle.cli_call.specs.Reading.{given}
+use Rattle.cli_call.specs.State.{on_root, Change, Effect, State, Then, after, tree_of}
+use Rattle.cli_call.specs.Store.{RestsAt}
+use Rattle.cli_call.specs.Stores.{root_store}
+use Rattle.cli_call.specs.WholeCall.{IsAnswered, IsAnsweredOnRoot, IsCallOf, IsRefused, Outcome}
+use Rattle.cli_words.specs.declared.words.Command.{Command}
+use Rattle.cli_words.specs.declared.words.Command.TheVariants as command
+use Rattle.conary_cli.specs.Commands.{is_of_root, meaning}
+use Rattle.conary_cli.specs.Restores.{RestoresBy, RestoresNewest, RestoresTo, RollbackRestores}
+
+-- ---- what a root stores, in either format
+
+is_system : (x : Tree) (s : SystemState) → StoresSystem x s → IsSystemState s
+is_system x s (inl one) = one.system
+is_system x s (inr two) = two.system
+
+managed : (x : Tree) (s : SystemState) → StoresSystem x s → AgreesOutside is_reserved x s.tree
+managed x s (inl one) = one.managed
+managed x s (inr two) = two.managed
+
+-- ---- the newest job
+
+module _ (s : SystemState) (system : IsSystemState s) (o : StackItem) (olds : List StackItem) (stack : s.stack ≡ o ∷ olds) where
+  item : IsStackItem o
+  item = All-head IsStackItem o olds (subst (All IsStackItem) stack system.olds)
+
+  outer : (q : Name) → is_listed o.paths q ≡ true → is_reserved q ≡ false
+  outer q own = (All-contains IsFree o.paths q item.free (listed_in o.paths q own)).not_reserved
+
+  back : rolled_back s ≡ after_rollback o olds s
+  back = ap (λ (l : List StackItem). without_newest l s) stack
+
+  -- the root that stores the system afterwards has what stood before the job
+  newest_restored : (y : Tree) → StoresSystem y (rolled_back s) → IsRestored o s.tree (db_of (rolled_back s)) y
+  newest_restored y stores = record {
+    own = λ q mine. agrees q (outer q mine) ∙ restored o item s.tree q mine;
+    others = λ q out other. agrees q out ∙ kept o item s.tree q other;
+    list = ap (λ (t : SystemState). t.installed) back;
+    whole = λ same q out. agrees q out ∙ ap (λ (t : Tree). get t q) (ap (with_targets (backs o)) same ∙ all_restored o item);
+  }
+    where
+      agrees : (q : Name) → is_reserved q ≡ false → get y q ≡ get (with_targets (backs o) s.tree) q
+      agrees q out = managed y (rolled_back s) stores q out ∙ ap (λ (t : SystemState). get t.tree q) back
+
+  same_job : (p : StackItem) (ps : List StackItem) → s.stack ≡ p ∷ ps → p ≡ o
+  same_job p ps is = let both : p ∷ ps ≡ o ∷ olds = sym is ∙ stack in cc both
+
+  -- why it isn't taken back
+  newest_exception : IsUnedited o s.tree → (why : Refusal) → IsSystemRefusal s why → IsException o s.tree why
+  newest_exception unedited StackEmpty is = absurd (cc (sym is ∙ stack))
+  newest_exception unedited (Edited path) is = put_into o item s.tree unedited path (subst (λ (p : StackItem). IsFirstEdited p s.tree path) (same_job is.job is.others is.stack_is) is.holds)
+  newest_exception unedited (Parent path) is = left_alone o item s.tree unedited system.tree path (subst (λ (p : StackItem). IsFirstOrphan p s.tree path) (same_job is.job is.others is.stack_is) is.holds)
+  newest_exception unedited _ is = absurd is
+
+-- ---- all jobs down to a number
+
+module _ (s : SystemState) (system : IsSystemState s) (number : ℕ) where
+  items : All IsStackItem (jobs_to number s.stack)
+  items = all_front IsStackItem (jobs_to number s.stack) (jobs_below number s.stack) (subst (All IsStackItem) (split_at number s.stack) system.olds)
+
+  all_restored_to : (y : Tree) → StoresSystem y (rolled_back_to number s) → AreRestored (jobs_to number s.stack) s (db_of (rolled_back_to number s)) y
+  all_restored_to y stores = record {
+    each = λ q out. managed y (rolled_back_to number s) stores q out ∙ after_tree (jobs_to number s.stack) (jobs_below number s.stack) s items q;
+    list = after_list (jobs_to number s.stack) (jobs_below number s.stack) s;
+    whole = λ follow q out. managed y (rolled_back_to number s) stores q out
+        ∙ ap (λ (t : Tree). get t q) (after_whole (jobs_to number s.stack) (jobs_below number s.stack) s items follow);
+  }
+
+  item_of : (newer : List StackItem) (o : StackItem) (olds : List StackItem) → s.stack ≡ newer ++ o ∷ olds → IsStackItem o
+  item_of newer o olds stack = all_middle IsStackItem newer o olds (subst (All IsStackItem) stack system.olds)
+
+  module _ (has : HasJob s.stack number) (unedited : AreUnedited s number) where
+    exception_to : (why : Refusal) → IsRefusalTo s number why → IsExceptionTo s number why
+    exception_to StackEmpty is = absurd (nothing_in has.0 (subst (λ (l : List StackItem). Contains l has.0) is has.1))
+    exception_to (NoJob n) is = absurd (is.2 has)
+    exception_to (Edited path) is = record {
+      asked = is.asked;
+      newer = is.newer;
+      job = is.job;
+      olds = is.olds;
+      stack_is = is.stack_is;
+      down_to = is.down_to;
+      can = is.can;
+      holds = put_into is.job (item_of is.newer is.job is.olds is.stack_is) _ (unedited is.newer is.job is.olds is.stack_is is.down_to is.can) path is.holds;
+    }
+    exception_to (Parent path) is = record {
+      asked = is.asked;
+      newer = is.newer;
+      job = is.job;
+      olds = is.olds;
+      stack_is = is.stack_is;
+      down_to = is.down_to;
+      can = is.can;
+      holds = left_alone is.job (item_of is.newer is.job is.olds is.stack_is) _ (unedited is.newer is.job is.olds is.stack_is is.down_to is.can)
+          (rollbacks_system is.newer (is.job ∷ is.olds) s system is.stack_is is.can).0.tree path is.holds;
+    }
+    exception_to _ is = absurd is
+
+-- ---- how a call ended
+
+-- where the fixed directories stand, the outcome is that of the rollback
+own_outcome : (number : Option ℕ) (s : State) (input : List ℕ) (o : Result Effect Refusal) → fixed_dirs (tree_of s.root) ≡ Ok tt → Outcome (roll_back number) s input o → take_back number s.root o
+own_outcome number s input o dirs is = subst (λ (d : Result (Unit {0}) Refusal). Then d (λ _. Then (given false input) ((roll_back number).IsOutcome s)) o) dirs is
+
+module _ {T P : Type 0} (root_disk : DiskModel T) (repo_disk : DiskModel P) (before now : CallState T P) (err err' : SinkState) (status : ℕ) where
+  module _ (s : State) where
+    -- after an effect the status is 0, and the root rests at the state after it
+    abbrev RestsAfter : Effect → Type 0
+    RestsAfter e = (status ≡ 0) × RestsAt root_store root_disk now.root (after s e.change).root
+
+    abbrev Refuses : Refusal → Type 0
+    Refuses r = IsRefused root_disk repo_disk r before now err err' status
+
+    rests_at : (e : Effect) (t : SystemState) → e.change ≡ on_root t → RestsAfter e → RestsAt root_store root_disk now.root t
+    rests_at e t is ended = subst (λ (c : Change). RestsAt root_store root_disk now.root (after s c).root) is ended.1
+
+    module _ (system : IsSystemState s.root) (Ended : Result Effect Refusal → Type 0) (done : (e : Effect) → Ended (Ok e) → RestsAfter e) (refused : (r : Refusal) → Ended (Err r) → Refuses r) where
+      newest_ended : (o : Result Effect Refusal) → TakesBack s.root o → Ended o → RestoresNewest root_disk repo_disk s.root before now err err' status
+      newest_ended (Ok e) is ended o olds stack unedited =
+          let rests = rests_at e (rolled_back s.root) is.change (done e ended) in
+          inl (record { ended = (done e ended).0; next = rolled_back s.root; rests = rests; restored = newest_restored s.root system o olds stack (root_disk.reads now.root) rests.stored })
+      newest_ended (Err r) is ended o olds stack unedited = inr (record { refusal = r; is = newest_exception s.root system o olds stack unedited r is; refused = refused r ended })
+
+      all_ended : (number : ℕ) (o : Result Effect Refusal) → TakesBackTo number s.root o → Ended o → RestoresTo root_disk repo_disk number s.root before now err err' status
+      all_ended number (Ok e) is ended has unedited =
+          let rests = rests_at e (rolled_back_to number s.root) is.change (done e ended) in
+          inl (record { ended = (done e ended).0; next = rolled_back_to number s.root; rests = rests; restored = all_restored_to s.root system number (root_disk.reads now.root) rests.stored })
+      all_ended number (Err r) is ended has unedited = inr (record { refusal = r; is = exception_to s.root system number has unedited r is; refused = refused r ended })
+
+      restores : (number : Option ℕ) (o : Result Effect Refusal) → take_back number s.root o → Ended o → RestoresBy root_disk repo_disk number s.root before now err err' status
+      restores None o is ended = newest_ended o is ended
+      restores (Some number) o is ended = all_ended number o is ended
+
+    abbrev Answered : Result Effect Refusal → Type 0
+    Answered o = IsAnswered root_disk repo_disk s o before now err err' status
+
+    abbrev OnRoot : Result Effect Refusal → Type 0
+    OnRoot o = IsAnsweredOnRoot root_disk repo_disk s o before now err err' status
+
+    -- an outcome of the command, by which it ended
+    abbrev HasEnd : List ℕ → (Result Effect Refusal → Type 0) → Command → Type 0
+    HasEnd input Ended c = (o : Result Effect Refusal) × Outcome (meaning c) s input o × Ended o
+
+    by_both : IsSystemState s.root → (number : Option ℕ) (input : List ℕ) → HasEnd input Answered (command.Rollback number) → fixed_dirs (tree_of s.root) ≡ Ok tt → RestoresBy root_disk repo_disk number s.root before now err err' status
+    by_both system number input a dirs = restores system Answered (λ e ended. (ended.ended, ended.rests.root)) (λ r ended. ended) number a.0 (own_outcome number s input a.0 dirs a.1) a.2
+
+    by_root : IsSystemState s.root → (number : Option ℕ) (input : List ℕ) → HasEnd input OnRoot (command.Rollback number) → fixed_dirs (tree_of s.root) ≡ Ok tt → RestoresBy root_disk repo_disk number s.root before now err err' status
+    by_root system number input a dirs = restores system OnRoot (λ e ended. (ended.ended, ended.stands.rests)) (λ r ended. ended) number a.0 (own_outcome number s input a.0 dirs a.1) a.2
+
+  pub rollback_restores : (c : Command) (call : IsCallOf root_disk repo_disk (is_of_root c) (meaning c) before now err err' status) → RollbackRestores root_disk repo_disk c before now err err' status
+  rollback_restores c call = record {
+    restores = λ number is root repo s recovers dirs small. by_both s (is_system recovers.root.tree s.root recovers.root.stored) number call.input
+        (subst (HasEnd s call.input (Answered s)) is (call.answers small root repo s recovers)) dirs;
+    restores_alone = λ number is root s recovers dirs small. ⊎_elim
+        (λ refused. inl refused)
+        (λ a. inr (by_root s (is_system recovers.tree s.root recovers.stored) number call.input (subst (HasEnd s call.input (OnRoot s)) is a) dirs))
+        ((call.alone (ap is_of_root is)).answers small root s recovers);
+  }

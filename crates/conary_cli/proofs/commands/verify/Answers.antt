@@ -1,0 +1,27 @@
+use Rattle.std.proofs.Common.{◌≡◌, Bool, true, false, not, sym, ap, subst, ◌∙◌}
+use Rattle.std.proofs.lemmas.Bool.{false≢true}
+use Rattle.cli_call.specs.Alone.{PerformsAlone}
+use Rattle.cli_call.specs.Command.{disks, Performs}
+use Rattle.conary_cli.specs.Commands.{verify}
+use Rattle.conary_cli.proofs.commands.verify.Goals as goal
+
+pub returns-then-full-clause-performs : goal.returns-then-full-clause-performs
+returns-then-full-clause-performs g c = λ input.
+    let old = disks c.args.root.now c.args.repo.now c.args.opened.now in
+    let new = disks c.verify_fully.new.root c.verify_fully.new.repo c.args.opened.now in
+    subst (λ (full : Bool). Performs g.T.TreeDisk.disk g.P.TreeDisk.disk (verify full c.args.names.now) input old new c.verify_fully.result) (sym c.if-full.true) (c.verify_fully.ensures input)
+
+pub returns-then-full-clause-alone : goal.returns-then-full-clause-alone
+returns-then-full-clause-alone g c = λ is. absurd (false≢true (ap not (sym c.if-full.true) ∙ is))
+
+pub returns-clause-performs : goal.returns-clause-performs
+returns-clause-performs g c = λ input.
+    let old = disks c.args.root.now c.args.repo.now c.args.opened.now in
+    let new = disks c.verify_installed.new.root c.args.repo.now c.args.opened.now in
+    subst (λ (full : Bool). Performs g.T.TreeDisk.disk g.P.TreeDisk.disk (verify full c.args.names.now) input old new c.verify_installed.result) (sym c.if-full.false) (c.verify_installed.ensures.performs input)
+
+pub returns-clause-alone : goal.returns-clause-alone
+returns-clause-alone g c = λ is input.
+    let old = disks c.args.root.now c.args.repo.now c.args.opened.now in
+    let new = disks c.verify_installed.new.root c.args.repo.now c.args.opened.now in
+    subst (λ (full : Bool). PerformsAlone g.T.TreeDisk.disk g.P.TreeDisk.disk (verify full c.args.names.now) input old new c.verify_installed.result) (sym c.if-full.false) (c.verify_installed.ensures.alone input)
