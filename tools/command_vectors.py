@@ -1,12 +1,12 @@
 #!/usr/bin/env python3
 """Writes the script of the program command_vectors (crates/command_vectors/stdin), or what it has to answer (stdout).
 
-The answers come from the model of the program in program_model.py and job_commands_model.py, which is made from the rules of docs/COMMANDS.md,
-docs/FORMATS.md and docs/CRASH_SAFETY.md alone and shares nothing with the program that is tested with it. More lines on the
-commands of a root are those of root_command_lines.py. Of the lines only
-those of `cut` and `from` depend on how many calls of its disks a command makes.
+The answers come from the model of the program in program_model.py and job_commands_model.py, which is made from the rules of
+docs/COMMANDS.md, docs/FORMATS.md and docs/CRASH_SAFETY.md alone and shares nothing with the program that is tested with it. The worked
+examples of all commands, and more lines on the commands of a root, are said by root_command_lines.py. Of the lines only those of `cut`
+and `from` depend on how many calls of its disks a command makes.
 
-Usage: tools/command_vectors.py (stdin|stdout|count) >FILE
+Usage: tools/command_vectors.py (stdin|stdout|count) >FILE     the lines, their answers, or how many cases there are of each name
 """
 import hashlib
 import sys
@@ -16,7 +16,7 @@ sys.dont_write_bytecode = True
 import program_model as root_side
 import repository_model as repo_side
 from disk_model import DIR, Damaged, Refused, Tree, is_within, item, parent_of, str_field
-from job_commands_model import PLANNED_COMMANDS, Call, is_later
+from job_commands_model import Call
 from program_model import Streams, manifest_of
 from rel_vectors import relative_of
 from repository_vectors import commit_bytes
@@ -49,10 +49,8 @@ class Script:
 
     def __init__(self):
         self.lines, self.answers, self.cases = [], [], {}
-        # The answer to the line before, also where that is left out; whether lines are left out up to the next set-up.
-        self.answer, self.is_cut, self.said = "", False, 0
-        # Whether calls of what isn't built yet are left out.
-        self.leaves_out = False
+        # The answer to the line before.
+        self.answer, self.said = "", 0
 
     def case(self, group):
         if len(self.lines) > self.said:
@@ -61,25 +59,13 @@ class Script:
 
     def say(self, line, answer="ok"):
         self.answer = answer
-        if not self.is_cut:
-            self.lines.append(line)
-            self.answers.append(answer)
-
-    def is_left_out(self, words):
-        return self.leaves_out and is_later(words)
-
-    def left_out(self, words):
-        """A call that isn't said. Where it changes a disk, or calls of one are counted, no line is said up to the next set-up."""
-        before = disks_text(self.trees)
-        call = self.called(words, self.trees)
-        self.answer = answer_text(call) + disks_text(self.trees)
-        self.is_cut = self.is_cut or before != disks_text(self.trees) or self.counts
-        return call.out
+        self.lines.append(line)
+        self.answers.append(answer)
 
     def disks(self, edits=(), repo_edits=(), root_fails=0, repo_fails=0):
         """A root with `/`, `/var` and `/var/lib`, a repository with `/` alone, and then what the edits put."""
         self.trees = {"root": Tree((b"/var", b"/var/lib"), root_fails), "repo": Tree((), repo_fails)}
-        self.streams, self.is_cut, self.counts = Streams(), False, root_fails + repo_fails > 0
+        self.streams = Streams()
         self.say(f"disks {root_fails} {repo_fails}")
         self.edit("root", edits)
         self.edit("repo", repo_edits)
@@ -107,8 +93,6 @@ class Script:
         return Call(words, self.streams, trees["root"], trees["repo"])
 
     def run(self, *words):
-        if self.is_left_out(words):
-            return self.left_out(words)
         call = self.called(words, self.trees)
         self.say(" ".join(["run", *map(given, words)]), answer_text(call) + disks_text(self.trees))
         return call.out
@@ -122,7 +106,6 @@ class Script:
         self.trees[side].left = calls
         answer = answer_text(self.called(words, self.trees)) + recovered_text(side, self.trees[side], pick)
         self.trees = crashed(self.trees, side, pick)
-        self.is_cut = self.is_cut or self.is_left_out(words)
         self.say(" ".join(["cut", side, str(calls), str(pick), *map(given, words)]), answer)
 
     def again_text(self, words, trees):
@@ -160,14 +143,10 @@ class Script:
         self.say("from", " ".join(["from"] + [str(number) for number, _ in found]))
 
     def stops(self, side, pick, *words):
-        if self.is_left_out(words):
-            return
         found = self.sweep(side, lambda calls: self.stopped(words, side, pick, calls))
         self.say_sweep(["stops", side, str(pick), *map(given, words)], found)
 
     def faults(self, side, *words):
-        if self.is_left_out(words):
-            return
         found = self.sweep(side, lambda calls: self.failed(words, side, calls + 1))
         self.say_sweep(["faults", side, *map(given, words)], found)
 
@@ -369,7 +348,7 @@ LONGER_SPEC = "f" + LONG_SPEC
 def words_cases(script):
     """Words are looked at before anything else: nothing of the input is taken, and neither the missing `/var` nor a call of a
     disk that would fail is noticed. The output isn't written to."""
-    usage = [
+    texts = [
         "", "\n", "frob", "Install", "INSTALL", "install ", " install", "installed", "install\nx", "install\n\n", "install\n-",
         "install\n--", "install\n--frob", "install\n--keep=1", "install\n--Keep", "install\nx\n--keep", "install\ninstall",
         "--keep\ninstall", "--disk\nA\nB\ninstall", "--help", "--version", "showcs\nx", "showcs\n--full", "showcs ", "serve",
@@ -380,11 +359,9 @@ def words_cases(script):
         "changeset\nfoo\nbar\nbaz", "changeset\n--next\nfoo", "shadow", "shadow\na@b:c", "shadow\na@b:c\nfoo\nbar", "shadow\na@b\nfoo",
         "shadow\nb:c\nfoo", "shadow\nfoo\na@b:c", "shadow\na@b:c\nfoo[", "branch", "branch\na@b:c", "branch\na@b:c\nfoo\nbar",
         "branch\n/a@b:c\nfoo", "branch\na@b:c\nfoo=", "branches\na@b:c\nfoo", "changeset\n" + LONGER_SPEC,
-    ]  # fmt: skip
-    planned = [
         "batch", "demo\n0", "demo", "install\n--keep\n--keep", "install\n--keep\nx", "install\n--replace\n--frob", "update\n" + LONGER_SPEC,
     ]  # fmt: skip
-    for line in usage + planned:
+    for line in texts:
         words = line.encode().split(b"\n") if line else []
         script.disks(NO_VAR, (), 1, 1)
         script.input(b"x", 1, 1)
@@ -482,7 +459,7 @@ def manifest_cases(script):
     install_cases(script, "manifests taken", behind(TAKEN))
     unowned = [(b"/etc", DIR), (b"/etc/foo", file(b"xyz", 0o644))]
     install_cases(script, "misplaced items", [(unowned, COMPONENT)])
-    # What was installed once stands where it is wanted: the second write set is empty.
+    # Of what is installed nothing changes: there is no second job.
     for data in (COMPONENT, LEVELS):
         install_cases(script, "installed twice", [([], data)])
         script.run(b"install")
@@ -710,63 +687,6 @@ SECONDS = [
 # ---- the repository
 
 
-def commit_row_cases(script):
-    """Worked examples of `cook` and `commit`."""
-    # A component cooked twice.
-    script.disks()
-    script.fed(COMPONENT, b"cook")
-    script.fed(COMPONENT, b"cook")
-    script.run(b"rq")
-    script.case("cooked twice")
-    # A reference and a content that aren't there.
-    script.disks()
-    script.fed(GROUP, b"cook")
-    script.fed(manifest(b"group-one", b"1.0-1-1", [b"ref " + at(b"foo:runtime", b"1.0-1-1")]), b"cook")
-    script.fed(edited(SET, 135, 163), b"commit")
-    script.case("a missing reference, a missing content")
-    # The first call of each stream and of each disk that fails.
-    for source, out, root, repo in ((1, 0, 0, 0), (0, 1, 0, 0), (0, 0, 1, 0), (0, 0, 0, 1)):
-        for words in (b"cook", b"install"):
-            script.disks((), (), root, repo)
-            script.input(COMPONENT, fails=source)
-            script.sinks(out, 0)
-            script.run(words)
-        script.case("statuses of faults")
-
-
-def row_cases(script):
-    """Worked examples of the commands that make change sets."""
-    # A source, its shadow, and the next revisions on the shadow.
-    script.disks()
-    script.fed(SOURCE, b"cook")
-    script.run(b"shadow", STABLE, b"foo:source=" + LABEL)
-    for revision in (b"1.0-1", b"1.1-1"):
-        script.fed(manifest(b"foo:source", revision, label=b"/" + LABEL + b"//stable"), b"cook", b"--next")
-    script.run(b"rq", b"foo:source")
-    script.case("a shadow and next revisions")
-    # The sizes of change sets, what they hold, and what they do elsewhere.
-    script.disks()
-    script.fed(COMPONENT, b"cook")
-    script.fed(SECOND, b"cook")
-    sets = [script.run(b"changeset", *specs) for specs in ([b"foo:runtime=" + LABEL], [at(b"foo:runtime", b"1.0-1-1")], VERSIONS)]
-    assert [len(one) for one in sets] == [169, 168, 207] and sets[2] == RELATIVE
-    for data in [*sets, sets[2] + b"\0"]:
-        script.fed(data, b"showcs")
-    script.disks()
-    script.fed(sets[2], b"commit")
-    script.fed(sets[1], b"commit")
-    script.fed(sets[2], b"commit")
-    script.run(b"rq", b"foo:runtime")
-    script.case("sizes of change sets")
-    # Specifications that are refused.
-    script.disks()
-    script.run(b"changeset", b"foo")
-    script.run(b"changeset", b"foo=" + LABEL)
-    script.fed(COMPONENT, b"cook")
-    script.run(b"shadow", LABEL, b"foo:runtime=" + LABEL)
-    script.case("refused specifications")
-
-
 VERSIONS = [at(b"foo:runtime", b"1.0-1-1"), at(b"foo:runtime", b"1.0-2-1")]
 
 
@@ -777,7 +697,7 @@ def cook_cases(script):
         script.fed(data, b"cook")
         script.run(b"rq")
         script.case("cooked manifests")
-    # All three kinds, owners, flavors, and a relative change set with owners.
+    # All three kinds, owners, flavors, and change sets with owners.
     script.disks()
     for data in (COMPONENT, PACKAGE, GROUP):
         script.fed(data, b"cook")
@@ -785,12 +705,10 @@ def cook_cases(script):
         script.run(b"rq", name)
     owned = [b"dir 0755 root:root /etc", b"file 0644 3 daemon:adm /etc/foo", b"abc"]
     script.fed(manifest(b"own:runtime", b"1.0-1-1", owned, b"manifest 2"), b"cook")
-    if are_built([b"changeset"]):
-        script.run(b"changeset", b"own:runtime=" + LABEL)
+    script.run(b"changeset", b"own:runtime=" + LABEL)
     script.fed(manifest(b"own:runtime", b"1.0-1-1", [b"flavor krb, ~ssl", *owned], b"manifest 2"), b"cook")
     script.run(b"rq", b"own:runtime")
-    if are_built([b"changeset"]):
-        script.run(b"changeset", b"own:runtime=" + LABEL + b"[krb,ssl]")
+    script.run(b"changeset", b"own:runtime=" + LABEL + b"[krb,ssl]")
     script.case("cooked manifests")
     for size in range(0, len(PACKAGE), 7):
         script.disks()
@@ -1109,7 +1027,7 @@ READING = [
 
 def repository_fault_cases(script):
     """Each call of either disk that fails, and the next call, over what that leaves."""
-    rows = [row for row in CHANGING + READING if are_built(row[0])]
+    rows = CHANGING + READING
     for words, data, nodes in rows:
         for side in SIDES:
             script.disks([(b"/etc", DIR), (b"/etc/conaryrc", file(b"flavor ssl\n"))], nodes)
@@ -1136,14 +1054,14 @@ def repository_fault_cases(script):
 def repository_crash_cases(script):
     """Commands that are cut off after each number of calls of either disk, and made again over what a crash leaves. The root's
     recovery puts a write set first."""
-    for words, data, nodes in [row for row in CHANGING if are_built(row[0])]:
+    for words, data, nodes in CHANGING:
         for side, edits, pick in [("repo", (), pick) for pick in PICKS] + [("root", COMMITTED, 1)]:
             script.disks(edits, nodes)
             script.input(data)
             script.stops(side, pick, *words)
             script.case("stopped commits")
     for side in SIDES:
-        for words, data, nodes in [row for row in READING if are_built(row[0])]:
+        for words, data, nodes in READING:
             script.disks((), nodes)
             script.input(data)
             script.stops(side, 1, *words)
@@ -1172,27 +1090,16 @@ REPOSITORY_SECONDS = [
     (2**32 - 1, "append", repo_side.JOURNAL.gate, 1),
 ]
 
-# The cases, each with the commands that it needs beside `install`, `showcs` and `rq`.
-GROUPS = (
-    (words_cases, []), (manifest_cases, []), (set_cases, []), (stream_cases, []), (recovery_cases, []), (show_cases, []), (fault_cases, []),
-    (crash_cases, []), (commit_row_cases, [b"cook", b"commit"]), (row_cases, [b"cook", b"commit", b"changeset", b"shadow"]), (cook_cases, [b"cook"]),
-    (commit_cases, [b"commit"]), (listing_cases, []), (spec_cases, [b"changeset"]), (set_making_cases, [b"changeset", b"commit", b"cook"]),
-    (moving_cases, [b"shadow", b"branch", b"changeset"]), (next_cases, [b"cook"]), (damage_cases, []),
-    (damaged_content_cases, [b"cook", b"commit", b"changeset", b"shadow", b"branch"]), (repository_fault_cases, []),
-    (repository_crash_cases, []), (second_cases, [b"cook"]),
+CASES = (
+    words_cases, manifest_cases, set_cases, stream_cases, recovery_cases, show_cases, fault_cases, crash_cases, cook_cases, commit_cases, listing_cases,
+    spec_cases, set_making_cases, moving_cases, next_cases, damage_cases, damaged_content_cases, repository_fault_cases, repository_crash_cases, second_cases,
 )  # fmt: skip
-
-
-def are_built(commands):
-    """Whether none of these commands is still planned."""
-    return not set(commands) & set(PLANNED_COMMANDS)
 
 
 def main():
     script = Script()
-    for cases, needed in GROUPS:
-        if are_built(needed):
-            cases(script)
+    for cases in CASES:
+        cases(script)
     # Behind the other lines, since that file takes what it needs of this one.
     import root_command_lines
 

@@ -1,5 +1,6 @@
-"""A model of the commands of a root, as jobs: `install`, `update`, `erase`, `rollback`, `q`, `rblist`, `verify` and `localcs`, made
-from docs/COMMANDS.md, docs/FORMATS.md and docs/MODEL.md alone. It goes on with the other commands where program_model.py has them.
+"""A model of a whole call: the words, the order of all tests, and the commands of a root, `install`, `update`, `erase`, `rollback`, `q`,
+`rblist`, `verify` and `localcs`, made from docs/COMMANDS.md, docs/FORMATS.md and docs/MODEL.md alone. The commands of a repository are
+those of program_model.py.
 
 Nothing is remembered between calls: the database, the records and the saved contents are read from the root's files by
 stack_vectors.py. Lists are those of list_model.py, the table of paths is that of plan_model.py, and disks and journals are those of
@@ -29,26 +30,12 @@ LARGEST_CONTENT, PIECE, LONGEST_VERSION = 16_777_216, 65_536, 512
 
 # ---- the words
 
-PLANNED_COMMANDS = b"batch demo".split()
+PLANNED_COMMANDS = b"batch demo serve mirror sync".split()
 PLANNED_OPTIONS = {b"update": (b"--resolve",)}
 
 # A command takes at most so many names or specifications.
 MOST_NAMES = 64
 
-# What is modelled and not built yet.
-LATER_COMMANDS = b"update rblist localcs".split()
-LATER_OPTIONS = {b"verify": b"--full"}
-
-
-class Built:
-    """Whether what is modelled and not built yet is answered as if it were."""
-
-    everything = False
-
-
-def is_later(words):
-    command, option = [*words, b"", b""][:2]
-    return command in LATER_COMMANDS or option == LATER_OPTIONS.get(command)
 OPTIONS = {
     b"cook": (b"--next",), b"install": (b"--replace", b"--keep"), b"update": (b"--replace", b"--keep"), b"erase": (b"--replace",),
     b"verify": (b"--full",),
@@ -88,15 +75,15 @@ def command_of(words):
     command, rest = words[0], list(words[1:])
     if command in PLANNED_COMMANDS:
         raise Refused(b"not built " + command)
-    if is_later(words) and not Built.everything:
-        raise Refused(b"not built " + (command if command in LATER_COMMANDS else rest[0]))
     planned, options = PLANNED_OPTIONS.get(command, ()), []
     while rest and rest[0] in OPTIONS.get(command, ()) + planned:
         if rest[0] in planned:
             raise Refused(b"not built " + rest[0])
+        if rest[0] in options:
+            raise Ended(2, b"")
         options.append(rest.pop(0))
     short = len(words) <= program.MOST_WORDS and all(len(word) <= program.LONGEST_WORD for word in words)
-    if not short or len(set(options)) != len(options) or not are_words_of(command, rest):
+    if not short or not are_words_of(command, rest):
         raise Ended(2, b"")
     return command, options, rest
 

@@ -1,5 +1,6 @@
-"""A model of the program over two trees in memory, which shares nothing with it: the words, the order of all tests, the texts and
-statuses, made from the rules of docs/COMMANDS.md and docs/FORMATS.md alone.
+"""A model of the program over two trees in memory, which shares nothing with it: the standard streams, the texts and statuses with which
+a call ends, and the commands of a repository, made from the rules of docs/COMMANDS.md and docs/FORMATS.md alone. The words, the order of
+all tests and the commands of a root are in job_commands_model.py.
 
 The disks and their journals are those of disk_model.py, the repository is that of repository_model.py, whole manifests are read
 by manifest_model.py and change sets by stream_model.py.

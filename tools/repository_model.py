@@ -265,10 +265,11 @@ def test_contents(tree, catalogue, troves, contents):
         for _, record in trove.files:
             if record.kind == "f" and (record.name, record.size) not in carried and record.size not in catalogue.sizes(record.name):
                 raise Refused(b"missing content " + record.name.hex().encode())
-    # No two different contents of these cases have one SHA-1; a committed one is read all the same.
-    for name, _ in contents:
-        if catalogue.sizes(name):
-            content(tree, catalogue, name)
+    for name, data in contents:
+        committed = content(tree, catalogue, name) if catalogue.sizes(name) else data
+        if committed != data:
+            at = next(at for at, (one, other) in enumerate(zip(committed, data)) if one != other)
+            raise Refused(b"collision %s at %d" % (name.hex().encode(), at))
 
 
 def commit(tree, catalogue, change):

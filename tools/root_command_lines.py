@@ -1,10 +1,11 @@
 #!/usr/bin/env python3
-"""Lines of command_vectors on the commands of a root: `install`, `update`, `erase`, `rollback`, `q`, `rblist`, `verify`, `localcs`.
+"""Lines of command_vectors on the commands of a root: `install`, `update`, `erase`, `rollback`, `q`, `rblist`, `verify`, `localcs`,
+behind the worked examples of all commands, which are those of tools/root_examples.py.
 
-tools/command_vectors.py says these lines with its own, and the answers come from tools/job_commands_model.py. The worked examples are
-those of tools/root_examples.py.
+tools/command_vectors.py says these lines with its own, and the answers come from tools/job_commands_model.py.
 
-Usage: tools/root_command_lines.py check     says all lines, and tells what differs from the examples and from root_model.py
+Usage: tools/root_command_lines.py check     says all lines, and tells what differs from the examples and from root_model.py, and which
+                                             examples lack
 """
 import hashlib
 import itertools
@@ -13,12 +14,11 @@ import sys
 sys.dont_write_bytecode = True
 
 import command_vectors as others
-import plan_model as plans
 from command_vectors import ABC, BASE, DIR, GATE, LABEL, PICKS, at, carried, component, cooked, file, manifest, plain, word
 from disk_model import Tree
-from job_commands_model import DATABASE, Built, Job, standing
+from job_commands_model import DATABASE, Job, standing
 from rel_vectors import relative_of
-from root_examples import ABX, EXAMPLES, F1, F2, FOO, M, M2, WRONG, Examples, calls_to, config, is_journals
+from root_examples import ABX, CLASH, EXAMPLES, F1, F2, FOO, M, M2, ROWS, WRONG, Examples, calls_to, config, is_journals
 from root_model import Job as RootJob
 from root_model import Root
 from state_vectors import database_bytes
@@ -32,8 +32,9 @@ update --Replace foo|update --replace|erase|erase --replace|erase --keep foo|era
 erase foo:|rollback x|rollback r.|rollback r.0|rollback r.01|rollback r.4294967296|rollback r.99999999999|rollback 1|rollback r.1 r.1|rollback R.1
 rollback --replace|q foo bar|q foo=|q --full|q -|rblist x|rblist r.1|verify --full --full|verify foo=|verify foo --full|verify -|verify --replace
 localcs|localcs foo bar|localcs foo=a@b:c|localcs -|install x|install -|install --full|install --keep --keep|install --replace --keep --replace
-install --next|sync|serve|mirror ask|updates foo|erased foo|q: foo|Update foo|updat foo|Q|verify foo group-a:b"""
-PLANNED = ["batch", "batch x", "demo", "demo 1", "demo 0", "update --resolve foo", "update --keep --resolve foo", "update --resolve"]
+install --next|syncs|server|mirror-ask|updates foo|erased foo|q: foo|Update foo|updat foo|Q|verify foo group-a:b"""
+PLANNED = ["batch", "batch x", "demo", "demo 1", "demo 0", "update --resolve foo", "update --keep --resolve foo", "update --resolve",
+    "update --resolve -", "update --resolve --resolve x", "serve", "serve x", "mirror", "mirror ask", "mirror take", "sync", "sync -"]
 
 
 def word_cases(script):
@@ -46,7 +47,7 @@ def word_cases(script):
         script.sinks(1, 0)
         words = text.encode().split(b" ")
         script.run(*words)
-        planned = text in PLANNED and (words[0] if words[0] in (b"batch", b"demo") else b"--resolve")
+        planned = text in PLANNED and (b"--resolve" if words[0] == b"update" else words[0])
         some.name = "words"
         some.compare(words, "1 - " + word(b"conary: not built %s\n" % planned) if planned else "2 - " + word(others.root_side.USAGE), {})
         script.case("words of a root")
@@ -59,6 +60,7 @@ def word_cases(script):
         script.disks()
         script.run(b"verify", *[b"foo"] * count)
         script.run(b"erase", *[b"foo"] * count)
+        script.run(b"update", *[b"foo"] * count)
         script.case("words of a root")
 
 
@@ -103,8 +105,6 @@ def package_cases(script):
 
 
 # ---- refusals of jobs, each alone and each two at once
-
-CLASH = [plans.contents(text) for text in plans.COLLIDING]
 
 # What a manifest of new:runtime has more, by the refusal that comes of it, in the order of the tests.
 REFUSED_LINES = {
@@ -411,6 +411,11 @@ def crash_cases(script):
     for words in READING:
         script.stops("root", 1, *with_root(script, ([M], [(FOO, ABX)], others.COOKED, words, b"")))
         script.case("stopped jobs")
+    # Cut off behind each call of the repository, from which a content comes.
+    bare = set_bytes([relative_of(others.V1, others.V2)], [])
+    for edit, words, data in (([], [b"update", F2], b""), ([], [b"update", b"-"], bare), ([(FOO, ABX)], [b"verify", b"--full"], b"")):
+        script.stops("repo", 1, *with_root(script, ([M], edit, others.BOTH, words, data)))
+        script.case("stopped jobs")
 
 
 def late_cases(script):
@@ -455,13 +460,16 @@ CASES = (
 )  # fmt: skip
 
 
-def say_all(script, groups=EXAMPLES + CASES):
-    """Says all lines but the calls of what isn't built yet; what an example answers has to be what is written here."""
-    Built.everything = script.leaves_out = True
-    for cases in groups:
+def lacking(script):
+    return [f"no example {name}" for name in ROWS if name not in script.cases]
+
+
+def say_all(script):
+    """Says all lines; each example has to be there, and what it answers has to be what is written with it."""
+    for cases in EXAMPLES + CASES:
         cases(script)
-    Built.everything = script.leaves_out = False
-    assert not WRONG, "\n".join(WRONG)
+    wrong = WRONG + lacking(script)
+    assert not wrong, "\n".join(wrong)
 
 
 def nodes_of(tree):
@@ -507,11 +515,11 @@ def nodes_of_one(node):
 def check():
     found = []
     compare_jobs(found)
-    Built.everything = True
     script = others.Script()
     for cases in EXAMPLES:
         cases(script)
     print(f"{len(script.lines)} lines of worked examples")
+    WRONG.extend(lacking(script))
     for cases in CASES:
         cases(script)
     print(f"{len(script.lines)} lines, {len(found)} jobs as root_model.py has them, {len(WRONG)} that differ")
