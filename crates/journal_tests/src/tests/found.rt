@@ -128,10 +128,13 @@ fn answer_text(alloc: Global, answer: Result<bool, Stop>) -> Result<String, Fail
         Err(stop) => stop,
     };
     match &stop {
-        Stop::Damaged { path } => with_path(alloc, "damaged ", path.text()),
-        Stop::Refused(Refusal::Parent { path }) => with_path(alloc, "parent ", path.get()),
-        _ => Err(Fail::from(stop)),
+        Stop::Damaged { path } => return with_path(alloc, "damaged ", path.text()),
+        Stop::Refused(Refusal::Parent { path }) => {
+            return with_path(alloc, "parent ", path.get());
+        }
+        _ => (),
     }
+    Err(Fail::from(stop))
 }
 
 #[test]
