@@ -1,9 +1,10 @@
 """The cases of tools/stream_vectors.py: each a call and its arguments, by topic.
 
 An argument is bytes, a text, or Terms. The bytes are made by hand or by the few builders below; what a call has to
-answer isn't said here.
+answer is said here of a few calls on items alone.
 """
 import hashlib
+import itertools
 
 MAGIC = b"CNYCS01\n"
 
@@ -48,6 +49,119 @@ def item(tag, value):
 
 def sha(text):
     return hashlib.sha1(text).digest()
+
+
+# ---- items
+
+# Steps of the call `items`: an item that is put whole, one that is begun, bytes that are appended; and the end of an item
+# whose value was put, and of one whose value failed.
+CLOSE, FAIL = "c", "f"
+
+
+def put(tag, value):
+    return b"p" + bytes([tag]) + value
+
+
+def begin(tag):
+    return b"o" + bytes([tag])
+
+
+def more(text):
+    return b"b" + text
+
+
+TWO_ITEMS = b"\x33\x00\x00\x00\x02ab\x3f\x00\x00\x00\x01"
+
+# Calls, with the answers that were found by hand.
+ITEMS_BY_HAND = [
+    (("items", b"x", put(0x33, b"ab"), put(0x3F, b"")), (b"x\x33\x00\x00\x00\x02ab\x3f\x00\x00\x00\x00").hex() + "\t"),
+    (
+        ("items", b"x", begin(0x30), put(0x33, b"ab"), CLOSE),
+        (b"x\x30\x00\x00\x00\x07\x33\x00\x00\x00\x02ab").hex() + "\t1 tag 48; ok; ",
+    ),
+    (
+        ("items", b"x", begin(0x30), put(0x33, b"ab"), CLOSE, begin(0x31), more(b"half"), FAIL),
+        (b"x\x30\x00\x00\x00\x07\x33\x00\x00\x00\x02ab").hex() + "\t1 tag 48; ok; 13 tag 49; memory; ",
+    ),
+    (("next_item", TWO_ITEMS, "0", b"\x33\x3f"), "tag 51 from 5 to 7"),
+    (("next_item", TWO_ITEMS, "0", b"\x30\x3f"), "fault at 0"),
+    (("next_item", TWO_ITEMS, "2", b"\x33\x00"), "fault at 12"),
+    (("next_item", TWO_ITEMS, "7", b"\x33\x3f"), "fault at 12"),
+    (("next_item", TWO_ITEMS, "7", b"\x33\x30"), "fault at 7"),
+    (("next_item", TWO_ITEMS, "9", b"\x00\x01"), "fault at 12"),
+    (("next_item", TWO_ITEMS, "12", b"\x33\x3f"), "fault at 12"),
+]
+
+# So many bytes that three of the four bytes of their number differ from each other and from 0.
+LONG = 0x01_02_03
+
+
+def long_step(tag):
+    return Terms(b"p" + bytes([tag]), (b"a", LONG))
+
+
+def written_items():
+    for call, _ in ITEMS_BY_HAND:
+        if call[0] == "items":
+            yield call
+    # Each tag, and each length up to where it takes a second byte.
+    for tag in range(256):
+        yield "items", b"", put(tag, b"v")
+    for length in (*range(12), 254, 255, 256, 257, 65_534, 65_535, 65_536):
+        for front in (b"", b"front"):
+            yield "items", front, Terms(b"p\x33", (b"a", length)), put(0x34, b"b")
+            yield "items", front, begin(0x33), Terms(b"b", (b"a", length)), CLOSE, put(0x34, b"b")
+            yield "items", front, begin(0x33), Terms(b"b", (b"a", length)), FAIL, put(0x34, b"b")
+    for front in (b"", b"x"):
+        yield "items", front, long_step(0x33)
+        yield "items", front, begin(0x30), long_step(0x33), long_step(0x34), CLOSE
+        yield "items", front, begin(0x30), long_step(0x33), begin(0x31), long_step(0x34), FAIL, CLOSE
+    # An item in an item in an item: what is put before and behind each, each of them put or failed.
+    inside = [(), (more(b""),), (more(b"x\x00"),), (put(0x35, b"ab"),), (put(0x35, b""), more(b"y"))]
+    for ends in itertools.product((CLOSE, FAIL), repeat=3):
+        for before, behind in itertools.product(inside, inside):
+            yield ("items", b"x", begin(0x30), *before, begin(0x31), *behind, begin(0x32), *before, ends[0], *behind, ends[1], *before, ends[2])
+    # Two items in one, one after the other.
+    for ends in itertools.product((CLOSE, FAIL), repeat=3):
+        for first, second in itertools.product(inside, inside):
+            yield ("items", b"", begin(0x30), begin(0x31), *first, ends[0], begin(0x31), *second, ends[1], ends[2])
+
+
+# Items in one another, with the tags 0, 1 and 0x33, so that many places look like the beginning of an item.
+NESTED = item(0x33, item(0, b"\x01") + item(1, item(0x33, b"")) + b"\x00\x00") + item(1, b"33") + item(0, b"")
+LONG_ITEM = b"\x33" + LONG.to_bytes(4, "big")
+TAG_LISTS = [b"", b"\x33", b"\x3f", b"\x33\x3f", b"\x3f\x33", b"\x30\x3f", b"\x33\x00", b"\x33\x30", b"\x00\x01", b"\x00", bytes(range(256))]
+
+
+def read_items():
+    for call, _ in ITEMS_BY_HAND:
+        if call[0] == "next_item":
+            yield call
+    # Each place with each list of tags.
+    for text in (TWO_ITEMS, TWO_ITEMS + b"z", NESTED):
+        for at in range(len(text) + 1):
+            yield from (("next_item", text, str(at), tags) for tags in TAG_LISTS)
+    # Each beginning, at its front, and behind an item.
+    for length in range(len(NESTED) + 1):
+        yield "next_item", NESTED[:length], "0", b"\x33"
+        yield "next_item", NESTED[:length], "0", b"\x01"
+    for length in range(len(TWO_ITEMS) + 1):
+        for at in range(length + 1):
+            yield "next_item", TWO_ITEMS[:length], str(at), b"\x33\x3f"
+    # Each tag, and each value of each byte of a length.
+    for value in range(256):
+        yield "next_item", bytes([value]) + b"\x00\x00\x00\x01v", "0", bytes([value])
+        yield "next_item", bytes([value]) + b"\x00\x00\x00\x01v", "0", b"\x33"
+        for place in range(4):
+            size = bytearray(4)
+            size[place] = value
+            yield "next_item", b"\x33" + bytes(size) + b"0123456789", "0", b"\x33"
+    for rest in (LONG - 1, LONG, LONG + 1):
+        yield "next_item", Terms(LONG_ITEM, (b"a", rest)), "0", b"\x33"
+        yield "next_item", Terms(b"x" + LONG_ITEM, (b"a", rest)), "1", b"\x33"
+    for size in (b"\xff" * 4, b"\x7f\xff\xff\xff", b"\x80\x00\x00\x00", b"\x00\x01\x00\x00", b"\x00\x00\x01\x00"):
+        yield "next_item", b"\x33" + size + b"a", "0", b"\x33"
+        yield "next_item", b"\x33" + size + b"a", "0", b"\x34"
 
 
 # ---- file records
@@ -751,6 +865,8 @@ def texts():
 
 
 CASES = [
+    ("items written", written_items),
+    ("items read", read_items),
     ("records", records),
     ("lists", lists),
     ("troves", troves),

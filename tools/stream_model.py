@@ -13,6 +13,10 @@ class NotOfForm(Exception):
     """These bytes aren't what has to stand here."""
 
 
+class FaultAt(Exception):
+    """No item stands at a place: the place of the fault."""
+
+
 def need(holds):
     if not holds:
         raise NotOfForm
@@ -195,6 +199,19 @@ def item(tag, value):
 
 def items(tag, values):
     return b"".join(item(tag, value) for value in values)
+
+
+def next_item(text, at, tags):
+    """The tag of the item at a place, and where its value stands, from and to.
+
+    Another tag than these is at fault where it stands; else the fault of an item that isn't all there is where the bytes end.
+    """
+    if at < len(text) and text[at] not in tags:
+        raise FaultAt(at)
+    end = at + 5 + number(text[at + 1 : at + 5])
+    if len(text) < at + 5 or len(text) < end:
+        raise FaultAt(len(text))
+    return text[at], at + 5, end
 
 
 def read_path(text):

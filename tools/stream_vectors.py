@@ -15,7 +15,7 @@ sys.dont_write_bytecode = True
 
 import stream_model as model
 from stream_model import NotOfForm, directory, id_bytes, id_of_text, id_text, item, items, link, need, regular, str_field
-from stream_cases import CASES, Terms
+from stream_cases import CASES, ITEMS_BY_HAND, Terms
 
 # So many elements of a list are shown.
 SHOWN = 8
@@ -65,6 +65,46 @@ def fields(*texts):
 
 def written(again, text):
     return "same" if again == text else (b"x" + again).hex()
+
+
+# ---- calls on items
+
+
+def shown_bytes(text):
+    return digest(text) if len(text) > 500 else text.hex()
+
+
+def written_items(front, *steps):
+    """What stands behind the front once items are put, begun and ended. One that is begun holds what comes up to its end;
+    where its value failed, nothing of it stands."""
+    # The tag of each item that isn't ended yet, and what stands before it.
+    open_items, text, notes = [], front, ""
+    for step in steps:
+        kind, rest = step[:1], step[1:]
+        if kind == b"p":
+            text += item(rest[0], rest[1:])
+        elif kind == b"b":
+            text += rest
+        elif kind == b"o":
+            # Each item around it has a head of five bytes too.
+            place = sum(len(before) + 5 for _, before in open_items) + len(text)
+            notes += f"{place} tag {rest[0]}; "
+            open_items.append((rest[0], text))
+            text = b""
+        else:
+            tag, before = open_items.pop()
+            text = before + (item(tag, text) if kind == b"c" else b"")
+            notes += "ok; " if kind == b"c" else "memory; "
+    assert open_items == []
+    return fields(shown_bytes(text), notes)
+
+
+def next_item(text, at, tags):
+    try:
+        tag, start, end = model.next_item(text, int(at), tags)
+    except model.FaultAt as fault:
+        return f"fault at {fault.args[0]}"
+    return f"tag {tag} from {start} to {end}"
 
 
 # ---- calls on records
@@ -340,6 +380,8 @@ def refusal(kind, *rest):
 
 
 CALLS = {
+    "items": written_items,
+    "next_item": next_item,
     "record": record,
     "record_full": lambda text: record(text, True),
     "make_record": make_record,
@@ -403,7 +445,14 @@ def answers_in(call, arguments):
     return len(argument_bytes(arguments[1])) + 1 if call == "beginnings" else 1
 
 
+def check_by_hand():
+    for call, wanted in ITEMS_BY_HAND:
+        if answer(call[0], call[1:]) != wanted:
+            sys.exit(f"{call} is answered {answer(call[0], call[1:])!r} and not {wanted!r}")
+
+
 def main(mode):
+    check_by_hand()
     total = [0, 0]
     for topic, cases in CASES:
         number = [0, 0]

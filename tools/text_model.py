@@ -66,6 +66,18 @@ def path_parts(text):
     return [text, last, above or b"/", parent, truth(reserved), truth(fixed)]
 
 
+def ends(text):
+    """What stands behind the last slash of a text, and before it; `/` where nothing does."""
+    before, _, last = text.rpartition(b"/")
+    return [last, before or b"/"]
+
+
+def forbidden(path):
+    """Whether no trove may record the path, as a directory and as anything else: it is reserved, or fixed and no directory."""
+    *_, reserved, fixed = path_parts(path)
+    return [reserved, truth(b"yes" in (reserved, fixed))]
+
+
 def joined(path, last):
     text = path.rstrip(b"/") + b"/" + last
     check_path(text)
@@ -86,6 +98,24 @@ def mode_answer(text):
 
 def number_answer(text):
     return [b"ok", text] if matches(rb"0|[1-9][0-9]{0,18}", text) else [b"none"]
+
+
+def schedule_answer(calls, faults, more, *fails):
+    """A letter for each further call: `f` where its number is among those that are to fail. Then the counts, which stay at
+    their greatest value, 2^64 - 1."""
+    calls, faults, letters = int(calls), int(faults), b""
+    for _ in range(int(more)):
+        calls = min(calls + 1, 2**64 - 1)
+        fails_now = b"%d" % calls in fails
+        faults = min(faults + fails_now, 2**64 - 1)
+        letters += b"f" if fails_now else b"-"
+    return [b"ok", letters, b"%d" % calls, b"%d" % faults]
+
+
+def written_over(data, at, more, kept):
+    """The first bytes of those that stand once some are written over by others from a place on."""
+    at = int(at)
+    return [(data[:at] + more + data[at + len(more) :])[: int(kept)].hex().encode()]
 
 
 def str_field(value):
@@ -381,6 +411,21 @@ def checked(text, check):
     return text
 
 
+def mode_fields(text):
+    return mode_answer(text)[1:]
+
+
+def byte_reader(check):
+    """The answer of a reader of bytes: `ok` and their digits, or `bad`."""
+
+    def parts(data):
+        need(is_utf8(data))
+        check(data)
+        return [data.hex().encode()]
+
+    return reader(parts)
+
+
 def reader(parts):
     """The answer of a reader: `ok` and the parts, or `bad`."""
 
@@ -430,6 +475,8 @@ ANSWERS = {
     "name_order": order,
     "path": reader(path_parts),
     "path_order": order,
+    "forbidden": forbidden,
+    "ends": lambda text: [b"ok", *ends(text)],
     "join": reader(lambda path, last: [joined(path, last)]),
     "target": reader(lambda text: [checked(text, check_target)]),
     "target_equality": equality,
@@ -441,12 +488,21 @@ ANSWERS = {
     "next_str": field_answer,
     "text_copy": lambda text: [b"same", text],
     "bytes_copy": lambda data, more: [(data + more).hex().encode()],
-    "file_copy": lambda data: [b"ok", b"384", b"0600", data.hex().encode()],
-    "stop_copy": lambda: [b"stack empty"],
+    "dir_copy": lambda mode: [b"dir", *mode_fields(mode)],
+    "file_copy": lambda data, mode=b"0600": [b"file", *mode_fields(mode), data.hex().encode()],
+    "link_copy": lambda target: [b"link", target],
+    "stop_copy": lambda *stop: list(stop),
     "names_copy": lambda *names: [b"ok", *names],
     "paths_copy": lambda *paths: [b"ok", *paths],
     "numbers_copy": lambda *numbers: [b"ok", *numbers],
     "count_copy": lambda *numbers: [b"same", b".".join(numbers)],
+    "write_over": written_over,
+    "path_bytes": byte_reader(check_path),
+    "target_bytes": byte_reader(check_target),
+    "name_bytes": byte_reader(name_kind),
+    "text_bytes": byte_reader(lambda data: None),
+    "schedule": lambda calls, *fails: schedule_answer(b"0", b"0", calls, *fails),
+    "counted_schedule": schedule_answer,
     "label": reader(lambda text: [label_text(label_of(text, None))]),
     "label_equality": equality,
     "version": reader(lambda text: version_of(text, False).parts()),

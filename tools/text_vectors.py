@@ -7,9 +7,10 @@ Usage: tools/text_vectors.py stdin >crates/text_vectors/stdin
 A line of the calls is the name of a call and its arguments, with a tab before each: a text, or `0x` and the hexadecimal
 digits of its bytes. A line of the answers is the answer to the call of its number. The answers come from
 tools/text_model.py, which is made from docs/FORMATS.md alone; nothing is shared with the program that is tested. The calls
-are the worked cases of tools/text_cases.py, whose answers are also written out there, then texts made from good ones by
-small changes, and texts made at random, the same in each run.
+are the worked cases of tools/text_cases.py, whose answers are also written out there, then calls by each byte, place or
+list, texts made from good ones by small changes, and texts made at random, the same in each run.
 """
+import itertools
 import sys
 
 # So that a run leaves nothing behind in tools/.
@@ -202,7 +203,132 @@ def byte_calls(draw):
         yield "next_str", bytes(data), b"%d" % draw.below(len(data) + 1)
 
 
+def single_byte_calls():
+    """Each byte alone, and behind or between others."""
+    for value in range(256):
+        byte = bytes([value])
+        yield "word", byte
+        yield "word", b"a" + byte
+        yield "path_bytes", b"/" + byte
+        yield "path_bytes", b"/." + byte
+        yield "path_bytes", b"/a" + byte + b"b"
+        yield "target_bytes", byte
+        yield "target_bytes", b"a" + byte
+        yield "name_bytes", byte
+        yield "name_bytes", b"a" + byte
+        yield "name_bytes", b"a" + byte + b"b"
+        yield "text_bytes", byte
+        yield "text_bytes", b"a" + byte + b"b"
+
+
+def utf8_candidates():
+    """Sequences of two, three and four bytes with the lowest and highest values of each, and values beside them."""
+    seconds = b"\x7f\x80\x8f\x90\x9f\xa0\xbf\xc0"
+    yield from (bytes(pair) for pair in itertools.product(b"\xc0\xc1\xc2\xdf", seconds))
+    for head in itertools.product(b"\xe0\xe1\xec\xed\xee\xef", seconds):
+        yield bytes(head)
+        yield from (bytes(head) + bytes([last]) for last in b"\x7f\x80\xbf\xc0")
+    for head in itertools.product(b"\xf0\xf1\xf3\xf4\xf5", seconds):
+        yield from (bytes(head) + rest for rest in (b"\x80", b"\x7f\x80", b"\x80\x7f", b"\x80\x80", b"\xbf\xbf", b"\x80\xc0", b"\xc0\x80"))
+
+
+def utf8_calls():
+    for data in utf8_candidates():
+        yield "text_bytes", data
+    for data in utf8_candidates():
+        yield "path_bytes", b"/" + data
+        yield "target_bytes", data + b"a"
+
+
+# Paths in no order, with the greatest part and the greatest path, and last names good and bad.
+PATHS = [b"/", b"/a", b"/usr", b"/usr-", b"/usr/lib", b"/usr/lib64", b"/var", b"/var/li", b"/var/lib", b"/var/lib-", "/é/a b".encode(), b"/..."]
+RESERVED = [b"/var/lib/conarydb" + rest for rest in (b"", b"/w", b"/.a/b", b"/conarydb", b"-", b"2", b".d/w", b"~/w", b"0/w")]
+UNLIKE = [b"/variable", b"/var/lib/conaryd", b"/var/lib/Conarydb", b"/var/conarydb", b"/usr/var/lib/conarydb", b"/Var/lib", b"/var/lib/a", b"/lib"]
+LONG_PATHS = [b"/" + b"a" * 255, (b"/" + b"a" * 203) * 5, (b"/" + b"a" * 203) * 5 + b"/b", (b"/" + b"a" * 203) * 5 + b"/bc", (b"/" + b"a" * 203) * 5 + b"/bcd"]
+LASTS = [b"", b"a", b".", b"..", b"...", b"a/b", b"a/", b"/a", b"a//b", b"a/.", b"../a", b"/", b"//", "é".encode(), b"\n", b"a\x7f", b"a\x1fb", b" "]
+LONG_LASTS = [b"a" * 255, b"a" * 256, b"b/" + b"a" * 255, b"b/" + b"a" * 256]
+
+NAMES = [b"a", b"a:b", b"ab", b"a-b", b"A", b"9", b"group-a", b"group:a"]
+TARGETS = [b"a", b"ab", b"a/", b"/a", "é".encode()]
+
+
+def path_calls():
+    for path in PATHS + RESERVED + UNLIKE:
+        yield "path", path
+        yield "forbidden", path
+    for text in (b"", b"a", b"a/", b"//", b"a//b", b"/a//", b"..", b"../..", "é/é".encode(), b"/a/b/c/"):
+        yield "ends", text
+    for path in PATHS[:6] + LONG_PATHS:
+        yield from (("join", path, last) for last in LASTS + LONG_LASTS)
+    yield from (("path_order", first, second) for first in PATHS + RESERVED[:3] for second in PATHS + RESERVED[:3])
+    yield from (("name_order", first, second) for first in NAMES for second in NAMES)
+    yield from (("target_equality", first, second) for first in TARGETS for second in TARGETS)
+
+
+def copy_calls():
+    for text in (b"", b"a", "é b".encode(), b"a" * 5_000):
+        yield "text_copy", text
+        yield "names_copy", text, b"x", text
+        yield "bytes_copy", text, text
+        yield "file_copy", text, b"0644"
+    for length in range(9):
+        yield "bytes_copy", bytes(range(length)), b""
+        yield "bytes_copy", b"", bytes(range(length))
+        yield "bytes_copy", bytes(range(length)), bytes(range(0xF8, 0xF8 + length % 8))
+    for mode in (b"0000", b"0001", b"0777", b"4755", b"7777"):
+        yield "dir_copy", mode
+        yield "file_copy", b"\x00\xff", mode
+    for target in (b"a", b"/", b"a" * 1024, "é//".encode()):
+        yield "link_copy", target
+    for path in PATHS + LONG_PATHS:
+        yield "stop_copy", b"damaged", path
+        yield "stop_copy", b"far damaged", path
+        yield "paths_copy", path, b"/", path
+    yield ("paths_copy", *PATHS)
+    yield ("numbers_copy", *[b"%d" % number for number in range(40)])
+
+
+def written_calls():
+    """Each place and each number of bytes, up to the end, and each length that is kept, up to one above."""
+    data = b"abcde"
+    for at in range(len(data) + 1):
+        for count in range(len(data) + 1 - at):
+            for kept in range(len(data) + 2):
+                yield "write_over", data, b"%d" % at, b"vwxyz"[:count], b"%d" % kept
+    yield "write_over", b"", b"0", b"", b"0"
+    yield "write_over", data, b"0", b"", b"18446744073709551615"
+
+
+def schedule_calls():
+    """So many calls, and each set of the first four as those that are to fail; other lists; and counts near the greatest."""
+    for more in range(6):
+        for size in range(5):
+            for fails in itertools.combinations((b"1", b"2", b"3", b"4"), size):
+                yield ("schedule", b"%d" % more, *fails)
+    for fails in ((b"4", b"2"), (b"2", b"2"), (b"0",), (b"0", b"1"), (b"18446744073709551615",), (b"100", b"200", b"1")):
+        yield ("schedule", b"5", *fails)
+        yield ("schedule", b"200", *fails)
+        yield ("counted_schedule", b"98", b"7", b"5", *fails)
+    for calls in range(2**64 - 4, 2**64):
+        for fail in range(2**64 - 4, 2**64):
+            yield "counted_schedule", b"%d" % calls, b"0", b"4", b"%d" % fail
+    for faults in range(2**64 - 4, 2**64):
+        yield "counted_schedule", b"0", b"%d" % faults, b"4", b"1", b"2", b"4"
+    yield "counted_schedule", b"18446744073709551614", b"18446744073709551614", b"3", b"18446744073709551615"
+
+
+def each_calls():
+    """Calls by each byte, place or list, none of them at random."""
+    yield from single_byte_calls()
+    yield from utf8_calls()
+    yield from path_calls()
+    yield from copy_calls()
+    yield from written_calls()
+    yield from schedule_calls()
+
+
 def further_calls():
+    yield from each_calls()
     draw = Draw()
     yield from changed_calls(draw)
     yield from made_calls(draw)

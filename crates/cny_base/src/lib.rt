@@ -16,8 +16,6 @@ mod schedule;
 mod stop;
 mod str_field;
 mod target;
-#[cfg(test)]
-mod tests;
 mod text;
 
 pub use bytes::Bytes;

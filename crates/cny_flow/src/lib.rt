@@ -14,6 +14,3 @@ pub use memory_sink::MemorySink;
 pub use memory_source::MemorySource;
 pub use std_sink::StdSink;
 pub use std_source::StdSource;
-
-#[cfg(test)]
-mod tests;

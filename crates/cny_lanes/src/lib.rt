@@ -3,7 +3,5 @@
 
 mod compare;
 mod kernel;
-#[cfg(test)]
-mod tests;
 
 pub use compare::{count_different, equal, first_difference};

@@ -2,7 +2,5 @@
 #![tactic(auto)]
 
 mod item;
-#[cfg(test)]
-mod tests;
 
 pub use item::{Item, OpenItem, close_item, next_item, one_item, open_item, put_item};

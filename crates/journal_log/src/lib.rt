@@ -10,8 +10,6 @@ mod read_put;
 mod rules;
 mod search;
 mod staged;
-#[cfg(test)]
-mod tests;
 
 pub use decode::decode_log;
 pub use encode::encode_log;

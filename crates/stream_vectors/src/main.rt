@@ -6,6 +6,7 @@
 mod answer;
 mod arguments;
 mod damages;
+mod items;
 mod lists;
 mod records;
 mod refusals;
@@ -18,9 +19,11 @@ use crate::arguments::arguments_of;
 use std::alloc::Global;
 use std::io::{self, BufRead, BufReader, BufWriter, Write};
 
-// What a call on records or lists answers.
+// What a call on items, records or lists answers.
 fn of_records(alloc: Global, name: &str, arguments: &[Vec<u8>]) -> Result<String, Stop> {
     match name {
+        "items" => items::written(alloc, arguments),
+        "next_item" => items::next(alloc, arguments),
         "record" => records::record(alloc, arguments),
         "record_full" => records::full_record(alloc, arguments),
         "owner" => records::owner(alloc, arguments),

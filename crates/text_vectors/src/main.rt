@@ -3,10 +3,13 @@
 //! Input and wanted output come from tools/text_vectors.py, which is made from the rules of the formats alone.
 #![tactic(auto)]
 
+mod copies;
 mod deps;
 mod flavors;
 mod ids;
 mod line;
+mod readings;
+mod schedules;
 mod texts;
 mod versions;
 
@@ -22,6 +25,8 @@ fn text_call(alloc: Global, name: &str, arguments: &[Vec<u8>]) -> Result<String,
         "name_order" => texts::name_order(alloc, arguments),
         "path" => texts::path(alloc, arguments),
         "path_order" => texts::path_order(alloc, arguments),
+        "forbidden" => texts::forbidden(alloc, arguments),
+        "ends" => texts::ends(alloc, arguments),
         "join" => texts::join(alloc, arguments),
         "target" => texts::target(alloc, arguments),
         "target_equality" => texts::target_equality(alloc, arguments),
@@ -35,17 +40,26 @@ fn text_call(alloc: Global, name: &str, arguments: &[Vec<u8>]) -> Result<String,
     }
 }
 
-// What a call that copies a value answers.
+// What a call on a value that is copied, bytes that are read or written over, or a schedule answers.
 fn copy_call(alloc: Global, name: &str, arguments: &[Vec<u8>]) -> Result<String, Stop> {
     match name {
-        "text_copy" => texts::text_copy(alloc, arguments),
-        "bytes_copy" => texts::bytes_copy(alloc, arguments),
-        "file_copy" => texts::file_copy(alloc, arguments),
-        "stop_copy" => texts::stop_copy(alloc),
-        "names_copy" => texts::names_copy(alloc, arguments),
-        "paths_copy" => texts::paths_copy(alloc, arguments),
-        "numbers_copy" => texts::numbers_copy(alloc, arguments),
+        "text_copy" => copies::text(alloc, arguments),
+        "bytes_copy" => copies::bytes(alloc, arguments),
+        "dir_copy" => copies::dir(alloc, arguments),
+        "file_copy" => copies::file(alloc, arguments),
+        "link_copy" => copies::link(alloc, arguments),
+        "stop_copy" => copies::stop(alloc, arguments),
+        "names_copy" => copies::names(alloc, arguments),
+        "paths_copy" => copies::paths(alloc, arguments),
+        "numbers_copy" => copies::numbers(alloc, arguments),
         "count_copy" => versions::count_copy(alloc, arguments),
+        "write_over" => copies::write_over(alloc, arguments),
+        "path_bytes" => readings::path(alloc, arguments),
+        "target_bytes" => readings::target(alloc, arguments),
+        "name_bytes" => readings::name(alloc, arguments),
+        "text_bytes" => readings::text(alloc, arguments),
+        "schedule" => schedules::fresh(alloc, arguments),
+        "counted_schedule" => schedules::counted(alloc, arguments),
         _ => Err(Stop::Unreadable),
     }
 }

@@ -7,9 +7,8 @@ use crate::line::{
     yes_or_no,
 };
 use cny_base::{
-    Bytes, Copies, Fails, Fault, Mode, Name, NameKind, Names, Node, OutOfMemory, Path, Paths,
-    Refusal, Target, Text, TextFault, decimal, is_word, last_name, next_str, octal, parent_of,
-    put_str, read_decimal, read_octal,
+    Bytes, Copies, Mode, Name, NameKind, Path, Target, decimal, is_word, last_name, next_str,
+    octal, parent_of, put_str, read_decimal, read_octal,
 };
 use std::alloc::Global;
 
@@ -77,6 +76,22 @@ pub fn path(alloc: Global, arguments: &[Vec<u8>]) -> Result<String, Stop> {
     }
 }
 
+/// `is_forbidden` of a path: of a directory, and of anything else.
+pub fn forbidden(alloc: Global, arguments: &[Vec<u8>]) -> Result<String, Stop> {
+    let path = Path::read(alloc, text_at(arguments, 0)?)?;
+    let mut line = word(alloc, yes_or_no(path.is_forbidden(true)))?;
+    push_field(&mut line, yes_or_no(path.is_forbidden(false)))?;
+    Ok(line)
+}
+
+/// `last_name` and `parent_of` of any text.
+pub fn ends(alloc: Global, arguments: &[Vec<u8>]) -> Result<String, Stop> {
+    let text = text_at(arguments, 0)?;
+    let mut line = ok_text(alloc, last_name(text))?;
+    push_field(&mut line, parent_of(text))?;
+    Ok(line)
+}
+
 /// `join` of a path and a last name.
 pub fn join(alloc: Global, arguments: &[Vec<u8>]) -> Result<String, Stop> {
     let path = Path::read(alloc, text_at(arguments, 0)?)?;
@@ -108,19 +123,26 @@ pub fn target_equality(alloc: Global, arguments: &[Vec<u8>]) -> Result<String, S
     equality(alloc, first == second)
 }
 
-// The bits of a mode in decimal digits, and its octal text.
-fn bits_and_text(alloc: Global, mode: Mode) -> Result<String, Stop> {
-    let bits = mode.bits();
+/// Appends the bits of a mode in decimal digits, and its octal text.
+pub fn push_mode(alloc: Global, line: &mut String, mode: Mode) -> Result<(), Stop> {
+    let bits = format!(in alloc; "{}", mode.bits())?;
+    push_field(line, bits.as_str())?;
     match str::from_utf8(&octal(mode)) {
-        Ok(text) => Ok(format!(in alloc; "ok\t{bits}\t{text}")?),
+        Ok(text) => Ok(push_field(line, text)?),
         Err(_) => Err(Stop::Unreadable),
     }
 }
 
-// The same of a mode, where there is one.
+fn ok_mode(alloc: Global, mode: Mode) -> Result<String, Stop> {
+    let mut line = word(alloc, "ok")?;
+    push_mode(alloc, &mut line, mode)?;
+    Ok(line)
+}
+
+// The bits and the text of a mode, where there is one.
 fn mode_parts(alloc: Global, mode: Option<Mode>) -> Result<String, Stop> {
     match mode {
-        Some(mode) => bits_and_text(alloc, mode),
+        Some(mode) => ok_mode(alloc, mode),
         None => word(alloc, "none"),
     }
 }
@@ -150,131 +172,6 @@ pub fn number(alloc: Global, arguments: &[Vec<u8>]) -> Result<String, Stop> {
 pub fn decimal_text(alloc: Global, arguments: &[Vec<u8>]) -> Result<String, Stop> {
     let text = decimal(alloc, number_at(arguments, 0)?)?;
     Ok(text.into_string())
-}
-
-/// A copy of a text.
-pub fn text_copy(alloc: Global, arguments: &[Vec<u8>]) -> Result<String, Stop> {
-    let text = Text::new(alloc, text_at(arguments, 0)?)?;
-    let text = Text::from_string(text.into_string());
-    let copy = text.copy()?;
-    let mut line = equality(alloc, copy == text)?;
-    push_field(&mut line, copy.get())?;
-    Ok(line)
-}
-
-/// A copy of bytes behind which others were put.
-pub fn bytes_copy(alloc: Global, arguments: &[Vec<u8>]) -> Result<String, Stop> {
-    let bytes = Bytes::new(alloc, bytes_at(arguments, 0)?)?;
-    let mut bytes = Bytes::from_vec(bytes.into_vec());
-    bytes.push_slice(bytes_at(arguments, 1)?)?;
-    let copy = bytes.copy()?;
-    Ok(hex::encode(alloc, copy.get())?)
-}
-
-// The mode and the bytes of a file.
-fn file_parts(alloc: Global, mode: Mode, bytes: &Bytes) -> Result<String, Stop> {
-    let mut line = mode_parts(alloc, Some(mode))?;
-    let digits = hex::encode(alloc, bytes.get())?;
-    push_field(&mut line, digits.as_str())?;
-    Ok(line)
-}
-
-fn node_parts(alloc: Global, node: &Node) -> Result<String, Stop> {
-    match node {
-        Node::File { mode, bytes } => file_parts(alloc, *mode, bytes),
-        _ => word(alloc, "no file"),
-    }
-}
-
-fn parts_of_copy(alloc: Global, node: &Node) -> Result<String, Stop> {
-    let copy = node.copy()?;
-    node_parts(alloc, &copy)
-}
-
-/// A copy of a file with these bytes, for the owner alone.
-pub fn file_copy(alloc: Global, arguments: &[Vec<u8>]) -> Result<String, Stop> {
-    let bytes = Bytes::new(alloc, bytes_at(arguments, 0)?)?;
-    let mode = Mode::owner_only();
-    parts_of_copy(alloc, &Node::File { mode, bytes })
-}
-
-// The stop that comes of a copy of a refusal.
-fn stop_of_copy(fault: &Fault) -> Result<cny_base::Stop, OutOfMemory> {
-    let copy = fault.copy()?;
-    Ok(cny_base::Stop::from(copy))
-}
-
-fn stop_word(stop: &cny_base::Stop) -> &'static str {
-    match stop {
-        cny_base::Stop::Refused(Refusal::StackEmpty) => "stack empty",
-        _ => "other",
-    }
-}
-
-fn word_of_copy(stop: &cny_base::Stop) -> Result<&'static str, OutOfMemory> {
-    let copy = stop.copy()?;
-    Ok(stop_word(&copy))
-}
-
-/// A copy of the stop that comes of a copy of a refusal, that of an empty stack.
-pub fn stop_copy(alloc: Global) -> Result<String, Stop> {
-    let stop = stop_of_copy(&Fault::Refused(Refusal::StackEmpty))?;
-    word(alloc, word_of_copy(&stop)?)
-}
-
-fn names_of(alloc: Global, text: &str) -> Result<Names, Stop> {
-    let mut items = Vec::new(alloc);
-    items.push(Text::new(alloc, text)?)?;
-    Ok(Names::new(Names::new(items).into_vec()))
-}
-
-fn only_name(alloc: Global, names: &[Text]) -> Result<String, Stop> {
-    match names {
-        [name] => ok_text(alloc, name.get()),
-        _ => word(alloc, "other"),
-    }
-}
-
-/// A copy of the list of a text.
-pub fn names_copy(alloc: Global, arguments: &[Vec<u8>]) -> Result<String, Stop> {
-    let names = names_of(alloc, text_at(arguments, 0)?)?;
-    let copy = names.copy()?;
-    only_name(alloc, copy.get())
-}
-
-fn paths_of(alloc: Global, text: &str) -> Result<Paths, Stop> {
-    let mut items = Vec::new(alloc);
-    items.push(Path::read(alloc, text)?)?;
-    Ok(Paths::new(Paths::new(items).into_vec()))
-}
-
-fn only_path(alloc: Global, paths: &[Path]) -> Result<String, Stop> {
-    match paths {
-        [path] => ok_text(alloc, path.text()),
-        _ => word(alloc, "other"),
-    }
-}
-
-/// A copy of the list of a path.
-pub fn paths_copy(alloc: Global, arguments: &[Vec<u8>]) -> Result<String, Stop> {
-    let paths = paths_of(alloc, text_at(arguments, 0)?)?;
-    let copy = paths.copy()?;
-    only_path(alloc, copy.get())
-}
-
-fn both_numbers(alloc: Global, numbers: &[u64]) -> Result<String, Stop> {
-    match numbers {
-        [first, second] => Ok(format!(in alloc; "ok\t{first}\t{second}")?),
-        _ => word(alloc, "other"),
-    }
-}
-
-/// A copy of the list of two numbers.
-pub fn numbers_copy(alloc: Global, arguments: &[Vec<u8>]) -> Result<String, Stop> {
-    let items = [number_at(arguments, 0)?, number_at(arguments, 1)?].to_vec(alloc)?;
-    let numbers = Fails::new(Fails::new(items).into_vec());
-    let copy = numbers.copy()?;
-    both_numbers(alloc, copy.get())
 }
 
 // The bytes with the field of a value behind them.

@@ -1,5 +1,5 @@
 //! The three calls on every length up to 130, with one difference at each place, and on a row of three bytes.
-use crate::{count_different, equal, first_difference};
+use cny_lanes::{count_different, equal, first_difference};
 use std::alloc::AllocError;
 
 // What `equal`, `first_difference` and `count_different` answer; none where the lengths differ.

@@ -1,5 +1,5 @@
-use crate::{FlowFault, MemorySink, MemorySource, Sink, Source, StdSink, StdSource};
 use cny_base::{Bytes, Fails};
+use cny_flow::{FlowFault, MemorySink, MemorySource, Sink, Source, StdSink, StdSource};
 use std::alloc::{AllocError, Global};
 use std::io;
 use std::io::{Read, Write};
