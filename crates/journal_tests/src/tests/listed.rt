@@ -1,4 +1,4 @@
-// A disk that lists the first calls that are made of it.
+// A disk that lists what is looked at.
 ghost use Rattle.std.specs.Prelude.{◌≡◌, OnErr};
 ghost use Rattle.tree_disk.specs.declared.disk.DiskStop.TheVariants.{Memory};
 ghost use Rattle.tree_disk.specs.Untold.{untold, untold_laws};
@@ -8,36 +8,53 @@ use disk_words::Quiet;
 use std::alloc::Global;
 use tree_disk::{DiskStop, Look, TreeDisk};
 
-/// Each call is a word and its path, with a semicolon behind.
-#[derive(Drop)]
+/// A disk, the paths that were looked at, with a semicolon behind each, and how many calls had been made before the first
+/// sync, none before that.
 pub struct ListedDisk {
-    inner: Quiet,
-    pub calls: String,
-    left: u32,
+    pub inner: Quiet,
+    pub looks: String,
+    pub calls: Option<u64>,
+}
+
+// Written by hand, so that to let a value go is a single call wherever a function ends early.
+impl Drop for ListedDisk {
+    fn drop(self) {
+        let ListedDisk {
+            inner: _inner,
+            looks: _looks,
+            calls: _calls,
+        } = self;
+    }
 }
 
 impl ListedDisk {
-    /// A disk that lists so many calls.
-    pub fn new(alloc: Global, inner: Quiet, left: u32) -> ListedDisk {
+    /// The disk before its first call.
+    pub fn new(alloc: Global, inner: Quiet) -> Self {
         ListedDisk {
             inner,
-            calls: String::new(alloc),
-            left,
+            looks: String::new(alloc),
+            calls: None,
         }
     }
 
-    fn add(&mut self, word: &str, path: &str) -> Result<(), DiskStop>
+    fn note_look(&mut self, path: &str) -> Result<(), DiskStop>
         ensures inner { self.new.inner ≡ self.old.inner }
         ensures memory { OnErr result (result ≡ Err Memory) }
     {
-        if self.left == 0 {
+        if self.calls.is_some() {
             return Ok(());
         }
-        self.left -= 1;
-        self.calls.push_str(word)?;
-        self.calls.push_str(path)?;
-        self.calls.push_str(";")?;
+        self.looks.push_str(path)?;
+        self.looks.push(';')?;
         Ok(())
+    }
+
+    fn note_sync(&mut self)
+        ensures inner { self.new.inner ≡ self.old.inner }
+    {
+        if self.calls.is_none() {
+            self.calls = Some(self.inner.calls);
+        }
     }
 }
 
@@ -45,7 +62,7 @@ impl TreeDisk for ListedDisk {
     ghost disk = { untold (λ d. d.inner.faults) };
 
     fn look(&mut self, alloc: Global, path: &Path) -> Result<Look, DiskStop> {
-        self.add("look ", path.text())?;
+        self.note_look(path.text())?;
         self.inner.look(alloc, path)
     }
 
@@ -56,47 +73,39 @@ impl TreeDisk for ListedDisk {
         at: u64,
         buf: &mut [u8],
     ) -> Result<usize, DiskStop> {
-        self.add("read_at ", path.text())?;
         self.inner.read_at(alloc, path, at, buf)
     }
 
     fn list(&mut self, alloc: Global, path: &Path) -> Result<Names, DiskStop> {
-        self.add("list ", path.text())?;
         self.inner.list(alloc, path)
     }
 
     fn append(&mut self, alloc: Global, path: &Path, bytes: &[u8]) -> Result<(), DiskStop> {
-        self.add("append ", path.text())?;
         self.inner.append(alloc, path, bytes)
     }
 
     fn make_dir(&mut self, alloc: Global, path: &Path, mode: Mode) -> Result<(), DiskStop> {
-        self.add("make_dir ", path.text())?;
         self.inner.make_dir(alloc, path, mode)
     }
 
     fn make_link(&mut self, alloc: Global, path: &Path, target: &Target) -> Result<(), DiskStop> {
-        self.add("make_link ", path.text())?;
         self.inner.make_link(alloc, path, target)
     }
 
     fn set_mode(&mut self, alloc: Global, path: &Path, mode: Mode) -> Result<(), DiskStop> {
-        self.add("set_mode ", path.text())?;
         self.inner.set_mode(alloc, path, mode)
     }
 
     fn remove(&mut self, alloc: Global, path: &Path) -> Result<(), DiskStop> {
-        self.add("remove ", path.text())?;
         self.inner.remove(alloc, path)
     }
 
     fn rename(&mut self, alloc: Global, from: &Path, to: &Path) -> Result<(), DiskStop> {
-        self.add("rename ", from.text())?;
         self.inner.rename(alloc, from, to)
     }
 
     fn sync(&mut self, alloc: Global) -> Result<(), DiskStop> {
-        self.add("sync", "")?;
+        self.note_sync();
         self.inner.sync(alloc)
     }
 

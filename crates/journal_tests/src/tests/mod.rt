@@ -1,7 +1,6 @@
-mod applied;
+mod answers;
 mod crashes;
-mod found;
 mod listed;
 mod runs;
-mod seen;
-mod trees;
+mod tables;
+mod words;

@@ -1,11 +1,11 @@
 // Runs of the journal that are cut off, and crashes.
 ghost use Rattle.std.specs.Prelude.{◌≤◌, IfOk, length};
 
-use super::trees::{BASE, puts_of, tree_of};
-use cny_base::{Path, Stop};
-use disk_words::Quiet;
+use super::words::{BASE, puts_of, stands, stored};
+use cny_base::{Path, Stop as DiskEnd};
+use disk_words::{Quiet, Stop, disk_of, text_at};
+use journal_log::Puts;
 use std::alloc::Global;
-use std::test::Fail;
 use tree_journal::{apply, recover};
 use tree_memory::MemoryTree;
 
@@ -13,72 +13,117 @@ use tree_memory::MemoryTree;
 pub const MANY: u32 = 1000;
 
 // The path of the base, which leaves room for the journal's own names.
-fn base_path(alloc: Global) -> Result<Path, Fail>
+fn base_path(alloc: Global) -> Result<Path, Stop>
     ensures { IfOk result (λ base. length base ≤ 1011) }
 {
     let base = Path::read(alloc, BASE)?;
     if base.text().len() > 1011 {
-        return Err(Fail::from("a shorter base"));
+        return Err(Stop::Unreadable);
     }
     Ok(base)
 }
 
 // What a run came to, and none where it was cut off.
-fn end_of<T: Drop>(answer: Result<T, Stop>) -> Result<Option<T>, Fail> {
+fn end_of<T: Drop>(answer: Result<T, DiskEnd>) -> Result<Option<T>, Stop> {
     match answer {
         Ok(value) => Ok(Some(value)),
-        Err(Stop::Failed) => Ok(None),
-        Err(stop) => Err(Fail::from(stop)),
+        Err(DiskEnd::Failed) => Ok(None),
+        Err(_) => Err(Stop::Unreadable),
     }
 }
 
-/// A tree, and whether the run that made it came to its end.
-#[derive(Drop)]
-pub struct Applied {
+/// A tree that a run left, whether the run came to its end, and whether it was a recovery that found the commit flag set.
+pub struct Run {
     pub tree: MemoryTree,
     pub is_done: bool,
+    pub was_committed: bool,
 }
 
-/// Applies a write set to a tree.
-pub fn apply_to(alloc: Global, tree: MemoryTree, puts: &str) -> Result<Applied, Fail> {
+// Written by hand, so that to let a value go is a single call wherever a function ends early.
+impl Drop for Run {
+    fn drop(self) {
+        let Run {
+            tree: _tree,
+            is_done: _is_done,
+            was_committed: _was_committed,
+        } = self;
+    }
+}
+
+/// Applies a write set to a copy of a tree, and stops after so many calls.
+pub fn apply_up_to(
+    alloc: Global,
+    start: &MemoryTree,
+    puts: &Puts,
+    calls: u32,
+) -> Result<Run, Stop> {
+    let mut tree = start.crash(alloc, 0)?;
+    tree.stop_after(calls);
     let mut disk = Quiet::new(tree);
-    let puts = puts_of(alloc, puts)?;
-    let answer = apply(alloc, &mut disk, &base_path(alloc)?, &puts);
+    let answer = apply(alloc, &mut disk, &base_path(alloc)?, puts);
     let is_done = end_of(answer)?.is_some();
-    Ok(Applied {
+    Ok(Run {
         tree: disk.into_tree(),
         is_done,
+        was_committed: false,
     })
 }
 
-/// Applies a write set to a tree, and stops after so many calls.
-pub fn apply_up_to(alloc: Global, start: &str, puts: &str, calls: u32) -> Result<Applied, Fail> {
-    let mut tree = tree_of(alloc, start)?;
-    tree.stop_after(calls);
-    apply_to(alloc, tree, puts)
-}
-
-/// What a recovery left of a tree, and what it answered; none where it was cut off.
-#[derive(Drop)]
-pub struct Recovered {
-    pub tree: MemoryTree,
-    pub was_committed: Option<bool>,
-}
-
 /// Recovers the tree that a crash leaves of this one, and stops after so many calls.
-pub fn recover_up_to(
-    alloc: Global,
-    tree: &MemoryTree,
-    pick: u64,
-    calls: u32,
-) -> Result<Recovered, Fail> {
+pub fn recover_up_to(alloc: Global, tree: &MemoryTree, pick: u64, calls: u32) -> Result<Run, Stop> {
     let mut image = tree.crash(alloc, pick)?;
     image.stop_after(calls);
     let mut disk = Quiet::new(image);
     let answer = recover(alloc, &mut disk, &base_path(alloc)?);
-    let was_committed = end_of(answer)?;
-    Ok(Recovered {
+    let ended = end_of(answer)?;
+    Ok(Run {
         tree: disk.into_tree(),
-        was_committed,
+        is_done: ended.is_some(),
+        was_committed: ended == Some(true),
     })
+}
+
+/// A tree, a write set, and what stands but for the private directory before and after the whole run.
+pub struct Case {
+    pub start: MemoryTree,
+    pub puts: Puts,
+    pub before: String,
+    pub after: String,
+}
+
+impl Drop for Case {
+    fn drop(self) {
+        let Case {
+            start: _start,
+            puts: _puts,
+            before: _before,
+            after: _after,
+        } = self;
+    }
+}
+
+/// The case of a line.
+pub fn case_of(alloc: Global, words: &[String]) -> Result<Case, Stop> {
+    let start = disk_of(alloc, text_at(words, 2)?, 0)?.into_tree();
+    let puts = puts_of(alloc, text_at(words, 3)?)?;
+    let run = apply_up_to(alloc, &start, &puts, MANY)?;
+    let before = stored(alloc, &start)?;
+    let after = stored(alloc, &run.tree)?;
+    Ok(Case {
+        start,
+        puts,
+        before,
+        after,
+    })
+}
+
+/// How many calls of the application come before the first after which something stands at a path.
+pub fn calls_before(alloc: Global, case: &Case, path: &str) -> Result<u32, Stop> {
+    for calls in 1..MANY {
+        let cut = apply_up_to(alloc, &case.start, &case.puts, calls)?;
+        if stands(alloc, &cut.tree, path)? {
+            return Ok(calls.saturating_sub(1));
+        }
+    }
+    Err(Stop::Unreadable)
 }
