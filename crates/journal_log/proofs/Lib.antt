@@ -1,6 +1,5 @@
 pub mod Rising
 pub mod Encoding
-pub mod Texts
 pub mod Naming
 pub mod NumberSets
 pub mod FreeNumbers

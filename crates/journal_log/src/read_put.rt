@@ -1,8 +1,6 @@
 //! One put of a log, read from its item.
-ghost use Rattle.std.specs.Prelude.{◌≡◌, ◌≤◌, ◌++◌, ℕ, List, false, drop, IsTrue, IfOk, OnOk, IsErrOf, IfSome, IfNone};
+ghost use Rattle.std.specs.Prelude.{◌≡◌, ◌≤◌, ◌++◌, ℕ, List, drop, IfOk, IsErrOf, IfSome, IfNone};
 ghost use Rattle.std.specs.Int.{to_be_bytes, w16};
-ghost use Rattle.cny_base.specs.Path.{is_path};
-ghost use Rattle.cny_base.specs.Target.{is_target};
 ghost use Rattle.cny_base.specs.StrField.{FitsStr, str};
 ghost use Rattle.journal_log.specs.declared.put.Put.{Put};
 ghost use Rattle.journal_log.specs.PutItem.{IsPutItem};
@@ -31,7 +29,7 @@ fn read_nothing(alloc: Global, value: &[u8]) -> Result<Put, TextFault>
     ensures ok { IfOk result (λ put. IsPutItem put 0x30 value.now) }
     ensures bad { IsErrOf result TextFault.Bad → (p : Put) → IsPutItem p 0x30 value.now → ⊥ }
 {
-    let path = read_path(alloc, value)?;
+    let path = Path::read_bytes(alloc, value)?;
     Ok(Put {
         path,
         want: Want::Nothing,
@@ -43,7 +41,7 @@ fn read_dir(alloc: Global, value: &[u8]) -> Result<Put, TextFault>
     ensures bad { IsErrOf result TextFault.Bad → (p : Put) → IsPutItem p 0x31 value.now → ⊥ }
 {
     let mode = read_mode(value).ok_or(TextFault::Bad)?;
-    let path = read_path(alloc, &value[2..])?;
+    let path = Path::read_bytes(alloc, &value[2..])?;
     Ok(Put {
         path,
         want: Want::Dir { mode },
@@ -57,8 +55,8 @@ fn read_link(alloc: Global, value: &[u8]) -> Result<Put, TextFault>
     let Some((first, second)) = two_strs(value) else {
         return Err(TextFault::Bad);
     };
-    let path = read_path(alloc, &value[first.from..first.to])?;
-    let target = read_target(alloc, &value[second.from..second.to])?;
+    let path = Path::read_bytes(alloc, &value[first.from..first.to])?;
+    let target = Target::read_bytes(alloc, &value[second.from..second.to])?;
     Ok(Put {
         path,
         want: Want::Link { target },
@@ -89,7 +87,7 @@ fn read_staged(alloc: Global, value: &[u8]) -> Result<Put, TextFault>
     let Some(tail) = read_tail(&value[text.to..]) else {
         return Err(TextFault::Bad);
     };
-    let path = read_path(alloc, &value[text.from..text.to])?;
+    let path = Path::read_bytes(alloc, &value[text.from..text.to])?;
     let name = tail.name;
     Ok(Put {
         path,
@@ -135,26 +133,4 @@ fn read_mode(value: &[u8]) -> Option<Mode>
         return None;
     }
     Mode::new(u16::from_be_bytes([value[0], value[1]]))
-}
-
-fn read_path(alloc: Global, bytes: &[u8]) -> Result<Path, TextFault>
-    ensures value { IfOk result (λ path. path ≡ bytes.now) }
-    ensures ok { OnOk result (IsTrue (is_path bytes.now)) }
-    ensures bad { IsErrOf result TextFault.Bad → is_path bytes.now ≡ false }
-{
-    let Ok(text) = str::from_utf8(bytes) else {
-        return Err(TextFault::Bad);
-    };
-    Path::read(alloc, text)
-}
-
-fn read_target(alloc: Global, bytes: &[u8]) -> Result<Target, TextFault>
-    ensures value { IfOk result (λ target. target ≡ bytes.now) }
-    ensures ok { OnOk result (IsTrue (is_target bytes.now)) }
-    ensures bad { IsErrOf result TextFault.Bad → is_target bytes.now ≡ false }
-{
-    let Ok(text) = str::from_utf8(bytes) else {
-        return Err(TextFault::Bad);
-    };
-    Target::read(alloc, text)
 }

@@ -1,6 +1,5 @@
 mod Handing
 mod Strs
-mod Utf8
 mod Numbers
 mod Rising
 mod Once

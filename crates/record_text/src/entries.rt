@@ -6,10 +6,9 @@ ghost use Rattle.record_text.specs.Text.{IsToldEntry, entries_text};
 ghost use Rattle.record_text.specs.Reading.{AreEntriesTo, IsEntryAt, IsEntryText, IsNoEntriesText, IsNoEntryAt};
 
 use crate::deltas::{END, ENTRY};
-use crate::fields::read_path;
 use crate::marks::told_front;
 use crate::record::ToldEntry;
-use cny_base::{TextFault, next_str};
+use cny_base::{Path, TextFault, next_str};
 use cny_stream::next_item;
 use std::alloc::Global;
 
@@ -21,7 +20,7 @@ fn entry_of(alloc: Global, value: &[u8]) -> Result<ToldEntry, TextFault>
     let Some(text) = next_str(value, 0) else {
         return Err(TextFault::Bad);
     };
-    let path = read_path(alloc, &value[text.from..text.to])?;
+    let path = Path::read_bytes(alloc, &value[text.from..text.to])?;
     let before = told_front(alloc, &value[text.to..])?;
     let at = text.to + before.size;
     let after = told_front(alloc, &value[at..])?;

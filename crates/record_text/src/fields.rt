@@ -1,12 +1,9 @@
 //! The fields of a fingerprint.
-ghost use Rattle.std.specs.Prelude.{◌≡◌, ◌≤◌, ◌++◌, ℕ, List, false, drop, IsTrue, IfOk, OnOk, IsErrOf, IfSome, IfNone};
+ghost use Rattle.std.specs.Prelude.{◌≡◌, ◌≤◌, ◌++◌, ℕ, List, drop, IfSome, IfNone};
 ghost use Rattle.std.specs.Int.{to_be_bytes, w16};
-ghost use Rattle.cny_base.specs.Path.{is_path};
-ghost use Rattle.cny_base.specs.Target.{is_target};
 ghost use Rattle.record_text.specs.Reading.{HasFileFields};
 
-use cny_base::{Mode, Path, Target, TextFault};
-use std::alloc::Global;
+use cny_base::Mode;
 
 // The mode in the first two bytes.
 pub(crate) fn read_mode(value: &[u8]) -> Option<Mode>
@@ -41,26 +38,4 @@ pub(crate) fn read_file(value: &[u8]) -> Option<FileFields>
         size: u32::from_be_bytes(*size),
         name: *name,
     })
-}
-
-pub(crate) fn read_path(alloc: Global, bytes: &[u8]) -> Result<Path, TextFault>
-    ensures value { IfOk result (λ path. path ≡ bytes.now) }
-    ensures ok { OnOk result (IsTrue (is_path bytes.now)) }
-    ensures bad { IsErrOf result TextFault.Bad → is_path bytes.now ≡ false }
-{
-    let Ok(text) = str::from_utf8(bytes) else {
-        return Err(TextFault::Bad);
-    };
-    Path::read(alloc, text)
-}
-
-pub(crate) fn read_target(alloc: Global, bytes: &[u8]) -> Result<Target, TextFault>
-    ensures value { IfOk result (λ target. target ≡ bytes.now) }
-    ensures ok { OnOk result (IsTrue (is_target bytes.now)) }
-    ensures bad { IsErrOf result TextFault.Bad → is_target bytes.now ≡ false }
-{
-    let Ok(text) = str::from_utf8(bytes) else {
-        return Err(TextFault::Bad);
-    };
-    Target::read(alloc, text)
 }

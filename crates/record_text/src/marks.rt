@@ -2,9 +2,9 @@
 ghost use Rattle.std.specs.Prelude.{◌≡◌, ◌∷◌, ◌++◌, ℕ, List, IfOk, IsErrOf};
 ghost use Rattle.record_text.specs.Reading.{IsNoToldFront, IsToldFront};
 
-use crate::fields::{read_file, read_mode, read_target};
+use crate::fields::{read_file, read_mode};
 use crate::record::Told;
-use cny_base::{TextFault, next_str};
+use cny_base::{Target, TextFault, next_str};
 use std::alloc::Global;
 use tree_scan::Mark;
 
@@ -60,7 +60,7 @@ fn link_front(alloc: Global, rest: &[u8]) -> Result<ToldFront, TextFault>
     let Some(text) = next_str(rest, 0) else {
         return Err(TextFault::Bad);
     };
-    let target = read_target(alloc, &rest[text.from..text.to])?;
+    let target = Target::read_bytes(alloc, &rest[text.from..text.to])?;
     Ok(own(Mark::Link { target }, text.to + 1))
 }
 

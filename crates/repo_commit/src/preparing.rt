@@ -9,7 +9,6 @@ ghost use Rattle.cny_base.specs.declared.node.Node.TheVariants as node;
 ghost use Rattle.tree_disk.specs.Clear.{is_within};
 ghost use Rattle.tree_disk.specs.Confined.{Among, Confined};
 ghost use Rattle.tree_disk.specs.Disk.{one_name};
-ghost use Rattle.tree_disk.specs.Looks.{sees_dir, sees_nothing};
 ghost use Rattle.tree_disk.specs.Rows.{can_make, is_dir_at, with_node};
 ghost use Rattle.tree_disk.specs.Steps.{Makes};
 ghost use Rattle.tree_journal.specs.Apply.{with_base};
@@ -28,21 +27,9 @@ use content_store::{Sha1Namer, clear, put};
 use repo_index::Catalogue;
 use repo_state::{base_path, commit_path, contents_path};
 use std::alloc::Global;
-use tree_disk::{Look, TreeDisk, steps};
+use tree_disk::{TreeDisk, steps};
 
 // ---- directories
-
-fn is_dir(look: &Look) -> bool
-    ensures { result ≡ sees_dir look.now }
-{
-    matches!(look, Look::Dir { .. })
-}
-
-fn is_nothing(look: &Look) -> bool
-    ensures { result ≡ sees_nothing look.now }
-{
-    matches!(look, Look::Nothing)
-}
 
 // Makes a directory where nothing stands, with mode 0755.
 fn new_dir<D: TreeDisk>(alloc: Global, disk: &mut D, path: &Path) -> Result<(), Stop>
@@ -73,10 +60,10 @@ fn make_dir<D: TreeDisk>(alloc: Global, disk: &mut D, path: &Path) -> Result<(),
     ensures { Makes D.disk (one_name path.now) (λ tree. with_base path.now tree) disk.old disk.new result }
 {
     let look = steps::look(alloc, disk, path)?;
-    if is_dir(&look) {
+    if look.is_dir() {
         return Ok(());
     }
-    if is_nothing(&look) {
+    if look.is_nothing() {
         return new_dir(alloc, disk, path);
     }
     replace_by_dir(alloc, disk, path)

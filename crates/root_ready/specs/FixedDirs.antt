@@ -1,19 +1,12 @@
 -- The fixed directories of the root, and tests one after the other.
-use Rattle.std.specs.Prelude.{Bool, true, false, Result, Ok, Err, if◌then◌else◌, codes}
+use Rattle.std.specs.Prelude.{Result, Ok, Err, if◌then◌else◌, codes}
 use Rattle.cny_base.specs.declared.refusal.Refusal.{Refusal}
 use Rattle.cny_base.specs.declared.refusal.Refusal.TheVariants as refusal
 use Rattle.cny_base.specs.declared.stop.Stop.{Stop}
 use Rattle.cny_base.specs.declared.stop.Stop.TheVariants as stop
-use Rattle.tree_disk.specs.declared.disk.Look.{Look}
-use Rattle.tree_disk.specs.declared.disk.Look.TheVariants as look
 use Rattle.tree_disk.specs.Rows.{is_dir_at}
 use Rattle.tree_disk.specs.Tree.{Name, Tree}
 use Rattle.root_ready.specs.Recovered.{IsPathRefusal}
-
--- a directory was seen
-abbrev pub is_dir_seen : Look → Bool
-is_dir_seen (look.Dir mode) = true
-is_dir_seen _ = false
 
 -- where these tests are refused, it is for a path
 abbrev pub RefusesPath : Stop → Type 0

@@ -1,18 +1,12 @@
 //! The fixed directories of a root.
-ghost use Rattle.std.specs.Prelude.{◌≡◌, IsTrue, IfErr};
+ghost use Rattle.std.specs.Prelude.{IsTrue, IfErr};
 ghost use Rattle.cny_base.specs.Path.{is_path};
 ghost use Rattle.tree_disk.specs.Steps.{Tests};
-ghost use Rattle.root_ready.specs.FixedDirs.{dir_at, fixed_dirs, is_dir_seen, RefusesPath};
+ghost use Rattle.root_ready.specs.FixedDirs.{dir_at, fixed_dirs, RefusesPath};
 
 use cny_base::{Path, Refusal, Stop, Text, TextFault};
 use std::alloc::Global;
-use tree_disk::{Look, TreeDisk, steps};
-
-fn is_dir_look(look: &Look) -> bool
-    ensures { result ≡ is_dir_seen look.now }
-{
-    matches!(look, Look::Dir { .. })
-}
+use tree_disk::{TreeDisk, steps};
 
 // Refuses where the path of this text isn't that of a directory.
 fn check_dir<T: TreeDisk>(alloc: Global, root: &mut T, text: &str) -> Result<(), Stop>
@@ -27,7 +21,7 @@ fn check_dir<T: TreeDisk>(alloc: Global, root: &mut T, text: &str) -> Result<(),
         Err(TextFault::Bad) => unreachable!(),
     };
     let look = steps::look(alloc, root, &path)?;
-    if is_dir_look(&look) {
+    if look.is_dir() {
         return Ok(());
     }
     let path = Text::new(alloc, path.text())?;

@@ -63,20 +63,10 @@ abbrev pub file_bytes : Option Node → Option (List ℕ)
 file_bytes (Some (node.File mode bytes)) = Some bytes
 file_bytes _ = None
 
--- whether a file of one byte is seen
-abbrev pub sees_one_byte : Look → Bool
-sees_one_byte (look.File mode size) = size == 1
-sees_one_byte _ = false
-
 -- whether a file of this size is seen
 abbrev pub sees_size : Look → ℕ → Bool
 sees_size (look.File mode size) wanted = size == wanted
 sees_size _ wanted = false
-
--- the size of the file that is seen
-abbrev pub size_seen : Look → Option ℕ
-size_seen (look.File mode size) = Some size
-size_seen _ = None
 
 -- the log, where it is whole
 abbrev pub FindsLog : Name → Tree → Option (List Put) → Type 0

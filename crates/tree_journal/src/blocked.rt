@@ -8,7 +8,6 @@ ghost use Rattle.tree_disk.specs.Rows.{is_dir_at};
 ghost use Rattle.tree_journal.specs.CanBePut.{CanBePut, HasWay, IsClearBelow};
 ghost use Rattle.tree_journal.specs.Found.{AreClear, Finds, FindsBlocked, IsAbove, IsAnswer, IsChild};
 
-use crate::passes::is_dir;
 use cny_base::{Copies, Path, Stop, Text, TextFault};
 use journal_log::{Put, Puts};
 use std::alloc::Global;
@@ -76,7 +75,7 @@ fn has_way<D: TreeDisk>(alloc: Global, disk: &mut D, puts: &Puts, path: &Path) -
         return has_way(alloc, disk, puts, &above);
     }
     let look = steps::look(alloc, disk, &above)?;
-    Ok(is_dir(&look))
+    Ok(look.is_dir())
 }
 
 // Whether no name that isn't a target stands below the path.
@@ -92,7 +91,7 @@ fn is_clear_below<D: TreeDisk>(
     ensures { Finds D.disk (λ tree clear. IsAnswer (IsClearBelow puts.now tree path.now) clear) disk.old disk.new result }
 {
     let look = steps::look(alloc, disk, path)?;
-    if !is_dir(&look) {
+    if !look.is_dir() {
         return Ok(true);
     }
     is_dir_clear(alloc, disk, puts, path)

@@ -5,7 +5,6 @@ ghost use Rattle.cny_base.specs.Path.{are_parts, is_path, join, parent, root};
 ghost use Rattle.cny_base.specs.declared.node.Node.TheVariants as node;
 ghost use Rattle.cny_base.specs.declared.stop.Stop.TheVariants as stop;
 ghost use Rattle.tree_disk.specs.Clear.{is_within};
-ghost use Rattle.tree_disk.specs.Looks.{sees_nothing};
 ghost use Rattle.tree_disk.specs.Confined.{IsSynced};
 ghost use Rattle.tree_disk.specs.Disk.{one_name};
 ghost use Rattle.tree_disk.specs.Rows.{can_make, is_dir_at, is_file_at, with_node, without};
@@ -13,10 +12,9 @@ ghost use Rattle.tree_disk.specs.Steps.{Makes};
 ghost use Rattle.tree_journal.specs.Apply.{with_base};
 ghost use Rattle.tree_journal.specs.Steps.{with_own_file, IsOther};
 
-use crate::passes::is_dir;
 use cny_base::{Mode, Path, Stop, TextFault};
 use std::alloc::Global;
-use tree_disk::{Look, TreeDisk, steps};
+use tree_disk::{TreeDisk, steps};
 
 /// The path of one of the journal's own names below the base.
 pub fn own_path(alloc: Global, base: &Path, last: &str) -> Result<Path, Stop>
@@ -34,12 +32,6 @@ pub fn own_path(alloc: Global, base: &Path, last: &str) -> Result<Path, Stop>
         Err(TextFault::Memory) => Err(Stop::Memory),
         Err(TextFault::Bad) => unreachable!(),
     }
-}
-
-fn is_nothing(look: &Look) -> bool
-    ensures { result ≡ sees_nothing look.now }
-{
-    matches!(look, Look::Nothing)
 }
 
 // Makes the base where nothing stands, with mode 0755.
@@ -71,10 +63,10 @@ pub fn make_base<D: TreeDisk>(alloc: Global, disk: &mut D, base: &Path) -> Resul
     ensures { Makes D.disk (one_name base.now) (λ tree. with_base base.now tree) disk.old disk.new result }
 {
     let look = steps::look(alloc, disk, base)?;
-    if is_dir(&look) {
+    if look.is_dir() {
         return Ok(());
     }
-    if is_nothing(&look) {
+    if look.is_nothing() {
         return new_base(alloc, disk, base);
     }
     replace_base(alloc, disk, base)

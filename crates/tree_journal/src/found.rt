@@ -4,38 +4,21 @@ ghost use Rattle.std.specs.FinMap.{get};
 ghost use Rattle.cny_base.specs.Path.{join};
 ghost use Rattle.journal_log.specs.Own.{gate, log};
 ghost use Rattle.journal_log.specs.WriteSet.{IsLoggable};
-ghost use Rattle.tree_journal.specs.Found.{file_bytes, sees_one_byte, size_seen, Finds, FindsLog};
+ghost use Rattle.tree_journal.specs.Found.{file_bytes, Finds, FindsLog};
 ghost use Rattle.tree_journal.specs.Recovery.{is_flag};
 
+use crate::unstaged::has_size;
 use cny_base::{Bytes, Path, Stop, TextFault};
 use journal_log::{Puts, decode_log};
 use std::alloc::Global;
-use tree_disk::{Look, TreeDisk, steps};
-
-fn file_size(look: &Look) -> Option<u64>
-    ensures { result ≡ size_seen look.now }
-{
-    match look {
-        Look::File { size, .. } => Some(*size),
-        Look::Nothing | Look::Dir { .. } | Look::Link { .. } => None,
-    }
-}
-
-fn is_one_byte(look: &Look) -> bool
-    ensures { result ≡ sees_one_byte look.now }
-{
-    match look {
-        Look::File { size, .. } => *size == 1,
-        Look::Nothing | Look::Dir { .. } | Look::Link { .. } => false,
-    }
-}
+use tree_disk::{TreeDisk, steps};
 
 // The bytes of the file at a path, where one stands.
 fn read_file<D: TreeDisk>(alloc: Global, disk: &mut D, path: &Path) -> Result<Option<Bytes>, Stop>
     ensures { Finds D.disk (λ tree bytes. bytes ≡ file_bytes (get tree path.now)) disk.old disk.new result }
 {
     let look = steps::look(alloc, disk, path)?;
-    let Some(size) = file_size(&look) else {
+    let Some(size) = look.size() else {
         return Ok(None);
     };
     steps::read_whole(alloc, disk, path, size)
@@ -46,7 +29,7 @@ pub fn is_flag_set<D: TreeDisk>(alloc: Global, disk: &mut D, gate_path: &Path) -
     ensures { Finds D.disk (λ tree is. is ≡ is_flag (get tree gate_path.now)) disk.old disk.new result }
 {
     let look = steps::look(alloc, disk, gate_path)?;
-    if !is_one_byte(&look) {
+    if !has_size(&look, 1) {
         return Ok(false);
     }
     let mut byte = [0u8; 1];

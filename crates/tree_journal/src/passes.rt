@@ -4,7 +4,6 @@ ghost use Rattle.std.specs.Prelude.{◌≡◌, IsTrue, OnOk, Some};
 ghost use Rattle.std.specs.List.{All};
 ghost use Rattle.cny_base.specs.Path.{is_path};
 ghost use Rattle.cny_base.specs.declared.node.Node.TheVariants as node;
-ghost use Rattle.tree_disk.specs.Looks.{sees_dir};
 ghost use Rattle.tree_disk.specs.Confined.{IsSynced};
 ghost use Rattle.tree_disk.specs.Disk.{one_name};
 ghost use Rattle.tree_disk.specs.Rows.{with_node};
@@ -44,13 +43,6 @@ fn obstructs(want: &Want, look: &Look) -> bool
         Look::Dir { .. } => !want.is_dir(),
         Look::File { .. } | Look::Link { .. } => !renames(want),
     }
-}
-
-/// Whether a directory is seen.
-pub fn is_dir(look: &Look) -> bool
-    ensures { result ≡ sees_dir look.now }
-{
-    matches!(look, Look::Dir { .. })
 }
 
 // Removes what stands at the path, where it has to go before the target is made.
@@ -94,7 +86,7 @@ fn make_dir_at<D: TreeDisk>(
         (IsEither (D.disk.reads disk.old) (with_put (D.disk.reads disk.old) path.now (Some (node.Dir mode)))) }
 {
     let look = steps::look(alloc, disk, path)?;
-    if is_dir(&look) {
+    if look.is_dir() {
         return steps::set_mode(alloc, disk, path, mode);
     }
     steps::make_dir(alloc, disk, path, mode)

@@ -79,7 +79,8 @@ pub fn path_of(alloc: Global, dir: &Path, number: u32) -> Result<Path, Stop>
     }
 }
 
-fn has_size(look: &Look, wanted: u32) -> bool
+/// Whether a file of this size is seen.
+pub fn has_size(look: &Look, wanted: u32) -> bool
     ensures { result ≡ sees_size look.now wanted }
 {
     match look {

@@ -14,10 +14,10 @@ pub returns-in_err-path-clause-bad : goal.returns-in_err-path-clause-bad
 returns-in_err-path-clause-bad c = λ bad p item.
     let q = err_from_is_err_and c.from_residual.result c.from_residual.ensures.1 in
     let parts = link_parts p c.args.value.now c.in-Some.first c.in-Some.second c.in-Some.ensures.some item in
-    cc (c.in_err-path.ensures.bad (ap Err (passed _ q.0 c.in_err-path.field-0.0 q.1 q.2 bad)), parts.0)
+    cc (c.in_err-path.ensures.bad.0 (ap Err (passed _ q.0 c.in_err-path.field-0.0 q.1 q.2 bad)), parts.0)
 
 pub returns-in_err-target-clause-bad : goal.returns-in_err-target-clause-bad
 returns-in_err-target-clause-bad c = λ bad p item.
     let q = err_from_is_err_and c.from_residual-in_err-target.result c.from_residual-in_err-target.ensures.1 in
     let parts = link_parts p c.args.value.now c.in-Some.first c.in-Some.second c.in-Some.ensures.some item in
-    cc (c.in_err-target.ensures.bad (ap Err (passed _ q.0 c.in_err-target.field-0.0 q.1 q.2 bad)), parts.1)
+    cc (c.in_err-target.ensures.bad.0 (ap Err (passed _ q.0 c.in_err-target.field-0.0 q.1 q.2 bad)), parts.1)

@@ -1,5 +1,0 @@
-use Rattle.journal_log.proofs.Texts.{no_path}
-use Rattle.journal_log.proofs.read_put.read_path.Goals as goal
-
-pub returns-in_default-clause-bad : goal.returns-in_default-clause-bad
-returns-in_default-clause-bad c _ = no_path c.args.bytes.now c.in_default.ensures.cases.0

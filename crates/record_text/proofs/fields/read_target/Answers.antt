@@ -1,5 +1,0 @@
-use Rattle.record_text.proofs.Utf8.{no_target}
-use Rattle.record_text.proofs.fields.read_target.Goals as goal
-
-pub returns-in_default-clause-bad : goal.returns-in_default-clause-bad
-returns-in_default-clause-bad c _ = no_target c.args.bytes.now c.in_default.ensures.cases.0
