@@ -14,8 +14,13 @@ import threading
 import time
 
 TICK = os.sysconf("SC_CLK_TCK")
-# Above these a function, a test or an edit is named; seconds.
+# Above these a function, a test or an edit is named; seconds, as below. And the processor minutes that a crate has for 1,000 lines, and
+# a small one in all.
 FUNCTION, TEST, EDIT = 10, 5, 25
+MINUTES, SMALL = 6, 3
+# The limits are those of one machine. Where all crates are measured, seconds are told as of that machine, on which the proofs of these
+# crates take so many seconds.
+REFERENCE = {"cny_flavor": 59, "cny_version": 97, "cny_dep": 40, "trove_id": 33, "file_stream": 41}
 
 
 def crates():
@@ -122,8 +127,8 @@ def timed_check(room, crate, flags):
     return taken
 
 
-def slow_functions(room, crate, kept_in):
-    """The crate's functions and tests over the limits; room is a copy of the repository for this alone."""
+def timed_functions(room, crate, kept_in):
+    """The seconds of the crate's functions and tests, with the limit of each; room is a copy of the repository for this alone."""
     source = root_file(room, crate)
     with open(source, encoding="utf-8") as file:
         as_it_was = file.read()
@@ -138,12 +143,12 @@ def slow_functions(room, crate, kept_in):
     tests = timed_check(room, crate, ["--test"]) if has_tests else {}
     with open(source, "w", encoding="utf-8") as file:
         file.write(as_it_was)
-    slow = [(seconds, name) for name, seconds in code.items() if seconds > FUNCTION]
-    slow += [(seconds, name) for name, seconds in tests.items() if name not in code and seconds > TEST]
-    kept_in[crate] = sorted(slow, reverse=True)
+    taken = [(seconds, FUNCTION, name) for name, seconds in code.items()]
+    taken += [(seconds, TEST, name) for name, seconds in tests.items() if name not in code]
+    kept_in[crate] = sorted(taken, reverse=True)
 
 
-def all_slow_functions(rooms, names):
+def all_functions(rooms, names):
     """Checks the crates in turn, one in each copy at a time."""
     found, left, turn = {}, list(names), threading.Lock()
 
@@ -153,7 +158,7 @@ def all_slow_functions(rooms, names):
                 if not left:
                     return
                 crate = left.pop(0)
-            slow_functions(room, crate, found)
+            timed_functions(room, crate, found)
 
     lanes = [threading.Thread(target=lane, args=(room,)) for room in rooms]
     for it in lanes:
@@ -163,26 +168,48 @@ def all_slow_functions(rooms, names):
     return found
 
 
-def lines_of(crate):
-    files = [f"{at}/{name}" for at, _, names in os.walk(f"crates/{crate}/src") for name in names if name.endswith(".rt")]
+def lines_of(crate, part):
+    files = [f"{at}/{name}" for at, _, names in os.walk(f"crates/{crate}/{part}") for name in names if name.endswith((".rt", ".antt"))]
     return sum(open(file, encoding="utf-8").read().count("\n") for file in files)
 
 
+def edits_of(crate):
+    folder = f"crates/{crate}/must-fail"
+    return len([it for it in os.listdir(folder) if it.endswith(".edit")]) if os.path.isdir(folder) else 0
+
+
+def seconds_of(crate, found):
+    """Processor seconds of a crate's proof, test build and edits, with the check that the edits begin with."""
+    kinds = {kind: sum(s for (_, name, it), (s, _) in found.items() if name == crate and it == kind) for kind in ("proof", "tests", "seed", "edit")}
+    return kinds["proof"], kinds["tests"], kinds["seed"] + kinds["edit"]
+
+
+def scale_of(found):
+    """How many seconds of the machine of the limits one of this machine is, or 1 where the reference crates weren't measured."""
+    taken = [seconds_of(crate, found)[0] for crate in REFERENCE]
+    return sum(REFERENCE.values()) / sum(taken) if all(taken) else 1
+
+
 def report(names, found):
-    print("| crate | lines of `src/` | edits | proof | tests | edits, s | all, min | min for 1,000 lines | peak MB |")
-    print("|---|---|---|---|---|---|---|---|---|")
-    whole = 0.0
+    scale, whole = scale_of(found), 0.0
+    print("| crate | lines of `src/` | of `specs/` | of `proofs/` | edits | proof, s | tests, s | edits, s | all, min | for 1,000 lines | peak, MB |")
+    print("|---|---|---|---|---|---|---|---|---|---|---|")
+    over = []
     for crate in names:
-        mine = {kind: sum(s for (_, name, it), (s, _) in found.items() if name == crate and it == kind) for kind in ("proof", "tests", "seed", "edit")}
+        proof, tests, edits = (scale * it for it in seconds_of(crate, found))
         peak = max([p for (_, name, _), (_, p) in found.items() if name == crate] or [0])
-        edits = len([it for it in os.listdir(f"crates/{crate}/must-fail") if it.endswith(".edit")]) if os.path.isdir(f"crates/{crate}/must-fail") else 0
-        minutes, lines = sum(mine.values()) / 60, lines_of(crate)
+        minutes, lines = (proof + tests + edits) / 60, lines_of(crate, "src")
         whole += minutes
-        print(f"| `{crate}` | {lines:,} | {edits} | {mine['proof']:.0f} | {mine['tests']:.0f} | {mine['seed'] + mine['edit']:.0f} | {minutes:.1f} | {1000 * minutes / lines:.1f} | {peak:,} |")
-    print(f"\nall: {whole:.1f} processor minutes")
+        sizes = " | ".join(f"{lines_of(crate, part):,}" for part in ("src", "specs", "proofs"))
+        print(f"| `{crate}` | {sizes} | {edits_of(crate)} | {proof:.0f} | {tests:.0f} | {edits:.0f} | {minutes:.1f} | {1000 * minutes / lines:.1f} | {peak:,} |")
+        if minutes > max(SMALL, MINUTES * lines / 1000):
+            over.append(f"over its minutes: {crate}: {minutes:.1f} for {lines:,} lines")
+    print(f"\nall: {whole:.1f} processor minutes; a second of this machine is told as {scale:.2f}")
+    for it in over:
+        print(it)
     for (_, crate, kind), (seconds, _) in sorted(found.items(), key=lambda it: -it[1][0]):
-        if kind == "edit" and seconds > EDIT and crate in names:
-            print(f"slow: an edit of {crate}: {seconds:.0f} s")
+        if kind == "edit" and scale * seconds > EDIT and crate in names:
+            print(f"slow: an edit of {crate}: {scale * seconds:.0f} s")
 
 
 def main():
@@ -200,10 +227,11 @@ def main():
         print("\n".join(said), flush=True)
         lanes = len(os.sched_getaffinity(0)) if not wanted else 1
         rooms = [copy_to(f"{at}/{number}") for number in range(lanes)]
-        slow = all_slow_functions(rooms, wanted or known)
+        taken, scale = all_functions(rooms, wanted or known), scale_of(found)
         for crate in wanted or known:
-            for seconds, name in slow[crate]:
-                print(f"slow: {name}: {seconds:.0f} s")
+            for seconds, limit, name in taken[crate]:
+                if scale * seconds > limit:
+                    print(f"slow: {name}: {scale * seconds:.0f} s")
 
 
 main()
