@@ -1,7 +1,7 @@
 #!/usr/bin/env python3
-"""Says which must-fail edits of a crate a vectors program shows.
+"""Says which edits of a crate a vectors program shows: the must-fail edits, and those of edits/, which the gate doesn't try.
 
-A must-fail edit is a wrong body that the check has to refuse. Here each is applied to a copy of the crates, the program is
+An edit is a wrong body that the check has to refuse. Here each is applied to a copy of the crates, the program is
 run there on its `stdin`, by `rt try`, which proves nothing, and what it writes is compared with its `stdout`. A line is
 printed for each edit:
 
@@ -19,24 +19,12 @@ import subprocess
 import sys
 import tempfile
 
+from edits_apply import changes_of, crate_of, edits_of
 
-def edits_of(crate):
+
+def edits_named(crate):
     name, _, only = crate.partition("/")
-    folder = pathlib.Path("crates") / name / "must-fail"
-    return [path for path in sorted(folder.glob("*.edit")) if only in ("", path.stem)]
-
-
-def changes_of(edit):
-    """File, old text and new text of each change."""
-    file, old = None, None
-    for line in edit.read_text().splitlines():
-        key, _, text = line.partition(": ")
-        if key == "file":
-            file = text
-        elif key == "old":
-            old = text
-        elif key == "new":
-            yield file, old, text
+    return [path for path in edits_of(name) if only in ("", path.stem)]
 
 
 def apply(changes, crate):
@@ -74,7 +62,7 @@ def verdict(program, copy, name, wanted):
 
 
 def tried(program, copy, edit, wanted):
-    crate = edit.parent.parent
+    crate = pathlib.Path("crates") / crate_of(edit)
     name = f"{crate.name}/{edit.stem}"
     shutil.rmtree(copy / crate / "src")
     shutil.copytree(crate / "src", copy / crate / "src")
@@ -99,7 +87,7 @@ def main():
         found, status = written_by(program, copy)
         if (found, status) != (wanted, 0):
             sys.exit(f"without an edit: {difference(found, wanted)}, status {status} after {len(found)} lines")
-        for edit in (edit for crate in crates for edit in edits_of(crate)):
+        for edit in (edit for crate in crates for edit in edits_named(crate)):
             said = tried(program, copy, edit, wanted)
             failed = failed or said.startswith(("HIDDEN", "BROKEN"))
             print(said, flush=True)

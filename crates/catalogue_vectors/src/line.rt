@@ -1,6 +1,6 @@
 //! The arguments of a line, and its answer.
-use cny_base::{Copies, Fault, OutOfMemory, Refusal, Text, TextFault};
 use cny_report::refusal_text;
+use repo_index::cny_base::{Copies, Fault, OutOfMemory, Refusal, Text, TextFault};
 use std::alloc::{AllocError, AllocFailed, Global};
 
 /// Why a line has no answer.

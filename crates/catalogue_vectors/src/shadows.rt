@@ -1,14 +1,14 @@
 //! What troves reach, moved onto labels.
 use crate::line::{Answer, Stop, refused, text_at, word};
 use crate::troves::push_id;
-use cny_base::OutOfMemory;
 use cny_version::Label;
-use file_stream::FileRec;
 use repo_index::Catalogue;
+use repo_index::cny_base::OutOfMemory;
+use repo_index::file_stream::FileRec;
+use repo_index::trove_parts::{TroveId, id_text, read_id};
+use repo_index::trove_stream::{FileAt, Trove};
 use repo_shadow::{Way, all_refer_within, moved};
 use std::alloc::Global;
-use trove_id::{TroveId, id_text, read_id};
-use trove_stream::{FileAt, Trove};
 
 // Appends a part behind a bar.
 fn push_part(line: &mut String, part: &str) -> Result<(), OutOfMemory> {

@@ -1,12 +1,12 @@
 //! Specifications, and which troves they mean.
 use crate::line::{Answer, Stop, bytes_of, push_field, refused, text_at, word};
 use crate::troves::{ids_of, ids_text};
-use cny_base::{CONFIG_LIMIT, Copies, OutOfMemory, TextFault};
 use cny_flavor::Flavor;
 use cny_version::Label;
 use repo_index::Catalogue;
+use repo_index::cny_base::{CONFIG_LIMIT, Copies, OutOfMemory, TextFault};
+use repo_index::trove_parts::id_text;
 use std::alloc::Global;
-use trove_id::id_text;
 use trove_spec::{Config, Labels, Place, Spec, expand, resolve};
 
 // Where a trove is looked for.

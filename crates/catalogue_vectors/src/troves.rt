@@ -1,12 +1,12 @@
 //! Troves of a line, and the catalogue's look-ups.
 use crate::line::{Answer, Stop, content_name, push_field, refused, text_at, word, yes_or_no};
-use cny_base::{COMMITS_LIMIT, Copies, Mode, Name, OutOfMemory, Path};
 use cny_version::Version;
-use file_stream::{FileRec, Flags, Owner};
 use repo_index::Catalogue;
+use repo_index::cny_base::{COMMITS_LIMIT, Copies, Mode, Name, OutOfMemory, Path};
+use repo_index::file_stream::{FileRec, Flags, Owner};
+use repo_index::trove_parts::{TroveId, id_text, read_id};
+use repo_index::trove_stream::{Deps, FileAt, Files, Refs, Trove};
 use std::alloc::Global;
-use trove_id::{TroveId, id_text, read_id};
-use trove_stream::{Deps, FileAt, Files, Refs, Trove};
 
 fn file_of(alloc: Global, content: &str) -> Result<FileRec, Stop> {
     let name = content_name(content)?;

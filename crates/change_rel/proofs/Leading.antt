@@ -10,17 +10,17 @@ use Rattle.std.specs.Cmp.Lexicographic.{slice_cmp}
 use Rattle.std.specs.Ordering.{nat_cmp}
 use Rattle.cny_dep.specs.Dep.{Dependency, IsDependency, dep_text}
 use Rattle.cny_dep.specs.Order.{dep_cmp}
-use Rattle.trove_id.specs.declared.id.TroveId.{TroveId}
-use Rattle.trove_id.specs.Id.{IsTroveId}
-use Rattle.trove_id.specs.Order.{id_eq, id_cmp, id_ties}
-use Rattle.trove_items.specs.Items.{items_bytes, AreOfOneList}
-use Rattle.trove_items.specs.Files.{IsFileAt, path_of, file_cmp}
-use Rattle.trove_items.specs.Paths.{IsPath, path_cmp}
+use Rattle.trove_stream.specs.trove-parts.declared.id.TroveId.{TroveId}
+use Rattle.trove_stream.specs.trove-parts.Id.{IsTroveId}
+use Rattle.trove_stream.specs.trove-parts.Order.{id_eq, id_cmp, id_ties}
+use Rattle.trove_stream.specs.trove-parts.Items.{items_bytes, AreOfOneList}
+use Rattle.trove_stream.specs.trove-parts.Files.{IsFileAt, path_of, file_cmp}
+use Rattle.trove_stream.specs.trove-parts.Paths.{IsPath, path_cmp}
 use Rattle.trove_stream.specs.declared.parts.TroveParts.{TroveParts}
 use Rattle.trove_stream.specs.Trove.{IsTrove}
-use Rattle.trove_rel.specs.declared.rel.RelParts.{RelParts}
-use Rattle.trove_rel.specs.Disjoint.{AreDisjoint}
-use Rattle.trove_rel.specs.Rel.{IsPathOf, IsSameId, IsSameDep, IsRel}
+use Rattle.trove_stream.specs.declared.rel.RelParts.{RelParts}
+use Rattle.trove_stream.specs.Disjoint.{AreDisjoint}
+use Rattle.trove_stream.specs.Rel.{IsPathOf, IsSameId, IsSameDep, IsRel}
 use Rattle.change_rel.specs.Amends.{HasKey, by_key, IsAmended}
 use Rattle.change_rel.specs.Leads.{id_key, dep_key, Leads, LeadsNowhere}
 use Rattle.change_rel.specs.Lists.{AreAmended}

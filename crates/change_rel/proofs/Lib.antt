@@ -4,3 +4,4 @@ mod Passes
 mod OneResult
 mod Leading
 mod Sent
+pub use Rattle.trove_stream.proofs as trove-stream

@@ -9,16 +9,16 @@ use Rattle.std.proofs.lemmas.Cmp.{tied_itself, on_total}
 use Rattle.std.proofs.lemmas.List.Elements.{All-head, All-tail, All-contains}
 use Rattle.cny_dep.specs.Dep.{Dependency, IsDependency}
 use Rattle.cny_dep.specs.Order.{dep_cmp}
-use Rattle.trove_id.specs.declared.id.TroveId.{TroveId}
-use Rattle.trove_id.specs.Id.{IsTroveId}
-use Rattle.trove_id.specs.Order.{id_cmp, id_total}
-use Rattle.trove_items.specs.Files.{path_of, file_cmp}
-use Rattle.trove_items.specs.Paths.{IsPath, path_cmp}
+use Rattle.trove_stream.specs.trove-parts.declared.id.TroveId.{TroveId}
+use Rattle.trove_stream.specs.trove-parts.Id.{IsTroveId}
+use Rattle.trove_stream.specs.trove-parts.Order.{id_cmp, id_total}
+use Rattle.trove_stream.specs.trove-parts.Files.{path_of, file_cmp}
+use Rattle.trove_stream.specs.trove-parts.Paths.{IsPath, path_cmp}
 use Rattle.trove_stream.specs.declared.parts.TroveParts.{TroveParts}
-use Rattle.trove_rel.specs.declared.rel.RelParts.{RelParts}
-use Rattle.trove_rel.specs.Above.{dep_total}
-use Rattle.trove_rel.specs.Disjoint.{AreDisjoint}
-use Rattle.trove_rel.specs.Rel.{IsPathOf, IsSameId, IsSameDep}
+use Rattle.trove_stream.specs.declared.rel.RelParts.{RelParts}
+use Rattle.trove_stream.specs.Above.{dep_total}
+use Rattle.trove_stream.specs.Disjoint.{AreDisjoint}
+use Rattle.trove_stream.specs.Rel.{IsPathOf, IsSameId, IsSameDep}
 use Rattle.change_rel.specs.Amends.{HasKey, Fits, Amends, by_key, IsAmended}
 use Rattle.change_rel.specs.Leads.{id_key, dep_key, Leads}
 use Rattle.change_rel.specs.Lists.{AreAmended}

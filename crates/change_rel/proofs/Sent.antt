@@ -17,9 +17,9 @@ use Rattle.std.proofs.lemmas.List.Kept.{Contains-dedup, Contains-from_dedup, IsS
 use Rattle.std.proofs.lemmas.List.Sorted.{searchable_from_sorted, Contains-permutation, IsPermutation-sym}
 use Rattle.std.proofs.lemmas.Slice.Eq.{bytes_eq-Decides}
 use Rattle.std.proofs.lemmas.Map.Keys.{sorted_tail, Less-from_sorted}
-use Rattle.file_stream.specs.declared.record.FileRec.{FileRec}
-use Rattle.trove_items.specs.declared.files.FileAt.{FileAt}
-use Rattle.trove_items.specs.Files.{path_of, file_cmp}
+use Rattle.trove_stream.specs.file-stream.declared.record.FileRec.{FileRec}
+use Rattle.trove_stream.specs.trove-parts.declared.files.FileAt.{FileAt}
+use Rattle.trove_stream.specs.trove-parts.Files.{path_of, file_cmp}
 use Rattle.change_rel.specs.Sending.{content_of, Records, IsSent, SendsName, AreSent}
 use Rattle.change_rel.proofs.Members.{nothing_in, contains_first, contains_rest, contains_cases, rising_head}
 use Rattle.change_rel.proofs.Leading.{equal_lists}

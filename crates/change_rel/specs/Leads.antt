@@ -1,16 +1,16 @@
 -- What a relative trove makes of a trove.
 use Rattle.std.specs.Prelude.{◌≡◌}
-use Rattle.cny_base.specs.declared.refusal.Fault.{Fault}
-use Rattle.cny_base.specs.declared.refusal.Fault.TheVariants.{Refused, Memory}
-use Rattle.cny_base.specs.declared.refusal.Refusal.TheVariants.{MissingBase}
+use Rattle.trove_stream.specs.cny-base.declared.refusal.Fault.{Fault}
+use Rattle.trove_stream.specs.cny-base.declared.refusal.Fault.TheVariants.{Refused, Memory}
+use Rattle.trove_stream.specs.cny-base.declared.refusal.Refusal.TheVariants.{MissingBase}
 use Rattle.cny_dep.specs.Dep.{Dependency}
-use Rattle.trove_id.specs.declared.id.TroveId.{TroveId}
-use Rattle.trove_id.specs.Id.{id_text_of}
-use Rattle.trove_items.specs.Files.{path_of}
+use Rattle.trove_stream.specs.trove-parts.declared.id.TroveId.{TroveId}
+use Rattle.trove_stream.specs.trove-parts.Id.{id_text_of}
+use Rattle.trove_stream.specs.trove-parts.Files.{path_of}
 use Rattle.trove_stream.specs.declared.parts.TroveParts.{TroveParts}
 use Rattle.trove_stream.specs.Trove.{IsTrove}
-use Rattle.trove_rel.specs.declared.rel.RelParts.{RelParts}
-use Rattle.trove_rel.specs.Rel.{IsRel}
+use Rattle.trove_stream.specs.declared.rel.RelParts.{RelParts}
+use Rattle.trove_stream.specs.Rel.{IsRel}
 use Rattle.change_rel.specs.Amends.{Amends}
 
 -- a reference is its own key

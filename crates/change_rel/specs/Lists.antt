@@ -1,11 +1,11 @@
 -- The lists of a trove that a relative one makes.
 use Rattle.std.specs.Prelude.{◌≡◌}
 use Rattle.cny_dep.specs.Order.{dep_cmp}
-use Rattle.trove_id.specs.Order.{id_cmp}
-use Rattle.trove_items.specs.Files.{path_of}
-use Rattle.trove_items.specs.Paths.{path_cmp}
+use Rattle.trove_stream.specs.trove-parts.Order.{id_cmp}
+use Rattle.trove_stream.specs.trove-parts.Files.{path_of}
+use Rattle.trove_stream.specs.trove-parts.Paths.{path_cmp}
 use Rattle.trove_stream.specs.declared.parts.TroveParts.{TroveParts}
-use Rattle.trove_rel.specs.declared.rel.RelParts.{RelParts}
+use Rattle.trove_stream.specs.declared.rel.RelParts.{RelParts}
 use Rattle.change_rel.specs.Amends.{IsAmended}
 use Rattle.change_rel.specs.Leads.{id_key, dep_key}
 

@@ -6,9 +6,9 @@ ghost use Rattle.change_rel.specs.Turns.{IsFateByKeys, IsFate};
 
 use crate::difference::{push_copies, push_copy};
 use crate::element::Element;
-use cny_base::{Copies, ListOf, OutOfMemory};
 use std::alloc::Global;
 use std::cmp::Ordering;
+use trove_stream::cny_base::{Copies, ListOf, OutOfMemory};
 
 /// What becomes of an element of the old list.
 #[derive(Clone, Copy)]

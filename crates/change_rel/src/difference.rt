@@ -4,9 +4,9 @@ ghost use Rattle.std.specs.List.Sorted.{IsStrictlySortedBy};
 ghost use Rattle.change_rel.specs.Amends.{by_key, IsAmended};
 
 use crate::element::Element;
-use cny_base::{Copies, ListOf, OutOfMemory};
 use std::alloc::Global;
 use std::cmp::Ordering;
+use trove_stream::cny_base::{Copies, ListOf, OutOfMemory};
 
 /// Keys that are gone, and elements that are set.
 #[derive(Drop)]

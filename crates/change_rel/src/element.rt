@@ -5,18 +5,17 @@ ghost use Rattle.std.specs.Cmp.Lexicographic.{nat_list_cmp_total};
 ghost use Rattle.std.specs.declared.cmp.Ordering.{Ordering};
 ghost use Rattle.std.specs.declared.cmp.Ordering.TheVariants.{Equal};
 ghost use Rattle.cny_dep.specs.Order.{dep_cmp};
-ghost use Rattle.trove_id.specs.Order.{id_cmp, id_total};
-ghost use Rattle.trove_items.specs.Files.{path_of};
-ghost use Rattle.trove_items.specs.Paths.{path_cmp};
-ghost use Rattle.trove_rel.specs.Above.{dep_total};
+ghost use Rattle.trove_stream.specs.trove-parts.Order.{id_cmp, id_total};
+ghost use Rattle.trove_stream.specs.trove-parts.Files.{path_of};
+ghost use Rattle.trove_stream.specs.trove-parts.Paths.{path_cmp};
+ghost use Rattle.trove_stream.specs.Above.{dep_total};
 ghost use Rattle.change_rel.specs.Leads.{id_key, dep_key};
 
 use crate::same::{is_same_id, is_same_record};
-use cny_base::{Copies, OutOfMemory, Path};
 use cny_dep::Dep;
 use std::cmp::Ordering;
-use trove_id::{TroveId, distinct_ids};
-use trove_items::FileAt;
+use trove_stream::cny_base::{Copies, OutOfMemory, Path};
+use trove_stream::trove_parts::{FileAt, TroveId, distinct_ids};
 
 /// An element of a list that strictly rises by its keys, of type `K`.
 pub(crate) trait Element<K> {

@@ -15,3 +15,5 @@ pub use applying::apply;
 pub use laws::{one_relative, one_result};
 pub use relating::relative;
 pub use sending::{ContentNames, to_send};
+pub use trove_stream;
+pub use trove_stream::{cny_base, file_stream, trove_parts};

@@ -1,14 +1,13 @@
 //! The relative trove that leads from one trove to another.
 ghost use Rattle.std.specs.Prelude.{◌≡◌, ◌≢◌, IfOk};
-ghost use Rattle.trove_rel.specs.declared.rel.RelParts.{RelParts};
+ghost use Rattle.trove_stream.specs.declared.rel.RelParts.{RelParts};
 ghost use Rattle.change_rel.specs.Leads.{Leads};
 
 use crate::difference::difference;
 use crate::laws::one_relative;
-use cny_base::{Copies, OutOfMemory};
 use std::alloc::Global;
-use trove_rel::{RelParts, RelTrove};
-use trove_stream::Trove;
+use trove_stream::cny_base::{Copies, OutOfMemory};
+use trove_stream::{RelParts, RelTrove, Trove};
 
 // The parts of the relative trove.
 fn parts_between(alloc: Global, old: &Trove, fresh: &Trove) -> Result<RelParts, OutOfMemory>

@@ -1,10 +1,10 @@
 //! Whether two records, or two ids, are one.
 ghost use Rattle.std.specs.Prelude.{◌≡◌, ◌↔◌, IsTrue};
-ghost use Rattle.file_stream.specs.declared.record.FileRec.TheVariants.{Dir, File, Link};
+ghost use Rattle.trove_stream.specs.file-stream.declared.record.FileRec.TheVariants.{Dir, File, Link};
 
-use cny_base::{Mode, Target};
-use file_stream::{FileRec, Flags, Owner};
-use trove_id::{TroveId, distinct_ids};
+use trove_stream::cny_base::{Mode, Target};
+use trove_stream::file_stream::{FileRec, Flags, Owner};
+use trove_stream::trove_parts::{TroveId, distinct_ids};
 
 fn is_same_owner(one: &Owner, other: &Owner) -> bool
     ensures { IsTrue result ↔ (one.now ≡ other.now) }

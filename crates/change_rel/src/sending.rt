@@ -1,15 +1,15 @@
 //! The contents that a receiver of a trove lacks.
 ghost use Rattle.std.specs.Prelude.{◌≡◌, ◌↔◌, ◌⊎◌, ℕ, List, [], Some, IsTrue, IfOk, OnOk, IfSome, IfNone, Contains};
 ghost use Rattle.std.specs.List.Sorted.{IsStrictlySortedBy};
-ghost use Rattle.trove_items.specs.Files.{file_cmp};
+ghost use Rattle.trove_stream.specs.trove-parts.Files.{file_cmp};
 ghost use Rattle.change_rel.specs.Sending.{content_of, Records, IsSent, SendsName, AreSent};
 
 use crate::same::is_same_name;
-use cny_base::{ListOf, OutOfMemory, Path};
-use file_stream::FileRec;
 use std::alloc::Global;
-use trove_items::FileAt;
 use trove_stream::Trove;
+use trove_stream::cny_base::{ListOf, OutOfMemory, Path};
+use trove_stream::file_stream::FileRec;
+use trove_stream::trove_parts::FileAt;
 
 /// A list of names of contents, each the SHA-1 of the content's bytes.
 pub type ContentNames = ListOf<[u8; 20]>;

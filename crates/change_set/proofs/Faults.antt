@@ -5,10 +5,10 @@ use Rattle.std.specs.Int.{w32, from_be_bytes, to_be_bytes}
 use Rattle.std.proofs.lemmas.Bool.{and_parts, not-false, not_from_true, cond-true, cond-false, cases_Bool, cases_lt, ltb-true, ltb-false, le-ltb, eqb-true}
 use Rattle.std.proofs.lemmas.List.{length-take, length-drop, take-append-drop, get_or-drop, get_or-take, get_or_past}
 use Rattle.std.proofs.lemmas.Nat.{be_bytes_4, from_be_bytes-to_be_bytes_4}
-use Rattle.cny_base.specs.declared.limits.TheConstants.{CONTENT_ITEM_LIMIT}
-use Rattle.cny_base.specs.declared.refusal.Refusal.{Refusal}
-use Rattle.cny_base.specs.declared.refusal.Refusal.TheVariants.{Malformed, TooLarge}
-use Rattle.cny_base.specs.declared.refusal.What.TheVariants.{Content}
+use Rattle.trove_stream.specs.cny-base.declared.limits.TheConstants.{CONTENT_ITEM_LIMIT}
+use Rattle.trove_stream.specs.cny-base.declared.refusal.Refusal.{Refusal}
+use Rattle.trove_stream.specs.cny-base.declared.refusal.Refusal.TheVariants.{Malformed, TooLarge}
+use Rattle.trove_stream.specs.cny-base.declared.refusal.What.TheVariants.{Content}
 use Rattle.cny_stream.specs.Item.{FitsItem, IsItemAt, item_bytes, is_expected, begins_unexpected, fault_place, value_len}
 use Rattle.change_set.specs.FirstFault.{stated_length, begins_content, is_oversized, place_of, fault_of}
 use Rattle.change_set.specs.Reading.{IsSmall}

@@ -4,9 +4,9 @@ use Rattle.std.specs.Prelude.{flat_map, IsTrue}
 use Rattle.std.proofs.lemmas.Bool.{false≢true}
 use Rattle.std.proofs.lemmas.Grind.{flat_map-append}
 use Rattle.std.proofs.lemmas.List.{append_cancel_left}
-use Rattle.cny_base.specs.declared.limits.TheConstants.{PARTS_LIMIT}
-use Rattle.cny_base.specs.Below.{begins_with, begins}
-use Rattle.cny_base.specs.declared.refusal.Refusal.{Refusal}
+use Rattle.trove_stream.specs.cny-base.declared.limits.TheConstants.{PARTS_LIMIT}
+use Rattle.trove_stream.specs.cny-base.Below.{begins_with, begins}
+use Rattle.trove_stream.specs.cny-base.declared.refusal.Refusal.{Refusal}
 use Rattle.cny_stream.specs.Item.{is_expected}
 use Rattle.cny_stream.specs.ItemLaws.{same_item}
 use Rattle.change_set.specs.declared.change.ChangeSet.{ChangeSet}

@@ -8,3 +8,4 @@ mod SameSet
 mod Small
 mod Taking
 mod Written
+pub use Rattle.trove_stream.proofs.trove-parts

@@ -4,10 +4,10 @@ use Rattle.std.proofs.lemmas.List.{append_cancel_left}
 use Rattle.std.proofs.lemmas.List.Elements.{All-head, All-tail, All-weaker}
 use Rattle.cny_stream.specs.Item.{FitsItem}
 use Rattle.cny_stream.specs.ItemLaws.{same_front, same_item}
-use Rattle.file_stream.specs.declared.encoding.Encoding.{Encoding}
-use Rattle.file_stream.specs.declared.encoding.Encoding.TheVariants.{Compact}
-use Rattle.trove_rel.specs.declared.rel.RelParts.{RelParts}
-use Rattle.trove_rel.specs.RelBytes.{IsStreamOf, rel_bytes}
+use Rattle.trove_stream.specs.file-stream.declared.encoding.Encoding.{Encoding}
+use Rattle.trove_stream.specs.file-stream.declared.encoding.Encoding.TheVariants.{Compact}
+use Rattle.trove_stream.specs.declared.rel.RelParts.{RelParts}
+use Rattle.trove_stream.specs.RelBytes.{IsStreamOf, rel_bytes}
 use Rattle.trove_stream.specs.declared.parts.TroveParts.{TroveParts}
 use Rattle.trove_stream.specs.Stream.{stream_bytes}
 use Rattle.trove_stream.specs.Trove.{IsTrove}

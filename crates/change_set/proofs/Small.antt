@@ -3,11 +3,11 @@ use Rattle.std.proofs.Common.{◌≡◌, ℕ, ◌+◌, ◌≤◌, true, IsTrue, 
 use Rattle.std.specs.List.{list_any}
 use Rattle.std.proofs.lemmas.List.Elements.{All-contains}
 use Rattle.std.proofs.lemmas.List.Folds.{Any-from_list_any}
-use Rattle.cny_base.specs.declared.limits.TheConstants.{CONTENT_LIMIT, CONTENT_ITEM_LIMIT}
-use Rattle.file_stream.specs.Record.{has_name_and_size}
-use Rattle.file_stream.specs.RecordLaws.{size_fits}
-use Rattle.trove_items.specs.declared.files.FileAt.{FileAt}
-use Rattle.trove_items.specs.Files.{IsFileAt}
+use Rattle.trove_stream.specs.cny-base.declared.limits.TheConstants.{CONTENT_LIMIT, CONTENT_ITEM_LIMIT}
+use Rattle.trove_stream.specs.file-stream.Record.{has_name_and_size}
+use Rattle.trove_stream.specs.file-stream.RecordLaws.{size_fits}
+use Rattle.trove_stream.specs.trove-parts.declared.files.FileAt.{FileAt}
+use Rattle.trove_stream.specs.trove-parts.Files.{IsFileAt}
 use Rattle.change_set.specs.declared.change.Part.{Part}
 use Rattle.change_set.specs.declared.change.Part.TheVariants.{Whole, Relative}
 use Rattle.change_set.specs.ChangeSet.{IsPart, has_record}

@@ -5,9 +5,9 @@ use Rattle.std.proofs.lemmas.Bool.{le-ltb, true≢false, cases_lt, eqb-true, or_
 use Rattle.std.proofs.lemmas.List.{length-map}
 use Rattle.std.proofs.lemmas.List.Concat.{flat_map-append}
 use Rattle.std.proofs.lemmas.List.Elements.{All-nil, All-push}
-use Rattle.cny_base.specs.declared.limits.TheConstants.{PARTS_LIMIT}
-use Rattle.cny_base.specs.Below.{begins_with, begun}
-use Rattle.cny_base.specs.declared.refusal.Refusal.{Refusal}
+use Rattle.trove_stream.specs.cny-base.declared.limits.TheConstants.{PARTS_LIMIT}
+use Rattle.trove_stream.specs.cny-base.Below.{begins_with, begun}
+use Rattle.trove_stream.specs.cny-base.declared.refusal.Refusal.{Refusal}
 use Rattle.cny_stream.specs.Item.{FitsItem, IsItemAt, item_bytes, is_expected}
 use Rattle.cny_stream.specs.ItemLaws.{same_item}
 use Rattle.change_set.specs.declared.change.Part.{Part}

@@ -5,7 +5,7 @@ use Rattle.std.specs.Int.{w32, to_be_bytes}
 use Rattle.std.proofs.lemmas.List.{flat_map_more, take_more}
 use Rattle.std.proofs.lemmas.List.Elements.{All-more}
 use Rattle.std.proofs.lemmas.List.Folds.{length-flat_map-take}
-use Rattle.cny_base.specs.declared.limits.TheConstants.{CHANGE_SET_LIMIT}
+use Rattle.trove_stream.specs.cny-base.declared.limits.TheConstants.{CHANGE_SET_LIMIT}
 use Rattle.cny_stream.specs.Item.{FitsItem, FitsOpen, item_bytes, open_head}
 use Rattle.change_set.specs.declared.change.Part.{Part}
 use Rattle.change_set.specs.declared.change.Carried.{Carried}

@@ -6,12 +6,12 @@ use Rattle.std.specs.List.Sorted.{IsStrictlySortedBy}
 use Rattle.std.specs.Ordering.{nat_cmp}
 use Rattle.std.specs.declared.cmp.Ordering.{Ordering}
 use Rattle.sha1.specs.Sha1.{sha1}
-use Rattle.cny_base.specs.declared.limits.TheConstants.{PARTS_LIMIT}
+use Rattle.trove_stream.specs.cny-base.declared.limits.TheConstants.{PARTS_LIMIT}
 use Rattle.cny_stream.specs.Item.{FitsItem, item_bytes}
-use Rattle.file_stream.specs.Record.{has_name_and_size}
-use Rattle.trove_items.specs.declared.files.FileAt.{FileAt}
-use Rattle.trove_rel.specs.Rel.{IsRel}
-use Rattle.trove_rel.specs.RelBytes.{rel_bytes}
+use Rattle.trove_stream.specs.file-stream.Record.{has_name_and_size}
+use Rattle.trove_stream.specs.trove-parts.declared.files.FileAt.{FileAt}
+use Rattle.trove_stream.specs.Rel.{IsRel}
+use Rattle.trove_stream.specs.RelBytes.{rel_bytes}
 use Rattle.trove_stream.specs.Stream.{trove_bytes}
 use Rattle.trove_stream.specs.Trove.{IsTrove}
 use Rattle.change_set.specs.declared.change.Part.{Part}

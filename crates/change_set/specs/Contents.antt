@@ -1,9 +1,9 @@
 -- Where the reader of contents stops.
 use Rattle.std.specs.Prelude.{◌≡◌, ◌≢◌, ◌⊎◌, ℕ, IsTrue, List, [], ◌∷◌, ◌++◌, length, drop, Option}
-use Rattle.cny_base.specs.declared.refusal.Refusal.{Refusal}
-use Rattle.cny_base.specs.declared.refusal.Refusal.TheVariants.{Malformed}
-use Rattle.cny_base.specs.declared.refusal.Fault.{Fault}
-use Rattle.cny_base.specs.declared.refusal.Fault.TheVariants as fault
+use Rattle.trove_stream.specs.cny-base.declared.refusal.Refusal.{Refusal}
+use Rattle.trove_stream.specs.cny-base.declared.refusal.Refusal.TheVariants.{Malformed}
+use Rattle.trove_stream.specs.cny-base.declared.refusal.Fault.{Fault}
+use Rattle.trove_stream.specs.cny-base.declared.refusal.Fault.TheVariants as fault
 use Rattle.cny_stream.specs.Item.{FitsItem, is_expected, item_bytes}
 use Rattle.cny_stream.specs.declared.item.Item.{Item}
 use Rattle.change_set.specs.declared.change.Part.{Part}

@@ -13,13 +13,13 @@ use Rattle.std.specs.Cmp.Lexicographic.{slice_cmp}
 use Rattle.std.specs.Ordering.{nat_cmp}
 use Rattle.std.specs.declared.cmp.Ordering.TheVariants.{Less}
 use Rattle.sha1.specs.Sha1.{sha1}
-use Rattle.cny_base.specs.declared.limits.TheConstants.{CONTENT_ITEM_LIMIT, PARTS_LIMIT}
-use Rattle.cny_base.specs.Below.{begins_with}
-use Rattle.cny_base.specs.declared.refusal.Refusal.{Refusal}
-use Rattle.cny_base.specs.declared.refusal.Refusal.TheVariants.{Malformed, TooLarge}
-use Rattle.cny_base.specs.declared.refusal.What.TheVariants.{Content}
-use Rattle.cny_base.specs.declared.refusal.Fault.{Fault}
-use Rattle.cny_base.specs.declared.refusal.Fault.TheVariants as fault
+use Rattle.trove_stream.specs.cny-base.declared.limits.TheConstants.{CONTENT_ITEM_LIMIT, PARTS_LIMIT}
+use Rattle.trove_stream.specs.cny-base.Below.{begins_with}
+use Rattle.trove_stream.specs.cny-base.declared.refusal.Refusal.{Refusal}
+use Rattle.trove_stream.specs.cny-base.declared.refusal.Refusal.TheVariants.{Malformed, TooLarge}
+use Rattle.trove_stream.specs.cny-base.declared.refusal.What.TheVariants.{Content}
+use Rattle.trove_stream.specs.cny-base.declared.refusal.Fault.{Fault}
+use Rattle.trove_stream.specs.cny-base.declared.refusal.Fault.TheVariants as fault
 use Rattle.cny_stream.specs.Item.{FitsItem, item_bytes, is_expected, begins_unexpected, value_len}
 use Rattle.change_set.specs.declared.change.Part.{Part}
 use Rattle.change_set.specs.declared.change.Carried.{Carried}

@@ -4,3 +4,7 @@ pub mod FirstFault
 pub mod Index
 pub mod Reading
 pub mod TooLarge
+pub use Rattle.trove_stream.specs.cny-base
+pub use Rattle.trove_stream.specs.file-stream
+pub use Rattle.trove_stream.specs.trove-parts
+pub use Rattle.trove_stream.specs as trove-stream

@@ -1,6 +1,6 @@
 -- What the reader of change sets has read.
 use Rattle.std.specs.Prelude.{◌≡◌, ◌⊎◌, ℕ, ◌≤◌, false, nat_lt, List, [], ◌∷◌, ◌++◌, ◌+◌, length, drop, flat_map, All, Option, Some, None}
-use Rattle.cny_base.specs.declared.limits.TheConstants.{CONTENT_ITEM_LIMIT, PARTS_LIMIT}
+use Rattle.trove_stream.specs.cny-base.declared.limits.TheConstants.{CONTENT_ITEM_LIMIT, PARTS_LIMIT}
 use Rattle.cny_stream.specs.Item.{IsItemAt}
 use Rattle.cny_stream.specs.declared.item.Item.{Item}
 use Rattle.change_set.specs.declared.change.Part.{Part}

@@ -1,11 +1,11 @@
 -- Change sets that are too large to be written.
 use Rattle.std.specs.Prelude.{◌≡◌, nat_lt, if◌then◌else◌, length, Option, Some, None}
-use Rattle.cny_base.specs.declared.limits.TheConstants.{CHANGE_SET_LIMIT, PARTS_LIMIT}
-use Rattle.cny_base.specs.declared.refusal.Refusal.{Refusal}
-use Rattle.cny_base.specs.declared.refusal.Refusal.TheVariants.{TooLarge}
-use Rattle.cny_base.specs.declared.refusal.What.TheVariants as what
-use Rattle.cny_base.specs.declared.refusal.Fault.{Fault}
-use Rattle.cny_base.specs.declared.refusal.Fault.TheVariants as fault
+use Rattle.trove_stream.specs.cny-base.declared.limits.TheConstants.{CHANGE_SET_LIMIT, PARTS_LIMIT}
+use Rattle.trove_stream.specs.cny-base.declared.refusal.Refusal.{Refusal}
+use Rattle.trove_stream.specs.cny-base.declared.refusal.Refusal.TheVariants.{TooLarge}
+use Rattle.trove_stream.specs.cny-base.declared.refusal.What.TheVariants as what
+use Rattle.trove_stream.specs.cny-base.declared.refusal.Fault.{Fault}
+use Rattle.trove_stream.specs.cny-base.declared.refusal.Fault.TheVariants as fault
 use Rattle.change_set.specs.declared.change.ChangeSet.{ChangeSet}
 use Rattle.change_set.specs.ChangeSet.{change_bytes}
 

@@ -1,9 +1,8 @@
 //! Change sets and what they hold.
 ghost use Rattle.std.specs.Prelude.{◌≡◌};
 
-use cny_base::{Bytes, Copies, ListOf, OutOfMemory};
-use trove_rel::RelTrove;
-use trove_stream::Trove;
+use trove_stream::cny_base::{Bytes, Copies, ListOf, OutOfMemory};
+use trove_stream::{RelTrove, Trove};
 
 /// A part of a change set.
 #[derive(Debug, Drop)]

@@ -11,12 +11,11 @@ ghost use Rattle.change_set.specs.Reading.{ArePartsTo, IsNextAt, IsNextOf, last_
 use crate::change::{Carried, Part};
 use crate::items::{CONTENT, CONTENT_TAGS, next_of};
 use crate::recorded::Index;
-use cny_base::{Bytes, Fault, Refusal, TextFault};
 use cny_stream::Item;
 use sha1::Sha1;
 use std::alloc::Global;
-use trove_rel::distinct_rels;
-use trove_stream::distinct_troves;
+use trove_stream::cny_base::{Bytes, Fault, Refusal, TextFault};
+use trove_stream::{distinct_rels, distinct_troves};
 
 // Whether the name comes after that of the last content.
 fn comes_after(contents: &[Carried], name: &[u8; 20]) -> bool

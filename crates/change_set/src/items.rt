@@ -4,8 +4,8 @@ ghost use Rattle.cny_stream.specs.Item.{FitsItem, IsItemAt, is_expected, item_by
 ghost use Rattle.change_set.specs.FirstFault.{fault_of, is_oversized, stated_length};
 ghost use Rattle.change_set.specs.Reading.{IsSmall};
 
-use cny_base::{CONTENT_ITEM_LIMIT, Refusal, What};
 use cny_stream::{Item, next_item};
+use trove_stream::cny_base::{CONTENT_ITEM_LIMIT, Refusal, What};
 
 /// The tags of the items.
 pub(crate) const TROVE: u8 = 0x10;

@@ -1,12 +1,11 @@
 //! Laws of change sets.
 ghost use Rattle.std.specs.Prelude.{◌≡◌, ◌++◌, [], List, ℕ};
-ghost use Rattle.cny_base.specs.declared.refusal.Refusal.{Refusal};
+ghost use Rattle.trove_stream.specs.cny-base.declared.refusal.Refusal.{Refusal};
 ghost use Rattle.change_set.specs.declared.change.ChangeSet.{ChangeSet};
 ghost use Rattle.change_set.specs.ChangeSet.{IsChangeSet, IsSetStream, change_bytes};
 ghost use Rattle.change_set.specs.FirstFault.{IsFirstFault};
 
-use trove_rel::distinct_rels;
-use trove_stream::distinct_troves;
+use trove_stream::{distinct_rels, distinct_troves};
 
 /// Bytes have one first fault at most, and none where they are the stream of a change set. No stream of a change set is a
 /// proper prefix of another.

@@ -13,4 +13,6 @@ mod writing;
 pub use change::{Carried, CarriedList, ChangeSet, Part, Parts};
 pub use laws::{one_fault, unique_set};
 pub use reading::decode;
+pub use trove_stream;
+pub use trove_stream::{cny_base, file_stream, trove_parts};
 pub use writing::encode;

@@ -1,7 +1,7 @@
 //! The parts of a change set, read from its stream.
 ghost use Rattle.std.specs.Prelude.{◌≡◌, ◌⊎◌, ◌≤◌, ◌+◌, true, length, IsTrue, IfOk, IfErr, OnOk, IsErrOf};
-ghost use Rattle.cny_base.specs.Below.{begins_with};
-ghost use Rattle.cny_base.specs.declared.limits.TheConstants.{CONTENT_ITEM_LIMIT};
+ghost use Rattle.trove_stream.specs.cny-base.Below.{begins_with};
+ghost use Rattle.trove_stream.specs.cny-base.declared.limits.TheConstants.{CONTENT_ITEM_LIMIT};
 ghost use Rattle.cny_stream.specs.Item.{IsItemAt, is_expected};
 ghost use Rattle.change_set.specs.declared.change.Part.{Part};
 ghost use Rattle.change_set.specs.ChangeSet.{magic};
@@ -10,10 +10,10 @@ ghost use Rattle.change_set.specs.Reading.{ArePartsTo, IsNextAt, tags_behind};
 
 use crate::change::Part;
 use crate::items::{CONTENT_TAGS, PART_TAGS, RELATIVE, TROVE, next_of};
-use cny_base::{Fault, PARTS_LIMIT, Refusal, TextFault};
 use cny_stream::Item;
 use std::alloc::Global;
-use trove_rel::decode_rel;
+use trove_stream::cny_base::{Fault, PARTS_LIMIT, Refusal, TextFault};
+use trove_stream::decode_rel;
 
 /// `CNYCS01` and a line feed.
 pub(crate) const MAGIC: &[u8] = b"CNYCS01\n";

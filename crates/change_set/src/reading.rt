@@ -1,6 +1,6 @@
 //! The change set that bytes spell.
 ghost use Rattle.std.specs.Prelude.{◌≡◌, IfOk, IfErr, MatchResult};
-ghost use Rattle.cny_base.specs.declared.refusal.Refusal.{Refusal};
+ghost use Rattle.trove_stream.specs.cny-base.declared.refusal.Refusal.{Refusal};
 ghost use Rattle.change_set.specs.declared.change.ChangeSet.{ChangeSet};
 ghost use Rattle.change_set.specs.ChangeSet.{IsSetStream};
 ghost use Rattle.change_set.specs.FirstFault.{IsFirstFault, IsFaultOf, IsRefusalOrMemory};
@@ -9,8 +9,8 @@ use crate::change::{CarriedList, ChangeSet, Parts};
 use crate::contents::take_contents;
 use crate::laws::{one_fault, unique_set};
 use crate::parts::{check_magic, take_parts};
-use cny_base::Fault;
 use std::alloc::Global;
+use trove_stream::cny_base::Fault;
 
 // The change set, or the first fault.
 fn read_set(alloc: Global, bytes: &[u8]) -> Result<ChangeSet, Fault>

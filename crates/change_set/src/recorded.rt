@@ -1,17 +1,17 @@
 //! The names and sizes of contents that the file records of parts have.
 ghost use Rattle.std.specs.Prelude.{◌≡◌, ◌||◌, IfOk, OnOk, List, ℕ};
 ghost use Rattle.std.specs.List.{list_any};
-ghost use Rattle.file_stream.specs.Record.{has_name_and_size};
+ghost use Rattle.trove_stream.specs.file-stream.Record.{has_name_and_size};
 ghost use Rattle.change_set.specs.declared.change.Part.{Part};
 ghost use Rattle.change_set.specs.ChangeSet.{files_of, has_record};
 ghost use Rattle.change_set.specs.Index.{has_key, has_file, IsIndexOf};
 
 use crate::change::Part;
-use cny_base::OutOfMemory;
-use file_stream::FileRec;
 use std::alloc::Global;
 use std::collections::BTreeSet;
-use trove_items::FileAt;
+use trove_stream::cny_base::OutOfMemory;
+use trove_stream::file_stream::FileRec;
+use trove_stream::trove_parts::FileAt;
 
 // The name and the size of a content.
 #[derive(PartialEq, Eq, PartialOrd, Ord, Drop)]

@@ -7,10 +7,12 @@ ghost use Rattle.change_set.specs.TooLarge.{too_large, IsTooLargeOrMemory};
 use crate::change::{Carried, ChangeSet, Part};
 use crate::items::{CONTENT, END, RELATIVE, TROVE};
 use crate::parts::MAGIC;
-use cny_base::{Bytes, CHANGE_SET_LIMIT, Fault, OutOfMemory, PARTS_LIMIT, Refusal, What};
 use cny_stream::{close_item, open_item, put_item};
 use std::alloc::Global;
-use trove_rel::encode_rel;
+use trove_stream::cny_base::{
+    Bytes, CHANGE_SET_LIMIT, Fault, OutOfMemory, PARTS_LIMIT, Refusal, What,
+};
+use trove_stream::encode_rel;
 
 // What an item has before its value: its tag, and the value's length in four bytes.
 const HEAD_LEN: u64 = 5;

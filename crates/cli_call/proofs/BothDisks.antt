@@ -1,11 +1,11 @@
 -- Two disks opened one after the other.
 use Rattle.std.proofs.Common.{◌≡◌, Result, Ok, Err, IfOk, refl, sym, ◌∙◌, subst, inl, inr}
-use Rattle.cny_base.specs.declared.stop.Stop.{Stop}
-use Rattle.tree_disk.specs.Disk.{DiskModel}
+use Rattle.system_core.specs.cny-base.declared.stop.Stop.{Stop}
+use Rattle.system_core.specs.tree-disk.Disk.{DiskModel}
 use Rattle.local_db.specs.declared.db.Db.{Db}
 use Rattle.repo_index.specs.Catalogue.{CatalogueParts}
-use Rattle.repo_state.specs.Files.{HoldsCatalogue}
-use Rattle.repository.specs.Loading.{IsCatalogue}
+use Rattle.repo_load.specs.Files.{HoldsCatalogue}
+use Rattle.repo_load.specs.Loading.{IsCatalogue}
 use Rattle.cli_call.specs.declared.failure.Failure.{Failure}
 use Rattle.cli_call.specs.Call.{OpensBoth}
 use Rattle.cli_call.specs.Opening.{Opens, no_test}

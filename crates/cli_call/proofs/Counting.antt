@@ -2,14 +2,14 @@
 use Rattle.std.proofs.Common.{◌≡◌, inl, ⊎_elim, false, List, ℕ, length, Some, Option, ap, ◌∙◌, subst}
 use Rattle.std.specs.Prelude.{IsTrue}
 use Rattle.std.specs.FinMap.{get}
-use Rattle.tree_disk.specs.Tree.{Name, Tree}
-use Rattle.journal_log.specs.Own.{is_own}
+use Rattle.system_core.specs.tree-disk.Tree.{Name, Tree}
+use Rattle.system_core.specs.journal-log.Own.{is_own}
 use Rattle.repo_index.specs.Catalogue.{CatalogueParts, records_content}
-use Rattle.repo_state.specs.Counts.{Counts}
-use Rattle.repo_state.specs.Damage.{IsDamagedCommit}
-use Rattle.repo_state.specs.Files.{repository_base, HoldsCatalogue, StoresRepository}
-use Rattle.repo_state.specs.State.{catalogue_of, troves_of, RepositoryState}
-use Rattle.repository.specs.Contents.{IsDamagedContent}
+use Rattle.repo_load.specs.Counts.{Counts}
+use Rattle.repo_load.specs.Damage.{IsDamagedCommit}
+use Rattle.repo_load.specs.Files.{repository_base, HoldsCatalogue, StoresRepository}
+use Rattle.repo_load.specs.State.{catalogue_of, troves_of, RepositoryState}
+use Rattle.repo_load.specs.Contents.{IsDamagedContent}
 use Rattle.cli_call.specs.Store.{IsStore}
 use Rattle.cli_call.specs.Stores.{repository_store, HasDamagedContent, HasUnsoundContent}
 

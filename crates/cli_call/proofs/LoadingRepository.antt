@@ -1,17 +1,17 @@
 -- The repository, recovered and loaded.
 use Rattle.std.proofs.Common.{◌≡◌, Result, Ok, Err, IfOk, IfErr, refl, sym, subst, inr}
 use Rattle.std.specs.Prelude.{IsTrue}
-use Rattle.cny_base.specs.declared.stop.Stop.{Stop}
-use Rattle.cny_base.specs.declared.stop.Stop.TheVariants as stop
-use Rattle.tree_disk.specs.Tree.{Tree}
-use Rattle.tree_disk.specs.Disk.{DiskModel, IsDisk, HasRead}
-use Rattle.tree_disk.specs.Moments.{rose_before}
+use Rattle.system_core.specs.cny-base.declared.stop.Stop.{Stop}
+use Rattle.system_core.specs.cny-base.declared.stop.Stop.TheVariants as stop
+use Rattle.system_core.specs.tree-disk.Tree.{Tree}
+use Rattle.system_core.specs.tree-disk.Disk.{DiskModel, IsDisk, HasRead}
+use Rattle.system_core.specs.tree-disk.Moments.{rose_before}
 use Rattle.repo_index.specs.Catalogue.{CatalogueParts}
-use Rattle.repo_state.specs.Damage.{IsDamagedCommit}
-use Rattle.repo_state.specs.Files.{HoldsCatalogue}
-use Rattle.repository.specs.Looks.{Looks}
+use Rattle.repo_load.specs.Damage.{IsDamagedCommit}
+use Rattle.repo_load.specs.Files.{HoldsCatalogue}
+use Rattle.repo_load.specs.Looks.{Looks}
 use Rattle.cli_call.specs.Opening.{IsOpen, Opens, OpeningStops, no_test}
-use Rattle.root_ready.specs.Recovered.{RecoversAt, IsKept}
+use Rattle.system_core.specs.Recovered.{RecoversAt, IsKept}
 use Rattle.cli_call.specs.StoreLaws.{nothing_done}
 use Rattle.cli_call.specs.Stores.{repository_store}
 use Rattle.cli_call.proofs.OpeningDisks.{is_open, opens_loaded, recovered_on}

@@ -2,22 +2,22 @@
 use Rattle.std.proofs.Common.{◌≡◌, ◌≤◌, Bool, true, false, Result, Ok, Err, IfOk, IfErr, refl, sym, ap, ◌∙◌, subst, inl, inr, ⊎_elim, arith}
 use Rattle.std.specs.Prelude.{IsTrue}
 use Rattle.std.specs.FinMap.{get}
-use Rattle.cny_base.specs.declared.refusal.Refusal.{Refusal}
-use Rattle.cny_base.specs.declared.stop.Stop.{Stop}
-use Rattle.cny_base.specs.declared.stop.Stop.TheVariants as stop
-use Rattle.tree_disk.specs.Tree.{Name, Tree}
-use Rattle.tree_disk.specs.Disk.{DiskModel, IsDisk, IsImageOf, HasRead}
-use Rattle.tree_disk.specs.Confined.{Among, LeavesOnly}
-use Rattle.tree_disk.specs.ConfinedLaws.{confined_read, confined_then, leaves_then, leaves_step, leaves_weaker}
-use Rattle.tree_disk.specs.Moments.{rose_before, same_images}
-use Rattle.tree_disk.specs.Steps.{no_name}
-use Rattle.tree_disk.specs.Unfailed.{UnlessFailed, unfailed_then, unfailed_weaker}
-use Rattle.tree_journal.specs.Recovery.{is_committed, RecoversTo, at_rest, by_log, RecoversAsThen, IsRecovered, IsDamagedAt}
-use Rattle.tree_journal.specs.Recovering.{IsVisibleIn}
-use Rattle.tree_journal.specs.Staging.{outcome}
+use Rattle.system_core.specs.cny-base.declared.refusal.Refusal.{Refusal}
+use Rattle.system_core.specs.cny-base.declared.stop.Stop.{Stop}
+use Rattle.system_core.specs.cny-base.declared.stop.Stop.TheVariants as stop
+use Rattle.system_core.specs.tree-disk.Tree.{Name, Tree}
+use Rattle.system_core.specs.tree-disk.Disk.{DiskModel, IsDisk, IsImageOf, HasRead}
+use Rattle.system_core.specs.tree-disk.Confined.{Among, LeavesOnly}
+use Rattle.system_core.specs.tree-disk.ConfinedLaws.{confined_read, confined_then, leaves_then, leaves_step, leaves_weaker}
+use Rattle.system_core.specs.tree-disk.Moments.{rose_before, same_images}
+use Rattle.system_core.specs.tree-disk.Steps.{no_name}
+use Rattle.system_core.specs.tree-disk.Unfailed.{UnlessFailed, unfailed_then, unfailed_weaker}
+use Rattle.system_core.specs.tree-journal.Recovery.{is_committed, RecoversTo, at_rest, by_log, RecoversAsThen, IsRecovered, IsDamagedAt}
+use Rattle.system_core.specs.tree-journal.Recovering.{IsVisibleIn}
+use Rattle.system_core.specs.tree-journal.Staging.{outcome}
 use Rattle.cli_call.specs.CommandLaws.{read_shown}
 use Rattle.cli_call.specs.Opening.{IsOpen, Opens, OpeningStops}
-use Rattle.root_ready.specs.Recovered.{RecoversAt, RecoveryStops, RecoversToNone, IsKept, RefusesLog}
+use Rattle.system_core.specs.Recovered.{RecoversAt, RecoveryStops, RecoversToNone, IsKept, RefusesLog}
 use Rattle.cli_call.specs.Store.{Store}
 
 visible_itself : (base : Name) (t : Tree) → IsVisibleIn base t t

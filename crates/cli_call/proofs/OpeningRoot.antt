@@ -2,28 +2,28 @@
 use Rattle.std.proofs.Common.{◌≡◌, ◌≤◌, Bool, true, false, Result, Ok, Err, IfOk, IfErr, refl, sym, ◌∙◌, subst, inl, inr, ⊎_elim}
 use Rattle.std.specs.Prelude.{◌⊎◌, IsTrue}
 use Rattle.std.specs.FinMap.{get}
-use Rattle.cny_base.specs.Reserved.{private_directory, is_reserved}
-use Rattle.cny_base.specs.declared.refusal.Refusal.{Refusal}
-use Rattle.cny_base.specs.declared.stop.Stop.{Stop}
-use Rattle.cny_base.specs.declared.stop.Stop.TheVariants as stop
-use Rattle.tree_disk.specs.Tree.{Name, Tree, AgreesOutside}
-use Rattle.tree_disk.specs.Disk.{DiskModel, HasRead}
-use Rattle.tree_disk.specs.Confined.{Among, Confined}
-use Rattle.tree_disk.specs.ConfinedLaws.{leaves_weaker}
-use Rattle.tree_disk.specs.Laws.{same_tree}
-use Rattle.tree_disk.specs.Steps.{no_name}
-use Rattle.journal_log.specs.Own.{is_own, StoresSame}
-use Rattle.tree_journal.specs.Recovery.{is_committed, RecoversTo, at_rest, by_log}
+use Rattle.system_core.specs.cny-base.Reserved.{private_directory, is_reserved}
+use Rattle.system_core.specs.cny-base.declared.refusal.Refusal.{Refusal}
+use Rattle.system_core.specs.cny-base.declared.stop.Stop.{Stop}
+use Rattle.system_core.specs.cny-base.declared.stop.Stop.TheVariants as stop
+use Rattle.system_core.specs.tree-disk.Tree.{Name, Tree, AgreesOutside}
+use Rattle.system_core.specs.tree-disk.Disk.{DiskModel, HasRead}
+use Rattle.system_core.specs.tree-disk.Confined.{Among, Confined}
+use Rattle.system_core.specs.tree-disk.ConfinedLaws.{leaves_weaker}
+use Rattle.system_core.specs.tree-disk.Laws.{same_tree}
+use Rattle.system_core.specs.tree-disk.Steps.{no_name}
+use Rattle.system_core.specs.journal-log.Own.{is_own, StoresSame}
+use Rattle.system_core.specs.tree-journal.Recovery.{is_committed, RecoversTo, at_rest, by_log}
 use Rattle.local_db.specs.declared.db.Db.{Db}
-use Rattle.rollback_stack.specs.Migrated.{is_up_to_date}
-use Rattle.system_state.specs.declared.format.Format.TheVariants.{Two}
-use Rattle.system_state.specs.Names.{database}
-use Rattle.system_state.specs.Stores.{IsDatabase, RecoversToSystem}
-use Rattle.system_state.proofs.Places.{own_reserved}
-use Rattle.root_ready.specs.FixedDirs.{fixed_dirs}
-use Rattle.root_ready.specs.Migrating.{RecoversInAFormat}
-use Rattle.root_ready.specs.Ready.{HasReadied, IsReadyStop, MakesReady, MeetsDamagedStore}
-use Rattle.root_ready.specs.Recovered.{RecoversToNone}
+use Rattle.system_core.specs.rollback-stack.Migrated.{is_up_to_date}
+use Rattle.local_db.specs.declared.format.Format.TheVariants.{Two}
+use Rattle.local_db.specs.Names.{database}
+use Rattle.local_db.specs.Stores.{IsDatabase, RecoversToSystem}
+use Rattle.local_db.proofs.Places.{own_reserved}
+use Rattle.system_core.specs.FixedDirs.{fixed_dirs}
+use Rattle.system_core.specs.Migrating.{RecoversInAFormat}
+use Rattle.system_core.specs.Ready.{HasReadied, IsReadyStop, MakesReady, MeetsDamagedStore}
+use Rattle.system_core.specs.Recovered.{RecoversToNone}
 use Rattle.cli_call.specs.Opening.{OpeningStops}
 use Rattle.cli_call.specs.RootOpening.{IsOfOldFormat, IsDecided, IsRootKept, IsRootOpen, OpensFrom, OpensSystem}
 use Rattle.cli_call.specs.State.{RootState}

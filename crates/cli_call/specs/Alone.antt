@@ -1,8 +1,8 @@
 -- What the function of a command that works on the root alone does, whatever the repository's disk tells or stores.
 use Rattle.std.specs.Prelude.{◌≡◌, ℕ, IsTrue, List, Result}
-use Rattle.cny_base.specs.declared.refusal.Refusal.{Refusal}
-use Rattle.tree_disk.specs.Disk.{DiskModel}
-use Rattle.tree_disk.specs.Unfailed.{UnlessFailed}
+use Rattle.system_core.specs.cny-base.declared.refusal.Refusal.{Refusal}
+use Rattle.system_core.specs.tree-disk.Disk.{DiskModel}
+use Rattle.system_core.specs.tree-disk.Unfailed.{UnlessFailed}
 use Rattle.cli_call.specs.declared.failure.Failure.{Failure}
 use Rattle.cli_call.specs.Command.{Disks, Goes, Answers, KeepsOthers, IsShown, end_of}
 use Rattle.cli_call.specs.State.{State, Effect, Meaning}

@@ -1,11 +1,11 @@
 -- A command's whole call: the disks are opened, its input is read, it is performed, and what it answers is written.
 use Rattle.std.specs.Prelude.{◌≡◌, ◌⊎◌, ℕ, Bool, List, Result, Ok, Err}
-use Rattle.cny_base.specs.declared.stop.Stop.{Stop}
+use Rattle.system_core.specs.cny-base.declared.stop.Stop.{Stop}
 use Rattle.cny_flow.specs.Flow.{SourceModel, SourceState, source_state, SinkModel, SinkState, sink_state}
-use Rattle.tree_disk.specs.Disk.{DiskModel}
+use Rattle.system_core.specs.tree-disk.Disk.{DiskModel}
 use Rattle.repo_index.specs.Catalogue.{CatalogueParts}
-use Rattle.repo_state.specs.Files.{HoldsCatalogue}
-use Rattle.repository.specs.Loading.{IsCatalogue}
+use Rattle.repo_load.specs.Files.{HoldsCatalogue}
+use Rattle.repo_load.specs.Loading.{IsCatalogue}
 use Rattle.cli_call.specs.declared.failure.Failure.{Failure}
 use Rattle.cli_call.specs.declared.opened.Opened.{Opened}
 use Rattle.cli_call.specs.Command.{disks}

@@ -2,29 +2,29 @@
 use Rattle.std.proofs.Common.{◌≡◌, ◌≤◌, ℕ, Bool, true, false, List, Result, Ok, Err, refl, sym, ap, ◌∙◌, subst, inl, inr, ⊎_elim, arith}
 use Rattle.std.specs.Prelude.{◌⊎◌, IsTrue}
 use Rattle.std.specs.Io.KnownBytes.{Keeps}
-use Rattle.cny_base.specs.Count.{Rose}
-use Rattle.cny_base.specs.declared.refusal.Refusal.{Refusal}
-use Rattle.cny_base.specs.declared.stop.Stop.{Stop}
-use Rattle.cny_base.specs.declared.stop.Stop.TheVariants as stop
-use Rattle.tree_disk.specs.Tree.{Tree}
-use Rattle.tree_disk.specs.Disk.{DiskModel, IsDisk}
-use Rattle.tree_disk.specs.Clear.{is_within}
-use Rattle.tree_disk.specs.Confined.{Among, Confined}
-use Rattle.tree_disk.specs.ConfinedLaws.{confined_start, confined_then, confined_wider}
-use Rattle.tree_disk.specs.Moments.{rose_before}
-use Rattle.tree_disk.specs.Steps.{no_name}
-use Rattle.tree_journal.specs.Recovery.{is_committed}
-use Rattle.repo_state.specs.Files.{repository_base}
+use Rattle.system_core.specs.cny-base.Count.{Rose}
+use Rattle.system_core.specs.cny-base.declared.refusal.Refusal.{Refusal}
+use Rattle.system_core.specs.cny-base.declared.stop.Stop.{Stop}
+use Rattle.system_core.specs.cny-base.declared.stop.Stop.TheVariants as stop
+use Rattle.system_core.specs.tree-disk.Tree.{Tree}
+use Rattle.system_core.specs.tree-disk.Disk.{DiskModel, IsDisk}
+use Rattle.system_core.specs.tree-disk.Clear.{is_within}
+use Rattle.system_core.specs.tree-disk.Confined.{Among, Confined}
+use Rattle.system_core.specs.tree-disk.ConfinedLaws.{confined_start, confined_then, confined_wider}
+use Rattle.system_core.specs.tree-disk.Moments.{rose_before}
+use Rattle.system_core.specs.tree-disk.Steps.{no_name}
+use Rattle.system_core.specs.tree-journal.Recovery.{is_committed}
+use Rattle.repo_load.specs.Files.{repository_base}
 use Rattle.cli_call.specs.declared.failure.Failure.{Failure}
 use Rattle.cli_call.specs.declared.failure.Failure.TheVariants as failure
 use Rattle.cli_call.specs.declared.opened.Opened.{Opened}
 use Rattle.cli_call.specs.Call.{CallState, OpensRoot, OpensRepository, AreOpened, StopsReading, RunsWith, NotOpened, RunsCall}
 use Rattle.cli_call.specs.Command.{disks, ChangesNothing}
-use Rattle.root_ready.specs.FixedDirs.{fixed_dirs}
+use Rattle.system_core.specs.FixedDirs.{fixed_dirs}
 use Rattle.cli_call.specs.Line.{Moment, LineCause, RunsLine}
 use Rattle.cli_call.specs.LineLaws.{keeps_still}
 use Rattle.cli_call.specs.Reading.{ReadsGiven}
-use Rattle.root_ready.specs.Recovered.{RecoversToNone, IsKept, IsPathRefusal, RefusesLog}
+use Rattle.system_core.specs.Recovered.{RecoversToNone, IsKept, IsPathRefusal, RefusesLog}
 use Rattle.cli_call.specs.Report.{End, status_of}
 use Rattle.cli_call.specs.RootOpening.{IsRootKept}
 use Rattle.cli_call.specs.State.{Meaning}

@@ -1,7 +1,7 @@
 -- What is known of a call, with the input of which it is said.
 use Rattle.std.proofs.Common.{◌≡◌, Bool, true, List, ℕ, Ok, Err, sym, ap, subst, inl, inr}
 use Rattle.std.specs.Prelude.{IsTrue}
-use Rattle.tree_disk.specs.Disk.{DiskModel, IsDisk}
+use Rattle.system_core.specs.tree-disk.Disk.{DiskModel, IsDisk}
 use Rattle.cli_call.specs.declared.opened.Opened.{Opened}
 use Rattle.cli_call.specs.Call.{CallState, AreOpened, StopsReading, RunsWith, RunsOpen, NotOpened, RunsCall}
 use Rattle.cli_call.specs.CallStates.{CallFrom, from_unopened, from_unread, from_run}

@@ -3,16 +3,16 @@ use Rattle.std.proofs.Common.{◌≡◌, ◌≤◌, ◌+◌, ℕ, Bool, true, fa
 use Rattle.std.specs.Prelude.{◌⊎◌}
 use Rattle.std.proofs.lemmas.Bool.{ltb-false}
 use Rattle.std.proofs.lemmas.List.{drop_all}
-use Rattle.cny_base.specs.declared.refusal.Refusal.{Refusal}
-use Rattle.cny_base.specs.declared.refusal.Refusal.TheVariants.{TooLarge}
-use Rattle.cny_base.specs.declared.refusal.What.TheVariants.{Input}
+use Rattle.system_core.specs.cny-base.declared.refusal.Refusal.{Refusal}
+use Rattle.system_core.specs.cny-base.declared.refusal.Refusal.TheVariants.{TooLarge}
+use Rattle.system_core.specs.cny-base.declared.refusal.What.TheVariants.{Input}
 use Rattle.cny_flow.specs.Flow.{SinkState}
-use Rattle.cny_base.specs.declared.stop.Stop.TheVariants as stop
-use Rattle.tree_disk.specs.Disk.{DiskModel, IsDisk}
-use Rattle.tree_disk.specs.Confined.{Among}
-use Rattle.tree_disk.specs.ConfinedLaws.{confined_start, leaves_weaker}
-use Rattle.tree_disk.specs.Steps.{no_name}
-use Rattle.tree_disk.specs.Unfailed.{unfailed_start}
+use Rattle.system_core.specs.cny-base.declared.stop.Stop.TheVariants as stop
+use Rattle.system_core.specs.tree-disk.Disk.{DiskModel, IsDisk}
+use Rattle.system_core.specs.tree-disk.Confined.{Among}
+use Rattle.system_core.specs.tree-disk.ConfinedLaws.{confined_start, leaves_weaker}
+use Rattle.system_core.specs.tree-disk.Steps.{no_name}
+use Rattle.system_core.specs.tree-disk.Unfailed.{unfailed_start}
 use Rattle.cli_call.specs.declared.failure.Failure.{Failure}
 use Rattle.cli_call.specs.declared.failure.Failure.TheVariants as failure
 use Rattle.cli_call.specs.declared.opened.Opened.{Opened}

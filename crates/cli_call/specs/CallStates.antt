@@ -2,19 +2,19 @@
 use Rattle.std.proofs.Common.{◌≡◌, ◌≤◌, ℕ, Bool, false, List, Ok, Err, IfSome, Some, refl, sym, ap, ◌∙◌, subst, inl, inr, ⊎_elim, arith}
 use Rattle.std.specs.Prelude.{IsTrue}
 use Rattle.std.specs.FinMap.{get}
-use Rattle.cny_base.specs.declared.stop.Stop.{Stop}
-use Rattle.cny_base.specs.declared.stop.Stop.TheVariants as stop
-use Rattle.tree_disk.specs.Disk.{DiskModel, IsDisk}
-use Rattle.tree_disk.specs.Confined.{LeavesOnly}
-use Rattle.tree_disk.specs.Unfailed.{UnlessFailed, unfailed_start, unfailed_weaker}
-use Rattle.tree_journal.specs.Recovery.{is_committed, RecoversAsThen}
+use Rattle.system_core.specs.cny-base.declared.stop.Stop.{Stop}
+use Rattle.system_core.specs.cny-base.declared.stop.Stop.TheVariants as stop
+use Rattle.system_core.specs.tree-disk.Disk.{DiskModel, IsDisk}
+use Rattle.system_core.specs.tree-disk.Confined.{LeavesOnly}
+use Rattle.system_core.specs.tree-disk.Unfailed.{UnlessFailed, unfailed_start, unfailed_weaker}
+use Rattle.system_core.specs.tree-journal.Recovery.{is_committed, RecoversAsThen}
 use Rattle.local_db.specs.declared.db.Db.{Db}
 use Rattle.cli_call.specs.declared.failure.Failure.{Failure}
 use Rattle.cli_call.specs.declared.opened.Opened.{Opened}
 use Rattle.cli_call.specs.Call.{CallState, OpensRoot, OpensRepository, AreOpened, NotOpened}
 use Rattle.cli_call.specs.CallEnds.{HasEffect, CallEnds, small, no_root_effect, no_repo_effect, no_unread_effect, outcome_of, read_left, run_ends, shown_so, unread_ends, unread_left}
 use Rattle.cli_call.specs.Command.{disks, KeepsOthers, IsShown}
-use Rattle.root_ready.specs.FixedDirs.{fixed_dirs}
+use Rattle.system_core.specs.FixedDirs.{fixed_dirs}
 use Rattle.cli_call.specs.Line.{Moment, RunsLine}
 use Rattle.cli_call.specs.Reading.{given, Gives, ReadsGiven}
 use Rattle.cli_call.specs.Report.{End, status_of}

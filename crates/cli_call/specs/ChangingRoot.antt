@@ -1,17 +1,17 @@
 -- The clauses of a command that changes the root alone, from what the root went through from each state that it stored.
 use Rattle.std.proofs.Common.{◌≡◌, ◌≤◌, ℕ, List, Result, refl, sym, ap, ◌∙◌, subst, inl, inr, ⊎_elim, arith}
 use Rattle.std.specs.Prelude.{IsTrue}
-use Rattle.cny_base.specs.declared.refusal.Refusal.{Refusal}
-use Rattle.tree_disk.specs.Tree.{Tree}
-use Rattle.tree_disk.specs.Disk.{DiskModel, IsDisk, HasRead}
-use Rattle.tree_disk.specs.Clear.{is_within}
-use Rattle.tree_disk.specs.Confined.{Among, Confined}
-use Rattle.tree_disk.specs.ConfinedLaws.{confined_start}
-use Rattle.tree_disk.specs.Unfailed.{UnlessFailed}
-use Rattle.tree_journal.specs.Recovery.{is_committed}
-use Rattle.repo_state.specs.Files.{repository_base}
-use Rattle.system_state.specs.Stores.{RecoversToSystem}
-use Rattle.root_writing.specs.Writing.{RecoversToEither}
+use Rattle.system_core.specs.cny-base.declared.refusal.Refusal.{Refusal}
+use Rattle.system_core.specs.tree-disk.Tree.{Tree}
+use Rattle.system_core.specs.tree-disk.Disk.{DiskModel, IsDisk, HasRead}
+use Rattle.system_core.specs.tree-disk.Clear.{is_within}
+use Rattle.system_core.specs.tree-disk.Confined.{Among, Confined}
+use Rattle.system_core.specs.tree-disk.ConfinedLaws.{confined_start}
+use Rattle.system_core.specs.tree-disk.Unfailed.{UnlessFailed}
+use Rattle.system_core.specs.tree-journal.Recovery.{is_committed}
+use Rattle.repo_load.specs.Files.{repository_base}
+use Rattle.local_db.specs.Stores.{RecoversToSystem}
+use Rattle.system_core.specs.RootWriting.{RecoversToEither}
 use Rattle.cli_call.specs.declared.failure.Failure.{Failure}
 use Rattle.cli_call.specs.Alone.{PerformsAlone}
 use Rattle.cli_call.specs.Command.{Disks, AreReady, ChangesNothing, HasCause, Goes, Answers, KeepsOthers, IsShown, Performs, end_of}

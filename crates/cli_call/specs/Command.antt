@@ -1,24 +1,24 @@
 -- What a command's own function does over two disks that are open.
 use Rattle.std.specs.Prelude.{◌≡◌, ◌⊎◌, ℕ, ◌≤◌, ◌<◌, false, IsTrue, List, Result, Ok, Err, Contains}
 use Rattle.std.specs.FinMap.{get}
-use Rattle.cny_base.specs.Count.{Rose}
-use Rattle.cny_base.specs.Reserved.{is_reserved}
-use Rattle.cny_base.specs.declared.refusal.Refusal.{Refusal}
-use Rattle.tree_disk.specs.Tree.{Name, Tree}
-use Rattle.tree_disk.specs.Disk.{DiskModel}
-use Rattle.tree_disk.specs.Clear.{is_within}
-use Rattle.tree_disk.specs.Confined.{Among, Confined, IsSynced, LeavesOnly}
-use Rattle.tree_disk.specs.Unfailed.{UnlessFailed}
-use Rattle.repo_state.specs.Files.{repository_base, HoldsCatalogue}
-use Rattle.repository.specs.Loading.{IsCatalogue}
-use Rattle.system_state.specs.declared.format.Format.TheVariants.{Two}
-use Rattle.system_state.specs.Stores.{HoldsDatabase, IsDatabase}
-use Rattle.system_state.specs.SystemState.{StackItem, is_listed, newest}
-use Rattle.tree_journal.specs.Recovery.{is_committed}
+use Rattle.system_core.specs.cny-base.Count.{Rose}
+use Rattle.system_core.specs.cny-base.Reserved.{is_reserved}
+use Rattle.system_core.specs.cny-base.declared.refusal.Refusal.{Refusal}
+use Rattle.system_core.specs.tree-disk.Tree.{Name, Tree}
+use Rattle.system_core.specs.tree-disk.Disk.{DiskModel}
+use Rattle.system_core.specs.tree-disk.Clear.{is_within}
+use Rattle.system_core.specs.tree-disk.Confined.{Among, Confined, IsSynced, LeavesOnly}
+use Rattle.system_core.specs.tree-disk.Unfailed.{UnlessFailed}
+use Rattle.repo_load.specs.Files.{repository_base, HoldsCatalogue}
+use Rattle.repo_load.specs.Loading.{IsCatalogue}
+use Rattle.local_db.specs.declared.format.Format.TheVariants.{Two}
+use Rattle.local_db.specs.Stores.{HoldsDatabase, IsDatabase}
+use Rattle.local_db.specs.SystemState.{StackItem, is_listed, newest}
+use Rattle.system_core.specs.tree-journal.Recovery.{is_committed}
 use Rattle.cli_call.specs.declared.failure.Failure.{Failure}
 use Rattle.cli_call.specs.declared.failure.Failure.TheVariants as failure
 use Rattle.cli_call.specs.declared.opened.Opened.{Opened}
-use Rattle.root_ready.specs.FixedDirs.{fixed_dirs}
+use Rattle.system_core.specs.FixedDirs.{fixed_dirs}
 use Rattle.cli_call.specs.Report.{End, status_of}
 use Rattle.cli_call.specs.RootOpening.{ShowsBetween}
 use Rattle.cli_call.specs.State.{RootState, State, Effect, Meaning, tree_of, after, Takes, IsNext, OneDisk}

@@ -2,22 +2,22 @@
 use Rattle.std.proofs.Common.{◌≡◌, ◌≤◌, ℕ, List, Result, Ok, Err, refl, sym, ap, ◌∙◌, subst, inl, inr, arith}
 use Rattle.std.specs.Prelude.{IsTrue}
 use Rattle.std.specs.FinMap.{get}
-use Rattle.cny_base.specs.declared.refusal.Refusal.{Refusal}
-use Rattle.tree_disk.specs.Tree.{Tree}
-use Rattle.tree_disk.specs.Disk.{DiskModel, IsDisk, HasRead}
-use Rattle.tree_disk.specs.Clear.{is_within}
-use Rattle.tree_disk.specs.Confined.{Among, Confined}
-use Rattle.tree_disk.specs.ConfinedLaws.{confined_read, leaves_weaker}
-use Rattle.tree_disk.specs.Laws.{same_tree}
-use Rattle.tree_disk.specs.Steps.{no_name}
-use Rattle.tree_disk.specs.Unfailed.{UnlessFailed, unfailed_confined, unfailed_weaker}
-use Rattle.tree_journal.specs.Recovery.{is_committed}
-use Rattle.repo_state.specs.Files.{repository_base}
+use Rattle.system_core.specs.cny-base.declared.refusal.Refusal.{Refusal}
+use Rattle.system_core.specs.tree-disk.Tree.{Tree}
+use Rattle.system_core.specs.tree-disk.Disk.{DiskModel, IsDisk, HasRead}
+use Rattle.system_core.specs.tree-disk.Clear.{is_within}
+use Rattle.system_core.specs.tree-disk.Confined.{Among, Confined}
+use Rattle.system_core.specs.tree-disk.ConfinedLaws.{confined_read, leaves_weaker}
+use Rattle.system_core.specs.tree-disk.Laws.{same_tree}
+use Rattle.system_core.specs.tree-disk.Steps.{no_name}
+use Rattle.system_core.specs.tree-disk.Unfailed.{UnlessFailed, unfailed_confined, unfailed_weaker}
+use Rattle.system_core.specs.tree-journal.Recovery.{is_committed}
+use Rattle.repo_load.specs.Files.{repository_base}
 use Rattle.cli_call.specs.declared.failure.Failure.{Failure}
 use Rattle.cli_call.specs.declared.failure.Failure.TheVariants as failure
 use Rattle.cli_call.specs.Command.{Disks, AreReady, ChangesNothing, Rest, ReadsSame, StandsFor, HasCause, Goes, Answers, IsShown, Performs, PerformsFrom, end_of}
 use Rattle.cli_call.specs.Report.{End, status_of}
-use Rattle.repo_state.specs.State.{RepositoryState}
+use Rattle.repo_load.specs.State.{RepositoryState}
 use Rattle.cli_call.specs.State.{State, nothing, Effect, IsNext, Meaning, Takes}
 use Rattle.cli_call.specs.Store.{Store, IsSettled, IsStore, RestsAt}
 use Rattle.cli_call.specs.Stores.{root_store, repository_store}

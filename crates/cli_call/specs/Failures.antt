@@ -1,6 +1,6 @@
 -- Why a call ends with a status other than 0, where the reason is a fault of what it read.
-use Rattle.cny_base.specs.declared.refusal.Fault.{Fault}
-use Rattle.cny_base.specs.declared.refusal.Fault.TheVariants as fault
+use Rattle.system_core.specs.cny-base.declared.refusal.Fault.{Fault}
+use Rattle.system_core.specs.cny-base.declared.refusal.Fault.TheVariants as fault
 use Rattle.cli_call.specs.declared.failure.Failure.{Failure}
 use Rattle.cli_call.specs.declared.failure.Failure.TheVariants as failure
 

@@ -1,9 +1,9 @@
 -- The input of a command, and its limit.
 use Rattle.std.specs.Prelude.{◌≡◌, ℕ, ◌+◌, List, length, drop, Option, Some, IfSome, Result, Ok, Err, nat_lt, if◌then◌else◌}
-use Rattle.cny_base.specs.declared.limits.TheConstants.{INPUT_LIMIT}
-use Rattle.cny_base.specs.declared.refusal.Refusal.{Refusal}
-use Rattle.cny_base.specs.declared.refusal.Refusal.TheVariants.{TooLarge}
-use Rattle.cny_base.specs.declared.refusal.What.TheVariants.{Input}
+use Rattle.system_core.specs.cny-base.declared.limits.TheConstants.{INPUT_LIMIT}
+use Rattle.system_core.specs.cny-base.declared.refusal.Refusal.{Refusal}
+use Rattle.system_core.specs.cny-base.declared.refusal.Refusal.TheVariants.{TooLarge}
+use Rattle.system_core.specs.cny-base.declared.refusal.What.TheVariants.{Input}
 use Rattle.cli_call.specs.declared.failure.Failure.{Failure}
 use Rattle.cli_call.specs.declared.failure.Failure.TheVariants as failure
 

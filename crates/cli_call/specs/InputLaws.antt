@@ -1,6 +1,6 @@
 -- The input of a call: the told one, or bytes of which reading gives the same.
 use Rattle.std.proofs.Common.{◌≡◌, ℕ, Bool, true, false, List, [], Option, Some, None, Result, Ok, Err, IfSome, refl, sym, ap, ◌∙◌, subst}
-use Rattle.cny_base.specs.declared.refusal.Refusal.{Refusal}
+use Rattle.system_core.specs.cny-base.declared.refusal.Refusal.{Refusal}
 use Rattle.cny_flow.specs.Flow.{SourceState}
 use Rattle.cli_call.specs.declared.failure.Failure.{Failure}
 use Rattle.cli_call.specs.declared.failure.Failure.TheVariants as failure

@@ -29,3 +29,20 @@ pub mod CallStates
 pub mod CallKnown
 pub mod RootCallLaws
 pub mod CallLaws
+pub use Rattle.system_core.specs.change-rel
+pub use Rattle.system_core.specs.change-set
+pub use Rattle.system_core.specs.cny-base
+pub use Rattle.system_core.specs.conflict-plan
+pub use Rattle.system_core.specs.content-store
+pub use Rattle.system_core.specs.file-stream
+pub use Rattle.system_core.specs.job-record
+pub use Rattle.system_core.specs.job-targets
+pub use Rattle.system_core.specs.journal-log
+pub use Rattle.local_db.specs as local-db
+pub use Rattle.system_core.specs.rollback-stack
+pub use Rattle.system_core.specs as system-core
+pub use Rattle.system_core.specs.tree-disk
+pub use Rattle.system_core.specs.tree-journal
+pub use Rattle.system_core.specs.tree-scan
+pub use Rattle.system_core.specs.trove-parts
+pub use Rattle.system_core.specs.trove-stream

@@ -1,14 +1,14 @@
 -- A command over two disks that are open, with what it writes.
 use Rattle.std.specs.Prelude.{◌≡◌, ℕ, ◌≤◌, Bool, true, IsTrue, List, Result, Ok, Err}
 use Rattle.std.specs.Io.KnownBytes.{Appends, Keeps}
-use Rattle.cny_base.specs.Count.{Rose}
-use Rattle.cny_base.specs.declared.refusal.Refusal.{Refusal}
+use Rattle.system_core.specs.cny-base.Count.{Rose}
+use Rattle.system_core.specs.cny-base.declared.refusal.Refusal.{Refusal}
 use Rattle.cny_flow.specs.Flow.{SinkModel, SinkState, sink_state, AppendsPart}
-use Rattle.tree_disk.specs.Clear.{is_within}
-use Rattle.tree_disk.specs.Confined.{Among, Confined}
-use Rattle.tree_disk.specs.Disk.{DiskModel}
-use Rattle.repo_state.specs.Files.{repository_base}
-use Rattle.tree_disk.specs.Unfailed.{UnlessFailed}
+use Rattle.system_core.specs.tree-disk.Clear.{is_within}
+use Rattle.system_core.specs.tree-disk.Confined.{Among, Confined}
+use Rattle.system_core.specs.tree-disk.Disk.{DiskModel}
+use Rattle.repo_load.specs.Files.{repository_base}
+use Rattle.system_core.specs.tree-disk.Unfailed.{UnlessFailed}
 use Rattle.cli_call.specs.declared.failure.Failure.{Failure}
 use Rattle.cli_call.specs.declared.failure.Failure.TheVariants as failure
 use Rattle.cli_call.specs.declared.opened.Opened.{Opened}

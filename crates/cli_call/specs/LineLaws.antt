@@ -1,9 +1,9 @@
 -- A command with what it writes, from what its own function did and from what was written.
 use Rattle.std.proofs.Common.{◌≡◌, ◌≤◌, ℕ, Bool, true, List, Option, Some, None, Result, Ok, Err, refl, sym, ap, subst, inr, arith}
 use Rattle.std.specs.Io.KnownBytes.{Appends, Keeps}
-use Rattle.cny_base.specs.declared.refusal.Refusal.{Refusal}
+use Rattle.system_core.specs.cny-base.declared.refusal.Refusal.{Refusal}
 use Rattle.cny_flow.specs.Flow.{SinkState, AppendsPart}
-use Rattle.tree_disk.specs.Disk.{DiskModel}
+use Rattle.system_core.specs.tree-disk.Disk.{DiskModel}
 use Rattle.cli_call.specs.declared.failure.Failure.{Failure}
 use Rattle.cli_call.specs.declared.failure.Failure.TheVariants as failure
 use Rattle.cli_call.specs.Alone.{PerformsAlone}

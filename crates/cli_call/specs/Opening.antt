@@ -1,18 +1,18 @@
 -- How a disk is opened: what a crash left is recovered, and what it stores is read.
 use Rattle.std.specs.Prelude.{◌≡◌, ◌⊎◌, ◌≤◌, false, IsTrue, Result, Ok, Err, IfOk, IfErr}
-use Rattle.cny_base.specs.Count.{Rose}
-use Rattle.cny_base.specs.declared.refusal.Refusal.{Refusal}
-use Rattle.cny_base.specs.declared.stop.Stop.{Stop}
-use Rattle.cny_base.specs.declared.stop.Stop.TheVariants as stop
-use Rattle.tree_disk.specs.Tree.{Name, Tree}
-use Rattle.tree_disk.specs.Disk.{DiskModel, HasRead}
-use Rattle.tree_disk.specs.Confined.{Among, Confined, LeavesOnly}
-use Rattle.tree_disk.specs.Steps.{no_name}
-use Rattle.tree_disk.specs.Unfailed.{UnlessFailed}
-use Rattle.journal_log.specs.Own.{StoresSame}
-use Rattle.tree_journal.specs.Recovering.{IsVisibleIn}
-use Rattle.tree_journal.specs.Recovery.{is_committed, RecoversTo, RecoversAsThen}
-use Rattle.root_ready.specs.Recovered.{HasDamagedLog, RecoversToNone, IsKept, IsPathRefusal, RefusesLog}
+use Rattle.system_core.specs.cny-base.Count.{Rose}
+use Rattle.system_core.specs.cny-base.declared.refusal.Refusal.{Refusal}
+use Rattle.system_core.specs.cny-base.declared.stop.Stop.{Stop}
+use Rattle.system_core.specs.cny-base.declared.stop.Stop.TheVariants as stop
+use Rattle.system_core.specs.tree-disk.Tree.{Name, Tree}
+use Rattle.system_core.specs.tree-disk.Disk.{DiskModel, HasRead}
+use Rattle.system_core.specs.tree-disk.Confined.{Among, Confined, LeavesOnly}
+use Rattle.system_core.specs.tree-disk.Steps.{no_name}
+use Rattle.system_core.specs.tree-disk.Unfailed.{UnlessFailed}
+use Rattle.system_core.specs.journal-log.Own.{StoresSame}
+use Rattle.system_core.specs.tree-journal.Recovering.{IsVisibleIn}
+use Rattle.system_core.specs.tree-journal.Recovery.{is_committed, RecoversTo, RecoversAsThen}
+use Rattle.system_core.specs.Recovered.{HasDamagedLog, RecoversToNone, IsKept, IsPathRefusal, RefusesLog}
 use Rattle.cli_call.specs.Store.{Store, HasDamageAtOpening, IsSettled}
 
 -- A disk that was opened: it rests, a crash leaves just what it reads, it stores the same as all that it recovered to, and this is what was read of it.

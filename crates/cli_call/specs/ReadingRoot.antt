@@ -1,7 +1,7 @@
 -- How a command ends that only reads the root.
 use Rattle.std.proofs.Common.{◌≤◌, ℕ, List, Result, Ok, Err, refl, arith}
 use Rattle.std.specs.Prelude.{IsTrue}
-use Rattle.tree_disk.specs.Disk.{DiskModel, IsDisk, HasRead}
+use Rattle.system_core.specs.tree-disk.Disk.{DiskModel, IsDisk, HasRead}
 use Rattle.cli_call.specs.declared.failure.Failure.{Failure}
 use Rattle.cli_call.specs.declared.failure.Failure.TheVariants as failure
 use Rattle.cli_call.specs.declared.opened.Opened.{Opened}

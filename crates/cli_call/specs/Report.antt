@@ -1,7 +1,7 @@
 -- The status and the line of a call, by how it ended.
 use Rattle.std.specs.Prelude.{◌≡◌, ◌⊎◌, ℕ, List, [], ◌++◌, ◌∷◌, Result, Ok, Err, codes}
 use Rattle.std.specs.Io.KnownBytes.{Appends, Keeps}
-use Rattle.cny_base.specs.Count.{Rose}
+use Rattle.system_core.specs.cny-base.Count.{Rose}
 use Rattle.cny_flow.specs.Flow.{SinkState}
 use Rattle.cny_report.specs.Refusals.{refusal_text}
 use Rattle.cli_call.specs.declared.failure.Failure.{Failure}

@@ -1,19 +1,19 @@
 -- A whole call of a command that works on the root alone keeps what it promises there.
 use Rattle.std.proofs.Common.{◌≡◌, ◌≤◌, ℕ, List, Result, Ok, Err, sym, ap, ◌∙◌, subst, inl, inr, ⊎_elim, arith}
 use Rattle.std.specs.Prelude.{◌⊎◌, IsTrue}
-use Rattle.cny_base.specs.declared.refusal.Refusal.{Refusal}
-use Rattle.cny_base.specs.declared.stop.Stop.{Stop}
-use Rattle.cny_base.specs.declared.stop.Stop.TheVariants as stop
+use Rattle.system_core.specs.cny-base.declared.refusal.Refusal.{Refusal}
+use Rattle.system_core.specs.cny-base.declared.stop.Stop.{Stop}
+use Rattle.system_core.specs.cny-base.declared.stop.Stop.TheVariants as stop
 use Rattle.cny_flow.specs.Flow.{SinkState, AppendsPart}
-use Rattle.tree_disk.specs.Tree.{Name}
-use Rattle.tree_disk.specs.Disk.{DiskModel}
+use Rattle.system_core.specs.tree-disk.Tree.{Name}
+use Rattle.system_core.specs.tree-disk.Disk.{DiskModel}
 use Rattle.cli_call.specs.declared.failure.Failure.{Failure}
 use Rattle.cli_call.specs.declared.failure.Failure.TheVariants as failure
 use Rattle.cli_call.specs.Call.{CallState, OpensRepository}
 use Rattle.cli_call.specs.CallFacts.{CallFacts}
 use Rattle.cli_call.specs.CallKnown.{KnownAlone}
 use Rattle.cli_call.specs.Opening.{MeetsDamage}
-use Rattle.root_ready.specs.Recovered.{IsPathRefusal, RefusesLog}
+use Rattle.system_core.specs.Recovered.{IsPathRefusal, RefusesLog}
 use Rattle.cli_call.specs.Report.{End, status_of, Tells, Reports}
 use Rattle.cli_call.specs.RootStates.{CallOnRoot}
 use Rattle.cli_call.specs.State.{State, Effect, Meaning, after}

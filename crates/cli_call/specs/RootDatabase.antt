@@ -1,17 +1,17 @@
 -- The database that a root holds in format 2 is that of each system that it stores.
 use Rattle.std.proofs.Common.{◌≡◌, ◌+◌, ℕ, List, [], ◌∷◌, Option, Some, None, refl, sym, ap, ◌∙◌, subst, ⊎_elim, arith}
 use Rattle.std.specs.FinMap.{get}
-use Rattle.content_store.specs.Store.{file_bytes}
-use Rattle.cny_base.specs.declared.node.Node.{Node}
-use Rattle.trove_stream.specs.declared.parts.TroveParts.{TroveParts}
-use Rattle.tree_disk.specs.Tree.{Tree}
+use Rattle.system_core.specs.content-store.Store.{file_bytes}
+use Rattle.system_core.specs.cny-base.declared.node.Node.{Node}
+use Rattle.system_core.specs.trove-stream.declared.parts.TroveParts.{TroveParts}
+use Rattle.system_core.specs.tree-disk.Tree.{Tree}
 use Rattle.local_db.specs.declared.db.Db.{Db}
-use Rattle.system_state.specs.declared.format.Format.{Format}
-use Rattle.system_state.specs.declared.format.Format.TheVariants.{One, Two}
-use Rattle.system_state.specs.Formats.{database_bytes}
-use Rattle.system_state.specs.Names.{database}
-use Rattle.system_state.specs.Stores.{HoldsDatabase, HoldsStack, IsDatabase, SameDatabase, StoresIn, StoresSystem, absent, written}
-use Rattle.system_state.specs.SystemState.{AreNumbered, StackItem, SystemState, newest, oldest}
+use Rattle.local_db.specs.declared.format.Format.{Format}
+use Rattle.local_db.specs.declared.format.Format.TheVariants.{One, Two}
+use Rattle.local_db.specs.Formats.{database_bytes}
+use Rattle.local_db.specs.Names.{database}
+use Rattle.local_db.specs.Stores.{HoldsDatabase, HoldsStack, IsDatabase, SameDatabase, StoresIn, StoresSystem, absent, written}
+use Rattle.local_db.specs.SystemState.{AreNumbered, StackItem, SystemState, newest, oldest}
 
 -- no bytes are two databases
 abbrev pub OneDatabase : Type 0

@@ -1,16 +1,16 @@
 -- The laws of the root's store; what follows of a root that recovers to a system, and of one that was opened.
 use Rattle.std.proofs.Common.{◌≡◌, refl, sym, ◌∙◌, inl, inr, ⊎_elim, codes}
-use Rattle.cny_base.specs.Reserved.{is_reserved}
-use Rattle.tree_disk.specs.Tree.{Tree, AgreesOutside, WellFormed}
-use Rattle.tree_disk.specs.Disk.{DiskModel}
+use Rattle.system_core.specs.cny-base.Reserved.{is_reserved}
+use Rattle.system_core.specs.tree-disk.Tree.{Tree, AgreesOutside, WellFormed}
+use Rattle.system_core.specs.tree-disk.Disk.{DiskModel}
 use Rattle.local_db.specs.declared.db.Db.{Db}
-use Rattle.system_state.specs.declared.format.Format.TheVariants.{One, Two}
-use Rattle.system_state.specs.Stores.{StoresSystem}
-use Rattle.system_state.proofs.Frame.{stores_still}
-use Rattle.system_state.proofs.Places.{own_doesnt_count}
-use Rattle.root_ready.specs.FixedDirs.{fixed_dirs}
-use Rattle.root_ready.specs.FixedDirsLaws.{same_fixed}
-use Rattle.root_ready.specs.FixedPaths.{directory_path}
+use Rattle.local_db.specs.declared.format.Format.TheVariants.{One, Two}
+use Rattle.local_db.specs.Stores.{StoresSystem}
+use Rattle.local_db.proofs.Frame.{stores_still}
+use Rattle.local_db.proofs.Places.{own_doesnt_count}
+use Rattle.system_core.specs.FixedDirs.{fixed_dirs}
+use Rattle.system_core.specs.FixedDirsLaws.{same_fixed}
+use Rattle.system_core.specs.FixedPaths.{directory_path}
 use Rattle.cli_call.specs.RootOpening.{IsRootOpen, RecoversOutside}
 use Rattle.cli_call.specs.State.{RootState, tree_of}
 use Rattle.cli_call.specs.Store.{IsStore, Recovers, RestsAt}

@@ -1,27 +1,27 @@
 -- How the root is opened: what a crash left is recovered, a root of format 1 is brought to format 2, and its database is read.
 use Rattle.std.specs.Prelude.{◌≡◌, ◌⊎◌, ◌≤◌, false, IsTrue, Result, Ok, Err, IfOk, IfErr}
 use Rattle.std.specs.FinMap.{get}
-use Rattle.cny_base.specs.Reserved.{private_directory, is_reserved}
-use Rattle.cny_base.specs.declared.refusal.Refusal.{Refusal}
-use Rattle.cny_base.specs.declared.stop.Stop.{Stop}
-use Rattle.cny_base.specs.declared.stop.Stop.TheVariants as stop
-use Rattle.tree_disk.specs.Tree.{Name, Tree, AgreesOutside}
-use Rattle.tree_disk.specs.Disk.{DiskModel, HasRead}
-use Rattle.tree_disk.specs.Confined.{Among, Confined, LeavesOnly}
-use Rattle.tree_disk.specs.Steps.{no_name}
-use Rattle.tree_disk.specs.Unfailed.{UnlessFailed}
-use Rattle.tree_journal.specs.Recovery.{is_committed, RecoversTo}
-use Rattle.tree_journal.specs.Visible.{ShowsNode}
+use Rattle.system_core.specs.cny-base.Reserved.{private_directory, is_reserved}
+use Rattle.system_core.specs.cny-base.declared.refusal.Refusal.{Refusal}
+use Rattle.system_core.specs.cny-base.declared.stop.Stop.{Stop}
+use Rattle.system_core.specs.cny-base.declared.stop.Stop.TheVariants as stop
+use Rattle.system_core.specs.tree-disk.Tree.{Name, Tree, AgreesOutside}
+use Rattle.system_core.specs.tree-disk.Disk.{DiskModel, HasRead}
+use Rattle.system_core.specs.tree-disk.Confined.{Among, Confined, LeavesOnly}
+use Rattle.system_core.specs.tree-disk.Steps.{no_name}
+use Rattle.system_core.specs.tree-disk.Unfailed.{UnlessFailed}
+use Rattle.system_core.specs.tree-journal.Recovery.{is_committed, RecoversTo}
+use Rattle.system_core.specs.tree-journal.Visible.{ShowsNode}
 use Rattle.local_db.specs.declared.db.Db.{Db}
 use Rattle.local_db.specs.Loading.{HoldsDb}
-use Rattle.rollback_stack.specs.Migrated.{is_up_to_date}
-use Rattle.system_state.specs.declared.format.Format.TheVariants.{Two}
-use Rattle.system_state.specs.Names.{database}
-use Rattle.system_state.specs.Stores.{HoldsDatabase, IsDatabase}
-use Rattle.root_ready.specs.FixedDirs.{fixed_dirs}
-use Rattle.root_ready.specs.Migrating.{IsBrought, RecoversInAFormat}
+use Rattle.system_core.specs.rollback-stack.Migrated.{is_up_to_date}
+use Rattle.local_db.specs.declared.format.Format.TheVariants.{Two}
+use Rattle.local_db.specs.Names.{database}
+use Rattle.local_db.specs.Stores.{HoldsDatabase, IsDatabase}
+use Rattle.system_core.specs.FixedDirs.{fixed_dirs}
+use Rattle.system_core.specs.Migrating.{IsBrought, RecoversInAFormat}
 use Rattle.cli_call.specs.Opening.{OpeningStops}
-use Rattle.root_ready.specs.Recovered.{RecoversToNone}
+use Rattle.system_core.specs.Recovered.{RecoversToNone}
 use Rattle.cli_call.specs.State.{RootState, tree_of}
 use Rattle.cli_call.specs.Store.{Recovers, IsEntryOr, IsSettled}
 use Rattle.cli_call.specs.Stores.{root_store}

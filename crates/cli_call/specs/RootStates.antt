@@ -2,25 +2,25 @@
 use Rattle.std.proofs.Common.{◌≡◌, ◌≤◌, ℕ, Bool, true, false, List, Some, Result, Ok, Err, IfSome, refl, sym, ap, ◌∙◌, subst, inl, inr, ⊎_elim, arith}
 use Rattle.std.specs.Prelude.{◌⊎◌, IsTrue}
 use Rattle.std.specs.FinMap.{get}
-use Rattle.cny_base.specs.declared.refusal.Refusal.{Refusal}
-use Rattle.cny_base.specs.declared.stop.Stop.{Stop}
-use Rattle.cny_base.specs.declared.stop.Stop.TheVariants as stop
+use Rattle.system_core.specs.cny-base.declared.refusal.Refusal.{Refusal}
+use Rattle.system_core.specs.cny-base.declared.stop.Stop.{Stop}
+use Rattle.system_core.specs.cny-base.declared.stop.Stop.TheVariants as stop
 use Rattle.cny_flow.specs.Flow.{SourceState}
-use Rattle.tree_disk.specs.Disk.{DiskModel, IsDisk}
-use Rattle.tree_disk.specs.Confined.{LeavesOnly}
-use Rattle.tree_disk.specs.Unfailed.{UnlessFailed, unfailed_start, unfailed_weaker}
-use Rattle.tree_journal.specs.Recovery.{is_committed, RecoversAsThen}
+use Rattle.system_core.specs.tree-disk.Disk.{DiskModel, IsDisk}
+use Rattle.system_core.specs.tree-disk.Confined.{LeavesOnly}
+use Rattle.system_core.specs.tree-disk.Unfailed.{UnlessFailed, unfailed_start, unfailed_weaker}
+use Rattle.system_core.specs.tree-journal.Recovery.{is_committed, RecoversAsThen}
 use Rattle.local_db.specs.declared.db.Db.{Db}
 use Rattle.cli_call.specs.declared.failure.Failure.{Failure}
 use Rattle.cli_call.specs.declared.opened.Opened.{Opened}
 use Rattle.cli_call.specs.Call.{CallState, OpensRoot, OpensRepository, AreOpened, NotOpened}
 use Rattle.cli_call.specs.CallEnds.{HasEffect, CallEnds, small, next_any, no_root_effect, no_repo_effect, no_unread_effect, outcome_of, dir_missing, run_ends, shown_so, unread_ends}
 use Rattle.cli_call.specs.Command.{disks, KeepsOthers, IsShown}
-use Rattle.root_ready.specs.FixedDirs.{fixed_dirs}
+use Rattle.system_core.specs.FixedDirs.{fixed_dirs}
 use Rattle.cli_call.specs.InputLaws.{some_is}
 use Rattle.cli_call.specs.Line.{Moment, RunsLine}
 use Rattle.cli_call.specs.Reading.{given, Gives, ReadsGiven}
-use Rattle.root_ready.specs.Recovered.{IsKept}
+use Rattle.system_core.specs.Recovered.{IsKept}
 use Rattle.cli_call.specs.Report.{End, status_of}
 use Rattle.cli_call.specs.RootLaws.{root_laws, state_dirs, opened_root_rests}
 use Rattle.cli_call.specs.RootOpening.{IsRootOpen}

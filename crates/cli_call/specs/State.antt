@@ -1,9 +1,9 @@
 -- What the two disks store, and what a command makes of it.
 use Rattle.std.specs.Prelude.{◌≡◌, ◌⊎◌, ℕ, Bool, List, Result, Ok, Err}
-use Rattle.cny_base.specs.declared.refusal.Refusal.{Refusal}
-use Rattle.tree_disk.specs.Tree.{Tree}
-use Rattle.repo_state.specs.State.{RepositoryState}
-use Rattle.system_state.specs.SystemState.{SystemState}
+use Rattle.system_core.specs.cny-base.declared.refusal.Refusal.{Refusal}
+use Rattle.system_core.specs.tree-disk.Tree.{Tree}
+use Rattle.repo_load.specs.State.{RepositoryState}
+use Rattle.local_db.specs.SystemState.{SystemState}
 
 -- what a root stores: its tree, the installed troves, and the stack of its jobs
 abbrev pub RootState : Type 0

@@ -1,7 +1,7 @@
 -- The stops of each disk, as failures of a call.
 use Rattle.std.specs.Prelude.{Result, Ok, Err}
-use Rattle.cny_base.specs.declared.stop.Stop.{Stop}
-use Rattle.cny_base.specs.declared.stop.Stop.TheVariants as stop
+use Rattle.system_core.specs.cny-base.declared.stop.Stop.{Stop}
+use Rattle.system_core.specs.cny-base.declared.stop.Stop.TheVariants as stop
 use Rattle.cli_call.specs.declared.failure.Failure.{Failure}
 use Rattle.cli_call.specs.declared.failure.Failure.TheVariants as failure
 

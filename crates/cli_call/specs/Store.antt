@@ -1,11 +1,11 @@
 -- How a disk stores a state: which trees store it, and which states a tree that a crash left recovers to.
 use Rattle.std.specs.Prelude.{◌≡◌, ◌⊎◌, false}
 use Rattle.std.specs.FinMap.{get}
-use Rattle.tree_disk.specs.Tree.{Name, Tree}
-use Rattle.tree_disk.specs.Disk.{DiskModel, IsImageOf}
-use Rattle.tree_disk.specs.Confined.{IsSynced}
-use Rattle.journal_log.specs.Own.{gate, is_own}
-use Rattle.tree_journal.specs.Recovery.{is_committed, RecoversTo}
+use Rattle.system_core.specs.tree-disk.Tree.{Name, Tree}
+use Rattle.system_core.specs.tree-disk.Disk.{DiskModel, IsImageOf}
+use Rattle.system_core.specs.tree-disk.Confined.{IsSynced}
+use Rattle.system_core.specs.journal-log.Own.{gate, is_own}
+use Rattle.system_core.specs.tree-journal.Recovery.{is_committed, RecoversTo}
 
 -- how states of a kind stand on a disk
 pub record Store (X : Type 0) : Type 1 where

@@ -2,19 +2,19 @@
 use Rattle.std.proofs.Common.{◌≡◌, true, false, Result, refl, sym, ap, ◌∙◌, subst, inl, inr, ⊎_elim, arith}
 use Rattle.std.specs.Prelude.{IsTrue, List, All}
 use Rattle.std.proofs.lemmas.List.Elements.{All-contains}
-use Rattle.cny_base.specs.declared.refusal.Refusal.{Refusal}
-use Rattle.tree_disk.specs.Tree.{Name, Tree}
-use Rattle.tree_disk.specs.Disk.{DiskModel, IsDisk, IsImageOf, HasRead}
-use Rattle.tree_disk.specs.Confined.{LeavesOnly}
-use Rattle.tree_disk.specs.ConfinedLaws.{leaves_step}
-use Rattle.tree_disk.specs.Moments.{same_images, same_start, time_start}
-use Rattle.journal_log.specs.declared.put.Put.{Put}
-use Rattle.journal_log.specs.Own.{gate, StoresSame}
-use Rattle.tree_journal.specs.CanBePut.{CanBePut}
-use Rattle.tree_journal.specs.Recovery.{is_flag, is_committed, RecoversTo, at_rest, by_log, RecoversAsThen, IsDamagedAt, log_damaged, staged_damaged}
-use Rattle.tree_journal.specs.Staging.{has_content}
+use Rattle.system_core.specs.cny-base.declared.refusal.Refusal.{Refusal}
+use Rattle.system_core.specs.tree-disk.Tree.{Name, Tree}
+use Rattle.system_core.specs.tree-disk.Disk.{DiskModel, IsDisk, IsImageOf, HasRead}
+use Rattle.system_core.specs.tree-disk.Confined.{LeavesOnly}
+use Rattle.system_core.specs.tree-disk.ConfinedLaws.{leaves_step}
+use Rattle.system_core.specs.tree-disk.Moments.{same_images, same_start, time_start}
+use Rattle.system_core.specs.journal-log.declared.put.Put.{Put}
+use Rattle.system_core.specs.journal-log.Own.{gate, StoresSame}
+use Rattle.system_core.specs.tree-journal.CanBePut.{CanBePut}
+use Rattle.system_core.specs.tree-journal.Recovery.{is_flag, is_committed, RecoversTo, at_rest, by_log, RecoversAsThen, IsDamagedAt, log_damaged, staged_damaged}
+use Rattle.system_core.specs.tree-journal.Staging.{has_content}
 use Rattle.cli_call.specs.Opening.{IsOpen, MeetsDamage}
-use Rattle.root_ready.specs.Recovered.{IsKept, RefusesLog}
+use Rattle.system_core.specs.Recovered.{IsKept, RefusesLog}
 use Rattle.cli_call.specs.Store.{Store, IsStore, Recovers, IsEntryOr, HasDamagedFile, HasDamageAtOpening, IsSettled, RestsAt}
 
 -- nothing was done

@@ -1,24 +1,24 @@
 -- How the root and the repository are stored.
 use Rattle.std.specs.Prelude.{◌≡◌, ◌⊎◌, true, IsTrue, List, ℕ, length, Some}
 use Rattle.sha1.specs.Sha1.{sha1}
-use Rattle.cny_base.specs.Reserved.{private_directory}
-use Rattle.tree_disk.specs.Tree.{Name, Tree}
-use Rattle.content_store.specs.Store.{content_path, stored}
+use Rattle.system_core.specs.cny-base.Reserved.{private_directory}
+use Rattle.system_core.specs.tree-disk.Tree.{Name, Tree}
+use Rattle.system_core.specs.content-store.Store.{content_path, stored}
 use Rattle.repo_index.specs.Catalogue.{CatalogueParts, records_content}
-use Rattle.repo_state.specs.Counts.{Counts}
-use Rattle.repo_state.specs.Damage.{IsDamagedCommit}
-use Rattle.repo_state.specs.Files.{contents_dir, repository_base, HoldsCatalogue, StoresRepository}
-use Rattle.repo_state.specs.State.{RepositoryState}
-use Rattle.repository.specs.Contents.{IsDamagedContent}
+use Rattle.repo_load.specs.Counts.{Counts}
+use Rattle.repo_load.specs.Damage.{IsDamagedCommit}
+use Rattle.repo_load.specs.Files.{contents_dir, repository_base, HoldsCatalogue, StoresRepository}
+use Rattle.repo_load.specs.State.{RepositoryState}
+use Rattle.repo_load.specs.Contents.{IsDamagedContent}
 use Rattle.local_db.specs.declared.db.Db.{Db}
-use Rattle.job_records.specs.Reading.{IsDamagedRecord}
-use Rattle.rollback_stack.specs.Inverse.{IsDamagedContent as IsDamagedSaved, IsDamagedJob}
-use Rattle.rollback_stack.specs.Numbers.{job_count}
-use Rattle.rollback_stack.specs.Reading.{IsDamagedNewest}
-use Rattle.root_ready.specs.Migrating.{IsDamagedStore}
-use Rattle.system_state.specs.declared.format.Format.TheVariants.{Two}
-use Rattle.system_state.specs.Names.{counts}
-use Rattle.system_state.specs.Stores.{HoldsDatabase, StoresSystem}
+use Rattle.system_core.specs.job-record.JobReading.{IsDamagedRecord}
+use Rattle.system_core.specs.rollback-stack.Inverse.{IsDamagedContent as IsDamagedSaved, IsDamagedJob}
+use Rattle.system_core.specs.rollback-stack.Numbers.{job_count}
+use Rattle.system_core.specs.rollback-stack.Reading.{IsDamagedNewest}
+use Rattle.system_core.specs.Migrating.{IsDamagedStore}
+use Rattle.local_db.specs.declared.format.Format.TheVariants.{Two}
+use Rattle.local_db.specs.Names.{counts}
+use Rattle.local_db.specs.Stores.{HoldsDatabase, StoresSystem}
 use Rattle.cli_call.specs.State.{RootState}
 use Rattle.cli_call.specs.Store.{Store}
 

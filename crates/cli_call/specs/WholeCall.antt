@@ -2,31 +2,31 @@
 use Rattle.std.specs.Prelude.{◌≡◌, ◌⊎◌, ℕ, ◌≤◌, Bool, true, false, IsTrue, List, [], Some, IfSome, Result, Ok, Err}
 use Rattle.std.proofs.Common.{inl, inr}
 use Rattle.std.specs.Io.KnownBytes.{Appends, Keeps}
-use Rattle.cny_base.specs.Count.{Rose}
-use Rattle.cny_base.specs.declared.refusal.Refusal.{Refusal}
+use Rattle.system_core.specs.cny-base.Count.{Rose}
+use Rattle.system_core.specs.cny-base.declared.refusal.Refusal.{Refusal}
 use Rattle.cny_flow.specs.Flow.{SourceState, SinkState, AppendsPart}
-use Rattle.tree_disk.specs.Tree.{Name, Tree}
-use Rattle.tree_disk.specs.Disk.{DiskModel, HasRead}
-use Rattle.tree_disk.specs.Clear.{is_within}
-use Rattle.tree_disk.specs.Confined.{Among, Confined, LeavesOnly}
-use Rattle.tree_disk.specs.Steps.{no_name}
-use Rattle.tree_disk.specs.Unfailed.{UnlessFailed}
-use Rattle.journal_log.specs.Own.{StoresSame}
-use Rattle.tree_journal.specs.Recovery.{is_committed, RecoversTo, RecoversAsThen}
+use Rattle.system_core.specs.tree-disk.Tree.{Name, Tree}
+use Rattle.system_core.specs.tree-disk.Disk.{DiskModel, HasRead}
+use Rattle.system_core.specs.tree-disk.Clear.{is_within}
+use Rattle.system_core.specs.tree-disk.Confined.{Among, Confined, LeavesOnly}
+use Rattle.system_core.specs.tree-disk.Steps.{no_name}
+use Rattle.system_core.specs.tree-disk.Unfailed.{UnlessFailed}
+use Rattle.system_core.specs.journal-log.Own.{StoresSame}
+use Rattle.system_core.specs.tree-journal.Recovery.{is_committed, RecoversTo, RecoversAsThen}
 use Rattle.repo_index.specs.Catalogue.{CatalogueParts}
 use Rattle.local_db.specs.declared.db.Db.{Db}
-use Rattle.repo_state.specs.Files.{repository_base, HoldsCatalogue}
-use Rattle.repo_state.specs.State.{RepositoryState}
-use Rattle.repository.specs.Loading.{IsCatalogue}
+use Rattle.repo_load.specs.Files.{repository_base, HoldsCatalogue}
+use Rattle.repo_load.specs.State.{RepositoryState}
+use Rattle.repo_load.specs.Loading.{IsCatalogue}
 use Rattle.cli_call.specs.declared.failure.Failure.{Failure}
 use Rattle.cli_call.specs.declared.failure.Failure.TheVariants as failure
 use Rattle.cli_call.specs.Call.{CallState, RunsOpen, RunsCall, after_opening}
 use Rattle.cli_call.specs.Command.{disks, KeepsOthers, IsShown}
-use Rattle.root_ready.specs.FixedDirs.{fixed_dirs}
+use Rattle.system_core.specs.FixedDirs.{fixed_dirs}
 use Rattle.cli_call.specs.Line.{Moment}
 use Rattle.cli_call.specs.Opening.{MeetsDamage}
 use Rattle.cli_call.specs.Reading.{given, left_by, Gives, IsInput}
-use Rattle.root_ready.specs.Recovered.{RecoversToNone, IsKept, IsPathRefusal, RefusesLog}
+use Rattle.system_core.specs.Recovered.{RecoversToNone, IsKept, IsPathRefusal, RefusesLog}
 use Rattle.cli_call.specs.Report.{End, Tells, Reports}
 use Rattle.cli_call.specs.RootOpening.{IsRootKept, RecoversOutside, RecoversToDatabase, ShowsBetween}
 use Rattle.cli_call.specs.State.{RootState, State, Effect, Meaning, tree_of, after, IsNext, OneDisk, Then}

@@ -3,8 +3,8 @@ ghost use Rattle.std.specs.Prelude.{◌≡◌};
 ghost use Rattle.cli_call.specs.Failures.{failure_of_fault};
 ghost use Rattle.cli_call.specs.declared.failure.Failure.TheVariants as failure;
 
-use cny_base::{Fault, OutOfMemory, Path, Refusal};
 use std::alloc::{AllocError, AllocFailed};
+use system_core::cny_base::{Fault, OutOfMemory, Path, Refusal};
 
 /// Why a call ends with a status other than 0.
 #[derive(Debug, Drop)]

@@ -2,8 +2,7 @@
 ghost use Rattle.cli_call.specs.Store.{IsStore};
 ghost use Rattle.cli_call.specs.Stores.{repository_store};
 
-use repo_state::counted_names;
-use repository::stored_state;
+use repo_load::{counted_names, stored_state};
 
 /// What a repository stores depends on the names that count alone, none of which is the journal's, and a damaged one stores
 /// nothing.

@@ -1,7 +1,7 @@
 //! The two disks of a call, opened.
 ghost use Rattle.std.specs.Prelude.{IfOk};
-ghost use Rattle.repo_state.specs.Files.{HoldsCatalogue};
-ghost use Rattle.repository.specs.Loading.{IsCatalogue};
+ghost use Rattle.repo_load.specs.Files.{HoldsCatalogue};
+ghost use Rattle.repo_load.specs.Loading.{IsCatalogue};
 ghost use Rattle.cli_call.specs.Call.{OpensBoth};
 ghost use Rattle.cli_call.specs.Opening.{no_test, Opens};
 ghost use Rattle.cli_call.specs.RootOpening.{OpensSystem};
@@ -10,14 +10,13 @@ ghost use Rattle.cli_call.specs.Stores.{repository_store};
 use crate::failure::Failure;
 use crate::opened::Opened;
 use crate::stops::{on_repository, on_root};
-use cny_base::Stop;
 use local_db::Db;
 use repo_index::Catalogue;
-use repo_state::base_path;
-use repository::load;
-use root_ready::{ready, recover_disk};
+use repo_load::{base_path, load};
 use std::alloc::Global;
-use tree_disk::TreeDisk;
+use system_core::cny_base::Stop;
+use system_core::tree_disk::TreeDisk;
+use system_core::{ready, recover_disk};
 
 // Makes the root ready for a command, and answers its database.
 fn open_root<T: TreeDisk>(alloc: Global, root: &mut T) -> Result<Db, Stop>

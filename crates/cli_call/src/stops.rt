@@ -4,7 +4,7 @@ ghost use Rattle.cli_call.specs.Stops as spec;
 ghost use Rattle.cli_call.specs.Stops.{root_result, repository_result};
 
 use crate::failure::Failure;
-use cny_base::Stop;
+use system_core::cny_base::Stop;
 
 fn root_failure(stop: Stop) -> Failure
     ensures { result ≡ spec.root_failure stop }

@@ -1,12 +1,11 @@
 //! Troves of lines, and the calls on them.
 use crate::line::{Answer, Stop, answer_of, word};
-use cny_base::Name;
 use cny_dep::Dep;
+use dep_closure::cny_base::Name;
+use dep_closure::trove_parts::read_id;
+use dep_closure::trove_stream::{Deps, Files, Installed, Refs, Trove};
 use dep_closure::{Closure, closed};
-use installed_list::Installed;
 use std::alloc::Global;
-use trove_id::read_id;
-use trove_stream::{Deps, Files, Refs, Trove};
 
 /// The closure, and the troves that the next call on it takes.
 pub struct State {

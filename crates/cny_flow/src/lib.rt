@@ -8,6 +8,7 @@ mod memory_source;
 mod std_sink;
 mod std_source;
 
+pub use cny_base;
 pub use fault::FlowFault;
 pub use flow::{Sink, Source};
 pub use memory_sink::MemorySink;

@@ -13,24 +13,24 @@ use Rattle.std.proofs.lemmas.List.{map-append}
 use Rattle.std.proofs.lemmas.List.Concat.{flat_map-append}
 use Rattle.std.proofs.lemmas.List.Elements.{All-push, All-nil}
 use Rattle.sha1.specs.Sha1.{sha1}
-use Rattle.cny_base.specs.Name.{is_name, kind_of_name}
-use Rattle.cny_base.specs.Path.{is_path}
-use Rattle.cny_base.specs.declared.limits.TheConstants.{CONTENT_LIMIT}
-use Rattle.cny_base.specs.declared.name.NameKind.{NameKind}
-use Rattle.cny_base.specs.declared.name.NameKind.TheVariants.{Component, Package, Group}
+use Rattle.manifest_troves.specs.cny-base.Name.{is_name, kind_of_name}
+use Rattle.manifest_troves.specs.cny-base.Path.{is_path}
+use Rattle.manifest_troves.specs.cny-base.declared.limits.TheConstants.{CONTENT_LIMIT}
+use Rattle.manifest_troves.specs.cny-base.declared.name.NameKind.{NameKind}
+use Rattle.manifest_troves.specs.cny-base.declared.name.NameKind.TheVariants.{Component, Package, Group}
 use Rattle.cny_dep.specs.Dep.{dep_text}
 use Rattle.cny_flavor.specs.declared.parts.Parts.{Parts}
 use Rattle.cny_flavor.specs.Canonical.{flavor_text}
 use Rattle.cny_version.specs.Version.{WholeVersion}
-use Rattle.file_stream.specs.declared.record.FileRec.{FileRec}
-use Rattle.file_stream.specs.declared.record.FileRec.TheVariants as rec
-use Rattle.trove_id.specs.declared.id.TroveId.{TroveId}
-use Rattle.trove_id.specs.Id.{IsTroveId}
-use Rattle.trove_id.specs.Order.{id_cmp, id_total}
-use Rattle.trove_items.specs.declared.files.FileAt.{FileAt}
-use Rattle.trove_items.specs.Files.{file_cmp, path_of}
-use Rattle.trove_items.specs.Items.{IsRisingList}
-use Rattle.change_set.specs.declared.change.Carried.{Carried}
+use Rattle.manifest_troves.specs.file-stream.declared.record.FileRec.{FileRec}
+use Rattle.manifest_troves.specs.file-stream.declared.record.FileRec.TheVariants as rec
+use Rattle.manifest_troves.specs.trove-parts.declared.id.TroveId.{TroveId}
+use Rattle.manifest_troves.specs.trove-parts.Id.{IsTroveId}
+use Rattle.manifest_troves.specs.trove-parts.Order.{id_cmp, id_total}
+use Rattle.manifest_troves.specs.trove-parts.declared.files.FileAt.{FileAt}
+use Rattle.manifest_troves.specs.trove-parts.Files.{file_cmp, path_of}
+use Rattle.manifest_troves.specs.trove-parts.Items.{IsRisingList}
+use Rattle.manifest_troves.specs.change-set.declared.change.Carried.{Carried}
 use Rattle.manifest_troves.specs.declared.lines.DepLine.{DepLine}
 use Rattle.cny_manifest.specs.declared.entries.DirLine.{DirLine}
 use Rattle.cny_manifest.specs.declared.entries.FileLine.{FileLine}

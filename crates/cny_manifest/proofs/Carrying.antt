@@ -9,19 +9,19 @@ use Rattle.std.proofs.lemmas.Bool.{true≢false}
 use Rattle.std.proofs.lemmas.List.Elements.{All-from_recursion, recursion_from_All, All-weaker, All-contains}
 use Rattle.std.proofs.lemmas.Slice.Eq.{bytes_eq-Decides}
 use Rattle.sha1.specs.Sha1.{sha1}
-use Rattle.cny_base.specs.Name.{kind_of_name}
-use Rattle.cny_base.specs.declared.name.NameKind.{NameKind}
-use Rattle.cny_base.specs.declared.name.NameKind.TheVariants.{Component, Package, Group}
-use Rattle.file_stream.specs.Record.{IsFileRecord, has_name_and_size}
-use Rattle.file_stream.specs.declared.record.FileRec.{FileRec}
-use Rattle.file_stream.specs.declared.record.FileRec.TheVariants as rec
-use Rattle.trove_items.specs.declared.files.FileAt.{FileAt}
-use Rattle.trove_items.specs.Files.{IsFileAt}
-use Rattle.trove_stream.specs.declared.parts.TroveParts.{TroveParts}
-use Rattle.trove_stream.specs.Trove.{IsTrove}
-use Rattle.change_set.specs.ChangeSet.{has_record, IsContentOf, content_cmp}
-use Rattle.change_set.specs.declared.change.Carried.{Carried}
-use Rattle.change_set.specs.declared.change.Part.TheVariants.{Whole}
+use Rattle.manifest_troves.specs.cny-base.Name.{kind_of_name}
+use Rattle.manifest_troves.specs.cny-base.declared.name.NameKind.{NameKind}
+use Rattle.manifest_troves.specs.cny-base.declared.name.NameKind.TheVariants.{Component, Package, Group}
+use Rattle.manifest_troves.specs.file-stream.Record.{IsFileRecord, has_name_and_size}
+use Rattle.manifest_troves.specs.file-stream.declared.record.FileRec.{FileRec}
+use Rattle.manifest_troves.specs.file-stream.declared.record.FileRec.TheVariants as rec
+use Rattle.manifest_troves.specs.trove-parts.declared.files.FileAt.{FileAt}
+use Rattle.manifest_troves.specs.trove-parts.Files.{IsFileAt}
+use Rattle.manifest_troves.specs.trove-stream.declared.parts.TroveParts.{TroveParts}
+use Rattle.manifest_troves.specs.trove-stream.Trove.{IsTrove}
+use Rattle.manifest_troves.specs.change-set.ChangeSet.{has_record, IsContentOf, content_cmp}
+use Rattle.manifest_troves.specs.change-set.declared.change.Carried.{Carried}
+use Rattle.manifest_troves.specs.change-set.declared.change.Part.TheVariants.{Whole}
 use Rattle.manifest_troves.specs.Troves.{has_entry, KeepsEntries}
 use Rattle.cny_manifest.specs.Body.{Body}
 use Rattle.cny_manifest.specs.Made.{lines_of}

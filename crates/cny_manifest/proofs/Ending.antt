@@ -2,8 +2,8 @@
 use Rattle.std.proofs.Common.{◌≡◌, ℕ, true, false, arith, List, [], ◌∷◌, length, None, Ok, refl, sym, ap, ◌∙◌, subst, inl, ⊎_elim, codes}
 use Rattle.std.specs.Prelude.{◌≢◌, ◌==◌}
 use Rattle.std.proofs.lemmas.Bool.{true≢false, eqb-true}
-use Rattle.trove_stream.specs.declared.parts.TroveParts.{TroveParts}
-use Rattle.change_set.specs.declared.change.Carried.{Carried}
+use Rattle.manifest_troves.specs.trove-stream.declared.parts.TroveParts.{TroveParts}
+use Rattle.manifest_troves.specs.change-set.declared.change.Carried.{Carried}
 use Rattle.cny_manifest.specs.declared.fault.Unread.TheVariants.{At}
 use Rattle.cny_manifest.specs.Body.{Body}
 use Rattle.cny_manifest.specs.FirstFault.{fault_of, fault_by_size, too_large}

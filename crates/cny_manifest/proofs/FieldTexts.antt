@@ -12,8 +12,8 @@ use Rattle.std.proofs.lemmas.List.Folds.{list_all-append}
 use Rattle.std.proofs.lemmas.List.Quantifiers.{position-Some}
 use Rattle.std.proofs.lemmas.Fmt.{digits_decimal, digits_value-decimal, length-decimal-le, decimal_nonempty, first_decimal, decimal_digit, decimal-digits_value}
 use Rattle.std.proofs.lemmas.Str.Parse.{IsNumeralModel, numerals_by_fold, digits_value_short}
-use Rattle.cny_base.specs.Name.{is_name, is_word, is_word_byte, is_colon, colon_place, has_words, begins_as_group}
-use Rattle.cny_base.specs.Number.{octal_text, is_octal_digit, is_octal_text, octal_value, is_digit, is_decimal, decimal_on, decimal_value}
+use Rattle.manifest_troves.specs.cny-base.Name.{is_name, is_word, is_word_byte, is_colon, colon_place, has_words, begins_as_group}
+use Rattle.manifest_troves.specs.cny-base.Number.{octal_text, is_octal_digit, is_octal_text, octal_value, is_digit, is_decimal, decimal_on, decimal_value}
 use Rattle.cny_manifest.specs.Lines.{◌&>◌, cut_at, is_space, field_at, after, mode_of, size_of}
 
 -- ---- steps that found something

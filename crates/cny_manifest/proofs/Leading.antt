@@ -8,21 +8,21 @@ use Rattle.std.specs.Str.{IsUtf8, is_utf8}
 use Rattle.std.proofs.lemmas.Bool.{le-leb}
 use Rattle.std.proofs.lemmas.Str.{IsUtf8-append, IsUtf8-nil, IsUtf8-from_ascii, is_utf8-from_IsUtf8}
 use Rattle.std.proofs.lemmas.Str.Ascii.{IsAscii-nil, IsAscii-cons}
-use Rattle.cny_base.specs.Name.{kind_of_name}
-use Rattle.cny_base.specs.Number.{octal_text}
-use Rattle.cny_base.specs.declared.limits.TheConstants.{CONTENT_LIMIT}
-use Rattle.cny_base.specs.declared.name.NameKind.{NameKind}
-use Rattle.cny_base.specs.declared.name.NameKind.TheVariants.{Component, Package, Group}
+use Rattle.manifest_troves.specs.cny-base.Name.{kind_of_name}
+use Rattle.manifest_troves.specs.cny-base.Number.{octal_text}
+use Rattle.manifest_troves.specs.cny-base.declared.limits.TheConstants.{CONTENT_LIMIT}
+use Rattle.manifest_troves.specs.cny-base.declared.name.NameKind.{NameKind}
+use Rattle.manifest_troves.specs.cny-base.declared.name.NameKind.TheVariants.{Component, Package, Group}
 use Rattle.cny_flavor.specs.declared.parts.Parts.{Parts}
 use Rattle.cny_flavor.specs.Canonical.{flavor_text}
 use Rattle.cny_version.specs.Version.{WholeVersion, version_text}
-use Rattle.trove_id.specs.declared.id.TroveId.{TroveId}
-use Rattle.trove_id.specs.Id.{IsTroveId, in_brackets, id_text_of}
-use Rattle.trove_id.specs.Order.{id_cmp}
-use Rattle.trove_id.proofs.Fields.{fields_utf8}
-use Rattle.trove_items.specs.declared.files.FileAt.{FileAt}
-use Rattle.trove_items.specs.Files.{file_cmp}
-use Rattle.change_set.specs.declared.change.Carried.{Carried}
+use Rattle.manifest_troves.specs.trove-parts.declared.id.TroveId.{TroveId}
+use Rattle.manifest_troves.specs.trove-parts.Id.{IsTroveId, in_brackets, id_text_of}
+use Rattle.manifest_troves.specs.trove-parts.Order.{id_cmp}
+use Rattle.manifest_troves.proofs.trove-parts.IdFields.{fields_utf8}
+use Rattle.manifest_troves.specs.trove-parts.declared.files.FileAt.{FileAt}
+use Rattle.manifest_troves.specs.trove-parts.Files.{file_cmp}
+use Rattle.manifest_troves.specs.change-set.declared.change.Carried.{Carried}
 use Rattle.manifest_troves.specs.declared.lines.DepLine.{DepLine}
 use Rattle.cny_manifest.specs.declared.entries.DirLine.{DirLine}
 use Rattle.cny_manifest.specs.declared.entries.FileLine.{FileLine}

@@ -5,15 +5,15 @@ use Rattle.std.specs.List.{position, list_all}
 use Rattle.std.specs.Str.{bytes_eq}
 use Rattle.std.specs.Fmt.{decimal}
 use Rattle.std.proofs.lemmas.Bool.{eqb-true}
-use Rattle.cny_base.specs.Name.{is_name, is_word, is_colon, kind_of_name}
-use Rattle.cny_base.specs.Number.{octal_text}
-use Rattle.cny_base.specs.Path.{is_path, are_parts}
-use Rattle.cny_base.specs.Target.{is_target}
-use Rattle.cny_base.specs.declared.name.NameKind.{NameKind}
-use Rattle.cny_base.specs.declared.name.NameKind.TheVariants.{Component, Package, Group}
+use Rattle.manifest_troves.specs.cny-base.Name.{is_name, is_word, is_colon, kind_of_name}
+use Rattle.manifest_troves.specs.cny-base.Number.{octal_text}
+use Rattle.manifest_troves.specs.cny-base.Path.{is_path, are_parts}
+use Rattle.manifest_troves.specs.cny-base.Target.{is_target}
+use Rattle.manifest_troves.specs.cny-base.declared.name.NameKind.{NameKind}
+use Rattle.manifest_troves.specs.cny-base.declared.name.NameKind.TheVariants.{Component, Package, Group}
 use Rattle.cny_version.specs.Version.{WholeVersion}
-use Rattle.file_stream.specs.declared.record.Flags.{Flags}
-use Rattle.file_stream.specs.Owner.{OwnerNames, is_owner, is_owner_word, root_owner}
+use Rattle.manifest_troves.specs.file-stream.declared.record.Flags.{Flags}
+use Rattle.manifest_troves.specs.file-stream.Owner.{OwnerNames, is_owner, is_owner_word, root_owner}
 use Rattle.manifest_troves.specs.declared.lines.DepLine.{DepLine}
 use Rattle.cny_manifest.specs.declared.entries.DirLine.{DirLine}
 use Rattle.cny_manifest.specs.declared.entries.FileLine.{FileLine}

@@ -5,9 +5,9 @@ use Rattle.std.specs.Cmp.Lexicographic.{pointwise}
 use Rattle.std.specs.Ordering.{is_lt}
 use Rattle.std.specs.declared.cmp.Ordering.{Ordering}
 use Rattle.std.proofs.lemmas.Bool.Decides.{nat_tests}
-use Rattle.cny_base.specs.Below.{begins_with}
-use Rattle.trove_items.specs.declared.files.FileAt.{FileAt}
-use Rattle.trove_stream.specs.Trove.{begins_with_colon, is_component_of}
+use Rattle.manifest_troves.specs.cny-base.Below.{begins_with}
+use Rattle.manifest_troves.specs.trove-parts.declared.files.FileAt.{FileAt}
+use Rattle.manifest_troves.specs.trove-stream.Trove.{begins_with_colon, is_component_of}
 use Rattle.cny_manifest.specs.Body.{is_above, is_above_path, path_cmp}
 
 -- ---- fronts

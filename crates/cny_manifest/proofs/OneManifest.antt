@@ -1,9 +1,9 @@
 -- Bytes make one value at most, or have one first fault at most, and never both.
 use Rattle.std.proofs.Common.{◌≡◌, ℕ, Bool, true, false, nat_le, List, [], ◌∷◌, flat_map, Option, Some, None, refl, sym, ap, ◌∙◌, subst, inl, inr, append-nil, codes}
 use Rattle.std.proofs.lemmas.Option.{same_Some}
-use Rattle.cny_base.specs.declared.refusal.Refusal.{Refusal}
-use Rattle.cny_base.specs.declared.refusal.Refusal.TheVariants.{Collision}
-use Rattle.cny_base.specs.declared.limits.TheConstants.{CONTENT_LIMIT}
+use Rattle.manifest_troves.specs.cny-base.declared.refusal.Refusal.{Refusal}
+use Rattle.manifest_troves.specs.cny-base.declared.refusal.Refusal.TheVariants.{Collision}
+use Rattle.manifest_troves.specs.cny-base.declared.limits.TheConstants.{CONTENT_LIMIT}
 use Rattle.cny_version.specs.Version.{WholeVersion, IsVersion}
 use Rattle.cny_version.specs.Filled.{filled}
 use Rattle.cny_version.specs.Reading.{version_found}
@@ -12,10 +12,10 @@ use Rattle.cny_flavor.proofs.Plain.{relaxed_read}
 use Rattle.cny_dep.specs.Dep.{Dependency}
 use Rattle.cny_dep.specs.Relaxed.{IsRelaxedText}
 use Rattle.cny_dep.proofs.Parts.{one_dep}
-use Rattle.trove_id.specs.declared.id.TroveId.{TroveId}
-use Rattle.trove_id.specs.Id.{IsTroveId, id_text_of}
-use Rattle.trove_stream.specs.declared.parts.TroveParts.{TroveParts}
-use Rattle.change_set.specs.declared.change.Carried.{Carried}
+use Rattle.manifest_troves.specs.trove-parts.declared.id.TroveId.{TroveId}
+use Rattle.manifest_troves.specs.trove-parts.Id.{IsTroveId, id_text_of}
+use Rattle.manifest_troves.specs.trove-stream.declared.parts.TroveParts.{TroveParts}
+use Rattle.manifest_troves.specs.change-set.declared.change.Carried.{Carried}
 use Rattle.manifest_troves.specs.declared.lines.DepLine.{DepLine}
 use Rattle.manifest_troves.specs.Contents.{first_collision, contents_of}
 use Rattle.manifest_troves.specs.Troves.{troves_of}

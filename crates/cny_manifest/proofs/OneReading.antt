@@ -1,11 +1,11 @@
 -- Bytes are one manifest at most, or have one first fault.
 use Rattle.std.proofs.Common.{◌≡◌, ℕ, List, [], ◌∷◌, ◌++◌, length, flat_map, Option, Some, None, refl, sym, ap, ◌∙◌, subst, inl, inr, append_assoc, append-nil}
-use Rattle.cny_base.specs.declared.refusal.Refusal.{Refusal}
-use Rattle.cny_base.specs.declared.refusal.Refusal.TheVariants.{Collision}
-use Rattle.cny_base.specs.declared.refusal.Fault.{Fault}
-use Rattle.cny_base.specs.declared.refusal.Fault.TheVariants as fault
-use Rattle.trove_stream.specs.declared.parts.TroveParts.{TroveParts}
-use Rattle.change_set.specs.declared.change.Carried.{Carried}
+use Rattle.manifest_troves.specs.cny-base.declared.refusal.Refusal.{Refusal}
+use Rattle.manifest_troves.specs.cny-base.declared.refusal.Refusal.TheVariants.{Collision}
+use Rattle.manifest_troves.specs.cny-base.declared.refusal.Fault.{Fault}
+use Rattle.manifest_troves.specs.cny-base.declared.refusal.Fault.TheVariants as fault
+use Rattle.manifest_troves.specs.trove-stream.declared.parts.TroveParts.{TroveParts}
+use Rattle.manifest_troves.specs.change-set.declared.change.Carried.{Carried}
 use Rattle.cny_manifest.specs.declared.fault.Unread.{Unread}
 use Rattle.cny_manifest.specs.declared.fault.ReadError.{ReadError}
 use Rattle.cny_manifest.specs.declared.fault.ReadError.TheVariants as errors

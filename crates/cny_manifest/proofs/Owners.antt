@@ -3,9 +3,9 @@ use Rattle.std.proofs.Common.{◌≡◌, ℕ, Bool, true, false, ◌&&◌, List,
 use Rattle.std.specs.Cmp.{second_so}
 use Rattle.std.specs.Str.{is_utf8}
 use Rattle.std.proofs.lemmas.Str.{IsUtf8-from_ascii, is_utf8-from_IsUtf8}
-use Rattle.cny_base.specs.Name.{is_word}
-use Rattle.cny_base.specs.Utf8.{word_ascii}
-use Rattle.file_stream.specs.Owner.{is_owner_word}
+use Rattle.manifest_troves.specs.cny-base.Name.{is_word}
+use Rattle.manifest_troves.specs.cny-base.Utf8.{word_ascii}
+use Rattle.manifest_troves.specs.file-stream.Owner.{is_owner_word}
 use Rattle.cny_manifest.specs.Entries.{names_if}
 
 not_word : (word : List ℕ) (v u : Bool) → is_owner_word word ≡ v → is_utf8 word ≡ u → u ≡ false → is_owner_word word ≡ false

@@ -2,8 +2,8 @@
 use Rattle.std.proofs.Common.{◌≡◌, ℕ, Bool, true, false, List, [], ◌∷◌, ◌++◌, flat_map, Option, Some, None, Result, Ok, Err, refl, sym, ap, ◌∙◌, subst, append_assoc, append-nil}
 use Rattle.std.proofs.lemmas.Bool.{true≢false}
 use Rattle.std.proofs.lemmas.List.Concat.{flat_map-append}
-use Rattle.cny_base.specs.declared.text.TextFault.{TextFault}
-use Rattle.cny_base.specs.declared.text.TextFault.TheVariants as text
+use Rattle.manifest_troves.specs.cny-base.declared.text.TextFault.{TextFault}
+use Rattle.manifest_troves.specs.cny-base.declared.text.TextFault.TheVariants as text
 use Rattle.cny_manifest.specs.declared.entries.FileLine.{FileLine}
 use Rattle.cny_manifest.specs.declared.fault.Unread.{Unread}
 use Rattle.cny_manifest.specs.declared.fault.ReadError.{ReadError}

@@ -3,15 +3,15 @@ use Rattle.std.proofs.Common.{◌≡◌, ℕ, ◌==◌, true, false, IsTrue, Lis
 use Rattle.std.specs.Prelude.{IfOk}
 use Rattle.std.specs.Str.{is_utf8}
 use Rattle.std.proofs.lemmas.Bool.{true≢false, eqb-true}
-use Rattle.cny_base.specs.declared.text.TextFault.{TextFault}
-use Rattle.cny_base.specs.declared.text.TextFault.TheVariants as text
+use Rattle.manifest_troves.specs.cny-base.declared.text.TextFault.{TextFault}
+use Rattle.manifest_troves.specs.cny-base.declared.text.TextFault.TheVariants as text
 use Rattle.cny_flavor.specs.declared.parts.Parts.{Parts}
 use Rattle.cny_flavor.specs.Canonical.{flavor_text}
 use Rattle.cny_flavor.specs.Spelling.{IsRelaxedText, IsReadAs}
 use Rattle.cny_version.specs.Version.{WholeVersion, IsVersion}
 use Rattle.cny_version.specs.Filled.{AbbreviatedVersion, filled, abbreviated_text, IsAbbreviationOf, IsAbbreviatedText}
-use Rattle.trove_id.specs.declared.id.TroveId.{TroveId}
-use Rattle.trove_id.specs.Id.{IsTroveId, id_text_of}
+use Rattle.manifest_troves.specs.trove-parts.declared.id.TroveId.{TroveId}
+use Rattle.manifest_troves.specs.trove-parts.Id.{IsTroveId, id_text_of}
 use Rattle.cny_manifest.specs.Body.{is_empty}
 use Rattle.cny_manifest.specs.Grammar.{IsVersionField, IsFlavorField, IsRefField}
 use Rattle.cny_manifest.specs.Reading.{IsOnly, ReadsOnly}

@@ -3,8 +3,8 @@ use Rattle.std.proofs.Common.{◌≡◌, ℕ, ◌<◌, true, false, List, [], �
 use Rattle.std.specs.Prelude.{IfErr}
 use Rattle.std.specs.Str.{bytes_eq}
 use Rattle.std.proofs.lemmas.Bool.{true≢false, leb-true, le-leb}
-use Rattle.cny_base.specs.declared.limits.TheConstants.{CONTENT_LIMIT}
-use Rattle.cny_base.specs.declared.text.TextFault.{TextFault}
+use Rattle.manifest_troves.specs.cny-base.declared.limits.TheConstants.{CONTENT_LIMIT}
+use Rattle.manifest_troves.specs.cny-base.declared.text.TextFault.{TextFault}
 use Rattle.cny_manifest.specs.declared.entries.FileLine.{FileLine}
 use Rattle.cny_manifest.specs.declared.fault.Unread.{Unread}
 use Rattle.cny_manifest.specs.declared.fault.Unread.TheVariants.{At}

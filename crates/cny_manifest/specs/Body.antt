@@ -5,19 +5,19 @@ use Rattle.std.specs.Ordering.{nat_cmp, is_lt, ordering_then}
 use Rattle.std.specs.Str.{bytes_eq}
 use Rattle.std.specs.declared.cmp.Ordering.{Ordering}
 use Rattle.sha1.specs.Sha1.{sha1}
-use Rattle.cny_base.specs.Name.{kind_of_name}
-use Rattle.cny_base.specs.declared.name.NameKind.{NameKind}
-use Rattle.cny_base.specs.declared.name.NameKind.TheVariants.{Component, Package, Group}
+use Rattle.manifest_troves.specs.cny-base.Name.{kind_of_name}
+use Rattle.manifest_troves.specs.cny-base.declared.name.NameKind.{NameKind}
+use Rattle.manifest_troves.specs.cny-base.declared.name.NameKind.TheVariants.{Component, Package, Group}
 use Rattle.cny_flavor.specs.declared.parts.Parts.{Parts}
 use Rattle.cny_flavor.specs.Canonical.{flavor_text, no_parts}
 use Rattle.cny_version.specs.Version.{WholeVersion}
 use Rattle.cny_dep.specs.Dep.{dep_text}
-use Rattle.file_stream.specs.declared.record.FileRec.TheVariants as rec
-use Rattle.trove_id.specs.declared.id.TroveId.{TroveId}
-use Rattle.trove_id.specs.Order.{id_cmp}
-use Rattle.trove_items.specs.declared.files.FileAt.{FileAt}
-use Rattle.trove_stream.specs.Trove.{is_component_of}
-use Rattle.change_set.specs.declared.change.Carried.{Carried}
+use Rattle.manifest_troves.specs.file-stream.declared.record.FileRec.TheVariants as rec
+use Rattle.manifest_troves.specs.trove-parts.declared.id.TroveId.{TroveId}
+use Rattle.manifest_troves.specs.trove-parts.Order.{id_cmp}
+use Rattle.manifest_troves.specs.trove-parts.declared.files.FileAt.{FileAt}
+use Rattle.manifest_troves.specs.trove-stream.Trove.{is_component_of}
+use Rattle.manifest_troves.specs.change-set.declared.change.Carried.{Carried}
 use Rattle.manifest_troves.specs.declared.lines.DepLine.{DepLine}
 use Rattle.cny_manifest.specs.declared.entries.DirLine.{DirLine}
 use Rattle.cny_manifest.specs.declared.entries.FileLine.{FileLine}

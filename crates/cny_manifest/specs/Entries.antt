@@ -2,11 +2,11 @@
 use Rattle.std.specs.Prelude.{ℕ, Bool, true, false, List, length, take, drop, Option, Some, None, if◌then◌else◌, codes}
 use Rattle.std.specs.List.{position}
 use Rattle.std.specs.Str.{bytes_eq}
-use Rattle.cny_base.specs.Name.{is_colon}
-use Rattle.cny_base.specs.Path.{is_path}
-use Rattle.cny_base.specs.Target.{is_target}
-use Rattle.file_stream.specs.declared.record.Flags.{Flags}
-use Rattle.file_stream.specs.Owner.{OwnerNames, is_owner, root_owner}
+use Rattle.manifest_troves.specs.cny-base.Name.{is_colon}
+use Rattle.manifest_troves.specs.cny-base.Path.{is_path}
+use Rattle.manifest_troves.specs.cny-base.Target.{is_target}
+use Rattle.manifest_troves.specs.file-stream.declared.record.Flags.{Flags}
+use Rattle.manifest_troves.specs.file-stream.Owner.{OwnerNames, is_owner, root_owner}
 use Rattle.cny_manifest.specs.declared.entries.DirLine.{DirLine}
 use Rattle.cny_manifest.specs.declared.entries.FileLine.{FileLine}
 use Rattle.cny_manifest.specs.Lines.{◌&>◌, cut_at, field_at, after, mode_of, size_of}

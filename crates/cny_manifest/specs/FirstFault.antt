@@ -9,12 +9,12 @@
 -- Behind the line `end` the first further byte is at fault. Bytes that are a manifest are refused where two contents with one
 -- name differ.
 use Rattle.std.specs.Prelude.{◌≡◌, ◌≢◌, ◌⊎◌, ℕ, ◌-◌, nat_lt, if◌then◌else◌, List, [], ◌++◌, length, flat_map, Option, Some, None, Result, Ok, Err}
-use Rattle.cny_base.specs.declared.limits.TheConstants.{CONTENT_LIMIT}
-use Rattle.cny_base.specs.declared.refusal.Refusal.{Refusal}
-use Rattle.cny_base.specs.declared.refusal.Refusal.TheVariants as refusal
-use Rattle.cny_base.specs.declared.refusal.What.TheVariants.{Content}
-use Rattle.cny_base.specs.declared.refusal.Fault.{Fault}
-use Rattle.cny_base.specs.declared.refusal.Fault.TheVariants as fault
+use Rattle.manifest_troves.specs.cny-base.declared.limits.TheConstants.{CONTENT_LIMIT}
+use Rattle.manifest_troves.specs.cny-base.declared.refusal.Refusal.{Refusal}
+use Rattle.manifest_troves.specs.cny-base.declared.refusal.Refusal.TheVariants as refusal
+use Rattle.manifest_troves.specs.cny-base.declared.refusal.What.TheVariants.{Content}
+use Rattle.manifest_troves.specs.cny-base.declared.refusal.Fault.{Fault}
+use Rattle.manifest_troves.specs.cny-base.declared.refusal.Fault.TheVariants as fault
 use Rattle.cny_manifest.specs.declared.entries.FileLine.{FileLine}
 use Rattle.cny_manifest.specs.declared.fault.Unread.{Unread}
 use Rattle.cny_manifest.specs.declared.fault.Unread.TheVariants.{At, TooLarge}

@@ -1,10 +1,10 @@
 -- The texts of manifests, line by line, and what each stands for.
 use Rattle.std.specs.Prelude.{◌≡◌, ◌⊎◌, ℕ, ◌<◌, Bool, true, false, ◌&&◌, nat_le, IsTrue, if◌then◌else◌, List, [], ◌∷◌, length, get_or, flat_map, Option, Some, None, codes}
 use Rattle.std.specs.Str.{bytes_eq, is_utf8}
-use Rattle.cny_base.specs.Name.{is_name, kind_of_name}
-use Rattle.cny_base.specs.declared.name.NameKind.{NameKind}
-use Rattle.cny_base.specs.declared.name.NameKind.TheVariants.{Component, Package, Group}
-use Rattle.cny_base.specs.declared.limits.TheConstants.{CONTENT_LIMIT}
+use Rattle.manifest_troves.specs.cny-base.Name.{is_name, kind_of_name}
+use Rattle.manifest_troves.specs.cny-base.declared.name.NameKind.{NameKind}
+use Rattle.manifest_troves.specs.cny-base.declared.name.NameKind.TheVariants.{Component, Package, Group}
+use Rattle.manifest_troves.specs.cny-base.declared.limits.TheConstants.{CONTENT_LIMIT}
 use Rattle.cny_version.specs.Version.{WholeVersion, IsVersion}
 use Rattle.cny_version.specs.Filled.{IsAbbreviationOf}
 use Rattle.cny_flavor.specs.declared.parts.Parts.{Parts}
@@ -12,8 +12,8 @@ use Rattle.cny_flavor.specs.Canonical.{flavor_text}
 use Rattle.cny_flavor.specs.Spelling as flavor
 use Rattle.cny_dep.specs.Dep.{Dependency, IsDependency}
 use Rattle.cny_dep.specs.Relaxed as dep
-use Rattle.trove_id.specs.declared.id.TroveId.{TroveId}
-use Rattle.trove_id.specs.Id.{IsTroveId, id_text_of}
+use Rattle.manifest_troves.specs.trove-parts.declared.id.TroveId.{TroveId}
+use Rattle.manifest_troves.specs.trove-parts.Id.{IsTroveId, id_text_of}
 use Rattle.manifest_troves.specs.declared.lines.DepLine.{DepLine}
 use Rattle.cny_manifest.specs.declared.entries.FileLine.{FileLine}
 use Rattle.cny_manifest.specs.declared.words.Word.{Word}

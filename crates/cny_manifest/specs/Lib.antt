@@ -7,3 +7,4 @@ pub mod Made
 pub mod Reading
 pub mod Makes
 pub mod Spelling
+pub use Rattle.manifest_troves.specs as manifest-troves

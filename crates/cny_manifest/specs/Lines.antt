@@ -2,7 +2,7 @@
 use Rattle.std.specs.Prelude.{ℕ, ◌+◌, Bool, nat_lt, ◌==◌, List, [], ◌∷◌, ◌++◌, length, take, drop, get_or, Option, Some, None, Result, Ok, Err, if◌then◌else◌, codes}
 use Rattle.std.specs.List.{position}
 use Rattle.std.specs.Str.{bytes_eq}
-use Rattle.cny_base.specs.Number.{is_octal_text, octal_value, is_decimal, decimal_value}
+use Rattle.manifest_troves.specs.cny-base.Number.{is_octal_text, octal_value, is_decimal, decimal_value}
 use Rattle.cny_manifest.specs.declared.fault.Unread.{Unread}
 use Rattle.cny_manifest.specs.declared.fault.Unread.TheVariants.{At}
 use Rattle.cny_manifest.specs.declared.words.Word.{Word}

@@ -1,7 +1,7 @@
 -- What the bytes of a manifest stand for.
 use Rattle.std.specs.Prelude.{◌≡◌, ℕ, List, None, map}
-use Rattle.change_set.specs.ChangeSet.{HasContents}
-use Rattle.change_set.specs.declared.change.Part.TheVariants.{Whole}
+use Rattle.manifest_troves.specs.change-set.ChangeSet.{HasContents}
+use Rattle.manifest_troves.specs.change-set.declared.change.Part.TheVariants.{Whole}
 use Rattle.cny_manifest.specs.declared.made.Made.{Made}
 use Rattle.cny_manifest.specs.Body.{Body}
 use Rattle.cny_manifest.specs.Made.{lines_of}

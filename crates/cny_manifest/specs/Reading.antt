@@ -1,9 +1,9 @@
 -- What the readers of lines and items answer.
 use Rattle.std.specs.Prelude.{◌≡◌, ℕ, ◌≤◌, false, List, [], ◌∷◌, ◌++◌, length, flat_map, Option, Some, None, Result, Ok, Err, codes}
 use Rattle.std.specs.Str.{bytes_eq}
-use Rattle.cny_base.specs.declared.limits.TheConstants.{CONTENT_LIMIT}
-use Rattle.cny_base.specs.declared.text.TextFault.{TextFault}
-use Rattle.cny_base.specs.declared.text.TextFault.TheVariants as text
+use Rattle.manifest_troves.specs.cny-base.declared.limits.TheConstants.{CONTENT_LIMIT}
+use Rattle.manifest_troves.specs.cny-base.declared.text.TextFault.{TextFault}
+use Rattle.manifest_troves.specs.cny-base.declared.text.TextFault.TheVariants as text
 use Rattle.cny_manifest.specs.declared.entries.FileLine.{FileLine}
 use Rattle.cny_manifest.specs.declared.fault.Unread.{Unread}
 use Rattle.cny_manifest.specs.declared.fault.Unread.TheVariants.{At}
@@ -15,8 +15,8 @@ use Rattle.cny_manifest.specs.Grammar.{Progress, AtMagic, InBody, Ended, IsNext}
 use Rattle.cny_manifest.specs.FirstFault.{NoneNext, GoesOn, fault_of, fault_by_size, too_large_by}
 use Rattle.cny_manifest.specs.Made.{lines_of}
 use Rattle.manifest_troves.specs.Troves.{troves_of, HasRisingNames, KeepsEntries}
-use Rattle.trove_stream.specs.declared.parts.TroveParts.{TroveParts}
-use Rattle.change_set.specs.declared.change.Carried.{Carried}
+use Rattle.manifest_troves.specs.trove-stream.declared.parts.TroveParts.{TroveParts}
+use Rattle.manifest_troves.specs.change-set.declared.change.Carried.{Carried}
 use Rattle.cny_manifest.specs.Lines.{with_feed, line_at, word_at}
 
 -- ---- one value

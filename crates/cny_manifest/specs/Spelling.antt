@@ -7,25 +7,25 @@ use Rattle.std.specs.Prelude.{◌≡◌, ℕ, ◌≤◌, Bool, true, false, IsTr
 use Rattle.std.specs.Fmt.{decimal}
 use Rattle.std.specs.List.Sorted.{IsStrictlySortedBy}
 use Rattle.sha1.specs.Sha1.{sha1}
-use Rattle.cny_base.specs.Name.{is_name, kind_of_name}
-use Rattle.cny_base.specs.Number.{octal_text}
-use Rattle.cny_base.specs.Path.{is_path}
-use Rattle.cny_base.specs.Target.{is_target}
-use Rattle.cny_base.specs.declared.limits.TheConstants.{CONTENT_LIMIT}
-use Rattle.cny_base.specs.declared.name.NameKind.{NameKind}
-use Rattle.cny_base.specs.declared.name.NameKind.TheVariants.{Group}
+use Rattle.manifest_troves.specs.cny-base.Name.{is_name, kind_of_name}
+use Rattle.manifest_troves.specs.cny-base.Number.{octal_text}
+use Rattle.manifest_troves.specs.cny-base.Path.{is_path}
+use Rattle.manifest_troves.specs.cny-base.Target.{is_target}
+use Rattle.manifest_troves.specs.cny-base.declared.limits.TheConstants.{CONTENT_LIMIT}
+use Rattle.manifest_troves.specs.cny-base.declared.name.NameKind.{NameKind}
+use Rattle.manifest_troves.specs.cny-base.declared.name.NameKind.TheVariants.{Group}
 use Rattle.cny_flavor.specs.declared.parts.Parts.{Parts}
 use Rattle.cny_flavor.specs.Canonical.{no_parts}
-use Rattle.file_stream.specs.declared.record.Flags.{Flags}
-use Rattle.file_stream.specs.declared.record.FileRec.TheVariants as rec
-use Rattle.file_stream.specs.Owner.{OwnerNames, is_owner, root_owner}
-use Rattle.trove_id.specs.declared.id.TroveId.{TroveId}
-use Rattle.trove_id.specs.Id.{id_text_of}
-use Rattle.trove_items.specs.declared.files.FileAt.{FileAt}
-use Rattle.trove_items.specs.Files.{file_cmp}
-use Rattle.trove_items.specs.Items.{IsRisingList}
-use Rattle.trove_items.specs.Refs.{AreRefs}
-use Rattle.change_set.specs.declared.change.Carried.{Carried}
+use Rattle.manifest_troves.specs.file-stream.declared.record.Flags.{Flags}
+use Rattle.manifest_troves.specs.file-stream.declared.record.FileRec.TheVariants as rec
+use Rattle.manifest_troves.specs.file-stream.Owner.{OwnerNames, is_owner, root_owner}
+use Rattle.manifest_troves.specs.trove-parts.declared.id.TroveId.{TroveId}
+use Rattle.manifest_troves.specs.trove-parts.Id.{id_text_of}
+use Rattle.manifest_troves.specs.trove-parts.declared.files.FileAt.{FileAt}
+use Rattle.manifest_troves.specs.trove-parts.Files.{file_cmp}
+use Rattle.manifest_troves.specs.trove-parts.Items.{IsRisingList}
+use Rattle.manifest_troves.specs.trove-parts.Refs.{AreRefs}
+use Rattle.manifest_troves.specs.change-set.declared.change.Carried.{Carried}
 use Rattle.manifest_troves.specs.declared.lines.DepLine.{DepLine}
 use Rattle.cny_manifest.specs.Body.{Body, is_own_by, dep_line_cmp}
 use Rattle.cny_manifest.specs.Grammar.{kind_word, IsVersionField, IsFlavorField, IsDepField, IsLine}

@@ -1,7 +1,7 @@
 //! The lines behind the version's, up to the line `end`.
 ghost use Rattle.std.specs.Prelude.{◌≡◌, ◌<◌, ◌≤◌, Ok, Some, false, true, length, codes, IfOk, OnOk, IfErr};
 ghost use Rattle.std.specs.Str.{bytes_eq};
-ghost use Rattle.cny_base.specs.declared.limits.TheConstants.{CONTENT_LIMIT};
+ghost use Rattle.manifest_troves.specs.cny-base.declared.limits.TheConstants.{CONTENT_LIMIT};
 ghost use Rattle.cny_manifest.specs.Body.{file_next};
 ghost use Rattle.cny_manifest.specs.FirstFault.{too_large, fault_by_size};
 ghost use Rattle.cny_manifest.specs.Grammar.{InBody, InContent, InTarget};
@@ -15,7 +15,7 @@ use crate::fault::{ReadError, Unread, fault_at};
 use crate::fields::is_same;
 use crate::lines::{content_of, line_of};
 use crate::words::{WholeLine, Word, word_at};
-use cny_base::{CONTENT_LIMIT, OutOfMemory, Path, TextFault};
+use manifest_troves::cny_base::{CONTENT_LIMIT, OutOfMemory, Path, TextFault};
 use std::alloc::Global;
 
 // Whether a line was taken; else the fault at its first byte.

@@ -3,9 +3,9 @@ ghost use Rattle.cny_manifest.specs.Grammar.{IsDepField, IsDepFields};
 ghost use Rattle.cny_manifest.specs.Reading.{ReadsOnly};
 
 use crate::fields::field_of;
-use cny_base::{Name, TextFault, text_of};
 use cny_dep::Dep;
 use manifest_troves::DepLine;
+use manifest_troves::cny_base::{Name, TextFault, text_of};
 use std::alloc::Global;
 
 // The dependency with this relaxed text.

@@ -1,6 +1,6 @@
 //! What was read of a manifest.
 ghost use Rattle.std.specs.Prelude.{◌≡◌, ◌≤◌, IfOk, OnOk};
-ghost use Rattle.cny_base.specs.Name.{kind_of_name};
+ghost use Rattle.manifest_troves.specs.cny-base.Name.{kind_of_name};
 ghost use Rattle.cny_manifest.specs.Body.{is_group_kind};
 
 use crate::deps::dep_fields;
@@ -8,17 +8,16 @@ use crate::entries::{DirLine, FileLine, dir_of, file_of, path_of};
 use crate::head::{flavor_field, ref_field};
 use crate::order::{is_above_line, is_above_path, is_above_ref, is_own};
 use crate::words::WholeLine;
-use change_set::Carried;
-use cny_base::{Bytes, Name, NameKind, OutOfMemory, Path, Target, TextFault};
 use cny_flavor::Flavor;
 use cny_version::Version;
-use file_stream::FileRec;
+use manifest_troves::change_set::Carried;
+use manifest_troves::cny_base::{Bytes, Name, NameKind, OutOfMemory, Path, Target, TextFault};
+use manifest_troves::file_stream::FileRec;
+use manifest_troves::trove_parts::{FileAt, Files, Refs, TroveId};
 use manifest_troves::{DepLine, DepLines, TroveLines};
 use sha1::Sha1;
 use std::alloc::Global;
 use std::marker::Model;
-use trove_id::TroveId;
-use trove_items::{FileAt, Files, Refs};
 
 /// What was read of a manifest behind its version: whether owners are named, the id, and what the lines say.
 #[derive(Debug, Drop)]
@@ -49,7 +48,7 @@ impl Model for Draft {
 }
 
 impl Draft {
-    ghost use Rattle.cny_base.specs.declared.limits.TheConstants.{CONTENT_LIMIT};
+    ghost use Rattle.manifest_troves.specs.cny-base.declared.limits.TheConstants.{CONTENT_LIMIT};
     ghost use Rattle.cny_manifest.specs.Body as spec;
     ghost use Rattle.cny_manifest.specs.Entries.{dir_of};
     ghost use Rattle.cny_manifest.specs.Grammar.{InBody, IsWordLine};

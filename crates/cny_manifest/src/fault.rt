@@ -2,7 +2,7 @@
 ghost use Rattle.std.specs.Prelude.{◌≡◌, length};
 ghost use Rattle.cny_manifest.specs.declared.fault.ReadError.TheVariants.{Memory};
 
-use cny_base::OutOfMemory;
+use manifest_troves::cny_base::OutOfMemory;
 use std::alloc::{AllocError, AllocFailed};
 
 /// Why bytes aren't those of a manifest.

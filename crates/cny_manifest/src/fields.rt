@@ -5,7 +5,7 @@ ghost use Rattle.std.specs.List.{position};
 ghost use Rattle.cny_manifest.specs.Lines.{after, field_at, mode_of, size_of};
 ghost use Rattle.cny_manifest.specs.Reading.{Finds};
 
-use cny_base::{Mode, read_decimal, read_octal};
+use manifest_troves::cny_base::{Mode, read_decimal, read_octal};
 
 /// Whether bytes are these.
 pub(crate) fn is_same(bytes: &[u8], other: &[u8]) -> bool

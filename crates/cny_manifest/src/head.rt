@@ -5,11 +5,11 @@ ghost use Rattle.cny_manifest.specs.Grammar.{IsVersionField, IsVersionLine, IsFl
 ghost use Rattle.cny_manifest.specs.Reading.{ReadsAs, ReadsOnly};
 
 use crate::fields::{field_of, is_same, strip};
-use cny_base::{Name, NameKind, TextFault, text_of};
 use cny_flavor::Flavor;
 use cny_version::Version;
+use manifest_troves::cny_base::{Name, NameKind, TextFault, text_of};
+use manifest_troves::trove_parts::{TroveId, read_id};
 use std::alloc::Global;
-use trove_id::{TroveId, read_id};
 
 /// Whether owners are named, by the first line.
 #[tactic(auto, unfolding(crate::specs::Grammar::magic_of))]

@@ -1,6 +1,6 @@
 //! A manifest is exactly what is spelled so, and bytes make one value or have one first fault.
 ghost use Rattle.std.specs.Prelude.{◌≡◌, ℕ, List};
-ghost use Rattle.cny_base.specs.declared.refusal.Refusal.{Refusal};
+ghost use Rattle.manifest_troves.specs.cny-base.declared.refusal.Refusal.{Refusal};
 ghost use Rattle.cny_manifest.specs.declared.made.Made.{Made};
 ghost use Rattle.cny_manifest.specs.Body.{Body};
 ghost use Rattle.cny_manifest.specs.FirstFault.{IsFirstFault};
@@ -8,7 +8,7 @@ ghost use Rattle.cny_manifest.specs.Grammar.{IsManifest};
 ghost use Rattle.cny_manifest.specs.Makes.{Makes};
 ghost use Rattle.cny_manifest.specs.Spelling.{IsSpelling};
 
-use trove_id::distinct_ids;
+use manifest_troves::trove_parts::distinct_ids;
 
 /// A spelling of a value is taken line by line as a manifest of exactly that value, and what is taken so is a spelling of it.
 pub fn spelled()

@@ -17,5 +17,7 @@ mod words;
 
 pub use laws::{one_manifest, spelled};
 pub use made::Made;
-pub use manifest_troves::{Troves, component_of};
+pub use manifest_troves::{
+    Troves, change_set, cny_base, component_of, file_stream, trove_parts, trove_stream,
+};
 pub use reading::read;

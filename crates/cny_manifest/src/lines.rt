@@ -1,6 +1,6 @@
 //! Lines and contents at the front of some bytes.
 ghost use Rattle.std.specs.Prelude.{◌≡◌, ◌≤◌, length, take};
-ghost use Rattle.cny_base.specs.declared.limits.TheConstants.{CONTENT_LIMIT};
+ghost use Rattle.manifest_troves.specs.cny-base.declared.limits.TheConstants.{CONTENT_LIMIT};
 ghost use Rattle.cny_manifest.specs.Lines.{line_room, line_at, content_at};
 ghost use Rattle.cny_manifest.specs.Reading.{Gives};
 

@@ -1,7 +1,7 @@
 //! What a manifest makes.
-use change_set::CarriedList;
-use cny_base::{Copies, OutOfMemory};
 use manifest_troves::Troves;
+use manifest_troves::change_set::CarriedList;
+use manifest_troves::cny_base::{Copies, OutOfMemory};
 
 /// What a manifest makes: its troves, and the contents of their files.
 #[derive(Debug, Drop)]

@@ -1,16 +1,15 @@
 //! What may come next in lists that rise.
 ghost use Rattle.std.specs.Prelude.{◌≡◌};
 ghost use Rattle.std.specs.Ordering.{is_lt};
-ghost use Rattle.cny_base.specs.Name.{kind_of_name};
-ghost use Rattle.trove_stream.specs.Trove.{begins_with_colon, is_component_of};
-ghost use Rattle.trove_id.specs.Order.{id_cmp};
+ghost use Rattle.manifest_troves.specs.cny-base.Name.{kind_of_name};
+ghost use Rattle.manifest_troves.specs.trove-stream.Trove.{begins_with_colon, is_component_of};
+ghost use Rattle.manifest_troves.specs.trove-parts.Order.{id_cmp};
 ghost use Rattle.cny_manifest.specs.Body as spec;
 ghost use Rattle.cny_manifest.specs.Body.{is_above, dep_line_cmp};
 
-use cny_base::{Name, NameKind, Path};
 use manifest_troves::DepLine;
-use trove_id::TroveId;
-use trove_items::FileAt;
+use manifest_troves::cny_base::{Name, NameKind, Path};
+use manifest_troves::trove_parts::{FileAt, TroveId};
 
 /// Whether the path is above the last one.
 pub(crate) fn is_above_path(files: &[FileAt], path: &Path) -> bool

@@ -1,6 +1,6 @@
 //! The troves and contents of a manifest.
 ghost use Rattle.std.specs.Prelude.{◌≡◌, ◌≤◌, Bool, Ok, length, codes, All, IfOk, IfErr, MatchResult};
-ghost use Rattle.cny_base.specs.declared.refusal.Refusal.{Refusal};
+ghost use Rattle.manifest_troves.specs.cny-base.declared.refusal.Refusal.{Refusal};
 ghost use Rattle.cny_manifest.specs.declared.made.Made.{Made};
 ghost use Rattle.cny_manifest.specs.FirstFault as spec;
 ghost use Rattle.cny_manifest.specs.FirstFault.{IsFirstFault, IsFaultOf, IsRefusalOrMemory};
@@ -9,7 +9,7 @@ ghost use Rattle.cny_manifest.specs.Lines.{line_at};
 ghost use Rattle.cny_manifest.specs.Makes.{Makes, HasOwnContents};
 ghost use Rattle.cny_manifest.specs.Reading.{Runs, StopsBy, IsEndOf, IsReadOf};
 ghost use Rattle.manifest_troves.specs.Troves.{HasRisingNames};
-ghost use Rattle.trove_stream.specs.Trove.{IsTrove};
+ghost use Rattle.manifest_troves.specs.trove-stream.Trove.{IsTrove};
 
 use crate::body::take_lines;
 use crate::draft::Draft;
@@ -17,8 +17,8 @@ use crate::fault::{ReadError, Unread, fault_at};
 use crate::head::{magic_of, name_of, version_of};
 use crate::lines::line_of;
 use crate::made::Made;
-use change_set::Carried;
-use cny_base::{Fault, Name, Refusal, TextFault, What};
+use manifest_troves::change_set::Carried;
+use manifest_troves::cny_base::{Fault, Name, Refusal, TextFault, What};
 use manifest_troves::{Troves, contents_of, troves_of};
 use std::alloc::Global;
 

@@ -3,11 +3,11 @@ use Rattle.std.specs.Prelude.{ℕ, List, [], ◌∷◌, ◌++◌, length, codes}
 use Rattle.std.specs.Fmt.{decimal}
 use Rattle.std.specs.List.{flat_map}
 use Rattle.hex.specs.Hex.{encode_lower}
-use Rattle.trove_id.specs.Id.{id_text_of}
-use Rattle.change_set.specs.declared.change.Part.{Part}
-use Rattle.change_set.specs.declared.change.Part.TheVariants.{Whole, Relative}
-use Rattle.change_set.specs.declared.change.Carried.{Carried}
-use Rattle.change_set.specs.declared.change.ChangeSet.{ChangeSet}
+use Rattle.update_job.specs.trove-parts.Id.{id_text_of}
+use Rattle.update_job.specs.change-set.declared.change.Part.{Part}
+use Rattle.update_job.specs.change-set.declared.change.Part.TheVariants.{Whole, Relative}
+use Rattle.update_job.specs.change-set.declared.change.Carried.{Carried}
+use Rattle.update_job.specs.change-set.declared.change.ChangeSet.{ChangeSet}
 
 -- a whole trove: its id; a relative trove: the id that it leads to, and the one that it starts from
 abbrev pub part_line : Part → List ℕ

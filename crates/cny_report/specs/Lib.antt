@@ -4,3 +4,6 @@ pub mod Records
 pub mod Refusals
 pub mod Troves
 pub mod Verified
+pub use Rattle.update_job.specs.change-set
+pub use Rattle.update_job.specs.file-stream
+pub use Rattle.update_job.specs.trove-parts

@@ -3,14 +3,14 @@ use Rattle.std.specs.Prelude.{ℕ, Bool, List, [], ◌∷◌, ◌++◌, if◌the
 use Rattle.std.specs.Fmt.{decimal}
 use Rattle.std.specs.List.{flat_map}
 use Rattle.hex.specs.Hex.{encode_lower}
-use Rattle.cny_base.specs.Number.{octal_text}
+use Rattle.update_job.specs.cny-base.Number.{octal_text}
 use Rattle.cny_dep.specs.Dep.{Dependency, dep_text}
-use Rattle.file_stream.specs.Owner.{OwnerNames, is_root}
-use Rattle.file_stream.specs.declared.record.FileRec.{FileRec}
-use Rattle.file_stream.specs.declared.record.FileRec.TheVariants.{Dir, File, Link}
-use Rattle.file_stream.specs.declared.record.Flags.{Flags}
-use Rattle.trove_items.specs.declared.files.FileAt.{FileAt}
-use Rattle.trove_stream.specs.declared.parts.TroveParts.{TroveParts}
+use Rattle.update_job.specs.file-stream.Owner.{OwnerNames, is_root}
+use Rattle.update_job.specs.file-stream.declared.record.FileRec.{FileRec}
+use Rattle.update_job.specs.file-stream.declared.record.FileRec.TheVariants.{Dir, File, Link}
+use Rattle.update_job.specs.file-stream.declared.record.Flags.{Flags}
+use Rattle.update_job.specs.trove-parts.declared.files.FileAt.{FileAt}
+use Rattle.update_job.specs.trove-stream.declared.parts.TroveParts.{TroveParts}
 use Rattle.cny_report.specs.Troves.{id_line, told_id}
 
 -- a space, the user, `:` and the group; nothing where root owns it

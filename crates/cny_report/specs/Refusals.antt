@@ -2,10 +2,10 @@
 use Rattle.std.specs.Prelude.{ℕ, List, ◌++◌, codes}
 use Rattle.std.specs.Fmt.{decimal}
 use Rattle.hex.specs.Hex.{encode_lower}
-use Rattle.cny_base.specs.declared.refusal.Refusal.{Refusal}
-use Rattle.cny_base.specs.declared.refusal.Refusal.TheVariants as refusal
-use Rattle.cny_base.specs.declared.refusal.What.{What}
-use Rattle.cny_base.specs.declared.refusal.What.TheVariants as what
+use Rattle.update_job.specs.cny-base.declared.refusal.Refusal.{Refusal}
+use Rattle.update_job.specs.cny-base.declared.refusal.Refusal.TheVariants as refusal
+use Rattle.update_job.specs.cny-base.declared.refusal.What.{What}
+use Rattle.update_job.specs.cny-base.declared.refusal.What.TheVariants as what
 
 -- the quantity in words
 abbrev pub what_text : What → List ℕ

@@ -2,9 +2,9 @@
 use Rattle.std.specs.Prelude.{ℕ, Bool, List, [], ◌∷◌, ◌++◌, filter, codes}
 use Rattle.std.specs.List.{flat_map}
 use Rattle.std.specs.Str.{bytes_eq}
-use Rattle.trove_id.specs.declared.id.TroveId.{TroveId}
-use Rattle.trove_id.specs.Id.{id_text_of}
-use Rattle.trove_stream.specs.declared.parts.TroveParts.{TroveParts}
+use Rattle.update_job.specs.trove-parts.declared.id.TroveId.{TroveId}
+use Rattle.update_job.specs.trove-parts.Id.{id_text_of}
+use Rattle.update_job.specs.trove-stream.declared.parts.TroveParts.{TroveParts}
 
 -- the text of an id, and a line feed
 abbrev pub id_line : TroveId → List ℕ

@@ -1,14 +1,14 @@
 //! Change sets as texts.
 ghost use Rattle.std.specs.Prelude.{◌≡◌, ◌∷◌, [], ◌++◌, IfOk, OnOk, codes, string_bytes};
 ghost use Rattle.std.specs.List.{flat_map};
-ghost use Rattle.trove_id.specs.Id.{id_text_of};
+ghost use Rattle.update_job.specs.trove-parts.Id.{id_text_of};
 ghost use Rattle.cny_report.specs.Changes.{part_line, content_line, change_text};
 
 use crate::digits::digits_of;
-use change_set::{Carried, ChangeSet, Part};
-use cny_base::{OutOfMemory, Text};
 use std::alloc::Global;
-use trove_id::{TroveId, id_text};
+use update_job::change_set::{Carried, ChangeSet, Part};
+use update_job::cny_base::{OutOfMemory, Text};
+use update_job::trove_parts::{TroveId, id_text};
 
 fn absolute(alloc: Global, id: &TroveId) -> Result<String, OutOfMemory>
     ensures { IfOk result (λ line. string_bytes line ≡ codes "absolute " ++ id_text_of id.now ++ 10 ∷ []) }

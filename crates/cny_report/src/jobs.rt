@@ -5,9 +5,9 @@ ghost use Rattle.cny_report.specs.Jobs.{change_line, changes_text, indented_line
 
 use crate::note::Note;
 use crate::troves::{nothing_changes, push_told};
-use cny_base::{OutOfMemory, Text};
 use std::alloc::Global;
 use update_job::Change;
+use update_job::cny_base::{OutOfMemory, Text};
 
 fn push_change(alloc: Global, out: &mut String, change: &Change) -> Result<(), OutOfMemory>
     ensures { OnOk result (string_bytes out.new ≡ string_bytes out.old ++ change_line change.now) }

@@ -1,6 +1,6 @@
 //! What is told of a job on the stack.
-use cny_base::{Copies, ListOf, OutOfMemory};
 use update_job::Changes;
+use update_job::cny_base::{Copies, ListOf, OutOfMemory};
 
 /// A job on the stack.
 #[derive(Debug, Drop)]

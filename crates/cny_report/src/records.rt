@@ -1,19 +1,18 @@
 //! What a trove records, as text.
 ghost use Rattle.std.specs.Prelude.{◌≡◌, ◌<◌, ◌++◌, ◌∷◌, [], IfOk, OnOk, codes, string_bytes};
 ghost use Rattle.std.specs.List.{flat_map};
-ghost use Rattle.cny_base.specs.Number.{octal_text};
+ghost use Rattle.update_job.specs.cny-base.Number.{octal_text};
 ghost use Rattle.cny_report.specs.Records.{owner_field, flag_field, flags_field, content_field, record_text, file_line, dep_line, trove_text};
 ghost use Rattle.cny_report.specs.Troves.{told_id};
 
 use crate::digits::digits_of;
 use crate::troves::{push_id_line, push_told};
-use cny_base::{Mode, OutOfMemory, Text, octal};
 use cny_dep::Dep;
-use file_stream::{FileRec, Flags, Owner};
 use std::alloc::{AllocError, Global};
-use trove_id::TroveId;
-use trove_items::FileAt;
-use trove_stream::Trove;
+use update_job::cny_base::{Mode, OutOfMemory, Text, octal};
+use update_job::file_stream::{FileRec, Flags, Owner};
+use update_job::trove_parts::{FileAt, TroveId};
+use update_job::trove_stream::Trove;
 
 fn push_digit(out: &mut String, digit: u8) -> Result<(), AllocError>
     requires { digit < 128 }

@@ -5,8 +5,8 @@ ghost use Rattle.hex.specs.Hex.{encode_lower};
 ghost use Rattle.cny_report.specs.Refusals.{what_text, refusal_text};
 
 use crate::digits::digits_of;
-use cny_base::{OutOfMemory, Refusal, Text, What};
 use std::alloc::{AllocError, Global};
+use update_job::cny_base::{OutOfMemory, Refusal, Text, What};
 
 fn text_of_what(what: What) -> &'static str
     ensures { result.now ≡ what_text what }

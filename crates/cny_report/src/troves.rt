@@ -3,10 +3,10 @@ ghost use Rattle.std.specs.Prelude.{◌≡◌, ◌++◌, IfOk, OnOk, string_byte
 ghost use Rattle.cny_report.specs.Troves as spec;
 ghost use Rattle.cny_report.specs.Troves.{id_line, troves_text, named_text, told_id, committed_text};
 
-use cny_base::{Name, OutOfMemory, Text};
 use std::alloc::Global;
-use trove_id::{TroveId, id_text};
-use trove_stream::Trove;
+use update_job::cny_base::{Name, OutOfMemory, Text};
+use update_job::trove_parts::{TroveId, id_text};
+use update_job::trove_stream::Trove;
 
 /// Appends the line of an id.
 pub(crate) fn push_id_line(alloc: Global, out: &mut String, id: &TroveId) -> Result<(), OutOfMemory>

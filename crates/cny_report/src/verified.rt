@@ -4,9 +4,9 @@ ghost use Rattle.std.specs.Fmt.{decimal};
 ghost use Rattle.std.specs.List.{flat_map};
 ghost use Rattle.cny_report.specs.Verified.{found_text, finding_line, sum_line, verified_text};
 
-use cny_base::{OutOfMemory, Text};
 use std::alloc::{AllocError, Global};
 use tree_scan::{Finding, Found, Verified};
+use update_job::cny_base::{OutOfMemory, Text};
 
 #[tactic(auto, using(std::proofs::lemmas::List::append_assoc))]
 fn changed_in(alloc: Global, path: &str, count: u64) -> Result<String, AllocError>

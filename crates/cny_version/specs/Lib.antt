@@ -9,3 +9,4 @@ pub mod Slices
 pub mod Steps
 pub mod TooLarge
 pub mod Next
+pub use Rattle.cny_base.specs as cny-base

@@ -17,6 +17,7 @@ mod revision;
 mod scan;
 mod version;
 
+pub use cny_base;
 pub use count::Count;
 pub use label::Label;
 pub use next::next_revision;

@@ -4,10 +4,10 @@ use crate::source::{Metered, metered_source};
 use crate::stop::Stop;
 use crate::trees::fails_of;
 use crate::words::push_word;
-use cny_base::{Bytes, Copies};
 use cny_flow::{MemorySink, MemorySource};
 use conary_cli::run;
 use std::alloc::Global;
+use tree_memory::cny_base::{Bytes, Copies};
 
 /// The standard streams of a call.
 pub struct Streams {

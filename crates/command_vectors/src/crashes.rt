@@ -3,10 +3,10 @@ use crate::calls::{Answer, Streams, call};
 use crate::disks::{Disks, Side};
 use crate::stop::Stop;
 use crate::trees::{nodes_text, stored_text};
-use cny_base::Path;
 use std::alloc::Global;
 use tree_journal::recover;
 use tree_memory::MemoryTree;
+use tree_memory::cny_base::Path;
 
 // More calls than any of these makes of a disk.
 const MANY: u32 = 1000;

@@ -1,9 +1,9 @@
 //! The two disks of a call.
 use crate::stop::Stop;
 use crate::trees::{copy_of, edit, kept_text, new_tree};
-use cny_base::{Mode, Node};
 use std::alloc::Global;
 use tree_memory::MemoryTree;
+use tree_memory::cny_base::{Mode, Node};
 
 /// One of the two disks.
 #[derive(Clone, Copy, PartialEq, Eq)]

@@ -1,6 +1,6 @@
 //! A standard input that gives little at once.
-use cny_base::{Bytes, Fails};
 use cny_flow::{FlowFault, MemorySource, Source};
+use tree_memory::cny_base::{Bytes, Fails};
 
 /// A source of which a call takes at most so many bytes, and at least one. It counts what was taken.
 #[derive(Drop)]

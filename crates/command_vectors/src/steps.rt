@@ -5,8 +5,8 @@ use crate::disks::{Disks, Side};
 use crate::stop::Stop;
 use crate::trees::edit;
 use crate::words::{bytes_at, count_at, mode_at, number_at, text_at, texts_from, words_of};
-use cny_base::{Bytes, Mode, Node, Target};
 use std::alloc::Global;
+use tree_memory::cny_base::{Bytes, Mode, Node, Target};
 
 /// What the steps have set up.
 pub struct State {

@@ -1,7 +1,7 @@
 //! Why a step has no answer.
-use cny_base::{OutOfMemory, TextFault};
 use std::alloc::{AllocError, AllocFailed};
 use tree_memory::TreeFault;
+use tree_memory::cny_base::{OutOfMemory, TextFault};
 
 /// Why a step has no answer.
 #[derive(Debug, Drop)]

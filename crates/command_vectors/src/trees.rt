@@ -2,9 +2,9 @@
 use crate::disks::Side;
 use crate::stop::Stop;
 use crate::words::push_word;
-use cny_base::{Copies, Fails, Mode, Node, Path, octal};
 use std::alloc::{AllocError, Global};
-use tree_disk::{DiskStop, TreeDisk};
+use tree_memory::cny_base::{Copies, Fails, Mode, Node, Path, octal};
+use tree_memory::tree_disk::{DiskStop, TreeDisk};
 use tree_memory::{MemoryTree, Nodes};
 
 // More nodes than any of the trees has.

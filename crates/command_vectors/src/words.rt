@@ -1,8 +1,8 @@
 //! The words of a line, and bytes as words.
 use crate::stop::Stop;
-use cny_base::{Mode, read_octal};
 use percent_encoding::{AsciiSet, CONTROLS, percent_decode, percent_encode};
 use std::alloc::{AllocError, Global};
+use tree_memory::cny_base::{Mode, read_octal};
 
 // What is escaped in a word, beside bytes that aren't ASCII.
 fn escaped() -> AsciiSet {

@@ -1,7 +1,7 @@
 //! The program.
 #![tactic(auto)]
 
-use conary_entry::start;
+use conary_cli::start;
 use std::process::ExitCode;
 
 fn main(rt: HostRuntime) -> ExitCode {

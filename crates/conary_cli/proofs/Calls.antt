@@ -2,7 +2,7 @@
 use Rattle.std.proofs.Common.{◌≡◌, ℕ, ◌≤◌, Bool, true, false, List, Result, Ok, Err, refl, sym, ap, ◌∙◌, subst, inl, inr, ⊎_elim, arith}
 use Rattle.std.proofs.lemmas.Bool.{false≢true}
 use Rattle.cny_flow.specs.Flow.{SourceState, SinkState}
-use Rattle.tree_disk.specs.Disk.{DiskModel, IsDisk}
+use Rattle.cli_call.specs.tree-disk.Disk.{DiskModel, IsDisk}
 use Rattle.cli_call.specs.declared.failure.Failure.{Failure}
 use Rattle.cli_call.specs.declared.failure.Failure.TheVariants as failure
 use Rattle.cli_call.specs.Call.{CallState, RunsOpen}
@@ -13,9 +13,9 @@ use Rattle.cli_call.specs.Report.{End, Reports, status_of}
 use Rattle.cli_call.specs.State.{Meaning}
 use Rattle.cli_call.specs.Store.{IsStore}
 use Rattle.cli_call.specs.Stores.{repository_store}
-use Rattle.cli_words.specs.declared.words.Command.{Command}
+use Rattle.conary_cli.specs.declared.words.Command.{Command}
 use Rattle.conary_cli.specs.Commands.{meaning, is_of_root, RunsWords, RunsSome, IsWholeCall, IsSomeCall}
-use Rattle.cli_words.specs.Words.{AreWords, OrMemory, ReadsWords}
+use Rattle.conary_cli.specs.Words.{AreWords, OrMemory, ReadsWords}
 use Rattle.conary_cli.proofs.FormEnds.{InputLaws, form_decides}
 use Rattle.conary_cli.proofs.RecordEnds.{memory_whole, records_whole}
 use Rattle.conary_cli.proofs.RestoreEnds.{rollback_restores}

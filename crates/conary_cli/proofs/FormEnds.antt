@@ -1,29 +1,29 @@
 -- The form of the input decides how a command ends.
 use Rattle.std.proofs.Common.{◌≡◌, ℕ, ◌+◌, ◌≤◌, Bool, true, cond, List, length, Result, Ok, Err, refl, ap, ◌∙◌, subst, inl, inr, ⊎_elim}
 use Rattle.std.proofs.lemmas.Bool.{le-ltb}
-use Rattle.cny_base.specs.declared.options.Options.{Options}
-use Rattle.cny_base.specs.declared.refusal.Refusal.{Refusal}
-use Rattle.cny_base.specs.declared.refusal.Refusal.TheVariants as refusal
-use Rattle.cny_base.specs.declared.refusal.What.TheVariants.{Input}
+use Rattle.cli_call.specs.cny-base.declared.options.Options.{Options}
+use Rattle.cli_call.specs.cny-base.declared.refusal.Refusal.{Refusal}
+use Rattle.cli_call.specs.cny-base.declared.refusal.Refusal.TheVariants as refusal
+use Rattle.cli_call.specs.cny-base.declared.refusal.What.TheVariants.{Input}
 use Rattle.cny_flow.specs.Flow.{SinkState}
 use Rattle.cny_manifest.specs.declared.made.Made.{Made}
 use Rattle.cny_manifest.specs.FirstFault as manifest_fault
 use Rattle.cny_manifest.specs.Makes.{Makes}
-use Rattle.tree_disk.specs.Disk.{DiskModel}
-use Rattle.change_set.specs.declared.change.ChangeSet.{ChangeSet}
-use Rattle.change_set.specs.ChangeSet.{IsSetStream}
+use Rattle.cli_call.specs.tree-disk.Disk.{DiskModel}
+use Rattle.cli_call.specs.change-set.declared.change.ChangeSet.{ChangeSet}
+use Rattle.cli_call.specs.change-set.ChangeSet.{IsSetStream}
 use Rattle.cli_call.specs.Call.{CallState}
-use Rattle.root_ready.specs.FixedDirs.{fixed_dirs}
+use Rattle.cli_call.specs.system-core.FixedDirs.{fixed_dirs}
 use Rattle.cli_call.specs.Input.{input_limit, within_limit}
 use Rattle.cli_call.specs.Reading.{given}
 use Rattle.cli_call.specs.State.{State, Effect, Meaning, tree_of, Then}
 use Rattle.cli_call.specs.WholeCall.{Outcome, IsAnswered, IsAnsweredOnRoot, IsCallOf}
-use Rattle.cli_words.specs.declared.words.Command.{Command}
-use Rattle.cli_words.specs.declared.words.Command.TheVariants as command
+use Rattle.conary_cli.specs.declared.words.Command.{Command}
+use Rattle.conary_cli.specs.declared.words.Command.TheVariants as command
 use Rattle.conary_cli.specs.Commands.{meaning, is_of_root}
 use Rattle.conary_cli.specs.FormDecides.{HasEnd, DecidesForm, DecidesSet, DecidesUpdate, FormDecides}
-use Rattle.job_commands.specs.Install.{first_reserved, InstallsMade, UnlessReserved, install}
-use Rattle.job_commands.specs.Update.{UpdatesBy, update_input}
+use Rattle.root_commands.specs.Install.{first_reserved, InstallsMade, UnlessReserved, install}
+use Rattle.root_commands.specs.Update.{UpdatesBy, update_input}
 use Rattle.repo_commands.specs.ManifestInput.{OfManifest}
 use Rattle.repo_commands.specs.SetInput.{OfChangeSet}
 use Rattle.conary_cli.specs.ShowChangeSet.{described, IsDescribed, show_change_set}

@@ -4,3 +4,6 @@ pub mod FormEnds
 pub mod RecordEnds
 pub mod RestoreEnds
 pub mod Calls
+pub mod Reading
+pub mod SpecLists
+pub mod WordEnds

@@ -1,13 +1,13 @@
 -- No damaged record is passed over by a whole call.
 use Rattle.std.proofs.Common.{◌≡◌, ℕ, ◌≤◌, Bool, false, List, Result, Ok, Err, refl, sym, ap, ◌∙◌, subst, inl, inr, ⊎_elim, arith}
 use Rattle.std.specs.Prelude.{◌⊎◌, IsTrue}
-use Rattle.cny_base.specs.declared.refusal.Refusal.{Refusal}
-use Rattle.cny_base.specs.declared.stop.Stop.{Stop}
-use Rattle.cny_base.specs.declared.stop.Stop.TheVariants as stop
+use Rattle.cli_call.specs.cny-base.declared.refusal.Refusal.{Refusal}
+use Rattle.cli_call.specs.cny-base.declared.stop.Stop.{Stop}
+use Rattle.cli_call.specs.cny-base.declared.stop.Stop.TheVariants as stop
 use Rattle.cny_flow.specs.Flow.{SourceState, SinkState}
-use Rattle.local_db.specs.declared.db.Db.{Db}
-use Rattle.tree_disk.specs.Disk.{DiskModel, IsDisk}
-use Rattle.tree_disk.specs.Tree.{Tree}
+use Rattle.cli_call.specs.local-db.declared.db.Db.{Db}
+use Rattle.cli_call.specs.tree-disk.Disk.{DiskModel, IsDisk}
+use Rattle.cli_call.specs.tree-disk.Tree.{Tree}
 use Rattle.cli_call.specs.declared.failure.Failure.{Failure}
 use Rattle.cli_call.specs.declared.failure.Failure.TheVariants as failure
 use Rattle.cli_call.specs.Call.{CallState, NotOpened, OpensRepository, OpensRoot, StopsAtRepository, StopsAtRoot}
@@ -17,8 +17,8 @@ use Rattle.cli_call.specs.Reading.{ReadsGiven}
 use Rattle.cli_call.specs.Report.{End, Reports, Tells, status_of}
 use Rattle.cli_call.specs.Stops.{repository_failure, root_failure}
 use Rattle.cli_call.specs.WholeCall.{HasMissingDir, HasRefusedLog, IsRefused}
-use Rattle.cli_words.specs.declared.words.Command.{Command}
-use Rattle.cli_words.specs.declared.words.Command.TheVariants as command
+use Rattle.conary_cli.specs.declared.words.Command.{Command}
+use Rattle.conary_cli.specs.declared.words.Command.TheVariants as command
 use Rattle.root_commands.specs.Records.{NoneIs}
 use Rattle.conary_cli.specs.Commands.{meaning}
 use Rattle.conary_cli.specs.Records.{EndsOnRoot, EndsOpened, EndsWhole, IsDamagedFirst, IsDamagedFor, ReadsWhole, RecordsAreWhole}

@@ -2,30 +2,30 @@
 use Rattle.std.proofs.Common.{◌≡◌, inl, inr, ⊎_elim, ℕ, true, false, List, ◌∷◌, ◌++◌, Option, Some, None, Result, Ok, Err, All, Contains, sym, ◌∙◌, ap, subst}
 use Rattle.std.proofs.lemmas.List.Elements.{All-contains, All-head}
 use Rattle.std.specs.FinMap.{get}
-use Rattle.cny_base.specs.Reserved.{is_reserved}
-use Rattle.cny_base.specs.declared.refusal.Refusal.{Refusal}
-use Rattle.cny_base.specs.declared.refusal.Refusal.TheVariants.{Edited, NoJob, Parent, StackEmpty}
+use Rattle.cli_call.specs.cny-base.Reserved.{is_reserved}
+use Rattle.cli_call.specs.cny-base.declared.refusal.Refusal.{Refusal}
+use Rattle.cli_call.specs.cny-base.declared.refusal.Refusal.TheVariants.{Edited, NoJob, Parent, StackEmpty}
 use Rattle.cny_flow.specs.Flow.{SinkState}
-use Rattle.journal_log.specs.Targets.{with_targets}
-use Rattle.tree_disk.specs.Tree.{Name, Tree, AgreesOutside}
-use Rattle.tree_disk.specs.Disk.{DiskModel}
-use Rattle.system_state.specs.SystemState.{IsFree, IsStackItem, IsSystemState, StackItem, SystemState, is_listed}
-use Rattle.system_state.specs.Steps.{after_rollback, backs}
-use Rattle.system_state.specs.Stores.{StoresSystem}
-use Rattle.system_state.proofs.Images.{all_restored, kept, restored}
-use Rattle.system_state.proofs.Several.{rollbacks_system}
-use Rattle.system_state.proofs.Sorted.{listed_in}
-use Rattle.system_state.proofs.Writes.{nothing_in}
-use Rattle.system_rollback.specs.Restoring.{IsException, IsRestored, IsUnedited}
-use Rattle.system_rollback.specs.RestoringAll.{AreRestored, AreUnedited, IsExceptionTo}
-use Rattle.system_rollback.specs.Rollback.{IsSystemRefusal, db_of, rolled_back, without_newest}
-use Rattle.system_rollback.specs.Several.{HasJob, IsRefusalTo, jobs_below, jobs_to, rolled_back_to}
-use Rattle.system_rollback.specs.Tests.{IsFirstEdited, IsFirstOrphan}
-use Rattle.system_rollback.proofs.Counting.{split_at}
-use Rattle.system_rollback.proofs.Restored.{left_alone, put_into}
-use Rattle.system_rollback.proofs.Sequence.{after_list, after_tree, after_whole}
-use Rattle.system_rollback.proofs.Stored.{all_front, all_middle}
-use Rattle.root_ready.specs.FixedDirs.{fixed_dirs}
+use Rattle.cli_call.specs.journal-log.Targets.{with_targets}
+use Rattle.cli_call.specs.tree-disk.Tree.{Name, Tree, AgreesOutside}
+use Rattle.cli_call.specs.tree-disk.Disk.{DiskModel}
+use Rattle.cli_call.specs.local-db.SystemState.{IsFree, IsStackItem, IsSystemState, StackItem, SystemState, is_listed}
+use Rattle.cli_call.specs.local-db.Steps.{after_rollback, backs}
+use Rattle.cli_call.specs.local-db.Stores.{StoresSystem}
+use Rattle.cli_call.proofs.local-db.Images.{all_restored, kept, restored}
+use Rattle.cli_call.proofs.local-db.Several.{rollbacks_system}
+use Rattle.cli_call.proofs.local-db.Sorted.{listed_in}
+use Rattle.cli_call.proofs.local-db.Writes.{nothing_in}
+use Rattle.cli_call.specs.system-core.Restoring.{IsException, IsRestored, IsUnedited}
+use Rattle.cli_call.specs.system-core.RestoringAll.{AreRestored, AreUnedited, IsExceptionTo}
+use Rattle.cli_call.specs.system-core.Rollback.{IsSystemRefusal, db_of, rolled_back, without_newest}
+use Rattle.cli_call.specs.system-core.Several.{HasJob, IsRefusalTo, jobs_below, jobs_to, rolled_back_to}
+use Rattle.cli_call.specs.system-core.Tests.{IsFirstEdited, IsFirstOrphan}
+use Rattle.cli_call.proofs.system-core.Counting.{split_at}
+use Rattle.cli_call.proofs.system-core.Restored.{left_alone, put_into}
+use Rattle.cli_call.proofs.system-core.Sequence.{after_list, after_tree, after_whole}
+use Rattle.cli_call.proofs.system-core.NewestStored.{all_front, all_middle}
+use Rattle.cli_call.specs.system-core.FixedDirs.{fixed_dirs}
 use Rattle.root_commands.specs.RollingBack.{TakesBack, TakesBackTo, roll_back, take_back}
 use Rattle.cli_call.specs.Call.{CallState}
 use Rattle.cli_call.specs.Reading.{given}
@@ -33,8 +33,8 @@ use Rattle.cli_call.specs.State.{on_root, Change, Effect, State, Then, after, tr
 use Rattle.cli_call.specs.Store.{RestsAt}
 use Rattle.cli_call.specs.Stores.{root_store}
 use Rattle.cli_call.specs.WholeCall.{IsAnswered, IsAnsweredOnRoot, IsCallOf, IsRefused, Outcome}
-use Rattle.cli_words.specs.declared.words.Command.{Command}
-use Rattle.cli_words.specs.declared.words.Command.TheVariants as command
+use Rattle.conary_cli.specs.declared.words.Command.{Command}
+use Rattle.conary_cli.specs.declared.words.Command.TheVariants as command
 use Rattle.conary_cli.specs.Commands.{is_of_root, meaning}
 use Rattle.conary_cli.specs.Restores.{RestoresBy, RestoresNewest, RestoresTo, RollbackRestores}
 

@@ -1,11 +1,11 @@
 -- How `showcs` ends, from its input.
 use Rattle.std.proofs.Common.{◌≡◌, ℕ, List, Result, Ok, Err, refl, ap}
-use Rattle.cny_base.specs.declared.refusal.Fault.{Fault}
-use Rattle.cny_base.specs.declared.refusal.Fault.TheVariants as fault
-use Rattle.tree_disk.specs.Disk.{DiskModel, IsDisk}
-use Rattle.change_set.specs.declared.change.ChangeSet.{ChangeSet}
-use Rattle.change_set.specs.ChangeSet.{IsSetStream}
-use Rattle.change_set.specs.FirstFault.{IsFaultOf}
+use Rattle.cli_call.specs.cny-base.declared.refusal.Fault.{Fault}
+use Rattle.cli_call.specs.cny-base.declared.refusal.Fault.TheVariants as fault
+use Rattle.cli_call.specs.tree-disk.Disk.{DiskModel, IsDisk}
+use Rattle.cli_call.specs.change-set.declared.change.ChangeSet.{ChangeSet}
+use Rattle.cli_call.specs.change-set.ChangeSet.{IsSetStream}
+use Rattle.cli_call.specs.change-set.FirstFault.{IsFaultOf}
 use Rattle.cny_report.specs.Changes.{change_text}
 use Rattle.cli_call.specs.declared.failure.Failure.{Failure}
 use Rattle.cli_call.specs.declared.failure.Failure.TheVariants as failure

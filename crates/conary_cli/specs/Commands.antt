@@ -1,8 +1,8 @@
 -- The table of commands: what each means.
 use Rattle.std.specs.Prelude.{◌≡◌, ◌⊎◌, ℕ, ◌≤◌, Bool, true, false, not, List, Result, Ok, Err}
-use Rattle.cny_base.specs.declared.options.Options.{Options}
+use Rattle.cli_call.specs.cny-base.declared.options.Options.{Options}
 use Rattle.cny_flow.specs.Flow.{SinkState}
-use Rattle.tree_disk.specs.Disk.{DiskModel}
+use Rattle.cli_call.specs.tree-disk.Disk.{DiskModel}
 use Rattle.cli_call.specs.declared.failure.Failure.{Failure}
 use Rattle.cli_call.specs.declared.failure.Failure.TheVariants as failure
 use Rattle.cli_call.specs.Call.{CallState, RunsCall}
@@ -12,20 +12,20 @@ use Rattle.cli_call.specs.WholeCall.{IsCallOf, IsNoCall}
 use Rattle.repo_commands.specs.Commit.{commit}
 use Rattle.repo_commands.specs.Cook.{cook}
 use Rattle.repo_commands.specs.Listing.{list_committed}
-use Rattle.spec_commands.specs.Sending.{changeset}
-use Rattle.job_commands.specs.Erase.{erase}
-use Rattle.job_commands.specs.Install.{install}
-use Rattle.job_commands.specs.Update.{update_input}
-use Rattle.job_commands.specs.UpdateSpecs.{update_specs}
+use Rattle.repo_commands.specs.Sending.{changeset}
+use Rattle.root_commands.specs.Erase.{erase}
+use Rattle.root_commands.specs.Install.{install}
+use Rattle.root_commands.specs.Update.{update_input}
+use Rattle.root_commands.specs.UpdateSpecs.{update_specs}
 use Rattle.root_commands.specs.Jobs.{list_jobs}
 use Rattle.root_commands.specs.Listing.{list_installed}
 use Rattle.root_commands.specs.LocalChanges.{change_locally}
 use Rattle.root_commands.specs.RollingBack.{roll_back}
 use Rattle.root_commands.specs.Verifying.{verify_fully, verify_installed}
-use Rattle.move_commands.specs.Moving.{move}
-use Rattle.cli_words.specs.declared.words.Command.{Command}
-use Rattle.cli_words.specs.declared.words.Command.TheVariants as command
-use Rattle.cli_words.specs.Words.{AreWords}
+use Rattle.repo_commands.specs.Moving.{move}
+use Rattle.conary_cli.specs.declared.words.Command.{Command}
+use Rattle.conary_cli.specs.declared.words.Command.TheVariants as command
+use Rattle.conary_cli.specs.Words.{AreWords}
 use Rattle.conary_cli.specs.FormDecides.{FormDecides}
 use Rattle.conary_cli.specs.Records.{EndsOpened, RecordsAreWhole}
 use Rattle.conary_cli.specs.Restores.{RollbackRestores}

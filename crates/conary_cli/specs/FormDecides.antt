@@ -1,25 +1,25 @@
 -- The form of the input decides how a command ends.
 use Rattle.std.specs.Prelude.{◌≡◌, ◌⊎◌, ℕ, ◌≤◌, List, length, Result, Ok, Err}
-use Rattle.cny_base.specs.declared.options.Options.{Options}
-use Rattle.cny_base.specs.declared.refusal.Refusal.{Refusal}
+use Rattle.cli_call.specs.cny-base.declared.options.Options.{Options}
+use Rattle.cli_call.specs.cny-base.declared.refusal.Refusal.{Refusal}
 use Rattle.cny_flow.specs.Flow.{SinkState}
 use Rattle.cny_manifest.specs.declared.made.Made.{Made}
 use Rattle.cny_manifest.specs.FirstFault as manifest_fault
 use Rattle.cny_manifest.specs.Makes.{Makes}
-use Rattle.tree_disk.specs.Disk.{DiskModel}
-use Rattle.change_set.specs.declared.change.ChangeSet.{ChangeSet}
-use Rattle.change_set.specs.ChangeSet.{IsSetStream}
-use Rattle.change_set.specs.FirstFault.{IsFirstFault}
+use Rattle.cli_call.specs.tree-disk.Disk.{DiskModel}
+use Rattle.cli_call.specs.change-set.declared.change.ChangeSet.{ChangeSet}
+use Rattle.cli_call.specs.change-set.ChangeSet.{IsSetStream}
+use Rattle.cli_call.specs.change-set.FirstFault.{IsFirstFault}
 use Rattle.cli_call.specs.Call.{CallState}
-use Rattle.root_ready.specs.FixedDirs.{fixed_dirs}
+use Rattle.cli_call.specs.system-core.FixedDirs.{fixed_dirs}
 use Rattle.cli_call.specs.Input.{input_limit}
 use Rattle.cli_call.specs.State.{State, Effect, tree_of}
 use Rattle.cli_call.specs.WholeCall.{FromStates, FromRoots, IsAnswered, IsAnsweredOnRoot, HasRefusedRepository}
 use Rattle.repo_commands.specs.SetInput.{IsNoSetStream}
-use Rattle.cli_words.specs.declared.words.Command.{Command}
-use Rattle.cli_words.specs.declared.words.Command.TheVariants as command
-use Rattle.job_commands.specs.Install.{first_reserved, InstallsMade, UnlessReserved}
-use Rattle.job_commands.specs.Update.{UpdatesBy}
+use Rattle.conary_cli.specs.declared.words.Command.{Command}
+use Rattle.conary_cli.specs.declared.words.Command.TheVariants as command
+use Rattle.root_commands.specs.Install.{first_reserved, InstallsMade, UnlessReserved}
+use Rattle.root_commands.specs.Update.{UpdatesBy}
 use Rattle.conary_cli.specs.ShowChangeSet.{described}
 
 -- an outcome by which the call ended

@@ -1,16 +1,16 @@
 -- No damaged record is passed over, also where the root stores no system.
 use Rattle.std.specs.Prelude.{◌≡◌, ◌⊎◌, ℕ, ◌≤◌, IsTrue, Result, Ok}
 use Rattle.cny_flow.specs.Flow.{SinkState}
-use Rattle.local_db.specs.declared.db.Db.{Db}
-use Rattle.rollback_stack.specs.Inverse.{IsDamagedJob}
-use Rattle.tree_disk.specs.Disk.{DiskModel}
-use Rattle.tree_disk.specs.Tree.{Name, Tree}
+use Rattle.cli_call.specs.local-db.declared.db.Db.{Db}
+use Rattle.cli_call.specs.rollback-stack.Inverse.{IsDamagedJob}
+use Rattle.cli_call.specs.tree-disk.Disk.{DiskModel}
+use Rattle.cli_call.specs.tree-disk.Tree.{Name, Tree}
 use Rattle.cli_call.specs.declared.failure.Failure.{Failure}
 use Rattle.cli_call.specs.Call.{CallState, NotOpened, OpensRoot}
 use Rattle.cli_call.specs.Report.{End, status_of}
 use Rattle.cli_call.specs.WholeCall.{HasMissingDir, HasRefusedLog}
-use Rattle.cli_words.specs.declared.words.Command.{Command}
-use Rattle.cli_words.specs.declared.words.Command.TheVariants as command
+use Rattle.conary_cli.specs.declared.words.Command.{Command}
+use Rattle.conary_cli.specs.declared.words.Command.TheVariants as command
 use Rattle.root_commands.specs.Records.{FindsNone, IsDamagedBack, IsDamagedOfAll, NoneIs, last_job}
 
 -- what isn't damaged where the command is done

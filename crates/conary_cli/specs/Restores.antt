@@ -1,23 +1,23 @@
 -- What `rollback` restores, where nothing at the paths of the jobs was edited since.
 use Rattle.std.specs.Prelude.{◌≡◌, ◌⊎◌, ℕ, ◌≤◌, List, ◌∷◌, Option, Some, None, Ok}
-use Rattle.cny_base.specs.declared.refusal.Refusal.{Refusal}
+use Rattle.cli_call.specs.cny-base.declared.refusal.Refusal.{Refusal}
 use Rattle.cny_flow.specs.Flow.{SinkState}
-use Rattle.tree_disk.specs.Tree.{Tree}
-use Rattle.tree_disk.specs.Disk.{DiskModel}
-use Rattle.local_db.specs.declared.db.Db.{Db}
-use Rattle.system_state.specs.SystemState.{StackItem}
-use Rattle.system_rollback.specs.Restoring.{IsException, IsRestored, IsUnedited}
-use Rattle.system_rollback.specs.RestoringAll.{AreRestored, AreUnedited, IsExceptionTo}
-use Rattle.system_rollback.specs.Rollback.{db_of}
-use Rattle.system_rollback.specs.Several.{HasJob, jobs_to}
-use Rattle.root_ready.specs.FixedDirs.{fixed_dirs}
+use Rattle.cli_call.specs.tree-disk.Tree.{Tree}
+use Rattle.cli_call.specs.tree-disk.Disk.{DiskModel}
+use Rattle.cli_call.specs.local-db.declared.db.Db.{Db}
+use Rattle.cli_call.specs.local-db.SystemState.{StackItem}
+use Rattle.cli_call.specs.system-core.Restoring.{IsException, IsRestored, IsUnedited}
+use Rattle.cli_call.specs.system-core.RestoringAll.{AreRestored, AreUnedited, IsExceptionTo}
+use Rattle.cli_call.specs.system-core.Rollback.{db_of}
+use Rattle.cli_call.specs.system-core.Several.{HasJob, jobs_to}
+use Rattle.cli_call.specs.system-core.FixedDirs.{fixed_dirs}
 use Rattle.cli_call.specs.Call.{CallState}
 use Rattle.cli_call.specs.State.{RootState, tree_of}
 use Rattle.cli_call.specs.Store.{RestsAt}
 use Rattle.cli_call.specs.Stores.{root_store}
 use Rattle.cli_call.specs.WholeCall.{FromStates, FromRoots, IsRefused, HasRefusedRepository}
-use Rattle.cli_words.specs.declared.words.Command.{Command}
-use Rattle.cli_words.specs.declared.words.Command.TheVariants as command
+use Rattle.conary_cli.specs.declared.words.Command.{Command}
+use Rattle.conary_cli.specs.declared.words.Command.TheVariants as command
 
 -- where the fixed directories stand, and the status is an answer's
 abbrev pub IfAnswered : RootState → ℕ → Type 0 → Type 0

@@ -1,9 +1,9 @@
 -- What `showcs` means.
 use Rattle.std.specs.Prelude.{◌≡◌, ℕ, true, List, Result, Ok, Err}
-use Rattle.cny_base.specs.declared.refusal.Refusal.{Refusal}
-use Rattle.change_set.specs.declared.change.ChangeSet.{ChangeSet}
-use Rattle.change_set.specs.ChangeSet.{IsSetStream}
-use Rattle.change_set.specs.FirstFault.{IsFirstFault}
+use Rattle.cli_call.specs.cny-base.declared.refusal.Refusal.{Refusal}
+use Rattle.cli_call.specs.change-set.declared.change.ChangeSet.{ChangeSet}
+use Rattle.cli_call.specs.change-set.ChangeSet.{IsSetStream}
+use Rattle.cli_call.specs.change-set.FirstFault.{IsFirstFault}
 use Rattle.cny_report.specs.Changes.{change_text}
 use Rattle.cli_call.specs.State.{nothing, Effect, Meaning}
 use Rattle.repo_commands.specs.SetInput.{IsNoSetStream}

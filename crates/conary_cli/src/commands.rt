@@ -6,18 +6,16 @@ ghost use Rattle.conary_cli.specs.Commands.{erasing, meaning, is_of_root, verify
 ghost use Rattle.conary_cli.specs.Records.{EndsWhole};
 
 use crate::show::show_change_set;
+use crate::words::Command;
+use cli_call::cny_base::{Bytes, Name, Options, Text};
+use cli_call::tree_disk::TreeDisk;
 use cli_call::{Failure, Opened};
-use cli_words::Command;
-use cny_base::{Bytes, Name, Options, Text};
-use job_commands::{erase_troves, install_manifest, update_input, update_specs};
-use move_commands::commit_moved;
-use repo_commands::{commit_input, cook_manifest, list_committed};
+use repo_commands::{commit_input, commit_moved, cook_manifest, list_committed, send_changes};
 use root_commands::{
-    change_locally, list_installed, list_jobs, roll_back, verify_fully, verify_installed,
+    change_locally, erase_troves, install_manifest, list_installed, list_jobs, roll_back,
+    update_input, update_specs, verify_fully, verify_installed,
 };
-use spec_commands::send_changes;
 use std::alloc::Global;
-use tree_disk::TreeDisk;
 
 /// Whether the command takes an input.
 pub fn takes_input(command: &Command) -> bool

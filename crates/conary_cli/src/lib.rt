@@ -1,8 +1,15 @@
-//! The commands of the program, over a source, two sinks and two disks.
+//! The program: the words of the command line, which command they are, and what it does over a source, two sinks and two disks.
+//!
+//! `specs/Words` says which lists of words are commands, and why the others are none. `entry` hands the words, the standard streams and
+//! two disks to `run`.
 #![tactic(auto)]
 
 mod commands;
+mod entry;
 mod program;
 mod show;
+mod words;
 
+pub use entry::start;
 pub use program::run;
+pub use words::{Command, NameList, SpecList, read_words, some_words};

@@ -1,23 +1,23 @@
 //! A whole call of the program.
 ghost use Rattle.std.specs.Prelude.{◌≡◌, ◌≤◌, string_bytes, map, IsTrue, Result};
 ghost use Rattle.cli_call.specs.declared.failure.Failure.{Failure};
-ghost use Rattle.cli_words.specs.declared.words.Command.{Command};
+ghost use Rattle.conary_cli.specs.declared.words.Command.{Command};
 ghost use Rattle.cny_flow.specs.Flow.{sink_state, source_state};
 ghost use Rattle.cli_call.specs.Call.{call_state, RunsCall, RunsOpen};
 ghost use Rattle.cli_call.specs.Command.{disks, AreReady};
 ghost use Rattle.cli_call.specs.Line.{moment, RunsLine};
 ghost use Rattle.conary_cli.specs.Commands.{meaning, is_of_root, IsSomeCall, IsWholeCall, RunsSome, RunsWords};
 ghost use Rattle.conary_cli.specs.Records.{EndsOpened, EndsWhole};
-ghost use Rattle.cli_words.specs.Words.{AreWords};
+ghost use Rattle.conary_cli.specs.Words.{AreWords};
 
 use crate::commands::{perform, takes_input};
-use change_set::unique_set;
+use crate::words::{Command, read_words};
+use cli_call::change_set::unique_set;
+use cli_call::tree_disk::TreeDisk;
 use cli_call::{Failure, Opened, open_disks, read_given, report, store_laws, write_answer};
-use cli_words::{Command, read_words};
 use cny_flow::{Sink, Source};
 use cny_manifest::one_manifest;
 use std::alloc::Global;
-use tree_disk::TreeDisk;
 
 // Performs a command over two disks that are open, and writes what it answers.
 fn run_command<O: Sink, T: TreeDisk, P: TreeDisk>(

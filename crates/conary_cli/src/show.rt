@@ -3,12 +3,12 @@ ghost use Rattle.cli_call.specs.Alone.{PerformsAlone};
 ghost use Rattle.cli_call.specs.Command.{disks, AreReady, Performs};
 ghost use Rattle.conary_cli.specs.ShowChangeSet as spec;
 
-use change_set::decode;
+use cli_call::change_set::decode;
+use cli_call::cny_base::Text;
+use cli_call::tree_disk::TreeDisk;
 use cli_call::{Failure, Opened, store_laws};
-use cny_base::Text;
 use cny_report::change_text;
 use std::alloc::Global;
-use tree_disk::TreeDisk;
 
 /// Describes the change set that the input is: a line for each part, and one for each content. No call of a disk is made.
 pub fn show_change_set<T: TreeDisk, P: TreeDisk>(

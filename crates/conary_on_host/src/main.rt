@@ -4,7 +4,7 @@
 //! Its stored run installs a component into directories of the host.
 #![tactic(auto)]
 
-use conary_entry::start;
+use conary_cli::start;
 use std::fs::{self, Metadata};
 use std::io::{self, Write};
 use std::os::unix::fs::PermissionsExt;

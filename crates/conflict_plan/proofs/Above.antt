@@ -2,15 +2,15 @@
 use Rattle.std.proofs.Common.{◌≡◌, ⊎_elim, ℕ, Bool, true, false, cond, not, ◌&&◌, ◌||◌, List, Option, Some, None, is_some, Result, Ok, Err, IsTrue, IfErr, refl, sym, ◌∙◌, ap, subst}
 use Rattle.std.proofs.lemmas.Bool.{cases_Bool}
 use Rattle.std.specs.FinMap.{get}
-use Rattle.cny_base.specs.Path.{parent, root}
-use Rattle.cny_base.specs.declared.refusal.Refusal.{Refusal}
-use Rattle.cny_base.specs.declared.stop.Stop.{Stop}
-use Rattle.cny_base.specs.declared.stop.Stop.TheVariants.{Refused, Memory, Failed, Damaged, FarFailed, FarDamaged}
-use Rattle.tree_disk.specs.Disk.{DiskModel}
-use Rattle.tree_disk.specs.Laws.{same_means}
-use Rattle.tree_disk.specs.Rows.{is_dir_at}
-use Rattle.tree_disk.specs.Steps.{Found, Tests}
-use Rattle.tree_disk.specs.Tree.{Name, Tree, WellFormed, is_child, same_name}
+use Rattle.trove_stream.specs.cny-base.Path.{parent, root}
+use Rattle.trove_stream.specs.cny-base.declared.refusal.Refusal.{Refusal}
+use Rattle.trove_stream.specs.cny-base.declared.stop.Stop.{Stop}
+use Rattle.trove_stream.specs.cny-base.declared.stop.Stop.TheVariants.{Refused, Memory, Failed, Damaged, FarFailed, FarDamaged}
+use Rattle.tree_scan.specs.tree-disk.Disk.{DiskModel}
+use Rattle.tree_scan.specs.tree-disk.Laws.{same_means}
+use Rattle.tree_scan.specs.tree-disk.Rows.{is_dir_at}
+use Rattle.tree_scan.specs.tree-disk.Steps.{Found, Tests}
+use Rattle.tree_scan.specs.tree-disk.Tree.{Name, Tree, WellFormed, is_child, same_name}
 use Rattle.tree_scan.specs.declared.mark.Mark.{Mark}
 use Rattle.tree_scan.specs.Marks.{is_nothing}
 use Rattle.conflict_plan.specs.declared.drafting.Draft.{Draft}
@@ -95,10 +95,10 @@ refused_may Stays e was why is = absurd (cc is)
 refused_may Removed e was why is = absurd (cc is)
 refused_may Written e was why is = absurd (cc is)
 refused_may Unowned e was why is =
-    let is_why : Rattle.cny_base.specs.declared.refusal.Refusal.TheVariants.Unowned e.path ≡ why = cc is in
+    let is_why : Rattle.trove_stream.specs.cny-base.declared.refusal.Refusal.TheVariants.Unowned e.path ≡ why = cc is in
     subst (λ w. RefusesAtMost (Refused w)) is_why tt
 refused_may Edited e was why is =
-    let is_why : Rattle.cny_base.specs.declared.refusal.Refusal.TheVariants.Edited e.path ≡ why = cc is in
+    let is_why : Rattle.trove_stream.specs.cny-base.declared.refusal.Refusal.TheVariants.Edited e.path ≡ why = cc is in
     subst (λ w. RefusesAtMost (Refused w)) is_why tt
 
 pub decided_may : (o : Outcome) (e : Entry) (was : Mark) (r : Result (Option Draft) Stop) → Decided (drafted o e was) r → IfErr r RefusesAtMost

@@ -1,11 +1,11 @@
 -- Lists that are made from the front.
 use Rattle.std.proofs.Common.{◌≡◌, ℕ, ◌+◌, ◌<◌, Bool, true, false, cond, List, [], ◌∷◌, ◌++◌, length, take, drop, get_or, Option, Some, None, Result, Ok, Err, refl, sym, ◌∙◌, ap, append_assoc}
 use Rattle.std.proofs.lemmas.List.{append-nil, drop_more, take_more}
-use Rattle.cny_base.specs.declared.options.Options.{Options}
-use Rattle.cny_base.specs.declared.refusal.Refusal.{Refusal}
-use Rattle.trove_items.specs.declared.files.FileAt.{FileAt}
+use Rattle.trove_stream.specs.cny-base.declared.options.Options.{Options}
+use Rattle.trove_stream.specs.cny-base.declared.refusal.Refusal.{Refusal}
+use Rattle.trove_stream.specs.trove-parts.declared.files.FileAt.{FileAt}
 use Rattle.trove_stream.specs.declared.parts.TroveParts.{TroveParts}
-use Rattle.tree_disk.specs.Tree.{Name, Tree, same_name}
+use Rattle.tree_scan.specs.tree-disk.Tree.{Name, Tree, same_name}
 use Rattle.conflict_plan.specs.declared.drafting.Draft.{Draft}
 use Rattle.conflict_plan.specs.declared.entries.Entry.{Entry}
 use Rattle.conflict_plan.specs.declared.records.Recorded.{Recorded}

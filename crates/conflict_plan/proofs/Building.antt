@@ -2,13 +2,13 @@
 use Rattle.std.proofs.Common.{◌≡◌, ◌≢◌, inl, inr, ⊎_elim, Bool, true, false, cond, List, [], ◌∷◌, map, Option, Some, None, Result, Ok, Err, refl, sym, ◌∙◌, ap, subst}
 use Rattle.std.proofs.lemmas.Bool.{cases_Bool}
 use Rattle.std.specs.declared.cmp.Ordering.TheVariants.{Less}
-use Rattle.cny_base.specs.Path.{is_path, root}
-use Rattle.cny_base.specs.Reserved.{is_pinned}
-use Rattle.cny_base.specs.declared.options.Options.{Options}
-use Rattle.cny_base.specs.declared.refusal.Refusal.{Refusal}
-use Rattle.file_stream.specs.declared.record.FileRec.{FileRec}
-use Rattle.tree_disk.specs.Laws.{same_means, same_itself}
-use Rattle.tree_disk.specs.Tree.{Name, Tree, same_name}
+use Rattle.trove_stream.specs.cny-base.Path.{is_path, root}
+use Rattle.trove_stream.specs.cny-base.Reserved.{is_pinned}
+use Rattle.trove_stream.specs.cny-base.declared.options.Options.{Options}
+use Rattle.trove_stream.specs.cny-base.declared.refusal.Refusal.{Refusal}
+use Rattle.trove_stream.specs.file-stream.declared.record.FileRec.{FileRec}
+use Rattle.tree_scan.specs.tree-disk.Laws.{same_means, same_itself}
+use Rattle.tree_scan.specs.tree-disk.Tree.{Name, Tree, same_name}
 use Rattle.tree_scan.specs.declared.mark.Mark.{Mark}
 use Rattle.tree_scan.specs.Marks.{fingerprint_at}
 use Rattle.conflict_plan.specs.declared.drafting.Draft.{Draft}

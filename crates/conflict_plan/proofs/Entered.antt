@@ -9,9 +9,9 @@ use Rattle.std.specs.Map.{lookup}
 use Rattle.std.specs.declared.cmp.Ordering.TheVariants.{Less}
 use Rattle.std.specs.Ordering.{nat_cmp}
 use Rattle.std.specs.Cmp.Lexicographic.{slice_cmp}
-use Rattle.cny_base.specs.declared.refusal.Refusal.{Refusal}
-use Rattle.tree_disk.specs.Laws.{same_means, same_itself}
-use Rattle.tree_disk.specs.Tree.{Name, same_name}
+use Rattle.trove_stream.specs.cny-base.declared.refusal.Refusal.{Refusal}
+use Rattle.tree_scan.specs.tree-disk.Laws.{same_means, same_itself}
+use Rattle.tree_scan.specs.tree-disk.Tree.{Name, same_name}
 use Rattle.conflict_plan.specs.declared.records.Recorded.{Recorded}
 use Rattle.conflict_plan.specs.Entries.{first_refusal, or_later}
 use Rattle.conflict_plan.proofs.Order.{name_cmp, less_other, less_then}

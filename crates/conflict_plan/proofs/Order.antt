@@ -5,11 +5,11 @@ use Rattle.std.specs.declared.cmp.Ordering.{Ordering}
 use Rattle.std.specs.declared.cmp.Ordering.TheVariants.{Less, Equal, Greater}
 use Rattle.std.specs.Ordering.{nat_cmp, is_eq, ordering_reverse}
 use Rattle.std.specs.Cmp.Lexicographic.{slice_cmp, nat_list_cmp_total}
-use Rattle.cny_base.specs.Below.{parent_first, shorter_less}
-use Rattle.cny_base.specs.Path.{is_path, join, parent, root}
-use Rattle.tree_disk.specs.ClearLaws.{join_is}
-use Rattle.tree_disk.specs.Laws.{same_means, same_itself}
-use Rattle.tree_disk.specs.Tree.{Name, is_child, same_name}
+use Rattle.trove_stream.specs.cny-base.Below.{parent_first, shorter_less}
+use Rattle.trove_stream.specs.cny-base.Path.{is_path, join, parent, root}
+use Rattle.tree_scan.specs.tree-disk.ClearLaws.{join_is}
+use Rattle.tree_scan.specs.tree-disk.Laws.{same_means, same_itself}
+use Rattle.tree_scan.specs.tree-disk.Tree.{Name, is_child, same_name}
 
 abbrev pub name_cmp : Name → Name → Ordering
 name_cmp p q = slice_cmp nat_cmp p q

@@ -6,11 +6,11 @@ use Rattle.std.specs.List.{All, AllByRecursion}
 use Rattle.std.specs.List.Sorted.{IsStrictlySortedBy}
 use Rattle.std.specs.Option.{is_some}
 use Rattle.std.specs.declared.cmp.Ordering.TheVariants.{Less}
-use Rattle.cny_base.specs.Reserved.{is_pinned}
-use Rattle.cny_base.specs.declared.options.Options.{Options}
-use Rattle.cny_base.specs.declared.refusal.Refusal.{Refusal}
+use Rattle.trove_stream.specs.cny-base.Reserved.{is_pinned}
+use Rattle.trove_stream.specs.cny-base.declared.options.Options.{Options}
+use Rattle.trove_stream.specs.cny-base.declared.refusal.Refusal.{Refusal}
 use Rattle.trove_stream.specs.declared.parts.TroveParts.{TroveParts}
-use Rattle.tree_disk.specs.Tree.{Name}
+use Rattle.tree_scan.specs.tree-disk.Tree.{Name}
 use Rattle.tree_scan.specs.declared.mark.Mark.{Mark}
 use Rattle.conflict_plan.specs.declared.drafting.Draft.{Draft}
 use Rattle.conflict_plan.specs.declared.entries.Entry.{Entry}
@@ -21,7 +21,7 @@ use Rattle.conflict_plan.specs.declared.table.Outcome.TheVariants.{Stays, Remove
 use Rattle.conflict_plan.specs.Claims.{Claim, claims, first_record, record_at}
 use Rattle.conflict_plan.specs.Drafts.{draft_by, drafted, is_left_dir, is_settled, Decided}
 use Rattle.conflict_plan.specs.Table.{path_outcome}
-use Rattle.cny_base.specs.declared.stop.Stop.{Stop}
+use Rattle.trove_stream.specs.cny-base.declared.stop.Stop.{Stop}
 use Rattle.std.specs.Prelude.{IfOk}
 use Rattle.conflict_plan.specs.Entries.{entry_of}
 use Rattle.conflict_plan.specs.Picked.{planned_of, AreKept, ArePicked, BeginsWith, IsPickedDraft, IsPickedOf, KeepsFirst}
@@ -182,7 +182,7 @@ module _ (old fresh : List TroveParts) (all : List At) (entries : AreEntries old
         target = at is.target (ap (λ (e : Entry). e.fresh) entry ∙ ap (record_at fresh) (sym is.path));
       }
     where
-      at : {w : Option Rattle.file_stream.specs.declared.record.FileRec.FileRec} → (x.want ≡ None) ⊎ (x.want ≡ w) → w ≡ record_at fresh x.path → (x.want ≡ None) ⊎ (x.want ≡ record_at fresh x.path)
+      at : {w : Option Rattle.trove_stream.specs.file-stream.declared.record.FileRec.FileRec} → (x.want ≡ None) ⊎ (x.want ≡ w) → w ≡ record_at fresh x.path → (x.want ≡ None) ⊎ (x.want ≡ record_at fresh x.path)
       at (inl none) same = inl none
       at (inr is) same = inr (is ∙ same)
 

@@ -4,14 +4,14 @@ use Rattle.std.proofs.lemmas.Bool.{cases_Bool}
 use Rattle.std.specs.FinMap.{get, keys, contains_key-keys}
 use Rattle.std.specs.List.{filter, list_any}
 use Rattle.std.specs.declared.cmp.Ordering.TheVariants.{Less}
-use Rattle.cny_base.specs.Joins.{join_parent}
-use Rattle.cny_base.specs.Path.{is_path, join, last_name, root}
-use Rattle.cny_base.specs.declared.node.Node.{Node}
-use Rattle.cny_base.specs.declared.node.Node.TheVariants as node
-use Rattle.file_stream.specs.declared.record.FileRec.{FileRec}
-use Rattle.file_stream.specs.declared.record.FileRec.TheVariants as rec
-use Rattle.tree_disk.specs.Laws.{same_means, same_itself}
-use Rattle.tree_disk.specs.Tree.{Name, Tree, WellFormed, children, is_child, same_name}
+use Rattle.trove_stream.specs.cny-base.Joins.{join_parent}
+use Rattle.trove_stream.specs.cny-base.Path.{is_path, join, last_name, root}
+use Rattle.trove_stream.specs.cny-base.declared.node.Node.{Node}
+use Rattle.trove_stream.specs.cny-base.declared.node.Node.TheVariants as node
+use Rattle.trove_stream.specs.file-stream.declared.record.FileRec.{FileRec}
+use Rattle.trove_stream.specs.file-stream.declared.record.FileRec.TheVariants as rec
+use Rattle.tree_scan.specs.tree-disk.Laws.{same_means, same_itself}
+use Rattle.tree_scan.specs.tree-disk.Tree.{Name, Tree, WellFormed, children, is_child, same_name}
 use Rattle.tree_scan.specs.Marks.{fingerprint, fingerprint_at, fingerprint_of_record, is_nothing}
 use Rattle.conflict_plan.specs.declared.making.Fate.{Fate}
 use Rattle.conflict_plan.specs.declared.planned.Planned.{Planned}

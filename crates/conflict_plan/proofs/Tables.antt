@@ -1,11 +1,11 @@
 -- What the table says with and without a name that remains below.
 use Rattle.std.proofs.Common.{◌≡◌, Bool, true, false, cond, ◌&&◌, ◌||◌, List, ◌∷◌, Option, Some, None, Result, Ok, Err, refl, sym, ◌∙◌, ap}
-use Rattle.cny_base.specs.Reserved.{is_pinned}
-use Rattle.cny_base.specs.declared.options.Options.{Options}
-use Rattle.cny_base.specs.declared.refusal.Refusal.{Refusal}
-use Rattle.file_stream.specs.declared.record.FileRec.{FileRec}
-use Rattle.file_stream.specs.Record.{is_dir}
-use Rattle.tree_disk.specs.Tree.{Name, Tree}
+use Rattle.trove_stream.specs.cny-base.Reserved.{is_pinned}
+use Rattle.trove_stream.specs.cny-base.declared.options.Options.{Options}
+use Rattle.trove_stream.specs.cny-base.declared.refusal.Refusal.{Refusal}
+use Rattle.trove_stream.specs.file-stream.declared.record.FileRec.{FileRec}
+use Rattle.trove_stream.specs.file-stream.Record.{is_dir}
+use Rattle.tree_scan.specs.tree-disk.Tree.{Name, Tree}
 use Rattle.tree_scan.specs.declared.mark.Mark.{Mark}
 use Rattle.tree_scan.specs.declared.mark.Mark.TheVariants as mark
 use Rattle.tree_scan.specs.Marks as marks

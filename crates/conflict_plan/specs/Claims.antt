@@ -1,10 +1,10 @@
 -- What a list of troves records of a path.
 use Rattle.std.specs.Prelude.{ℕ, ◌&&◌, if◌then◌else◌, List, [], ◌∷◌, ◌++◌, Option, Some, None}
-use Rattle.file_stream.specs.declared.record.FileRec.{FileRec}
-use Rattle.file_stream.specs.Record.{is_dir}
-use Rattle.trove_items.specs.declared.files.FileAt.{FileAt}
+use Rattle.trove_stream.specs.file-stream.declared.record.FileRec.{FileRec}
+use Rattle.trove_stream.specs.file-stream.Record.{is_dir}
+use Rattle.trove_stream.specs.trove-parts.declared.files.FileAt.{FileAt}
 use Rattle.trove_stream.specs.declared.parts.TroveParts.{TroveParts}
-use Rattle.tree_disk.specs.Tree.{Name, same_name}
+use Rattle.tree_scan.specs.tree-disk.Tree.{Name, same_name}
 
 -- a trove's name, and what it records
 abbrev pub Claim : Type 0

@@ -1,10 +1,10 @@
 -- The paths that two lists record, in their order.
 use Rattle.std.specs.Prelude.{◌≡◌, ℕ, List, [], ◌∷◌, Option, Some, None}
-use Rattle.cny_base.specs.declared.refusal.Fault.{Fault}
-use Rattle.cny_base.specs.declared.refusal.Fault.TheVariants.{Refused, Memory}
-use Rattle.cny_base.specs.declared.refusal.Refusal.{Refusal}
-use Rattle.cny_base.specs.declared.refusal.Refusal.TheVariants.{Owned}
-use Rattle.tree_disk.specs.Tree.{Name}
+use Rattle.trove_stream.specs.cny-base.declared.refusal.Fault.{Fault}
+use Rattle.trove_stream.specs.cny-base.declared.refusal.Fault.TheVariants.{Refused, Memory}
+use Rattle.trove_stream.specs.cny-base.declared.refusal.Refusal.{Refusal}
+use Rattle.trove_stream.specs.cny-base.declared.refusal.Refusal.TheVariants.{Owned}
+use Rattle.tree_scan.specs.tree-disk.Tree.{Name}
 use Rattle.conflict_plan.specs.declared.entries.Entry.{Entry}
 use Rattle.conflict_plan.specs.declared.records.Recorded.{Recorded}
 use Rattle.conflict_plan.specs.declared.records.Shared.{Shared}

@@ -5,10 +5,10 @@ use Rattle.std.specs.BTreeSet.{BTreeSet, contains}
 use Rattle.std.specs.Cmp.Lexicographic.{slice_cmp}
 use Rattle.std.specs.List.{list_any}
 use Rattle.std.specs.Ordering.{nat_cmp}
-use Rattle.cny_base.specs.Path.{join}
-use Rattle.file_stream.specs.declared.record.FileRec.{FileRec}
-use Rattle.file_stream.specs.declared.record.FileRec.TheVariants as rec
-use Rattle.tree_disk.specs.Tree.{Name, Tree, children, is_child, same_name}
+use Rattle.trove_stream.specs.cny-base.Path.{join}
+use Rattle.trove_stream.specs.file-stream.declared.record.FileRec.{FileRec}
+use Rattle.trove_stream.specs.file-stream.declared.record.FileRec.TheVariants as rec
+use Rattle.tree_scan.specs.tree-disk.Tree.{Name, Tree, children, is_child, same_name}
 use Rattle.conflict_plan.specs.declared.making.Fate.{Fate}
 use Rattle.conflict_plan.specs.declared.making.Fate.TheVariants.{Gone, Dir, Other}
 use Rattle.conflict_plan.specs.declared.planned.Planned.{Planned}

@@ -2,11 +2,11 @@
 use Rattle.std.specs.Prelude.{◌≡◌, ℕ, Bool, true, false, not, ◌&&◌, ◌||◌, if◌then◌else◌, List, [], ◌∷◌, Option, Some, None, is_some}
 use Rattle.std.specs.Cmp.Lexicographic.{slice_cmp}
 use Rattle.std.specs.Ordering.{nat_cmp, is_lt}
-use Rattle.cny_base.specs.Path.{join, parent, root}
-use Rattle.file_stream.specs.declared.record.FileRec.{FileRec}
-use Rattle.file_stream.specs.Record as records
-use Rattle.tree_disk.specs.Rows.{is_dir_at}
-use Rattle.tree_disk.specs.Tree.{Name, Tree, children, same_name}
+use Rattle.trove_stream.specs.cny-base.Path.{join, parent, root}
+use Rattle.trove_stream.specs.file-stream.declared.record.FileRec.{FileRec}
+use Rattle.trove_stream.specs.file-stream.Record as records
+use Rattle.tree_scan.specs.tree-disk.Rows.{is_dir_at}
+use Rattle.tree_scan.specs.tree-disk.Tree.{Name, Tree, children, same_name}
 use Rattle.tree_scan.specs.Marks.{fingerprint_at, is_dir}
 use Rattle.conflict_plan.specs.declared.making.Fate.{Fate}
 use Rattle.conflict_plan.specs.declared.making.Fate.TheVariants.{Gone, Dir, Other}

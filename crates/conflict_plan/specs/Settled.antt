@@ -1,6 +1,6 @@
 -- Which directories that are recorded no more go, from the deepest path up.
 use Rattle.std.specs.Prelude.{◌≡◌, ◌&&◌, if◌then◌else◌, List, [], ◌∷◌}
-use Rattle.tree_disk.specs.Tree.{Tree}
+use Rattle.tree_scan.specs.tree-disk.Tree.{Tree}
 use Rattle.tree_scan.specs.Marks.{fingerprint_at, is_dir}
 use Rattle.conflict_plan.specs.declared.drafting.Draft.{Draft}
 use Rattle.conflict_plan.specs.declared.planned.Planned.{Planned}

@@ -1,11 +1,11 @@
 -- The conflict table: what becomes of a path. The first row that applies decides.
 use Rattle.std.specs.Prelude.{ℕ, Bool, false, ◌&&◌, ◌||◌, if◌then◌else◌, List, Option, Some, None}
-use Rattle.cny_base.specs.Reserved.{is_pinned}
-use Rattle.cny_base.specs.declared.options.Options.{Options}
-use Rattle.file_stream.specs.declared.record.Flags.{Flags}
-use Rattle.file_stream.specs.declared.record.FileRec.{FileRec}
-use Rattle.file_stream.specs.declared.record.FileRec.TheVariants as rec
-use Rattle.file_stream.specs.Record.{is_dir}
+use Rattle.trove_stream.specs.cny-base.Reserved.{is_pinned}
+use Rattle.trove_stream.specs.cny-base.declared.options.Options.{Options}
+use Rattle.trove_stream.specs.file-stream.declared.record.Flags.{Flags}
+use Rattle.trove_stream.specs.file-stream.declared.record.FileRec.{FileRec}
+use Rattle.trove_stream.specs.file-stream.declared.record.FileRec.TheVariants as rec
+use Rattle.trove_stream.specs.file-stream.Record.{is_dir}
 use Rattle.tree_scan.specs.declared.mark.Mark.{Mark}
 use Rattle.tree_scan.specs.Marks as marks
 use Rattle.tree_scan.specs.Marks.{fingerprint_of_record, same_mark, is_nothing}

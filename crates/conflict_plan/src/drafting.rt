@@ -1,7 +1,7 @@
 //! What becomes of each path, but that a directory which is recorded no more may still stay.
 ghost use Rattle.std.specs.Prelude.{◌≡◌, IfErr, IfOk, map};
-ghost use Rattle.cny_base.specs.declared.refusal.Refusal.TheVariants as refusal;
-ghost use Rattle.tree_disk.specs.Steps.{Tests};
+ghost use Rattle.trove_stream.specs.cny-base.declared.refusal.Refusal.TheVariants as refusal;
+ghost use Rattle.tree_scan.specs.tree-disk.Steps.{Tests};
 ghost use Rattle.conflict_plan.specs.Drafts as spec;
 ghost use Rattle.conflict_plan.specs.Drafts.{draft_by, draft_of, drafts_of, Decided, RefusesAtMost};
 ghost use Rattle.conflict_plan.specs.Picked.{planned_of, ArePicked, IsPickedDraft};
@@ -9,11 +9,11 @@ ghost use Rattle.conflict_plan.specs.Picked.{planned_of, ArePicked, IsPickedDraf
 use crate::entries::Entry;
 use crate::planned::Planned;
 use crate::table::{Outcome, outcome_of};
-use cny_base::{Options, OutOfMemory, Path, Refusal, Stop, Text};
-use file_stream::FileRec;
 use std::alloc::Global;
-use tree_disk::TreeDisk;
+use tree_scan::tree_disk::TreeDisk;
 use tree_scan::{Mark, are_same_marks, mark_at};
+use trove_stream::cny_base::{Options, OutOfMemory, Path, Refusal, Stop, Text};
+use trove_stream::file_stream::FileRec;
 
 /// A path that may change.
 #[derive(Debug, Drop)]

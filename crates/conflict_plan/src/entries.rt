@@ -3,16 +3,16 @@ ghost use Rattle.std.specs.Prelude.{◌≡◌, All, IfOk, IfErr, IsTrue, OnOk, N
 ghost use Rattle.std.specs.BTreeMap.{IsOrdered};
 ghost use Rattle.std.specs.Cmp.Lexicographic.{slice_cmp};
 ghost use Rattle.std.specs.Ordering.{nat_cmp};
-ghost use Rattle.cny_base.specs.Path.{is_path};
-ghost use Rattle.cny_base.specs.declared.refusal.Refusal.TheVariants as refusal;
+ghost use Rattle.trove_stream.specs.cny-base.Path.{is_path};
+ghost use Rattle.trove_stream.specs.cny-base.declared.refusal.Refusal.TheVariants as refusal;
 ghost use Rattle.conflict_plan.specs.Entries as spec;
 ghost use Rattle.conflict_plan.specs.Entries.{first_shared, IsOwnedOrMemory, IsFirstOwnedOrMemory};
 ghost use Rattle.conflict_plan.specs.Records.{record_of, second_of};
 
 use crate::records::{Recorded, Records, Shared};
-use cny_base::{Fault, Name, OutOfMemory, Path, Refusal, Text};
-use file_stream::FileRec;
 use std::alloc::Global;
+use trove_stream::cny_base::{Fault, Name, OutOfMemory, Path, Refusal, Text};
+use trove_stream::file_stream::FileRec;
 
 /// A path, with what both lists record of it.
 #[derive(Debug, Drop)]

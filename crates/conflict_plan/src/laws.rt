@@ -1,9 +1,9 @@
 //! Laws of plans.
 ghost use Rattle.std.specs.Prelude.{◌≡◌, List};
-ghost use Rattle.cny_base.specs.declared.options.Options.{Options};
-ghost use Rattle.cny_base.specs.declared.refusal.Refusal.{Refusal};
+ghost use Rattle.trove_stream.specs.cny-base.declared.options.Options.{Options};
+ghost use Rattle.trove_stream.specs.cny-base.declared.refusal.Refusal.{Refusal};
 ghost use Rattle.trove_stream.specs.declared.parts.TroveParts.{TroveParts};
-ghost use Rattle.tree_disk.specs.Tree.{Tree, WellFormed};
+ghost use Rattle.tree_scan.specs.tree-disk.Tree.{Tree, WellFormed};
 ghost use Rattle.conflict_plan.specs.declared.planned.Planned.{Planned};
 ghost use Rattle.conflict_plan.specs.Plan.{IsPlan, IsFirstRefusal};
 

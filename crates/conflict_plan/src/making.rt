@@ -4,16 +4,16 @@ ghost use Rattle.std.specs.BTreeMap.{get};
 ghost use Rattle.std.specs.BTreeSet.{contains};
 ghost use Rattle.std.specs.Cmp.Lexicographic.{slice_cmp};
 ghost use Rattle.std.specs.Ordering.{nat_cmp};
-ghost use Rattle.tree_disk.specs.Tree.{same_name};
+ghost use Rattle.tree_scan.specs.tree-disk.Tree.{same_name};
 ghost use Rattle.conflict_plan.specs.Making as spec;
 ghost use Rattle.conflict_plan.specs.Making.{fate_at, has_made};
 
 use crate::planned::{Planned, PlannedList};
-use cny_base::{Copies, OutOfMemory, Path};
-use file_stream::FileRec;
 use std::alloc::Global;
 use std::collections::{BTreeMap, BTreeSet};
 use std::marker::Model;
+use trove_stream::cny_base::{Copies, OutOfMemory, Path};
+use trove_stream::file_stream::FileRec;
 
 /// What becomes of a planned path.
 #[derive(Clone, Copy, Debug, PartialEq, Eq)]

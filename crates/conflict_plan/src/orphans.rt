@@ -1,20 +1,20 @@
 //! The first path of the result whose parent isn't a directory.
 ghost use Rattle.std.specs.Prelude.{◌≡◌, false, IsTrue, IfErr, IfOk, Ok, Some, All};
-ghost use Rattle.cny_base.specs.Path.{parent};
-ghost use Rattle.tree_disk.specs.Disk.{NamesOf};
-ghost use Rattle.tree_disk.specs.Rows.{is_dir_at};
-ghost use Rattle.tree_disk.specs.Steps.{IsDiskStop, Tests};
-ghost use Rattle.tree_disk.specs.Tree.{children};
+ghost use Rattle.trove_stream.specs.cny-base.Path.{parent};
+ghost use Rattle.tree_scan.specs.tree-disk.Disk.{NamesOf};
+ghost use Rattle.tree_scan.specs.tree-disk.Rows.{is_dir_at};
+ghost use Rattle.tree_scan.specs.tree-disk.Steps.{IsDiskStop, Tests};
+ghost use Rattle.tree_scan.specs.tree-disk.Tree.{children};
 ghost use Rattle.conflict_plan.specs.Orphans as spec;
 ghost use Rattle.conflict_plan.specs.Orphans.{first_remaining, has_way, is_dir_fate, orphan_by, least_orphan, IsSeenPlan};
 
 use crate::making::{Fate, Plan};
 use crate::planned::Planned;
 use crate::settling::{child_of, is_gone};
-use cny_base::{Copies, OutOfMemory, Path, Stop, Text};
-use file_stream::FileRec;
 use std::alloc::Global;
-use tree_disk::{TreeDisk, steps};
+use tree_scan::tree_disk::{TreeDisk, steps};
+use trove_stream::cny_base::{Copies, OutOfMemory, Path, Stop, Text};
+use trove_stream::file_stream::FileRec;
 
 // Whether a directory is to stand there.
 fn is_dir(fate: Fate) -> bool

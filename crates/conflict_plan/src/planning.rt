@@ -1,6 +1,6 @@
 //! The plan of a job.
 ghost use Rattle.std.specs.Prelude.{◌≡◌, IfErr, IfOk};
-ghost use Rattle.cny_base.specs.declared.refusal.Refusal.TheVariants as refusal;
+ghost use Rattle.trove_stream.specs.cny-base.declared.refusal.Refusal.TheVariants as refusal;
 ghost use Rattle.conflict_plan.specs.Plan.{ArePlannable, IsPlan, IsFirstRefusal, IsPlanStop, Plans, TellsShared};
 
 use crate::drafting::drafts_of;
@@ -9,10 +9,10 @@ use crate::orphans::first_orphan;
 use crate::planned::PlannedList;
 use crate::records::records_of;
 use crate::settling::settle_all;
-use cny_base::{Options, OutOfMemory, Path, Refusal, Stop, Text};
 use std::alloc::Global;
-use tree_disk::TreeDisk;
+use tree_scan::tree_disk::TreeDisk;
 use trove_stream::Trove;
+use trove_stream::cny_base::{Options, OutOfMemory, Path, Refusal, Stop, Text};
 
 fn parent_missing(alloc: Global, path: &Path) -> Result<Refusal, OutOfMemory>
     ensures { IfOk result (λ made. made ≡ refusal.Parent path.now) }

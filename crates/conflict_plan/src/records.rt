@@ -7,12 +7,12 @@ ghost use Rattle.conflict_plan.specs.Claims.{claims, claims_in};
 ghost use Rattle.conflict_plan.specs.Records as spec;
 ghost use Rattle.conflict_plan.specs.Records.{noted, noted_all};
 
-use cny_base::{Copies, Name, OutOfMemory, Path};
-use file_stream::FileRec;
 use std::alloc::Global;
 use std::collections::BTreeMap;
-use trove_items::FileAt;
 use trove_stream::Trove;
+use trove_stream::cny_base::{Copies, Name, OutOfMemory, Path};
+use trove_stream::file_stream::FileRec;
+use trove_stream::trove_parts::FileAt;
 
 /// What the new list records of a path.
 #[derive(Debug, Drop)]

@@ -1,19 +1,19 @@
 //! Which directories that are recorded no more go, from the deepest path up.
 ghost use Rattle.std.specs.Prelude.{◌≡◌, ◌⊎◌, ◌∷◌, not, IsTrue, IfErr, IfOk, Ok, All};
 ghost use Rattle.std.specs.List.{list_any};
-ghost use Rattle.cny_base.specs.Path.{is_path, join};
-ghost use Rattle.tree_disk.specs.Disk.{NamesOf};
-ghost use Rattle.tree_disk.specs.Rows.{is_dir_at};
-ghost use Rattle.tree_disk.specs.Steps.{IsDiskStop, Tests};
+ghost use Rattle.trove_stream.specs.cny-base.Path.{is_path, join};
+ghost use Rattle.tree_scan.specs.tree-disk.Disk.{NamesOf};
+ghost use Rattle.tree_scan.specs.tree-disk.Rows.{is_dir_at};
+ghost use Rattle.tree_scan.specs.tree-disk.Steps.{IsDiskStop, Tests};
 ghost use Rattle.conflict_plan.specs.Making as making;
 ghost use Rattle.conflict_plan.specs.Picked.{AreKept};
 ghost use Rattle.conflict_plan.specs.Settled.{settled, with_settled, IsSeen};
 
 use crate::drafting::Draft;
 use crate::making::{Fate, Plan};
-use cny_base::{OutOfMemory, Path, Stop, Text, TextFault};
 use std::alloc::Global;
-use tree_disk::{TreeDisk, steps};
+use tree_scan::tree_disk::{TreeDisk, steps};
+use trove_stream::cny_base::{OutOfMemory, Path, Stop, Text, TextFault};
 
 /// The path of a name directly below another.
 pub fn child_of(alloc: Global, path: &Path, last: &str) -> Result<Path, OutOfMemory>

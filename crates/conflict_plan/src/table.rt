@@ -3,9 +3,9 @@ ghost use Rattle.std.specs.Prelude.{◌≡◌};
 ghost use Rattle.conflict_plan.specs.Table as spec;
 ghost use Rattle.conflict_plan.specs.Table.{recorded_outcome, unrecorded_outcome, path_outcome};
 
-use cny_base::{Options, Path};
-use file_stream::{FileRec, Flags};
 use tree_scan::{Mark, are_same_marks};
+use trove_stream::cny_base::{Options, Path};
+use trove_stream::file_stream::{FileRec, Flags};
 
 /// What becomes of a path.
 #[derive(Clone, Copy, Debug, PartialEq, Eq)]

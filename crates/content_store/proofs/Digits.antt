@@ -11,7 +11,7 @@ use Rattle.std.proofs.lemmas.Str.{IsUtf8-from_ascii, is_utf8-from_IsUtf8}
 use Rattle.std.proofs.lemmas.Str.Ascii.{IsAscii-nil, IsAscii-cons}
 use Rattle.hex.specs.Hex.{encode_lower, encode_with, lower_digits, IsBytes}
 use Rattle.hex.proofs.HexLemmas.{length-encode_with}
-use Rattle.cny_base.specs.Path.{is_slash, has_slash, is_plain, is_dots, has_part_form, is_part, are_parts}
+use Rattle.tree_disk.specs.cny-base.Path.{is_slash, has_slash, is_plain, is_dots, has_part_form, is_part, are_parts}
 
 -- ---- what each digit is
 

@@ -8,10 +8,10 @@ use Rattle.std.proofs.lemmas.Bool.Decides.{nat_tests}
 use Rattle.std.specs.FinMap.{get}
 use Rattle.hex.specs.Hex.{decode_of, encode_lower, IsBytes}
 use Rattle.hex.proofs.HexLemmas.{decode_of-encode_lower}
-use Rattle.cny_base.specs.Path.{before_slash, has_slash, is_path, join, parent, root, or_root, are_parts}
-use Rattle.cny_base.specs.Below.{is_below, below_rest, before_join}
-use Rattle.cny_base.specs.Parent.{join_is_path}
-use Rattle.cny_base.specs.declared.node.Node.{Node}
+use Rattle.tree_disk.specs.cny-base.Path.{before_slash, has_slash, is_path, join, parent, root, or_root, are_parts}
+use Rattle.tree_disk.specs.cny-base.Below.{is_below, below_rest, before_join}
+use Rattle.tree_disk.specs.cny-base.Parent.{join_is_path}
+use Rattle.tree_disk.specs.cny-base.declared.node.Node.{Node}
 use Rattle.tree_disk.specs.Tree.{Name, Tree, same_name, WellFormed}
 use Rattle.tree_disk.specs.Laws.{same_means, same_tree}
 use Rattle.tree_disk.specs.Clear.{is_within, without_tree}

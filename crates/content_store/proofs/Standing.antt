@@ -3,9 +3,9 @@ use Rattle.std.proofs.Common.{◌≡◌, ℕ, ◌≤◌, Bool, true, false, not,
 use Rattle.std.specs.Prelude.{IsTrue, nat_le, if◌then◌else◌}
 use Rattle.std.proofs.lemmas.Bool.Decides.{nat_tests}
 use Rattle.std.specs.FinMap.{get}
-use Rattle.cny_base.specs.Path.{parent}
-use Rattle.cny_base.specs.declared.node.Node.{Node}
-use Rattle.cny_base.specs.declared.node.Node.TheVariants as node
+use Rattle.tree_disk.specs.cny-base.Path.{parent}
+use Rattle.tree_disk.specs.cny-base.declared.node.Node.{Node}
+use Rattle.tree_disk.specs.cny-base.declared.node.Node.TheVariants as node
 use Rattle.tree_disk.specs.declared.disk.Look.{Look}
 use Rattle.tree_disk.specs.Tree.{Name, Tree, same_name, put, is_file, is_link}
 use Rattle.tree_disk.specs.Rows.{bytes_at, bytes_of, can_append, can_rename, grown, is_dir_at, is_empty_at, is_file_at, look_of, seen_as, with_append, with_rename}

@@ -1,9 +1,9 @@
 -- Contents that are found by their names.
 use Rattle.std.specs.Prelude.{Bool, IsTrue, List, None, Option, true, ℕ, ◌≡◌, ◌≤◌}
 use Rattle.std.proofs.Common.{sym, ◌∙◌}
-use Rattle.cny_base.specs.Count.{Rose}
-use Rattle.cny_base.specs.declared.stop.Stop.{Stop}
-use Rattle.cny_base.specs.declared.stop.Stop.TheVariants as stop
+use Rattle.tree_disk.specs.cny-base.Count.{Rose}
+use Rattle.tree_disk.specs.cny-base.declared.stop.Stop.{Stop}
+use Rattle.tree_disk.specs.cny-base.declared.stop.Stop.TheVariants as stop
 use Rattle.tree_disk.specs.Tree.{Name}
 use Rattle.content_store.specs.declared.contents.FarStop.{FarStop}
 use Rattle.content_store.specs.declared.contents.FarStop.TheVariants.{Failed, Damaged, Memory}

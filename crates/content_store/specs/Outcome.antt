@@ -1,11 +1,11 @@
 -- What comes of putting a content.
 use Rattle.std.specs.Prelude.{◌≡◌, ℕ, ◌≤◌, Bool, ◌&&◌, ◌||◌, not, IsTrue, List, Option, Some, None, Result, Ok, Err}
 use Rattle.std.specs.FinMap.{get}
-use Rattle.cny_base.specs.Count.{Rose}
-use Rattle.cny_base.specs.declared.refusal.Refusal.{Refusal}
-use Rattle.cny_base.specs.declared.refusal.Refusal.TheVariants.{Collision}
-use Rattle.cny_base.specs.declared.stop.Stop.{Stop}
-use Rattle.cny_base.specs.declared.stop.Stop.TheVariants.{Refused, Memory, Failed, Damaged, FarFailed, FarDamaged}
+use Rattle.tree_disk.specs.cny-base.Count.{Rose}
+use Rattle.tree_disk.specs.cny-base.declared.refusal.Refusal.{Refusal}
+use Rattle.tree_disk.specs.cny-base.declared.refusal.Refusal.TheVariants.{Collision}
+use Rattle.tree_disk.specs.cny-base.declared.stop.Stop.{Stop}
+use Rattle.tree_disk.specs.cny-base.declared.stop.Stop.TheVariants.{Refused, Memory, Failed, Damaged, FarFailed, FarDamaged}
 use Rattle.tree_disk.specs.Tree.{Name, Tree, same_name}
 use Rattle.tree_disk.specs.Rows.{bytes_at, is_dir_at, is_empty_at, is_file_at, with_append, with_rename}
 use Rattle.tree_disk.specs.Disk.{DiskModel}

@@ -5,8 +5,8 @@ ghost use Rattle.tree_disk.specs.Steps.{IsDiskStop, Tests};
 ghost use Rattle.content_store.specs.Difference.{first_difference};
 
 use crate::difference::difference;
-use cny_base::{Path, Stop};
 use std::alloc::Global;
+use tree_disk::cny_base::{Path, Stop};
 use tree_disk::{TreeDisk, steps};
 
 /// How many bytes of a file are looked at at once.

@@ -4,8 +4,8 @@ ghost use Rattle.sha1.specs.Sha1.{sha1};
 ghost use Rattle.content_store.specs.declared.contents.FarStop.TheVariants as stop;
 ghost use Rattle.content_store.specs.Contents.{empty_contents, empty_source, ContentsModel, IsSource, KeepsContents, stop_of_far, StopsFor};
 
-use cny_base::{Bytes, Copies, OutOfMemory, Path, Stop};
 use std::alloc::{AllocError, AllocFailed, Global};
+use tree_disk::cny_base::{Bytes, Copies, OutOfMemory, Path, Stop};
 
 /// Why a content isn't found.
 #[derive(Debug, Drop)]

@@ -6,8 +6,8 @@ ghost use Rattle.std.specs.FinMap as map;
 ghost use Rattle.content_store.specs.Store.{content_path, file_bytes, stored};
 
 use crate::path_of::{LONGEST_DIR, path_of};
-use cny_base::{Bytes, Path, Stop};
 use std::alloc::Global;
+use tree_disk::cny_base::{Bytes, Path, Stop};
 use tree_disk::{TreeDisk, steps};
 
 // The bytes of the file at a path, where one stands.

@@ -1,6 +1,6 @@
 // Bytes put at a content's path.
 ghost use Rattle.std.specs.Prelude.{◌≡◌, IfErr, IsTrue, length};
-ghost use Rattle.cny_base.specs.Path.{is_path};
+ghost use Rattle.tree_disk.specs.cny-base.Path.{is_path};
 ghost use Rattle.tree_disk.specs.Rows.{bytes_at, is_file_at};
 ghost use Rattle.tree_disk.specs.Steps.{Tests};
 ghost use Rattle.content_store.specs.Difference.{first_difference};
@@ -8,8 +8,8 @@ ghost use Rattle.content_store.specs.Outcome.{put_names, put_outcome, same_or_co
 ghost use Rattle.content_store.specs.Store.{content_path};
 
 use crate::compare::file_differs;
-use cny_base::{Path, Refusal, Stop};
 use std::alloc::Global;
+use tree_disk::cny_base::{Path, Refusal, Stop};
 use tree_disk::{TreeDisk, steps};
 
 // Tests that a file that stands has these bytes.

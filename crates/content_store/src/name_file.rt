@@ -5,8 +5,8 @@ ghost use Rattle.tree_disk.specs.Steps.{IsDiskStop, Tests};
 
 use crate::compare::{piece_room, room_for};
 use crate::namer::Namer;
-use cny_base::{Path, Stop};
 use std::alloc::Global;
+use tree_disk::cny_base::{Path, Stop};
 use tree_disk::{TreeDisk, steps};
 
 /// How many bytes a file has, and 0 where none stands.

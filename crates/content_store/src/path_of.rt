@@ -1,13 +1,13 @@
 // Where contents stand.
 ghost use Rattle.std.specs.Prelude.{◌≡◌, ◌≤◌, ◌<◌, IfErr, IfOk, IsTrue, length, string_bytes};
 ghost use Rattle.hex.specs.Hex.{encode_lower};
-ghost use Rattle.cny_base.specs.Path.{is_path};
-ghost use Rattle.cny_base.specs.declared.stop.Stop.TheVariants as stop;
+ghost use Rattle.tree_disk.specs.cny-base.Path.{is_path};
+ghost use Rattle.tree_disk.specs.cny-base.declared.stop.Stop.TheVariants as stop;
 ghost use Rattle.tree_disk.specs.Tree.{Name};
 ghost use Rattle.content_store.specs.Store.{content_path};
 
-use cny_base::{Path, Stop, TextFault};
 use std::alloc::{AllocError, Global};
+use tree_disk::cny_base::{Path, Stop, TextFault};
 
 /// The longest directory whose contents have paths: a path has at most 1,024 bytes, and a slash and 40 digits follow it.
 /// The clauses write its value, 983.

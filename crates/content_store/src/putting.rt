@@ -9,9 +9,9 @@ use crate::move_in::move_in;
 use crate::name_file::{name_file, size_of};
 use crate::namer::Namer;
 use crate::path_of::path_of;
-use cny_base::{Path, Stop};
 use std::alloc::Global;
 use tree_disk::TreeDisk;
+use tree_disk::cny_base::{Path, Stop};
 
 /// Puts a content into the store of a directory, and answers its name. Where a file of that name stands already its bytes
 /// are compared: `Collision` exactly where they differ, with the first difference.

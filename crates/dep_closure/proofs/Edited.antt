@@ -11,9 +11,9 @@ use Rattle.std.proofs.lemmas.List.{get_or-take, get_or_default, length-take-le}
 use Rattle.std.proofs.lemmas.List.Elements.{All-contains, All-weaker, Contains-get_or}
 use Rattle.std.proofs.lemmas.Map.Keys.{Less-from_sorted}
 use Rattle.std.proofs.lemmas.Option.{slice_get-get_or}
-use Rattle.installed_list.specs.Installed.{by_name, IsRising, trove_of}
-use Rattle.cny_base.specs.declared.refusal.Fault.{Fault}
-use Rattle.cny_base.specs.declared.refusal.Fault.TheVariants.{Refused, Memory}
+use Rattle.trove_stream.specs.Installed.{by_name, IsRising, trove_of}
+use Rattle.trove_stream.specs.cny-base.declared.refusal.Fault.{Fault}
+use Rattle.trove_stream.specs.cny-base.declared.refusal.Fault.TheVariants.{Refused, Memory}
 use Rattle.cny_dep.specs.Dep.{Dependency}
 use Rattle.trove_stream.specs.declared.parts.TroveParts.{TroveParts}
 use Rattle.dep_closure.specs.Closed.{provides_of, IsMet, IsClosed, HasAllMet, IsFirstUnmet, IsUnmetOrMemory}

@@ -14,7 +14,7 @@ use Rattle.std.proofs.lemmas.Cmp.{tied_itself}
 use Rattle.std.proofs.lemmas.List.Elements.{All-from_recursion, All-contains}
 use Rattle.std.proofs.lemmas.Map.Keys.{sorted_head, sorted_tail}
 use Rattle.std.proofs.lemmas.Option.{none-some}
-use Rattle.installed_list.specs.Installed.{by_name, IsRising, trove_of}
+use Rattle.trove_stream.specs.Installed.{by_name, IsRising, trove_of}
 use Rattle.trove_stream.specs.declared.parts.TroveParts.{TroveParts}
 use Rattle.dep_closure.specs.Slots.{listed}
 use Rattle.dep_closure.proofs.Provided.{nothing_in, first, later, first_or_later}

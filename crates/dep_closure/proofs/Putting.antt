@@ -8,7 +8,7 @@ use Rattle.std.specs.List.{list_any}
 use Rattle.std.specs.Ordering.{nat_cmp}
 use Rattle.std.specs.Str.{bytes_eq}
 use Rattle.std.proofs.lemmas.Map.Keys.{sorted_head, sorted_tail}
-use Rattle.installed_list.specs.Installed.{by_name, IsRising, trove_of}
+use Rattle.trove_stream.specs.Installed.{by_name, IsRising, trove_of}
 use Rattle.trove_stream.specs.declared.parts.TroveParts.{TroveParts}
 use Rattle.dep_closure.specs.Slots.{Slots, slot, slot_or, put_slot, held, held_after, listed}
 use Rattle.dep_closure.proofs.Names.{same, same_means, same_itself, bytes_mean, bytes_itself, none_named, found_other}

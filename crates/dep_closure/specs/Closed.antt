@@ -1,8 +1,8 @@
 -- When a list of troves is closed.
 use Rattle.std.specs.Prelude.{◌≡◌, ℕ, List, [], ◌∷◌, Some, slice_get, take, All, Contains}
-use Rattle.cny_base.specs.declared.refusal.Fault.{Fault}
-use Rattle.cny_base.specs.declared.refusal.Fault.TheVariants.{Refused, Memory}
-use Rattle.cny_base.specs.declared.refusal.Refusal.TheVariants.{Unmet}
+use Rattle.trove_stream.specs.cny-base.declared.refusal.Fault.{Fault}
+use Rattle.trove_stream.specs.cny-base.declared.refusal.Fault.TheVariants.{Refused, Memory}
+use Rattle.trove_stream.specs.cny-base.declared.refusal.Refusal.TheVariants.{Unmet}
 use Rattle.cny_dep.specs.declared.class.Class.TheVariants.{Trove}
 use Rattle.cny_dep.specs.Dep.{Dependency, dep_text}
 use Rattle.cny_dep.specs.Satisfies.{Satisfies}

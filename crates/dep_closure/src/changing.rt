@@ -5,7 +5,7 @@ ghost use Rattle.std.specs.Cmp.Lexicographic.{slice_cmp};
 ghost use Rattle.std.specs.List.{list_any};
 ghost use Rattle.std.specs.Ordering.{nat_cmp};
 ghost use Rattle.std.specs.Str.{bytes_eq};
-ghost use Rattle.installed_list.specs.Installed.{IsRising, trove_of};
+ghost use Rattle.trove_stream.specs.Installed.{IsRising, trove_of};
 ghost use Rattle.dep_closure.specs.Closed.{IsClosed, provides_of};
 ghost use Rattle.dep_closure.specs.Changed.{IsChanged, RefusesChange};
 ghost use Rattle.dep_closure.specs.Slots.{slot, put_slot, held, held_after, notes, IsNoted, AreNoted, IsPassed, IsFaulty};
@@ -14,11 +14,11 @@ use crate::index::{Index, note_providers, note_requirers};
 use crate::slots::{Slots, commit, edits_of, listed, make_slots, put_troves};
 use crate::staying::test_edits;
 use crate::whole::closed;
-use cny_base::{Fault, Name, OutOfMemory};
 use std::alloc::Global;
 use std::collections::BTreeMap;
 use std::marker::Model;
 use trove_stream::Trove;
+use trove_stream::cny_base::{Fault, Name, OutOfMemory};
 
 /// A list of troves, one of a name, in name order. Whether a change of it keeps it closed is decided from what the change brings
 /// and what it takes away; the whole list is tested where it wasn't closed before.

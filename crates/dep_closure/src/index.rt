@@ -7,11 +7,11 @@ ghost use Rattle.std.specs.Ordering.{nat_cmp};
 ghost use Rattle.dep_closure.specs.Closed.{provides_of};
 ghost use Rattle.dep_closure.specs.Slots.{notes, IsNoted};
 
-use cny_base::{Copies, Name, OutOfMemory};
 use cny_dep::Dep;
 use std::alloc::Global;
 use std::collections::{BTreeMap, BTreeSet};
 use trove_stream::Trove;
+use trove_stream::cny_base::{Copies, Name, OutOfMemory};
 
 /// By the name of a dependency, the names of the troves that require, or provide, something of this name. A trove may stand
 /// here that isn't in the list, or has another content there: what is found is looked up in the list.

@@ -3,9 +3,9 @@ ghost use Rattle.std.specs.Prelude.{◌≡◌, ◌↔◌, [], IsTrue};
 ghost use Rattle.cny_dep.specs.Satisfies.{Satisfies};
 ghost use Rattle.dep_closure.specs.Closed.{own_provide, provides_of, IsSatisfiedBy};
 
-use cny_base::Name;
 use cny_dep::{Class, Dep, Flag, satisfies};
 use trove_stream::Trove;
+use trove_stream::cny_base::Name;
 
 // Whether a class is that of troves.
 fn is_trove_class(class: Class) -> bool

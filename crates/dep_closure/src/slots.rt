@@ -6,14 +6,14 @@ ghost use Rattle.std.specs.List.{list_any};
 ghost use Rattle.std.specs.Option.{option_copied, option_to_list};
 ghost use Rattle.std.specs.Ordering.{nat_cmp};
 ghost use Rattle.std.specs.Str.{bytes_eq};
-ghost use Rattle.installed_list.specs.Installed.{IsRising, trove_of};
+ghost use Rattle.trove_stream.specs.Installed.{IsRising, trove_of};
 ghost use Rattle.dep_closure.specs.Slots as spec;
 ghost use Rattle.dep_closure.specs.Slots.{slot, put_slot};
 
-use cny_base::{Copies, Name, OutOfMemory};
 use std::alloc::Global;
 use std::collections::BTreeMap;
 use trove_stream::Trove;
+use trove_stream::cny_base::{Copies, Name, OutOfMemory};
 
 /// By name: a trove, or a place for one. Beside such troves, edits: a trove that is to stand under the name, or none.
 pub(crate) type Slots = BTreeMap<Name, Option<Trove>>;

@@ -15,11 +15,11 @@ use crate::index::Index;
 use crate::providing::provides;
 use crate::slots::{Slots, held, held_after};
 use crate::whole::unmet;
-use cny_base::{Fault, Name};
 use cny_dep::Dep;
 use std::alloc::Global;
 use std::collections::BTreeSet;
 use trove_stream::Trove;
+use trove_stream::cny_base::{Fault, Name};
 
 // Whether the trove of this name is there and meets the requirement.
 fn is_met_by(slots: &Slots, edits: &Slots, name: &Name, require: &Dep) -> bool

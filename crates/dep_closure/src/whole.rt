@@ -1,15 +1,15 @@
 //! Whether a list of troves is closed.
 ghost use Rattle.std.specs.Prelude.{◌≡◌, ◌↔◌, IsTrue, All, OnOk, IfOk, IfErr, IfNone, IfSome};
-ghost use Rattle.cny_base.specs.declared.refusal.Refusal.TheVariants as refusal;
+ghost use Rattle.trove_stream.specs.cny-base.declared.refusal.Refusal.TheVariants as refusal;
 ghost use Rattle.cny_dep.specs.Dep.{dep_text};
 ghost use Rattle.dep_closure.specs.Closed.{IsMet, IsClosed, IsFirstOf, IsUnmetOrMemory};
 
 use crate::providing::provides;
-use cny_base::{Fault, Name, OutOfMemory, Refusal, Text};
 use cny_dep::Dep;
 use std::alloc::Global;
 use std::collections::BTreeMap;
 use trove_stream::Trove;
+use trove_stream::cny_base::{Fault, Name, OutOfMemory, Refusal, Text};
 
 // By the name of a dependency, the places of the troves that provide something of this name. Only where to look first: what is
 // found there is looked at, and where nothing is found the whole list is.

@@ -1,9 +1,9 @@
 //! Nodes and what a look shows, read from words and written as words.
 use crate::stop::Stop;
 use crate::words::{bytes_at, mode_at, push_word, text_at};
-use cny_base::{Bytes, Mode, Node, Target, Text, octal};
 use std::alloc::{AllocError, Global};
-use tree_disk::Look;
+use tree_memory::cny_base::{Bytes, Mode, Node, Target, Text, octal};
+use tree_memory::tree_disk::Look;
 
 fn dir_at(words: &[Vec<u8>]) -> Result<Option<Node>, Stop> {
     let mode = mode_at(words, 2)?;

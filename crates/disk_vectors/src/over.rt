@@ -2,10 +2,12 @@
 use crate::nodes::{count_text, look_text, names_text};
 use crate::stop::Stop;
 use crate::words::{bytes_at, mode_at, number_at, path_at, push_word, text_at};
-use cny_base::{Bytes, Copies, Mode, Path, Stop as DiskEnd, Target};
 use disk_words::Quiet;
 use std::alloc::Global;
-use tree_disk::{DiskStop, Look, clear_tree, make_file, read_whole, steps, write_file};
+use tree_memory::cny_base::{Bytes, Copies, Mode, Path, Stop as DiskEnd, Target};
+use tree_memory::tree_disk::{
+    DiskStop, Look, clear_tree, make_file, read_whole, steps, write_file,
+};
 
 fn text(alloc: Global, text: &str) -> Result<String, Stop> {
     Ok(String::from_str(alloc, text)?)

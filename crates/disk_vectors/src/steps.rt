@@ -4,10 +4,10 @@ use crate::over::over_any;
 use crate::stop::Stop;
 use crate::store::store_step;
 use crate::words::{bytes_at, mode_at, number_at, path_at, text_at, words_of};
-use cny_base::{Fails, Mode, Names, Node, Path, Target};
 use disk_words::Quiet;
 use std::alloc::Global;
-use tree_disk::{DiskStop, Look, TreeDisk};
+use tree_memory::cny_base::{Fails, Mode, Names, Node, Path, Target};
+use tree_memory::tree_disk::{DiskStop, Look, TreeDisk};
 use tree_memory::{MemoryTree, Nodes, TreeFault};
 
 // The greatest number of bytes that one step reads.

@@ -3,7 +3,6 @@ ghost use Rattle.std.specs.Prelude.{◌<◌};
 
 use crate::stop::Stop;
 use crate::words::{bytes_at, number_at, path_at, push_word, text_at};
-use cny_base::{Bytes, Path, Refusal, Stop as DiskEnd};
 use content_store::{
     ByteNamer, Contents, FarStop, Namer, NoContents, Sha1Namer, clear, get, has, put, put_file,
 };
@@ -11,7 +10,8 @@ use disk_words::Quiet;
 use hex::FromHex;
 use sha1::Sha1;
 use std::alloc::Global;
-use tree_disk::steps;
+use tree_memory::cny_base::{Bytes, Path, Refusal, Stop as DiskEnd};
+use tree_memory::tree_disk::steps;
 
 // The greatest number of times that a word is repeated.
 const MOST: u64 = 200_000;

@@ -1,9 +1,9 @@
 //! What stands in a tree, as a text.
 use crate::stop::Stop;
-use cny_base::{Copies, Mode, Node, Path, octal};
 use std::alloc::Global;
-use tree_disk::{DiskStop, TreeDisk};
 use tree_memory::MemoryTree;
+use tree_memory::cny_base::{Copies, Mode, Node, Path, octal};
+use tree_memory::tree_disk::{DiskStop, TreeDisk};
 
 // More nodes than any of the trees has.
 const MANY: usize = 1000;

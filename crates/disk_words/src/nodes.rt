@@ -3,8 +3,8 @@
 use crate::quiet::Quiet;
 use crate::stop::Stop;
 use crate::words::{contents_at, mode_at, parts_of, path_at, text_at};
-use cny_base::{Fails, Mode, Node, Path, Target};
 use std::alloc::Global;
+use tree_memory::cny_base::{Fails, Mode, Node, Path, Target};
 use tree_memory::{MemoryTree, Nodes, TreeFault};
 
 fn dir_of(alloc: Global, words: &[String]) -> Result<(Path, Node), Stop> {

@@ -1,13 +1,13 @@
 //! A disk in memory that tells contracts nothing of its tree: what its nodes don't allow counts as a fault. It counts its calls.
 ghost use Rattle.std.specs.Prelude.{◌≡◌, ◌≤◌, IfOk, IsErrOf, Ok};
-ghost use Rattle.cny_base.specs.Count.{Rose};
-ghost use Rattle.tree_disk.specs.declared.disk.DiskStop.TheVariants.{Failed, Memory, Refused};
-ghost use Rattle.tree_disk.specs.Untold.{untold, untold_laws};
+ghost use Rattle.tree_memory.specs.cny-base.Count.{Rose};
+ghost use Rattle.tree_memory.specs.tree-disk.declared.disk.DiskStop.TheVariants.{Failed, Memory, Refused};
+ghost use Rattle.tree_memory.specs.tree-disk.Untold.{untold, untold_laws};
 
-use cny_base::{Mode, Names, Path, Target};
 use std::alloc::Global;
-use tree_disk::{DiskStop, Look, TreeDisk};
 use tree_memory::MemoryTree;
+use tree_memory::cny_base::{Mode, Names, Path, Target};
+use tree_memory::tree_disk::{DiskStop, Look, TreeDisk};
 
 /// The disk, how often a call of it failed or wasn't allowed, and how many calls were made: all of them, and those that looked at a
 /// path, read of a file or listed a directory.

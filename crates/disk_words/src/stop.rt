@@ -1,6 +1,6 @@
 //! Why a line has no answer.
-use cny_base::{OutOfMemory, TextFault};
 use std::alloc::{AllocError, AllocFailed};
+use tree_memory::cny_base::{OutOfMemory, TextFault};
 
 /// Why a line has no answer.
 #[derive(Debug, Drop)]

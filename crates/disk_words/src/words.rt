@@ -1,7 +1,7 @@
 //! The words of a line.
 use crate::stop::Stop;
-use cny_base::{Bytes, Mode, Path, read_octal};
 use std::alloc::Global;
+use tree_memory::cny_base::{Bytes, Mode, Path, read_octal};
 
 /// The parts of a text between these separators.
 pub fn parts_of(alloc: Global, text: &str, separator: char) -> Result<Vec<String>, Stop> {

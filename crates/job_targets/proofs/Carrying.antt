@@ -15,10 +15,10 @@ use Rattle.std.proofs.lemmas.List.Sorted.{searchable_from_sorted}
 use Rattle.std.proofs.lemmas.Map.Keys.{Less-from_sorted}
 use Rattle.std.proofs.lemmas.Slice.Eq.{bytes_eq-Decides}
 use Rattle.sha1.specs.Sha1.{sha1}
-use Rattle.tree_disk.specs.Laws.{same_itself, same_means}
+use Rattle.local_db.specs.tree-disk.Laws.{same_itself, same_means}
 use Rattle.change_set.specs.declared.change.Carried.{Carried}
 use Rattle.change_set.specs.ChangeSet.{content_cmp}
-use Rattle.saved_contents.specs.Old.{IsContent}
+use Rattle.job_targets.specs.Old.{IsContent}
 use Rattle.job_targets.specs.Contents.{carried_bytes, of_size}
 
 -- how the name of a content compares with the one that is looked for

@@ -7,13 +7,13 @@ use Rattle.std.specs.Ordering.{nat_cmp, is_eq}
 use Rattle.std.specs.declared.cmp.Ordering.TheVariants.{Less}
 use Rattle.std.proofs.lemmas.Bool.{cases_Bool}
 use Rattle.std.proofs.lemmas.List.Elements.{All-cons, All-head, All-nil, All-tail}
-use Rattle.cny_base.specs.Reserved.{is_pinned}
-use Rattle.cny_base.specs.declared.options.Options.{Options}
-use Rattle.file_stream.specs.declared.record.FileRec.{FileRec}
-use Rattle.file_stream.specs.Record.{is_dir}
-use Rattle.trove_stream.specs.declared.parts.TroveParts.{TroveParts}
-use Rattle.tree_disk.specs.Laws.{same_itself, same_means}
-use Rattle.tree_disk.specs.Tree.{Name, Tree, same_name}
+use Rattle.local_db.specs.cny-base.Reserved.{is_pinned}
+use Rattle.local_db.specs.cny-base.declared.options.Options.{Options}
+use Rattle.local_db.specs.file-stream.declared.record.FileRec.{FileRec}
+use Rattle.local_db.specs.file-stream.Record.{is_dir}
+use Rattle.local_db.specs.trove-stream.declared.parts.TroveParts.{TroveParts}
+use Rattle.local_db.specs.tree-disk.Laws.{same_itself, same_means}
+use Rattle.local_db.specs.tree-disk.Tree.{Name, Tree, same_name}
 use Rattle.tree_scan.specs.declared.mark.Mark.{Mark}
 use Rattle.tree_scan.specs.declared.mark.Mark.TheVariants as mark
 use Rattle.tree_scan.specs.MarkLaws.{same_mark_itself, same_mark_means}

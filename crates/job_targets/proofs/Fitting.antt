@@ -2,16 +2,16 @@
 use Rattle.std.proofs.Common.{IsTrue, List, All, Result, Ok, Err, ◌∙◌, subst}
 use Rattle.std.specs.Prelude.{IfOk}
 use Rattle.std.specs.List.Sorted.{IsStrictlySortedBy}
-use Rattle.cny_base.specs.declared.refusal.Refusal.{Refusal}
-use Rattle.cny_base.specs.declared.stop.Stop.{Stop}
+use Rattle.local_db.specs.cny-base.declared.refusal.Refusal.{Refusal}
+use Rattle.local_db.specs.cny-base.declared.stop.Stop.{Stop}
 use Rattle.change_set.specs.declared.change.Carried.{Carried}
 use Rattle.conflict_plan.specs.declared.planned.Planned.{Planned}
 use Rattle.conflict_plan.specs.Orphans.{IsSeenPlan}
 use Rattle.conflict_plan.specs.Plan.{planned_cmp}
 use Rattle.content_store.specs.Contents.{Answers, ContentsModel}
-use Rattle.saved_contents.specs.declared.entry.Entry.{Entry}
-use Rattle.tree_disk.specs.Disk.{DiskModel}
-use Rattle.tree_disk.specs.Tree.{Tree}
+use Rattle.job_targets.specs.declared.entry.Entry.{Entry}
+use Rattle.local_db.specs.tree-disk.Disk.{DiskModel}
+use Rattle.local_db.specs.tree-disk.Tree.{Tree}
 use Rattle.job_targets.specs.declared.targets.Targets.{Targets}
 use Rattle.job_targets.specs.Gathering.{Gathers}
 use Rattle.job_targets.specs.Outcome.{AreChanges, AreGiven, AreHeld, AreOver, AreSavable, AreTargets, FitPlan}

@@ -1,13 +1,13 @@
 -- How runs of calls that read a disk and search contents follow one another.
 use Rattle.std.proofs.Common.{◌≡◌, ℕ, Bool, IsTrue, List, Option, Result, Ok, Err, IsErrAnd, sym, subst, arith}
-use Rattle.cny_base.specs.Count.{Rose}
-use Rattle.cny_base.specs.declared.refusal.Refusal.{Refusal}
-use Rattle.cny_base.specs.declared.stop.Stop.{Stop}
-use Rattle.cny_base.specs.declared.stop.Stop.TheVariants.{Refused, Memory, Failed, Damaged, FarFailed, FarDamaged}
-use Rattle.tree_disk.specs.Tree.{Name, Tree}
-use Rattle.tree_disk.specs.Disk.{DiskModel, IsDisk}
-use Rattle.tree_disk.specs.Moments.{same_start, same_on, time_start, time_on, rose_before}
-use Rattle.tree_disk.specs.Steps.{Found, Tests}
+use Rattle.local_db.specs.cny-base.Count.{Rose}
+use Rattle.local_db.specs.cny-base.declared.refusal.Refusal.{Refusal}
+use Rattle.local_db.specs.cny-base.declared.stop.Stop.{Stop}
+use Rattle.local_db.specs.cny-base.declared.stop.Stop.TheVariants.{Refused, Memory, Failed, Damaged, FarFailed, FarDamaged}
+use Rattle.local_db.specs.tree-disk.Tree.{Name, Tree}
+use Rattle.local_db.specs.tree-disk.Disk.{DiskModel, IsDisk}
+use Rattle.local_db.specs.tree-disk.Moments.{same_start, same_on, time_start, time_on, rose_before}
+use Rattle.local_db.specs.tree-disk.Steps.{Found, Tests}
 use Rattle.content_store.specs.Contents.{ContentsModel, IsSource, KeepsContents, StopsFor, stop_of_far}
 use Rattle.content_store.specs.declared.contents.FarStop.{FarStop}
 use Rattle.content_store.specs.declared.contents.FarStop.TheVariants as far_stop

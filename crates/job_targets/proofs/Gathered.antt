@@ -1,16 +1,16 @@
 -- The writes of planned paths, gathered one after the other.
 use Rattle.std.proofs.Common.{◌≡◌, ℕ, ◌+◌, ◌<◌, List, [], ◌∷◌, ◌++◌, length, take, drop, get_or, suc, Option, Some, None, Result, Ok, Err, IsErrAnd, sym, subst}
-use Rattle.cny_base.specs.declared.refusal.Refusal.{Refusal}
-use Rattle.cny_base.specs.declared.refusal.Refusal.TheVariants.{MissingContent}
-use Rattle.cny_base.specs.declared.stop.Stop.{Stop}
+use Rattle.local_db.specs.cny-base.declared.refusal.Refusal.{Refusal}
+use Rattle.local_db.specs.cny-base.declared.refusal.Refusal.TheVariants.{MissingContent}
+use Rattle.local_db.specs.cny-base.declared.stop.Stop.{Stop}
 use Rattle.change_set.specs.declared.change.Carried.{Carried}
 use Rattle.conflict_plan.specs.declared.planned.Planned.{Planned}
 use Rattle.content_store.specs.Contents.{Answers, ContentsModel, IsSource}
-use Rattle.file_stream.specs.declared.record.FileRec.{FileRec}
-use Rattle.file_stream.specs.declared.record.FileRec.TheVariants as rec
-use Rattle.journal_log.specs.declared.put.Put.{Put}
-use Rattle.tree_disk.specs.Disk.{DiskModel, IsDisk}
-use Rattle.tree_disk.specs.Tree.{Tree}
+use Rattle.local_db.specs.file-stream.declared.record.FileRec.{FileRec}
+use Rattle.local_db.specs.file-stream.declared.record.FileRec.TheVariants as rec
+use Rattle.local_db.specs.journal-log.declared.put.Put.{Put}
+use Rattle.local_db.specs.tree-disk.Disk.{DiskModel, IsDisk}
+use Rattle.local_db.specs.tree-disk.Tree.{Tree}
 use Rattle.job_targets.specs.Gathering.{Gathers, no_refusal}
 use Rattle.job_targets.specs.Outcome.{IsFirstUnfound, IsMissing, IsUnfound}
 use Rattle.job_targets.specs.Targets.{ArePutsOf, IsPutOf}

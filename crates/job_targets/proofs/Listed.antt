@@ -13,20 +13,20 @@ use Rattle.change_set.specs.declared.change.Carried.{Carried}
 use Rattle.conflict_plan.specs.declared.planned.Planned.{Planned}
 use Rattle.conflict_plan.specs.Orphans.{IsSeenPlan}
 use Rattle.conflict_plan.specs.Plan.{mark_of_want, planned_cmp}
-use Rattle.file_stream.specs.declared.record.FileRec.{FileRec}
-use Rattle.file_stream.specs.declared.record.FileRec.TheVariants as rec
-use Rattle.journal_log.specs.declared.put.Put.{Put}
-use Rattle.journal_log.specs.declared.put.Want.{Want}
-use Rattle.journal_log.specs.Targets.{node_of}
-use Rattle.journal_log.specs.WriteSet.{ComesBefore, Rises}
-use Rattle.saved_contents.specs.declared.entry.Entry.{Entry}
-use Rattle.saved_contents.specs.Old.{is_staged}
-use Rattle.system_state.specs.MarkBytes.{IsMark}
-use Rattle.system_state.specs.Record as state
-use Rattle.system_state.specs.Record.{entry_cmp, IsEntry}
-use Rattle.system_state.specs.Steps.{want_of}
-use Rattle.system_state.specs.SystemState.{IsTellable}
-use Rattle.tree_disk.specs.Tree.{Name, Tree}
+use Rattle.local_db.specs.file-stream.declared.record.FileRec.{FileRec}
+use Rattle.local_db.specs.file-stream.declared.record.FileRec.TheVariants as rec
+use Rattle.local_db.specs.journal-log.declared.put.Put.{Put}
+use Rattle.local_db.specs.journal-log.declared.put.Want.{Want}
+use Rattle.local_db.specs.journal-log.Targets.{node_of}
+use Rattle.local_db.specs.journal-log.WriteSet.{ComesBefore, Rises}
+use Rattle.job_targets.specs.declared.entry.Entry.{Entry}
+use Rattle.job_targets.specs.Old.{is_staged}
+use Rattle.local_db.specs.MarkBytes.{IsMark}
+use Rattle.local_db.specs.Record as state
+use Rattle.local_db.specs.Record.{entry_cmp, IsEntry}
+use Rattle.local_db.specs.Steps.{want_of}
+use Rattle.local_db.specs.SystemState.{IsTellable}
+use Rattle.local_db.specs.tree-disk.Tree.{Name, Tree}
 use Rattle.tree_scan.specs.Marks.{fingerprint}
 use Rattle.tree_scan.specs.declared.mark.Mark.{Mark}
 use Rattle.content_store.specs.Contents.{Answers}

@@ -4,18 +4,18 @@ use Rattle.std.specs.Prelude.{◌==◌, if◌then◌else◌}
 use Rattle.std.specs.Str.{bytes_eq}
 use Rattle.std.proofs.lemmas.Bool.{cases_Bool}
 use Rattle.std.proofs.lemmas.Bool.Decides.{nat_tests}
-use Rattle.cny_base.specs.declared.limits.TheConstants.{CONTENT_LIMIT}
-use Rattle.cny_base.specs.declared.node.Node.{Node}
-use Rattle.cny_base.specs.declared.node.Node.TheVariants as node
-use Rattle.journal_log.specs.declared.put.Want.TheVariants as want
-use Rattle.journal_log.specs.Targets.{node_of}
+use Rattle.local_db.specs.cny-base.declared.limits.TheConstants.{CONTENT_LIMIT}
+use Rattle.local_db.specs.cny-base.declared.node.Node.{Node}
+use Rattle.local_db.specs.cny-base.declared.node.Node.TheVariants as node
+use Rattle.local_db.specs.journal-log.declared.put.Want.TheVariants as want
+use Rattle.local_db.specs.journal-log.Targets.{node_of}
 use Rattle.sha1.specs.Sha1.{sha1}
-use Rattle.saved_contents.specs.Old.{IsContent}
-use Rattle.system_state.specs.MarkBytes.{IsMark}
-use Rattle.system_state.specs.Steps.{want_of}
-use Rattle.system_state.specs.SystemState.{IsSmall, IsTellable}
-use Rattle.tree_disk.specs.Rows.{bytes_of}
-use Rattle.tree_disk.specs.Tree.{is_file}
+use Rattle.job_targets.specs.Old.{IsContent}
+use Rattle.local_db.specs.MarkBytes.{IsMark}
+use Rattle.local_db.specs.Steps.{want_of}
+use Rattle.local_db.specs.SystemState.{IsSmall, IsTellable}
+use Rattle.local_db.specs.tree-disk.Rows.{bytes_of}
+use Rattle.local_db.specs.tree-disk.Tree.{is_file}
 use Rattle.tree_scan.specs.declared.mark.Mark.{Mark}
 use Rattle.tree_scan.specs.declared.mark.Mark.TheVariants.{Nothing, Dir, File, Link}
 use Rattle.tree_scan.specs.Marks.{fingerprint}

@@ -4,8 +4,8 @@ use Rattle.std.specs.Option.{option_or}
 use Rattle.std.specs.Str.{bytes_eq}
 use Rattle.change_set.specs.declared.change.Carried.{Carried}
 use Rattle.conflict_plan.specs.declared.planned.Planned.{Planned}
-use Rattle.tree_disk.specs.Rows.{bytes_at}
-use Rattle.tree_disk.specs.Tree.{Tree}
+use Rattle.local_db.specs.tree-disk.Rows.{bytes_at}
+use Rattle.local_db.specs.tree-disk.Tree.{Tree}
 use Rattle.tree_scan.specs.declared.mark.Mark.{Mark}
 use Rattle.tree_scan.specs.declared.mark.Mark.TheVariants.{Nothing, Dir, File, Link}
 use Rattle.content_store.specs.Contents.{Answers}

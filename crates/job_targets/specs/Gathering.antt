@@ -1,11 +1,11 @@
 -- Runs of calls that only read a disk and search contents, and how they end.
 use Rattle.std.specs.Prelude.{ℕ, ◌≤◌, Bool, IsTrue, List, Result, Ok, Err}
-use Rattle.cny_base.specs.Count.{Rose}
-use Rattle.cny_base.specs.declared.refusal.Refusal.{Refusal}
-use Rattle.cny_base.specs.declared.stop.Stop.{Stop}
-use Rattle.cny_base.specs.declared.stop.Stop.TheVariants.{Refused, Memory, Failed, Damaged, FarFailed, FarDamaged}
-use Rattle.tree_disk.specs.Tree.{Name, Tree}
-use Rattle.tree_disk.specs.Disk.{DiskModel, HasRead}
+use Rattle.local_db.specs.cny-base.Count.{Rose}
+use Rattle.local_db.specs.cny-base.declared.refusal.Refusal.{Refusal}
+use Rattle.local_db.specs.cny-base.declared.stop.Stop.{Stop}
+use Rattle.local_db.specs.cny-base.declared.stop.Stop.TheVariants.{Refused, Memory, Failed, Damaged, FarFailed, FarDamaged}
+use Rattle.local_db.specs.tree-disk.Tree.{Name, Tree}
+use Rattle.local_db.specs.tree-disk.Disk.{DiskModel, HasRead}
 use Rattle.content_store.specs.Contents.{ContentsModel, IsDamagedSearch, KeepsContents}
 
 -- where it tells what is damaged, what stands at this path fails a cross-check, so that a name that was searched has no answer

@@ -2,27 +2,27 @@
 use Rattle.std.specs.Prelude.{◌≡◌, ◌≢◌, ℕ, false, IsTrue, List, ◌∷◌, ◌++◌, map, Option, Some, None, All}
 use Rattle.std.specs.FinMap.{get}
 use Rattle.std.specs.List.Sorted.{IsStrictlySortedBy}
-use Rattle.cny_base.specs.declared.refusal.Fault.{Fault}
-use Rattle.cny_base.specs.declared.refusal.Fault.TheVariants as fault
-use Rattle.cny_base.specs.declared.refusal.Refusal.{Refusal}
-use Rattle.cny_base.specs.declared.refusal.Refusal.TheVariants.{MissingContent, TooLarge, Collision}
-use Rattle.cny_base.specs.declared.refusal.What.{What}
-use Rattle.cny_base.specs.declared.refusal.What.TheVariants.{Local}
-use Rattle.cny_base.specs.declared.stop.Stop.{Stop}
-use Rattle.cny_base.specs.declared.stop.Stop.TheVariants.{Refused, Memory, Failed, Damaged, FarFailed, FarDamaged}
+use Rattle.local_db.specs.cny-base.declared.refusal.Fault.{Fault}
+use Rattle.local_db.specs.cny-base.declared.refusal.Fault.TheVariants as fault
+use Rattle.local_db.specs.cny-base.declared.refusal.Refusal.{Refusal}
+use Rattle.local_db.specs.cny-base.declared.refusal.Refusal.TheVariants.{MissingContent, TooLarge, Collision}
+use Rattle.local_db.specs.cny-base.declared.refusal.What.{What}
+use Rattle.local_db.specs.cny-base.declared.refusal.What.TheVariants.{Local}
+use Rattle.local_db.specs.cny-base.declared.stop.Stop.{Stop}
+use Rattle.local_db.specs.cny-base.declared.stop.Stop.TheVariants.{Refused, Memory, Failed, Damaged, FarFailed, FarDamaged}
 use Rattle.change_set.specs.declared.change.Carried.{Carried}
 use Rattle.conflict_plan.specs.declared.planned.Planned.{Planned}
-use Rattle.file_stream.specs.declared.record.FileRec.{FileRec}
-use Rattle.file_stream.specs.declared.record.FileRec.TheVariants as rec
-use Rattle.journal_log.specs.declared.put.Put.{Put}
-use Rattle.journal_log.specs.Targets.{node_of}
-use Rattle.saved_contents.specs.declared.entry.Entry.{Entry}
-use Rattle.saved_contents.specs.Agree.{AllAgree, IsFirstCollision}
-use Rattle.saved_contents.specs.Old.{is_staged}
-use Rattle.system_state.specs.MarkBytes.{IsMark}
-use Rattle.system_state.specs.Record.{entry_cmp, IsEntry}
-use Rattle.system_state.specs.SystemState.{IsTellable}
-use Rattle.tree_disk.specs.Tree.{Tree, may_stand}
+use Rattle.local_db.specs.file-stream.declared.record.FileRec.{FileRec}
+use Rattle.local_db.specs.file-stream.declared.record.FileRec.TheVariants as rec
+use Rattle.local_db.specs.journal-log.declared.put.Put.{Put}
+use Rattle.local_db.specs.journal-log.Targets.{node_of}
+use Rattle.job_targets.specs.declared.entry.Entry.{Entry}
+use Rattle.job_targets.specs.Agree.{AllAgree, IsFirstCollision}
+use Rattle.job_targets.specs.Old.{is_staged}
+use Rattle.local_db.specs.MarkBytes.{IsMark}
+use Rattle.local_db.specs.Record.{entry_cmp, IsEntry}
+use Rattle.local_db.specs.SystemState.{IsTellable}
+use Rattle.local_db.specs.tree-disk.Tree.{Tree, may_stand}
 use Rattle.tree_scan.specs.Marks.{fingerprint}
 use Rattle.job_targets.specs.declared.targets.Targets.{Targets}
 use Rattle.job_targets.specs.Contents.{Finds}

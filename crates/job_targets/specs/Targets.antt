@@ -2,24 +2,24 @@
 use Rattle.std.specs.Prelude.{◌≡◌, ◌≢◌, ℕ, nat_lt, false, if◌then◌else◌, List, [], ◌∷◌, map, Option, Some, None}
 use Rattle.std.specs.FinMap.{get}
 use Rattle.std.specs.Option.{option_or}
-use Rattle.cny_base.specs.declared.limits.TheConstants.{CONTENT_LIMIT}
+use Rattle.local_db.specs.cny-base.declared.limits.TheConstants.{CONTENT_LIMIT}
 use Rattle.change_set.specs.declared.change.Carried.{Carried}
 use Rattle.conflict_plan.specs.declared.planned.Planned.{Planned}
 use Rattle.conflict_plan.specs.Plan.{mark_of_want}
-use Rattle.file_stream.specs.declared.record.FileRec.{FileRec}
-use Rattle.file_stream.specs.declared.record.FileRec.TheVariants as rec
-use Rattle.journal_log.specs.declared.put.Put.{Put}
-use Rattle.journal_log.specs.declared.put.Want.{Want}
-use Rattle.journal_log.specs.declared.put.Want.TheVariants as want
-use Rattle.journal_log.specs.Targets.{node_of}
-use Rattle.saved_contents.specs.declared.entry.Entry.{Entry}
-use Rattle.saved_contents.specs.Old.{HasMark, is_staged}
-use Rattle.system_state.specs.MarkBytes.{IsMark}
-use Rattle.system_state.specs.Record as state
-use Rattle.system_state.specs.Record.{IsEntry}
-use Rattle.system_state.specs.Steps.{want_of}
-use Rattle.system_state.specs.SystemState.{IsSmall}
-use Rattle.tree_disk.specs.Tree.{Tree}
+use Rattle.local_db.specs.file-stream.declared.record.FileRec.{FileRec}
+use Rattle.local_db.specs.file-stream.declared.record.FileRec.TheVariants as rec
+use Rattle.local_db.specs.journal-log.declared.put.Put.{Put}
+use Rattle.local_db.specs.journal-log.declared.put.Want.{Want}
+use Rattle.local_db.specs.journal-log.declared.put.Want.TheVariants as want
+use Rattle.local_db.specs.journal-log.Targets.{node_of}
+use Rattle.job_targets.specs.declared.entry.Entry.{Entry}
+use Rattle.job_targets.specs.Old.{HasMark, is_staged}
+use Rattle.local_db.specs.MarkBytes.{IsMark}
+use Rattle.local_db.specs.Record as state
+use Rattle.local_db.specs.Record.{IsEntry}
+use Rattle.local_db.specs.Steps.{want_of}
+use Rattle.local_db.specs.SystemState.{IsSmall}
+use Rattle.local_db.specs.tree-disk.Tree.{Tree}
 use Rattle.tree_scan.specs.declared.mark.Mark.{Mark}
 use Rattle.tree_scan.specs.declared.mark.Mark.TheVariants.{Nothing, Dir, File, Link}
 use Rattle.tree_scan.specs.Marks.{fingerprint}

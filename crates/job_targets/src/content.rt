@@ -7,20 +7,20 @@ ghost use Rattle.change_set.specs.declared.change.Carried as declared;
 ghost use Rattle.change_set.specs.ChangeSet.{content_cmp};
 ghost use Rattle.conflict_plan.specs.Orphans.{IsSeenPlan};
 ghost use Rattle.content_store.specs.Contents.{KeepsContents, StopsFor};
-ghost use Rattle.saved_contents.specs.Old.{IsContent};
-ghost use Rattle.tree_disk.specs.Rows.{bytes_at, is_file_at};
-ghost use Rattle.tree_disk.specs.Steps.{IsDiskStop, Tests};
+ghost use Rattle.job_targets.specs.Old.{IsContent};
+ghost use Rattle.local_db.specs.tree-disk.Rows.{bytes_at, is_file_at};
+ghost use Rattle.local_db.specs.tree-disk.Steps.{IsDiskStop, Tests};
 ghost use Rattle.job_targets.specs.Contents as spec;
 ghost use Rattle.job_targets.specs.Contents.{carried_bytes, Finds, FindsElsewhere, IsFarContent, of_size, standing};
 ghost use Rattle.job_targets.specs.Gathering.{Gathers, IsSearchStop, no_refusal};
 
 use change_set::Carried;
-use cny_base::{Bytes, Path, Stop};
 use conflict_plan::Planned;
 use content_store::{Contents, FarStop};
+use local_db::cny_base::{Bytes, Path, Stop};
+use local_db::tree_disk::{TreeDisk, steps};
 use sha1::Sha1;
 use std::alloc::Global;
-use tree_disk::{TreeDisk, steps};
 use tree_scan::Mark;
 
 // The content that is carried under a name, if it has this size.

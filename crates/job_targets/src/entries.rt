@@ -3,22 +3,24 @@ ghost use Rattle.std.specs.Prelude.{◌≡◌, ◌≤◌, IfErr, IfOk, IsTrue, N
 ghost use Rattle.std.specs.FinMap.{get};
 ghost use Rattle.conflict_plan.specs.Orphans.{IsSeenPlan};
 ghost use Rattle.conflict_plan.specs.Plan.{mark_of_want};
-ghost use Rattle.system_state.specs.MarkBytes.{IsMark};
-ghost use Rattle.system_state.specs.Steps.{want_of};
-ghost use Rattle.tree_disk.specs.Rows.{bytes_at, is_file_at};
-ghost use Rattle.tree_disk.specs.Steps.{Tests};
+ghost use Rattle.local_db.specs.MarkBytes.{IsMark};
+ghost use Rattle.local_db.specs.Steps.{want_of};
+ghost use Rattle.local_db.specs.tree-disk.Rows.{bytes_at, is_file_at};
+ghost use Rattle.local_db.specs.tree-disk.Steps.{Tests};
 ghost use Rattle.tree_scan.specs.declared.mark.Mark.TheVariants as mark;
 ghost use Rattle.tree_scan.specs.Marks.{fingerprint_of_record};
 ghost use Rattle.job_targets.specs.Outcome.{IsGrownStop};
 ghost use Rattle.job_targets.specs.Targets.{entries_at, entry_at, first_large, HasEntry, HaveEntries, IsOldWant, large_size};
 
-use cny_base::{Bytes, CONTENT_LIMIT, Copies, Mode, OutOfMemory, Path, Refusal, Stop, What};
+use crate::entry::{Entries, Entry};
 use conflict_plan::Planned;
-use file_stream::FileRec;
-use journal_log::Want;
-use saved_contents::{Entries, Entry};
+use local_db::cny_base::{
+    Bytes, CONTENT_LIMIT, Copies, Mode, OutOfMemory, Path, Refusal, Stop, What,
+};
+use local_db::file_stream::FileRec;
+use local_db::journal_log::Want;
+use local_db::tree_disk::{TreeDisk, steps};
 use std::alloc::Global;
-use tree_disk::{TreeDisk, steps};
 use tree_scan::Mark;
 
 // The fingerprint of a file.

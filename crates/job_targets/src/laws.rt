@@ -1,8 +1,8 @@
 //! Laws of plans.
 ghost use Rattle.std.specs.Prelude.{List, All};
-ghost use Rattle.cny_base.specs.declared.options.Options.{Options};
-ghost use Rattle.trove_stream.specs.declared.parts.TroveParts.{TroveParts};
-ghost use Rattle.tree_disk.specs.Tree.{Tree};
+ghost use Rattle.local_db.specs.cny-base.declared.options.Options.{Options};
+ghost use Rattle.local_db.specs.trove-stream.declared.parts.TroveParts.{TroveParts};
+ghost use Rattle.local_db.specs.tree-disk.Tree.{Tree};
 ghost use Rattle.conflict_plan.specs.declared.planned.Planned.{Planned};
 ghost use Rattle.conflict_plan.specs.Orphans.{IsSeenPlan};
 ghost use Rattle.conflict_plan.specs.Plan.{ArePlanned};

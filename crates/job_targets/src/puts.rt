@@ -6,9 +6,9 @@ ghost use Rattle.change_set.specs.declared.change.Carried as declared;
 ghost use Rattle.change_set.specs.ChangeSet.{content_cmp};
 ghost use Rattle.conflict_plan.specs.Orphans.{IsSeenPlan};
 ghost use Rattle.conflict_plan.specs.Plan.{mark_of_want, planned_cmp};
-ghost use Rattle.journal_log.specs.Targets.{node_of};
-ghost use Rattle.saved_contents.specs.Old.{HasMark};
-ghost use Rattle.tree_disk.specs.Tree.{may_stand};
+ghost use Rattle.local_db.specs.journal-log.Targets.{node_of};
+ghost use Rattle.job_targets.specs.Old.{HasMark};
+ghost use Rattle.local_db.specs.tree-disk.Tree.{may_stand};
 ghost use Rattle.tree_scan.specs.declared.mark.Mark.TheVariants as mark;
 ghost use Rattle.tree_scan.specs.Marks.{fingerprint_of_record};
 ghost use Rattle.job_targets.specs.Gathering.{Gathers};
@@ -17,13 +17,13 @@ ghost use Rattle.job_targets.specs.Targets.{ArePutsOf, HasPut, HavePuts, IsFound
 
 use crate::content::find_content;
 use change_set::Carried;
-use cny_base::{Copies, Mode, Refusal, Stop};
 use conflict_plan::Planned;
 use content_store::Contents;
-use file_stream::FileRec;
-use journal_log::{Put, Puts, Want};
+use local_db::cny_base::{Copies, Mode, Refusal, Stop};
+use local_db::file_stream::FileRec;
+use local_db::journal_log::{Put, Puts, Want};
+use local_db::tree_disk::{TreeDisk, byte_ranges};
 use std::alloc::Global;
-use tree_disk::{TreeDisk, byte_ranges};
 
 // A file of this mode, with the content that is found. `MissingContent` where none is.
 fn file_want<T: TreeDisk, C: Contents>(

@@ -4,8 +4,8 @@ ghost use Rattle.job_targets.specs.Outcome.{IsLargeFault};
 ghost use Rattle.job_targets.specs.Targets as spec;
 ghost use Rattle.job_targets.specs.Targets.{first_large};
 
-use cny_base::{CONTENT_LIMIT, Fault, Refusal, What};
 use conflict_plan::Planned;
+use local_db::cny_base::{CONTENT_LIMIT, Fault, Refusal, What};
 use tree_scan::Mark;
 
 // The size of a file above the limit.

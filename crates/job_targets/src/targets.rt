@@ -10,17 +10,18 @@ ghost use Rattle.job_targets.specs.Gathering.{Gathers};
 ghost use Rattle.job_targets.specs.Outcome.{AreChanges, AreGiven, AreHeld, AreOver, AreSavable, AreTargets, FitPlan, IsFirstRefusal, IsTargetStop};
 ghost use Rattle.job_targets.specs.Targets.{IsChange};
 
+use crate::agreeing::stashable;
 use crate::entries::entries_of;
+use crate::entry::Entries;
 use crate::puts::{put_ranges, puts_of};
 use crate::sizes::check_sizes;
 use change_set::Carried;
-use cny_base::{Copies, OutOfMemory, Stop};
 use conflict_plan::Planned;
 use content_store::Contents;
-use journal_log::Puts;
-use saved_contents::{Entries, stashable};
+use local_db::cny_base::{Copies, OutOfMemory, Stop};
+use local_db::journal_log::Puts;
+use local_db::tree_disk::TreeDisk;
 use std::alloc::Global;
-use tree_disk::TreeDisk;
 
 /// What a job is to make of its paths, and what stood there.
 #[derive(Debug, Drop)]

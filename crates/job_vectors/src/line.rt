@@ -1,12 +1,14 @@
 //! The arguments of a line, and its answer.
-use cny_base::{Bytes, Copies, Fault, Name, OutOfMemory, Path, Refusal, Text, TextFault};
 use cny_dep::Dep;
 use cny_report::refusal_text;
-use file_stream::{FileRec, decode_full};
+use dep_closure::cny_base::{
+    Bytes, Copies, Fault, Name, OutOfMemory, Path, Refusal, Text, TextFault,
+};
+use dep_closure::file_stream::{FileRec, decode_full};
+use dep_closure::trove_parts::{id_text, read_id};
+use dep_closure::trove_stream::{Deps, FileAt, Files, Refs, Trove, encode_full};
 use sha1::Sha1;
 use std::alloc::{AllocError, AllocFailed, Global};
-use trove_id::{id_text, read_id};
-use trove_stream::{Deps, FileAt, Files, Refs, Trove, encode_full};
 
 /// Why a line has no answer.
 #[derive(Debug, Drop)]

@@ -1,10 +1,9 @@
 //! Calls on installed lists.
 use crate::line::{Stop, names_of, push_field, refused, troves_of, troves_text, word};
 use dep_closure::closed;
-use installed_list::Installed;
+use dep_closure::trove_parts::id_text;
+use dep_closure::trove_stream::{Installed, Trove};
 use std::alloc::Global;
-use trove_id::id_text;
-use trove_stream::Trove;
 use update_job as job;
 use update_job::Change;
 

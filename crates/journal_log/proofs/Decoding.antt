@@ -5,8 +5,8 @@ use Rattle.std.specs.Int.{w32, to_be_bytes}
 use Rattle.std.proofs.lemmas.List.{append_cancel_left, length-drop}
 use Rattle.std.proofs.lemmas.List.Concat.{flat_map-append}
 use Rattle.std.proofs.lemmas.List.Elements.{All-head, All-tail, All-push, All-weaker}
-use Rattle.cny_base.specs.Path.{is_path}
-use Rattle.cny_base.specs.StrField.{str}
+use Rattle.tree_disk.specs.cny-base.Path.{is_path}
+use Rattle.tree_disk.specs.cny-base.StrField.{str}
 use Rattle.cny_stream.specs.Item.{FitsItem, item_bytes, IsItemAt, is_expected}
 use Rattle.cny_stream.specs.ItemLaws.{same_item}
 use Rattle.tree_disk.specs.Tree.{Name}

@@ -11,3 +11,4 @@ pub mod Decoding
 pub mod StagedTests
 pub mod Tails
 pub mod NumberTexts
+pub use Rattle.tree_disk.proofs as tree-disk

@@ -7,10 +7,10 @@ use Rattle.std.proofs.lemmas.Bool.Decides.{nat_tests}
 use Rattle.std.specs.Int.{w16, w32, to_be_bytes, from_be_bytes}
 use Rattle.std.proofs.Math.Seq.{drop-append_seam}
 use Rattle.std.proofs.lemmas.Nat.{from_be_bytes-to_be_bytes_2, from_be_bytes-to_be_bytes_4}
-use Rattle.cny_base.specs.StrField.{FitsStr, str}
-use Rattle.cny_base.specs.Path.{is_path, are_parts}
-use Rattle.cny_base.specs.Target.{is_target, is_shown}
-use Rattle.cny_base.specs.declared.str_field.Span.{Span}
+use Rattle.tree_disk.specs.cny-base.StrField.{FitsStr, str}
+use Rattle.tree_disk.specs.cny-base.Path.{is_path, are_parts}
+use Rattle.tree_disk.specs.cny-base.Target.{is_target, is_shown}
+use Rattle.tree_disk.specs.cny-base.declared.str_field.Span.{Span}
 use Rattle.cny_stream.specs.ItemLaws.{same_front}
 use Rattle.tree_disk.specs.Tree.{Name}
 use Rattle.journal_log.specs.declared.put.Want.{Want}

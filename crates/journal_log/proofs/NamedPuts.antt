@@ -1,6 +1,6 @@
 -- A put whose path a log can name.
 use Rattle.std.proofs.Common.{IsTrue}
-use Rattle.cny_base.specs.Path.{is_path}
+use Rattle.tree_disk.specs.cny-base.Path.{is_path}
 use Rattle.tree_disk.specs.Tree.{Name}
 use Rattle.journal_log.specs.declared.put.Put.{Put}
 use Rattle.journal_log.specs.WriteSet.{CanBeNamed}

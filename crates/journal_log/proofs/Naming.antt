@@ -8,8 +8,8 @@ use Rattle.std.specs.Str.{bytes_eq}
 use Rattle.std.proofs.Math.Seq.{drop-append_seam}
 use Rattle.std.proofs.lemmas.Bool.Decides.{nat_tests}
 use Rattle.std.proofs.lemmas.Map.Text.{is_eq-slice_cmp}
-use Rattle.cny_base.specs.Below.{begins_with, begins, begun, is_below}
-use Rattle.cny_base.specs.Path.{root, join}
+use Rattle.tree_disk.specs.cny-base.Below.{begins_with, begins, begun, is_below}
+use Rattle.tree_disk.specs.cny-base.Path.{root, join}
 use Rattle.tree_disk.specs.Tree.{Name, same_name}
 use Rattle.tree_disk.specs.Laws.{same_means, same_itself}
 use Rattle.tree_disk.specs.Clear.{is_within}

@@ -5,7 +5,7 @@ use Rattle.std.specs.Fmt.{decimal}
 use Rattle.std.proofs.lemmas.Bool.{cases_Bool}
 use Rattle.std.proofs.lemmas.Bool.Decides.{nat_tests}
 use Rattle.std.proofs.Common.{⊎_elim}
-use Rattle.cny_base.specs.Path.{is_path}
+use Rattle.tree_disk.specs.cny-base.Path.{is_path}
 use Rattle.tree_disk.specs.Tree.{Name}
 use Rattle.journal_log.specs.Joined.{front_of}
 use Rattle.journal_log.specs.Own.{staged_file}

@@ -6,8 +6,8 @@ use Rattle.std.proofs.lemmas.List.{length-take, get_or-drop, get_or-take, get_or
 use Rattle.std.proofs.lemmas.Nat.{be_bytes_4}
 use Rattle.std.specs.Prelude.{IsTrue, slice_range}
 use Rattle.std.proofs.Math.Seq.{drop-append_seam}
-use Rattle.cny_base.specs.Path.{is_path}
-use Rattle.cny_base.specs.StrField.{str, IsStrAt}
+use Rattle.tree_disk.specs.cny-base.Path.{is_path}
+use Rattle.tree_disk.specs.cny-base.StrField.{str, IsStrAt}
 use Rattle.journal_log.specs.declared.put.Want.{Want}
 use Rattle.journal_log.specs.declared.put.Want.TheVariants.{Nothing, Dir, File, Link, Staged}
 use Rattle.journal_log.specs.declared.put.Put.{Put}

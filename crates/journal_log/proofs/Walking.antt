@@ -6,9 +6,9 @@ use Rattle.std.specs.Cmp.Lexicographic.{slice_cmp, nat_list_cmp_total}
 use Rattle.std.specs.List.{HoldsAt}
 use Rattle.std.proofs.lemmas.List.{take_all}
 use Rattle.std.proofs.lemmas.List.Elements.{All-contains, Contains-get_or}
-use Rattle.cny_base.specs.Path.{is_path, root, parent}
-use Rattle.cny_base.specs.Below.{is_below, below_parent, above_parent, child_below, none_below_root, parent_shorter}
-use Rattle.cny_base.specs.Parent.{parent_is_path}
+use Rattle.tree_disk.specs.cny-base.Path.{is_path, root, parent}
+use Rattle.tree_disk.specs.cny-base.Below.{is_below, below_parent, above_parent, child_below, none_below_root, parent_shorter}
+use Rattle.tree_disk.specs.cny-base.Parent.{parent_is_path}
 use Rattle.tree_disk.specs.Tree.{Name, same_name}
 use Rattle.tree_disk.specs.Laws.{same_itself}
 use Rattle.journal_log.specs.declared.put.Want.TheVariants.{Nothing}

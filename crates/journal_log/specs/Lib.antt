@@ -10,3 +10,5 @@ pub mod Rules
 pub mod Joined
 pub mod PutItem
 pub mod TwoStrs
+pub use Rattle.tree_disk.specs.cny-base
+pub use Rattle.tree_disk.specs as tree-disk

@@ -1,7 +1,7 @@
 -- The bytes of a log.
 use Rattle.std.specs.Prelude.{◌≡◌, ℕ, ◌<◌, ◌^◌, List, [], ◌∷◌, ◌++◌, length, flat_map, All}
 use Rattle.std.specs.Int.{w16, w32, to_be_bytes}
-use Rattle.cny_base.specs.StrField.{str}
+use Rattle.tree_disk.specs.cny-base.StrField.{str}
 use Rattle.cny_stream.specs.Item.{FitsItem, item_bytes}
 use Rattle.tree_disk.specs.Tree.{Name}
 use Rattle.journal_log.specs.declared.put.Want.{Want}

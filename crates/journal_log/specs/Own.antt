@@ -1,7 +1,7 @@
 -- The names that the journal keeps for itself, in its private directory, the base.
 use Rattle.std.specs.Prelude.{ℕ, Bool, ◌||◌, codes}
 use Rattle.std.specs.Fmt.{decimal}
-use Rattle.cny_base.specs.Path.{join}
+use Rattle.tree_disk.specs.cny-base.Path.{join}
 use Rattle.tree_disk.specs.Tree.{Name, Tree, same_name, AgreesOutside}
 use Rattle.tree_disk.specs.Clear.{is_within}
 

@@ -1,7 +1,7 @@
 -- The items of puts, and the puts of a log.
 use Rattle.std.specs.Prelude.{◌≡◌, ℕ, ◌<◌, ◌^◌, false, IsTrue, List, length, All, slice_range}
 use Rattle.std.specs.Int.{w32, to_be_bytes}
-use Rattle.cny_base.specs.Path.{is_path}
+use Rattle.tree_disk.specs.cny-base.Path.{is_path}
 use Rattle.journal_log.specs.declared.put.Put.{Put}
 use Rattle.journal_log.specs.WriteSet.{IsFormed}
 use Rattle.journal_log.specs.Staged.{is_file_want}

@@ -1,7 +1,7 @@
 -- The rules for the paths of a log, put by put.
 use Rattle.std.specs.Prelude.{◌≡◌, ◌≢◌, false, true, IsTrue, List, All, Contains}
-use Rattle.cny_base.specs.Below.{is_below}
-use Rattle.cny_base.specs.Path.{is_path, root}
+use Rattle.tree_disk.specs.cny-base.Below.{is_below}
+use Rattle.tree_disk.specs.cny-base.Path.{is_path, root}
 use Rattle.tree_disk.specs.Tree.{Name}
 use Rattle.journal_log.specs.declared.put.Want.TheVariants.{Nothing}
 use Rattle.journal_log.specs.declared.put.Put.{Put}

@@ -10,9 +10,9 @@ use Rattle.std.proofs.lemmas.Str.Ascii.{IsAscii-nil, IsAscii-cons}
 use Rattle.std.specs.Fmt.{decimal}
 use Rattle.std.specs.List.{list_all, slice_split, onto_first}
 use Rattle.std.specs.Str.{is_utf8}
-use Rattle.cny_base.specs.Number.{is_digit}
-use Rattle.cny_base.specs.Parent.{join_is_path}
-use Rattle.cny_base.specs.Path.{is_slash, is_plain, is_dots, has_part_form, is_part, are_parts, is_path}
+use Rattle.tree_disk.specs.cny-base.Number.{is_digit}
+use Rattle.tree_disk.specs.cny-base.Parent.{join_is_path}
+use Rattle.tree_disk.specs.cny-base.Path.{is_slash, is_plain, is_dots, has_part_form, is_part, are_parts, is_path}
 use Rattle.tree_disk.specs.Tree.{Name}
 use Rattle.journal_log.specs.Joined.{front_of}
 use Rattle.journal_log.specs.Own.{staged, staged_file}

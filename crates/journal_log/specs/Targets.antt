@@ -1,7 +1,7 @@
 -- What a write set makes of a tree.
 use Rattle.std.specs.Prelude.{Bool, true, false, ◌||◌, List, [], ◌∷◌, Option, Some, None}
-use Rattle.cny_base.specs.declared.node.Node.{Node}
-use Rattle.cny_base.specs.declared.node.Node.TheVariants as node
+use Rattle.tree_disk.specs.cny-base.declared.node.Node.{Node}
+use Rattle.tree_disk.specs.cny-base.declared.node.Node.TheVariants as node
 use Rattle.tree_disk.specs.Tree.{Name, Tree, same_name, put}
 use Rattle.journal_log.specs.declared.put.Want.{Want}
 use Rattle.journal_log.specs.declared.put.Want.TheVariants.{Nothing, Dir, File, Link, Staged}

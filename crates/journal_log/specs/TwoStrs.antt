@@ -1,8 +1,8 @@
 -- Bytes that are two `str` fields, or the number, the size and the digest of a staged file.
 use Rattle.std.specs.Prelude.{◌≡◌, ℕ, ◌≤◌, ◌<◌, ◌^◌, List, ◌++◌, length, slice_range}
 use Rattle.std.specs.Int.{w32, to_be_bytes}
-use Rattle.cny_base.specs.StrField.{FitsStr, str}
-use Rattle.cny_base.specs.declared.str_field.Span.{Span}
+use Rattle.tree_disk.specs.cny-base.StrField.{FitsStr, str}
+use Rattle.tree_disk.specs.cny-base.declared.str_field.Span.{Span}
 
 -- the values of the two fields stand there
 pub record AreTwoStrs (bytes : List ℕ) (first second : Span) : Type 0 where

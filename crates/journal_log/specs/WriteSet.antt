@@ -4,9 +4,9 @@ use Rattle.std.specs.List.{All}
 use Rattle.std.specs.Ordering.{nat_cmp}
 use Rattle.std.specs.declared.cmp.Ordering.TheVariants.{Less}
 use Rattle.std.specs.Cmp.Lexicographic.{slice_cmp}
-use Rattle.cny_base.specs.Path.{is_path, root}
-use Rattle.cny_base.specs.Below.{is_below}
-use Rattle.cny_base.specs.Target as base
+use Rattle.tree_disk.specs.cny-base.Path.{is_path, root}
+use Rattle.tree_disk.specs.cny-base.Below.{is_below}
+use Rattle.tree_disk.specs.cny-base.Target as base
 use Rattle.tree_disk.specs.Tree.{Name}
 use Rattle.journal_log.specs.declared.put.Want.{Want}
 use Rattle.journal_log.specs.declared.put.Want.TheVariants.{Nothing, Dir, File, Link, Staged}

@@ -8,9 +8,9 @@ use crate::encode::{DIR, END, LINK, MAGIC, NOTHING, STAGED};
 use crate::put::{Put, Puts};
 use crate::read_put::read_put;
 use crate::rules::keeps_rules;
-use cny_base::{Path, TextFault};
 use cny_stream::{Item, next_item};
 use std::alloc::Global;
+use tree_disk::cny_base::{Path, TextFault};
 
 // The tags of a log's items.
 const TAGS: &[u8] = &[NOTHING, DIR, LINK, STAGED, END];

@@ -1,17 +1,17 @@
 //! The bytes of the log of a write set.
 ghost use Rattle.std.specs.Prelude.{◌≡◌, ◌≤◌, ◌++◌, [], false, length, IfOk, OnOk, IsTrue, All};
 ghost use Rattle.std.specs.Int.{to_be_bytes, w16, w32};
-ghost use Rattle.cny_base.specs.Path.{is_path};
-ghost use Rattle.cny_base.specs.Target.{is_target};
-ghost use Rattle.cny_base.specs.StrField.{str};
+ghost use Rattle.tree_disk.specs.cny-base.Path.{is_path};
+ghost use Rattle.tree_disk.specs.cny-base.Target.{is_target};
+ghost use Rattle.tree_disk.specs.cny-base.StrField.{str};
 ghost use Rattle.journal_log.specs.Staged.{is_file_want, HaveNoBytes};
 ghost use Rattle.journal_log.specs.WriteSet.{IsFormed, IsStagedForm};
 ghost use Rattle.journal_log.specs.LogBytes.{put_tag, put_value, put_bytes, FitsPut, IsSpelled};
 
 use crate::put::{Put, Puts, Want};
-use cny_base::{Bytes, Mode, OutOfMemory, Path, Target, put_str};
 use cny_stream::put_item;
 use std::alloc::Global;
+use tree_disk::cny_base::{Bytes, Mode, OutOfMemory, Path, Target, put_str};
 
 /// What a log begins with.
 pub(crate) const MAGIC: &[u8] = b"CNYLG01\n";

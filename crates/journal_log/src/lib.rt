@@ -18,3 +18,5 @@ pub use numbering::numbered;
 pub use put::{Put, Puts, Want};
 pub use rules::keeps_rules;
 pub use staged::{StagedNumbers, is_staged_path, staged_path};
+pub use tree_disk;
+pub use tree_disk::cny_base;

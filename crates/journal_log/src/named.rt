@@ -1,13 +1,13 @@
 //! The paths that a log can name.
 ghost use Rattle.std.specs.Prelude.{◌≡◌, ◌↔◌, ◌++◌, ◌<◌, false, length, IsTrue, IfSome, IfNone};
-ghost use Rattle.cny_base.specs.Below.{begins_with};
-ghost use Rattle.cny_base.specs.Path.{is_path};
+ghost use Rattle.tree_disk.specs.cny-base.Below.{begins_with};
+ghost use Rattle.tree_disk.specs.cny-base.Path.{is_path};
 ghost use Rattle.tree_disk.specs.Clear as clear;
 ghost use Rattle.journal_log.specs.Own as own;
 ghost use Rattle.journal_log.specs.WriteSet.{CanBeNamed};
 ghost use Rattle.journal_log.specs.Joined.{front_of};
 
-use cny_base::Path;
+use tree_disk::cny_base::Path;
 
 /// Whether a log in the private directory `base` can name a path: it is neither `/`, the directory
 /// itself nor one of the journal's own files there. Takes no memory.

@@ -5,9 +5,9 @@ ghost use Rattle.journal_log.specs.declared.put.Want.TheVariants as want;
 
 use crate::put::{Put, Puts, Want};
 use crate::staged::StagedNumbers;
-use cny_base::{Copies, Mode, OutOfMemory, Path};
 use sha1::Sha1;
 use std::alloc::Global;
+use tree_disk::cny_base::{Copies, Mode, OutOfMemory, Path};
 
 /// The same write set, with `Want::Staged` in place of each `Want::File`: its number is the least
 /// that no other write has, in path order. Where the length of a file has no room in four bytes, the

@@ -5,8 +5,8 @@ ghost use Rattle.journal_log.specs.Targets.{is_dir_want, is_target};
 ghost use Rattle.journal_log.specs.WriteSet.{Rises};
 
 use crate::search::place_of;
-use cny_base::{Bytes, Copies, Mode, OutOfMemory, Path, Target};
 use std::marker::Model;
+use tree_disk::cny_base::{Bytes, Copies, Mode, OutOfMemory, Path, Target};
 
 /// What is to stand at a path.
 #[derive(Debug, Drop)]

@@ -1,15 +1,15 @@
 //! One put of a log, read from its item.
 ghost use Rattle.std.specs.Prelude.{◌≡◌, ◌≤◌, ◌++◌, ℕ, List, drop, IfOk, IsErrOf, IfSome, IfNone};
 ghost use Rattle.std.specs.Int.{to_be_bytes, w16};
-ghost use Rattle.cny_base.specs.StrField.{FitsStr, str};
+ghost use Rattle.tree_disk.specs.cny-base.StrField.{FitsStr, str};
 ghost use Rattle.journal_log.specs.declared.put.Put.{Put};
 ghost use Rattle.journal_log.specs.PutItem.{IsPutItem};
 ghost use Rattle.journal_log.specs.TwoStrs.{AreTwoStrs, HasTail};
 
 use crate::encode::{DIR, LINK, NOTHING, STAGED};
 use crate::put::{Put, Want};
-use cny_base::{Bytes, Mode, Path, Span, Target, TextFault, next_str};
 use std::alloc::Global;
+use tree_disk::cny_base::{Bytes, Mode, Path, Span, Target, TextFault, next_str};
 
 /// The put that an item with this tag and value spells. `Bad` exactly where it spells none.
 pub(crate) fn read_put(alloc: Global, tag: u8, value: &[u8]) -> Result<Put, TextFault>

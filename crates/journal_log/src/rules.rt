@@ -9,7 +9,7 @@ use crate::named::can_be_named;
 use crate::put::{Put, Puts, Want};
 use crate::search::place_of;
 use crate::staged::is_staged_path;
-use cny_base::{Path, parent_of};
+use tree_disk::cny_base::{Path, parent_of};
 
 /// Whether a log in the private directory `base` can hold a write set: it can name each path, below
 /// a target that isn't a directory nothing stands, and for a file it names a staged file there, which

@@ -2,17 +2,17 @@
 ghost use Rattle.std.specs.Prelude.{◌≡◌, ◌↔◌, ◌==◌, ◌||◌, ◌<◌, ◌^◌, false, ℕ, List, Some, IfOk, IsErrOf, IsTrue, OnOk};
 ghost use Rattle.std.specs.Fmt.{decimal};
 ghost use Rattle.std.specs.List.{list_any};
-ghost use Rattle.cny_base.specs.Path.{is_path, join};
+ghost use Rattle.tree_disk.specs.cny-base.Path.{is_path, join};
 ghost use Rattle.journal_log.specs.Own.{staged_file};
 ghost use Rattle.journal_log.specs.Staged.{is_staged_as, names_staged_at, AreStagedNumbers, NumbersFit};
 ghost use Rattle.journal_log.specs.declared.put.Put.{Put};
 
 use crate::put::{Puts, Want};
-use cny_base::{OutOfMemory, Path, TextFault, decimal};
 use itoa::Buffer;
 use std::alloc::Global;
 use std::collections::BTreeSet;
 use std::marker::Model;
+use tree_disk::cny_base::{OutOfMemory, Path, TextFault, decimal};
 
 /// The path of the staged file with this number, `dir` being the directory of staged bytes. `Bad`
 /// exactly where it has none, the directory's path being too long.

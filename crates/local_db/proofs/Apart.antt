@@ -11,13 +11,13 @@ use Rattle.std.proofs.lemmas.List.Elements.{All-append, All-cons, All-contains, 
 use Rattle.std.proofs.lemmas.List.Quantifiers.{all_pairs_push}
 use Rattle.std.proofs.lemmas.Map.Keys.{Less-from_sorted}
 use Rattle.std.proofs.lemmas.Slice.Eq.{bytes_eq-Decides}
-use Rattle.file_stream.specs.Record.{is_dir}
-use Rattle.trove_items.specs.declared.files.FileAt.{FileAt}
-use Rattle.trove_items.specs.Files.{file_cmp, AreFiles}
-use Rattle.trove_stream.specs.declared.parts.TroveParts.{TroveParts}
-use Rattle.tree_disk.specs.Laws.{same_means, same_itself}
-use Rattle.tree_disk.specs.Tree.{Name, same_name}
-use Rattle.system_state.specs.Installed.{are_apart, SharesDirsAlone}
+use Rattle.change_rel.specs.file-stream.Record.{is_dir}
+use Rattle.change_rel.specs.trove-parts.declared.files.FileAt.{FileAt}
+use Rattle.change_rel.specs.trove-parts.Files.{file_cmp, AreFiles}
+use Rattle.change_rel.specs.trove-stream.declared.parts.TroveParts.{TroveParts}
+use Rattle.tree_journal.specs.tree-disk.Laws.{same_means, same_itself}
+use Rattle.tree_journal.specs.tree-disk.Tree.{Name, same_name}
+use Rattle.local_db.specs.Installed.{are_apart, SharesDirsAlone}
 use Rattle.local_db.specs.Sharing.{Kinds, kind_at, Records, AreNoted, IsApart, AreApart, files_of}
 
 -- ---- lists

@@ -5,9 +5,9 @@ use Rattle.std.specs.Int.{w32, to_be_bytes}
 use Rattle.std.proofs.lemmas.Bool.{eqb-true, or_cases}
 use Rattle.cny_stream.specs.Item.{FitsItem, IsItemAt, is_expected, item_bytes}
 use Rattle.cny_stream.specs.ItemLaws.{SameItem, same_item}
-use Rattle.trove_stream.specs.declared.parts.TroveParts.{TroveParts}
-use Rattle.system_state.specs.declared.format.Format.{Format}
-use Rattle.system_state.specs.Formats.{trove_text}
+use Rattle.change_rel.specs.trove-stream.declared.parts.TroveParts.{TroveParts}
+use Rattle.local_db.specs.declared.format.Format.{Format}
+use Rattle.local_db.specs.Formats.{trove_text}
 use Rattle.local_db.specs.Reading.{IsTroveAt, IsNoTroveAt, IsTroveText, end_bytes}
 
 -- an item that is expected and isn't a trove's is the numbers'

@@ -1,6 +1,6 @@
 -- Errors handed on by `?`.
 use Rattle.std.proofs.Common.{◌≡◌, Result, Err}
-use Rattle.cny_base.specs.declared.text.TextFault.{TextFault}
+use Rattle.change_rel.specs.cny-base.declared.text.TextFault.{TextFault}
 
 -- what was returned is what was handed on
 pub handed_on : {T : Type 0} (r : Result T TextFault) (met told : TextFault) → ((e : TextFault) × (r ≡ Err e) × (e ≡ met)) → r ≡ Err told → met ≡ told

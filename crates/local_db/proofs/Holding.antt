@@ -3,21 +3,21 @@ use Rattle.std.proofs.Common.{◌≡◌, ⊎_elim, ℕ, ◌<◌, ◌≤◌, ◌^
 use Rattle.std.specs.Prelude.{IfOk, IfErr, nat_le}
 use Rattle.std.specs.Int.{w32, to_be_bytes}
 use Rattle.std.proofs.lemmas.List.Elements.{All-nil, All-cons}
-use Rattle.cny_base.specs.Below.{begins_with, begun}
-use Rattle.cny_base.specs.declared.limits.TheConstants.{DATABASE_LIMIT}
-use Rattle.cny_base.specs.declared.node.Node.{Node}
-use Rattle.cny_base.specs.declared.node.Node.TheVariants as node
-use Rattle.cny_base.specs.declared.stop.Stop.{Stop}
-use Rattle.cny_base.specs.declared.stop.Stop.TheVariants as stop
+use Rattle.change_rel.specs.cny-base.Below.{begins_with, begun}
+use Rattle.change_rel.specs.cny-base.declared.limits.TheConstants.{DATABASE_LIMIT}
+use Rattle.change_rel.specs.cny-base.declared.node.Node.{Node}
+use Rattle.change_rel.specs.cny-base.declared.node.Node.TheVariants as node
+use Rattle.change_rel.specs.cny-base.declared.stop.Stop.{Stop}
+use Rattle.change_rel.specs.cny-base.declared.stop.Stop.TheVariants as stop
 use Rattle.content_store.specs.Store.{file_bytes}
-use Rattle.trove_stream.specs.declared.parts.TroveParts.{TroveParts}
-use Rattle.tree_disk.specs.Tree.{Name, Tree}
-use Rattle.system_state.specs.declared.format.Format.{Format}
-use Rattle.system_state.specs.declared.format.Format.TheVariants.{One, Two}
-use Rattle.system_state.specs.Formats.{AreEnds, database_bytes, database_magic, limit, trove_text}
-use Rattle.system_state.specs.Installed.{IsInstalled}
-use Rattle.system_state.specs.Names.{database}
-use Rattle.system_state.specs.Stores.{HoldsDatabase, HoldsFile, absent, written}
+use Rattle.change_rel.specs.trove-stream.declared.parts.TroveParts.{TroveParts}
+use Rattle.tree_journal.specs.tree-disk.Tree.{Name, Tree}
+use Rattle.local_db.specs.declared.format.Format.{Format}
+use Rattle.local_db.specs.declared.format.Format.TheVariants.{One, Two}
+use Rattle.local_db.specs.Formats.{AreEnds, database_bytes, database_magic, limit, trove_text}
+use Rattle.local_db.specs.Installed.{IsInstalled}
+use Rattle.local_db.specs.Names.{database}
+use Rattle.local_db.specs.Stores.{HoldsDatabase, HoldsFile, absent, written}
 use Rattle.local_db.specs.declared.db.Db.{Db}
 use Rattle.local_db.specs.declared.loading.Found.TheVariants as found
 use Rattle.local_db.specs.Database.{IsDatabaseFile}

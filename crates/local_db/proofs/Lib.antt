@@ -5,3 +5,24 @@ mod Numbers
 mod Written
 mod Apart
 mod Holding
+pub mod Writes
+pub mod Fields
+pub mod Items
+pub mod Places
+pub mod Frame
+pub mod Unions
+pub mod Systems
+pub mod Jobs
+pub mod Images
+pub mod Sorted
+pub mod OneResult
+pub mod Spellings
+pub mod OneSystem
+pub mod Together
+pub mod Several
+pub mod Other
+pub mod Putting
+pub mod FileNames
+pub mod Unedited
+pub use Rattle.tree_journal.proofs as tree-journal
+pub use Rattle.change_rel.proofs.trove-stream

@@ -4,17 +4,17 @@ use Rattle.std.specs.Int.{w32, to_be_bytes}
 use Rattle.std.proofs.lemmas.List.{append_cancel_left}
 use Rattle.std.proofs.lemmas.List.Concat.{flat_map-append}
 use Rattle.std.proofs.lemmas.List.Elements.{All-nil, All-head, All-tail, All-push}
-use Rattle.cny_base.specs.Below.{begins_with, begun}
+use Rattle.change_rel.specs.cny-base.Below.{begins_with, begun}
 use Rattle.cny_stream.specs.Item.{item_bytes}
 use Rattle.cny_stream.specs.ItemLaws.{same_item, same_four}
-use Rattle.file_stream.specs.declared.encoding.Encoding.{Encoding}
-use Rattle.trove_items.specs.Items.{items_bytes}
-use Rattle.trove_stream.specs.declared.parts.TroveParts.{TroveParts}
-use Rattle.trove_stream.specs.Stream.{stream_bytes}
-use Rattle.trove_stream.specs.Trove.{IsTrove}
-use Rattle.system_state.specs.declared.format.Format.{Format}
-use Rattle.system_state.specs.declared.format.Format.TheVariants.{One, Two}
-use Rattle.system_state.specs.Formats.{TroveCanTell, database_magic, encoding_of, trove_text}
+use Rattle.change_rel.specs.file-stream.declared.encoding.Encoding.{Encoding}
+use Rattle.change_rel.specs.trove-parts.Items.{items_bytes}
+use Rattle.change_rel.specs.trove-stream.declared.parts.TroveParts.{TroveParts}
+use Rattle.change_rel.specs.trove-stream.Stream.{stream_bytes}
+use Rattle.change_rel.specs.trove-stream.Trove.{IsTrove}
+use Rattle.local_db.specs.declared.format.Format.{Format}
+use Rattle.local_db.specs.declared.format.Format.TheVariants.{One, Two}
+use Rattle.local_db.specs.Formats.{TroveCanTell, database_magic, encoding_of, trove_text}
 use Rattle.local_db.specs.Reading.{FitsTrove, IsTroveAt, IsNoTroveAt, AreTrovesTo, IsDatabaseText, IsEndAt, end_bytes}
 
 -- no bytes are the streams of two troves

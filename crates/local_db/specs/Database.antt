@@ -1,8 +1,8 @@
 -- What a database file says.
 use Rattle.std.specs.Prelude.{◌≡◌, List, ℕ}
-use Rattle.system_state.specs.declared.format.Format.{Format}
-use Rattle.system_state.specs.Formats.{database_bytes}
-use Rattle.system_state.specs.Stores.{IsDatabase}
+use Rattle.local_db.specs.declared.format.Format.{Format}
+use Rattle.local_db.specs.Formats.{database_bytes}
+use Rattle.local_db.specs.Stores.{IsDatabase}
 use Rattle.local_db.specs.declared.db.Db.{Db}
 
 -- the bytes are those of this database, in one of the formats

@@ -3,3 +3,20 @@ pub mod Reading
 pub mod Sharing
 pub mod Loading
 pub mod Writing
+pub mod MarkBytes
+pub mod Installed
+pub mod Formats
+pub mod SystemState
+pub mod Names
+pub mod Record
+pub mod Stores
+pub mod Steps
+pub use Rattle.change_rel.specs.cny-base
+pub use Rattle.cny_stream.specs as cny-stream
+pub use Rattle.content_store.specs as content-store
+pub use Rattle.change_rel.specs.file-stream
+pub use Rattle.tree_journal.specs.journal-log
+pub use Rattle.tree_journal.specs.tree-disk
+pub use Rattle.tree_journal.specs as tree-journal
+pub use Rattle.change_rel.specs.trove-parts
+pub use Rattle.change_rel.specs.trove-stream

@@ -1,17 +1,17 @@
 -- What loading a database answers.
 use Rattle.std.specs.Prelude.{◌≡◌, ℕ, Bool, IsTrue, nat_le, List, Option, Some, None, length, if◌then◌else◌}
-use Rattle.cny_base.specs.declared.limits.TheConstants.{DATABASE_LIMIT}
-use Rattle.cny_base.specs.declared.node.Node.{Node}
-use Rattle.cny_base.specs.declared.node.Node.TheVariants as node
-use Rattle.cny_base.specs.declared.stop.Stop.{Stop}
-use Rattle.cny_base.specs.declared.stop.Stop.TheVariants as stop
-use Rattle.trove_stream.specs.declared.parts.TroveParts.{TroveParts}
-use Rattle.tree_disk.specs.declared.disk.Look.{Look}
-use Rattle.tree_disk.specs.declared.disk.Look.TheVariants as look
-use Rattle.tree_disk.specs.Tree.{Name, Tree}
-use Rattle.system_state.specs.declared.format.Format.{Format}
-use Rattle.system_state.specs.Names.{database}
-use Rattle.system_state.specs.Stores.{HoldsDatabase}
+use Rattle.change_rel.specs.cny-base.declared.limits.TheConstants.{DATABASE_LIMIT}
+use Rattle.change_rel.specs.cny-base.declared.node.Node.{Node}
+use Rattle.change_rel.specs.cny-base.declared.node.Node.TheVariants as node
+use Rattle.change_rel.specs.cny-base.declared.stop.Stop.{Stop}
+use Rattle.change_rel.specs.cny-base.declared.stop.Stop.TheVariants as stop
+use Rattle.change_rel.specs.trove-stream.declared.parts.TroveParts.{TroveParts}
+use Rattle.tree_journal.specs.tree-disk.declared.disk.Look.{Look}
+use Rattle.tree_journal.specs.tree-disk.declared.disk.Look.TheVariants as look
+use Rattle.tree_journal.specs.tree-disk.Tree.{Name, Tree}
+use Rattle.local_db.specs.declared.format.Format.{Format}
+use Rattle.local_db.specs.Names.{database}
+use Rattle.local_db.specs.Stores.{HoldsDatabase}
 use Rattle.local_db.specs.declared.db.Db.{Db}
 use Rattle.local_db.specs.Database.{IsDatabaseFile}
 use Rattle.local_db.specs.declared.loading.Found.{Found}

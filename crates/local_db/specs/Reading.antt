@@ -2,11 +2,11 @@
 use Rattle.std.specs.Prelude.{◌≡◌, ℕ, ◌<◌, ◌≤◌, ◌^◌, List, [], ◌++◌, length, drop, All}
 use Rattle.std.specs.Int.{w32, to_be_bytes}
 use Rattle.cny_stream.specs.Item.{FitsItem, item_bytes}
-use Rattle.trove_items.specs.Items.{items_bytes}
-use Rattle.trove_stream.specs.declared.parts.TroveParts.{TroveParts}
-use Rattle.trove_stream.specs.Trove.{IsTrove}
-use Rattle.system_state.specs.declared.format.Format.{Format}
-use Rattle.system_state.specs.Formats.{TroveCanTell, trove_text, database_magic, database_bytes}
+use Rattle.change_rel.specs.trove-parts.Items.{items_bytes}
+use Rattle.change_rel.specs.trove-stream.declared.parts.TroveParts.{TroveParts}
+use Rattle.change_rel.specs.trove-stream.Trove.{IsTrove}
+use Rattle.local_db.specs.declared.format.Format.{Format}
+use Rattle.local_db.specs.Formats.{TroveCanTell, trove_text, database_magic, database_bytes}
 
 -- the length of the trove's stream fits in four bytes
 abbrev pub FitsTrove : Format → TroveParts → Type 0

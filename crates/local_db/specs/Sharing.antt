@@ -4,11 +4,11 @@ use Rattle.std.specs.List.{flat_map}
 use Rattle.std.specs.BTreeMap.{BTreeMap, get}
 use Rattle.std.specs.Cmp.Lexicographic.{slice_cmp}
 use Rattle.std.specs.Ordering.{nat_cmp}
-use Rattle.file_stream.specs.Record.{is_dir}
-use Rattle.trove_items.specs.declared.files.FileAt.{FileAt}
-use Rattle.trove_stream.specs.declared.parts.TroveParts.{TroveParts}
-use Rattle.tree_disk.specs.Tree.{Name}
-use Rattle.system_state.specs.Installed.{are_apart}
+use Rattle.change_rel.specs.file-stream.Record.{is_dir}
+use Rattle.change_rel.specs.trove-parts.declared.files.FileAt.{FileAt}
+use Rattle.change_rel.specs.trove-stream.declared.parts.TroveParts.{TroveParts}
+use Rattle.tree_journal.specs.tree-disk.Tree.{Name}
+use Rattle.local_db.specs.Installed.{are_apart}
 
 -- for each path whether a directory is recorded there
 abbrev pub Kinds : Type 0

@@ -1,10 +1,10 @@
 -- Why a database isn't written.
 use Rattle.std.specs.Prelude.{◌≡◌, ℕ, ◌<◌}
-use Rattle.cny_base.specs.declared.limits.TheConstants.{DATABASE_LIMIT}
-use Rattle.cny_base.specs.declared.refusal.Fault.{Fault}
-use Rattle.cny_base.specs.declared.refusal.Fault.TheVariants.{Refused, Memory}
-use Rattle.cny_base.specs.declared.refusal.Refusal.TheVariants.{TooLarge}
-use Rattle.cny_base.specs.declared.refusal.What.TheVariants.{Database}
+use Rattle.change_rel.specs.cny-base.declared.limits.TheConstants.{DATABASE_LIMIT}
+use Rattle.change_rel.specs.cny-base.declared.refusal.Fault.{Fault}
+use Rattle.change_rel.specs.cny-base.declared.refusal.Fault.TheVariants.{Refused, Memory}
+use Rattle.change_rel.specs.cny-base.declared.refusal.Refusal.TheVariants.{TooLarge}
+use Rattle.change_rel.specs.cny-base.declared.refusal.What.TheVariants.{Database}
 
 -- it has so many bytes, which are more than a database has at most, or no memory was left
 abbrev pub IsTooLargeOrMemory : ℕ → Fault → Type 0

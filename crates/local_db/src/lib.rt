@@ -1,13 +1,27 @@
-//! The database of a root: the installed troves, and the numbers of its stack of jobs.
+//! Which system a root tree stores: its tree, its installed troves and its stack of jobs, and what a job, a rollback and a migration make
+//! of it; and its database, read and written: the installed troves, and the numbers of its stack.
 #![tactic(auto)]
 
 mod db;
+mod format;
+mod laws;
 mod loading;
+mod names;
 mod reading;
 mod sharing;
+mod steps;
 mod writing;
 
+pub use change_rel::trove_stream::Installed;
+pub use change_rel::{cny_base, file_stream, trove_parts, trove_stream};
 pub use db::Db;
+pub use format::Format;
+pub use laws::{checked_records, distinct_databases, empty_root, one_system, recovered_system};
 pub use loading::load;
+pub use names::{base_path, database_path, record_path, saved_path};
 pub use reading::decode;
+pub use steps::{
+    migrated_system, prepared_system, puttable_writes, system_after_job, system_after_rollback,
+};
+pub use tree_journal::{journal_log, tree_disk};
 pub use writing::encode;

@@ -1,21 +1,22 @@
 //! The database of a root, as its tree holds it.
 ghost use Rattle.std.specs.Prelude.{◌≡◌, ◌≤◌, [], IfErr, IfOk, IsTrue, Ok};
 ghost use Rattle.std.specs.FinMap.{get};
-ghost use Rattle.cny_base.specs.Count.{Rose};
-ghost use Rattle.tree_disk.specs.Disk.{Reads};
-ghost use Rattle.tree_disk.specs.Rows.{bytes_at, is_file_at};
-ghost use Rattle.tree_disk.specs.Steps.{IsDiskStop, Tests};
+ghost use Rattle.change_rel.specs.cny-base.Count.{Rose};
+ghost use Rattle.tree_journal.specs.tree-disk.Disk.{Reads};
+ghost use Rattle.tree_journal.specs.tree-disk.Rows.{bytes_at, is_file_at};
+ghost use Rattle.tree_journal.specs.tree-disk.Steps.{IsDiskStop, Tests};
 ghost use Rattle.local_db.specs.declared.db.Db.{Db};
 ghost use Rattle.local_db.specs.Database.{IsDatabaseFile, IsDb};
 ghost use Rattle.local_db.specs.Loading.{HoldsDb, IsLoadStop, IsTextStop, file_found, found_of, no_file_found};
 
 use crate::db::Db;
+use crate::laws::distinct_databases;
+use crate::names::database_path;
 use crate::reading::decode;
-use cny_base::{Bytes, DATABASE_LIMIT, Path, Stop, TextFault};
-use installed_list::Installed;
+use change_rel::cny_base::{Bytes, DATABASE_LIMIT, Path, Stop, TextFault};
+use change_rel::trove_stream::Installed;
 use std::alloc::Global;
-use system_state::{database_path, distinct_databases};
-use tree_disk::{Look, TreeDisk, steps};
+use tree_journal::tree_disk::{Look, TreeDisk, steps};
 
 /// What stands at the name of the database.
 #[derive(Debug, Drop)]

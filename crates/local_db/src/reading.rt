@@ -1,31 +1,33 @@
 //! The database that a file spells.
 ghost use Rattle.std.specs.Prelude.{[], ◌≡◌, ◌↔◌, ◌⊎◌, ◌+◌, ◌<◌, ◌≤◌, ℕ, List, All, None, true, IsTrue, length, drop, IfOk, IfSome, IfNone, IsErrOf, OnOk};
-ghost use Rattle.cny_base.specs.Below.{begins_with};
+ghost use Rattle.change_rel.specs.cny-base.Below.{begins_with};
 ghost use Rattle.cny_stream.specs.Item.{item_bytes};
-ghost use Rattle.trove_items.specs.declared.files.FileAt.{FileAt};
-ghost use Rattle.trove_stream.specs.declared.parts.TroveParts.{TroveParts};
-ghost use Rattle.trove_stream.specs.Forbidden.{first_forbidden};
-ghost use Rattle.trove_stream.specs.Trove.{IsTrove};
-ghost use Rattle.system_state.specs.Formats.{CanTell, TroveCanTell, database_magic, trove_text, limit, AreEnds};
-ghost use Rattle.system_state.specs.Formats as formats;
-ghost use Rattle.system_state.specs.declared.format.Format as declared;
-ghost use Rattle.system_state.specs.declared.format.Format.TheVariants.{One};
-ghost use Rattle.system_state.specs.Installed.{IsInstalled};
+ghost use Rattle.change_rel.specs.trove-parts.declared.files.FileAt.{FileAt};
+ghost use Rattle.change_rel.specs.trove-stream.declared.parts.TroveParts.{TroveParts};
+ghost use Rattle.change_rel.specs.trove-stream.Forbidden.{first_forbidden};
+ghost use Rattle.change_rel.specs.trove-stream.Trove.{IsTrove};
+ghost use Rattle.local_db.specs.Formats.{CanTell, TroveCanTell, database_magic, trove_text, limit, AreEnds};
+ghost use Rattle.local_db.specs.Formats as formats;
+ghost use Rattle.local_db.specs.declared.format.Format as declared;
+ghost use Rattle.local_db.specs.declared.format.Format.TheVariants.{One};
+ghost use Rattle.local_db.specs.Installed.{IsInstalled};
 ghost use Rattle.local_db.specs.declared.db.Db.{Db};
 ghost use Rattle.local_db.specs.Database.{IsDatabaseFile};
 ghost use Rattle.local_db.specs.Reading.{AreNumbers, AreTrovesTo, IsDatabaseText, IsNoTroveAt, IsTroveAt, IsEndAt, IsTroveText, end_bytes};
 
 use crate::db::Db;
+use crate::format::Format;
+use crate::laws::distinct_databases;
 use crate::sharing::share_dirs_alone;
 use crate::writing::{END_ITEM, MAGIC_1, MAGIC_2, NUMBERS, TROVE};
-use cny_base::{DATABASE_LIMIT, FORMAT_1_DATABASE_LIMIT, STACK_LIMIT, TextFault};
+use change_rel::cny_base::{DATABASE_LIMIT, FORMAT_1_DATABASE_LIMIT, STACK_LIMIT, TextFault};
+use change_rel::file_stream::FileRec;
+use change_rel::trove_parts::FileAt;
+use change_rel::trove_stream::{
+    Installed, Trove, check, decode as decode_trove, decode_full, distinct_troves,
+};
 use cny_stream::next_item;
-use file_stream::FileRec;
-use installed_list::Installed;
 use std::alloc::Global;
-use system_state::{Format, distinct_databases};
-use trove_items::FileAt;
-use trove_stream::{Trove, check, decode as decode_trove, decode_full, distinct_troves};
 
 // Whether root owns it, or it is a link, which has no owner.
 fn is_roots(rec: &FileRec) -> bool

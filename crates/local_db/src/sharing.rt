@@ -1,17 +1,17 @@
 //! Whether troves share no path but as a directory.
 ghost use Rattle.std.specs.Prelude.{◌↔◌, ◌++◌, ◌∷◌, [], List, IfOk, IsTrue, All};
 ghost use Rattle.std.specs.List.{AllPairs};
-ghost use Rattle.trove_items.specs.declared.files.FileAt.{FileAt};
-ghost use Rattle.trove_items.specs.Files.{AreFiles};
-ghost use Rattle.trove_stream.specs.Trove.{IsTrove};
-ghost use Rattle.system_state.specs.Installed.{SharesDirsAlone};
+ghost use Rattle.change_rel.specs.trove-parts.declared.files.FileAt.{FileAt};
+ghost use Rattle.change_rel.specs.trove-parts.Files.{AreFiles};
+ghost use Rattle.change_rel.specs.trove-stream.Trove.{IsTrove};
+ghost use Rattle.local_db.specs.Installed.{SharesDirsAlone};
 ghost use Rattle.local_db.specs.Sharing.{AreApart, AreNoted, IsApart};
 
-use cny_base::{Copies, OutOfMemory, Path};
+use change_rel::cny_base::{Copies, OutOfMemory, Path};
+use change_rel::trove_parts::FileAt;
+use change_rel::trove_stream::Trove;
 use std::alloc::Global;
 use std::collections::BTreeMap;
-use trove_items::FileAt;
-use trove_stream::Trove;
 
 /// For each path, whether a directory is recorded there.
 type Kinds = BTreeMap<Path, bool>;

@@ -2,11 +2,10 @@
 //! contents are pieces with a `+` between two, `COUNT*DIGITS` for so many times the first byte, else hexadecimal digits; a trove is
 //! its stream in hexadecimal digits, with a comma between two. A hyphen is nothing.
 use crate::stop::Stop;
-use cny_base::{Bytes, Fails, Mode, Node, Path, Target, read_octal};
-use installed_list::Installed;
+use root_edits::cny_base::{Bytes, Fails, Mode, Node, Path, Target, read_octal};
+use root_edits::trove_stream::{Installed, Trove, decode};
 use std::alloc::Global;
 use tree_memory::{MemoryTree, Nodes, TreeFault};
-use trove_stream::{Trove, decode};
 
 /// The parts of a text between these separators.
 pub fn parts_of(alloc: Global, text: &str, separator: char) -> Result<Vec<String>, Stop> {

@@ -1,13 +1,13 @@
 //! The calls.
-ghost use Rattle.change_set.specs.ChangeSet.{HasContents};
+ghost use Rattle.root_edits.specs.change-set.ChangeSet.{HasContents};
 
 use crate::arguments::{disk_of, installed_of, parts_of, text_at};
 use crate::stop::Stop;
-use change_set::{ChangeSet, encode};
-use cny_base::{Fault, Name, Refusal, Stop as DiskEnd};
 use cny_report::refusal_text;
-use installed_list::Installed;
-use local_changes::local;
+use root_edits::change_set::{ChangeSet, encode};
+use root_edits::cny_base::{Fault, Name, Refusal, Stop as DiskEnd};
+use root_edits::local;
+use root_edits::trove_stream::Installed;
 use std::alloc::Global;
 use tree_memory::MemoryTree;
 

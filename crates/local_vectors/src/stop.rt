@@ -1,5 +1,5 @@
 //! Why a line has no answer.
-use cny_base::{OutOfMemory, TextFault};
+use root_edits::cny_base::{OutOfMemory, TextFault};
 use std::alloc::{AllocError, AllocFailed};
 
 /// Why a line has no answer.

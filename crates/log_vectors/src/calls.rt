@@ -3,7 +3,7 @@ use crate::puts::{puts_at, puts_of};
 use crate::stop::{Answer, Stop};
 use crate::told::puts_text;
 use crate::words::{behind_first, bytes_at, path_at, push_said, text_at, word};
-use cny_base::{Path, TextFault};
+use journal_log::cny_base::{Path, TextFault};
 use journal_log::{Puts, can_be_named, decode_log, encode_log, keeps_rules, numbered};
 use std::alloc::Global;
 

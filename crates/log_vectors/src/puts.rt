@@ -1,7 +1,7 @@
 //! Write sets read from the words of a line.
 use crate::stop::Stop;
 use crate::words::{bytes_at, mode_at, name_at, number_of, parts_of, text_at};
-use cny_base::{Bytes, Path, Target};
+use journal_log::cny_base::{Bytes, Path, Target};
 use journal_log::{Put, Puts, Want};
 use std::alloc::Global;
 

@@ -2,7 +2,7 @@
 use crate::puts::puts_at;
 use crate::stop::{Answer, Stop};
 use crate::words::{behind_first, number_of, path_at, push_said, push_word};
-use cny_base::{Path, TextFault};
+use journal_log::cny_base::{Path, TextFault};
 use journal_log::{StagedNumbers, is_staged_path, staged_path};
 use std::alloc::Global;
 

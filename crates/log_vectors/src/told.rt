@@ -1,7 +1,7 @@
 //! Write sets told as the words of a line.
 use crate::stop::{Answer, Stop};
 use crate::words::word;
-use cny_base::{Mode, octal};
+use journal_log::cny_base::{Mode, octal};
 use journal_log::{Put, Want};
 use std::alloc::Global;
 

@@ -1,6 +1,6 @@
 //! The words of a line, and answers of words.
 use crate::stop::{Answer, Stop};
-use cny_base::{Mode, Path, read_octal};
+use journal_log::cny_base::{Mode, Path, read_octal};
 use std::alloc::Global;
 
 /// The parts of a text between these separators.

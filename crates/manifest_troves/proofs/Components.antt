@@ -8,14 +8,14 @@ use Rattle.std.specs.declared.cmp.Ordering.TheVariants.{Less, Equal, Greater}
 use Rattle.std.proofs.lemmas.Bool.{true≢false}
 use Rattle.std.proofs.lemmas.List.{map-append}
 use Rattle.std.proofs.lemmas.List.Elements.{All-nil, All-cons, All-head, All-tail, All-push, All-contains, All-contains_itself}
-use Rattle.cny_base.specs.Name.{is_name, kind_of_name}
-use Rattle.cny_base.specs.declared.name.NameKind.{NameKind}
-use Rattle.cny_base.specs.declared.name.NameKind.TheVariants.{Component, Package, Group}
-use Rattle.cny_base.specs.declared.text.TextFault.{TextFault}
-use Rattle.cny_base.specs.declared.text.TextFault.TheVariants.{Bad}
-use Rattle.trove_id.specs.declared.id.TroveId.{TroveId}
-use Rattle.trove_stream.specs.declared.parts.TroveParts.{TroveParts}
-use Rattle.trove_stream.specs.Trove.{IsTrove}
+use Rattle.change_set.specs.cny-base.Name.{is_name, kind_of_name}
+use Rattle.change_set.specs.cny-base.declared.name.NameKind.{NameKind}
+use Rattle.change_set.specs.cny-base.declared.name.NameKind.TheVariants.{Component, Package, Group}
+use Rattle.change_set.specs.cny-base.declared.text.TextFault.{TextFault}
+use Rattle.change_set.specs.cny-base.declared.text.TextFault.TheVariants.{Bad}
+use Rattle.change_set.specs.trove-parts.declared.id.TroveId.{TroveId}
+use Rattle.change_set.specs.trove-stream.declared.parts.TroveParts.{TroveParts}
+use Rattle.change_set.specs.trove-stream.Trove.{IsTrove}
 use Rattle.manifest_troves.specs.declared.lines.TroveLines.{TroveLines}
 use Rattle.manifest_troves.specs.Troves.{entry_component, name_of_line, with_names, with_name, HasBadName, component_names, component_trove, package_of, package_troves, whole_component, group_trove, troves_by, troves_of}
 use Rattle.manifest_troves.proofs.Names.{by_bytes, tied}

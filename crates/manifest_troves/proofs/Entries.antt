@@ -4,10 +4,10 @@ use Rattle.std.specs.Prelude.{◌⊎◌, ◌≢◌}
 use Rattle.std.specs.List.{filter, list_any}
 use Rattle.std.specs.Str.{bytes_eq}
 use Rattle.std.proofs.lemmas.Bool.{true≢false}
-use Rattle.cny_base.specs.Name.{kind_of_name}
-use Rattle.cny_base.specs.declared.name.NameKind.{NameKind}
-use Rattle.cny_base.specs.declared.name.NameKind.TheVariants.{Component, Package, Group}
-use Rattle.trove_items.specs.declared.files.FileAt.{FileAt}
+use Rattle.change_set.specs.cny-base.Name.{kind_of_name}
+use Rattle.change_set.specs.cny-base.declared.name.NameKind.{NameKind}
+use Rattle.change_set.specs.cny-base.declared.name.NameKind.TheVariants.{Component, Package, Group}
+use Rattle.change_set.specs.trove-parts.declared.files.FileAt.{FileAt}
 use Rattle.manifest_troves.specs.declared.lines.TroveLines.{TroveLines}
 use Rattle.manifest_troves.specs.Troves.{entry_component, component_names, falls_to, component_trove, package_troves, troves_of, has_entry, KeepsEntries}
 use Rattle.manifest_troves.proofs.Names.{bytes_are, equal_bytes, has, or_true}

@@ -9,8 +9,8 @@ use Rattle.std.specs.Str.{bytes_eq}
 use Rattle.std.specs.declared.cmp.Ordering.{Ordering}
 use Rattle.std.specs.declared.cmp.Ordering.TheVariants.{Less, Equal, Greater}
 use Rattle.std.proofs.lemmas.Bool.{true≢false, cases_Bool}
-use Rattle.cny_base.specs.declared.refusal.Fault.{Fault}
-use Rattle.cny_base.specs.declared.refusal.Fault.TheVariants as fault
+use Rattle.change_set.specs.cny-base.declared.refusal.Fault.{Fault}
+use Rattle.change_set.specs.cny-base.declared.refusal.Fault.TheVariants as fault
 use Rattle.change_set.specs.declared.change.Carried.{Carried}
 use Rattle.manifest_troves.specs.Kept.{Entries, kept_by, unless_same, differing, collision_then, collision_from, IsCollisionFrom}
 use Rattle.manifest_troves.specs.Contents.{first_difference, collides, collision_by, collision_behind, put_content, first_collision, IsCollisionOf}

@@ -8,3 +8,4 @@ pub mod Components
 pub mod Rising
 pub mod Entries
 pub mod KeptOnes
+pub use Rattle.change_set.proofs.trove-parts

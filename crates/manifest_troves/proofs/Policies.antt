@@ -7,7 +7,7 @@ use Rattle.std.specs.Str.{bytes_eq}
 use Rattle.std.proofs.lemmas.Bool.{true≢false}
 use Rattle.std.proofs.lemmas.Bool.Decides.{nat_tests}
 use Rattle.std.proofs.lemmas.List.{drop-append-le}
-use Rattle.cny_base.specs.Below.{begins_with}
+use Rattle.change_set.specs.cny-base.Below.{begins_with}
 use Rattle.manifest_troves.specs.Policy.{tested, ends_with, file_ends_with}
 
 -- ---- fronts

@@ -11,13 +11,13 @@ use Rattle.std.specs.declared.cmp.Ordering.TheVariants.{Less, Equal}
 use Rattle.std.proofs.lemmas.Bool.{true≢false, eqb-true}
 use Rattle.std.proofs.lemmas.Cmp.{tied_itself, nat_cmp_total}
 use Rattle.std.proofs.lemmas.List.Elements.{All-head, All-tail}
-use Rattle.cny_base.specs.Below.{begins_with}
-use Rattle.cny_base.specs.Name.{kind_of_name}
-use Rattle.cny_base.specs.declared.name.NameKind.{NameKind}
-use Rattle.cny_base.specs.declared.name.NameKind.TheVariants.{Component, Package, Group}
-use Rattle.trove_id.specs.declared.id.TroveId.{TroveId}
-use Rattle.trove_stream.specs.declared.parts.TroveParts.{TroveParts}
-use Rattle.trove_stream.specs.Trove.{begins_with_colon, is_component_of, IsComponentOf, KeepsKind, IsTrove}
+use Rattle.change_set.specs.cny-base.Below.{begins_with}
+use Rattle.change_set.specs.cny-base.Name.{kind_of_name}
+use Rattle.change_set.specs.cny-base.declared.name.NameKind.{NameKind}
+use Rattle.change_set.specs.cny-base.declared.name.NameKind.TheVariants.{Component, Package, Group}
+use Rattle.change_set.specs.trove-parts.declared.id.TroveId.{TroveId}
+use Rattle.change_set.specs.trove-stream.declared.parts.TroveParts.{TroveParts}
+use Rattle.change_set.specs.trove-stream.Trove.{begins_with_colon, is_component_of, IsComponentOf, KeepsKind, IsTrove}
 use Rattle.manifest_troves.specs.declared.lines.TroveLines.{TroveLines}
 use Rattle.manifest_troves.specs.Troves.{with_name, component_names, component_trove, package_of, package_troves, whole_component, group_trove, troves_of, AreTroves, by_name_cmp, HasRisingNames}
 use Rattle.manifest_troves.proofs.Names.{by_bytes}

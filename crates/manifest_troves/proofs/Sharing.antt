@@ -10,8 +10,8 @@ use Rattle.std.specs.Str.{bytes_eq}
 use Rattle.std.proofs.lemmas.Bool.{true≢false}
 use Rattle.std.proofs.lemmas.Grind.{fold-append}
 use Rattle.cny_dep.specs.Dep.{Dependency}
-use Rattle.trove_items.specs.declared.files.FileAt.{FileAt}
-use Rattle.trove_stream.specs.declared.parts.TroveParts.{TroveParts}
+use Rattle.change_set.specs.trove-parts.declared.files.FileAt.{FileAt}
+use Rattle.change_set.specs.trove-stream.declared.parts.TroveParts.{TroveParts}
 use Rattle.manifest_troves.specs.declared.lines.DepLine.{DepLine}
 use Rattle.manifest_troves.specs.declared.lines.TroveLines.{TroveLines}
 use Rattle.manifest_troves.specs.Shares.{Shared, no_share, plus_file, plus_required, plus_provided, share_at, plus_if, with_files, with_required, with_provided, share_of, named_trove}

@@ -5,9 +5,9 @@ use Rattle.std.specs.Cmp.Lexicographic.{slice_cmp}
 use Rattle.std.specs.List.{fold, find}
 use Rattle.std.specs.Ordering.{nat_cmp}
 use Rattle.std.specs.Str.{bytes_eq}
-use Rattle.cny_base.specs.declared.refusal.Refusal.TheVariants.{Collision}
-use Rattle.cny_base.specs.declared.refusal.Fault.{Fault}
-use Rattle.cny_base.specs.declared.refusal.Fault.TheVariants as fault
+use Rattle.change_set.specs.cny-base.declared.refusal.Refusal.TheVariants.{Collision}
+use Rattle.change_set.specs.cny-base.declared.refusal.Fault.{Fault}
+use Rattle.change_set.specs.cny-base.declared.refusal.Fault.TheVariants as fault
 use Rattle.change_set.specs.declared.change.Carried.{Carried}
 
 -- the first place at which they differ, or the shorter length

@@ -1,7 +1,7 @@
 -- The component of a package to which a path falls.
 use Rattle.std.specs.Prelude.{ℕ, Bool, ◌||◌, ◌&&◌, not, if◌then◌else◌, List, [], ◌∷◌, ◌++◌, length, drop, ◌-◌, codes}
 use Rattle.std.specs.Str.{bytes_eq}
-use Rattle.cny_base.specs.Below.{begins_with}
+use Rattle.change_set.specs.cny-base.Below.{begins_with}
 
 -- the text that is tested: the path of a directory has a slash at its end
 abbrev pub tested : List ℕ → Bool → List ℕ

@@ -7,15 +7,15 @@ use Rattle.std.specs.List.Sorted.{IsStrictlySortedBy}
 use Rattle.std.specs.Ordering.{nat_cmp}
 use Rattle.std.specs.Str.{bytes_eq}
 use Rattle.std.specs.declared.cmp.Ordering.{Ordering}
-use Rattle.cny_base.specs.Name.{is_name, kind_of_name}
-use Rattle.cny_base.specs.declared.name.NameKind.{NameKind}
-use Rattle.cny_base.specs.declared.name.NameKind.TheVariants.{Component, Package, Group}
+use Rattle.change_set.specs.cny-base.Name.{is_name, kind_of_name}
+use Rattle.change_set.specs.cny-base.declared.name.NameKind.{NameKind}
+use Rattle.change_set.specs.cny-base.declared.name.NameKind.TheVariants.{Component, Package, Group}
 use Rattle.cny_dep.specs.Dep.{Dependency}
-use Rattle.file_stream.specs.Record.{is_dir}
-use Rattle.trove_id.specs.declared.id.TroveId.{TroveId}
-use Rattle.trove_items.specs.declared.files.FileAt.{FileAt}
-use Rattle.trove_stream.specs.declared.parts.TroveParts.{TroveParts}
-use Rattle.trove_stream.specs.Trove.{IsTrove}
+use Rattle.change_set.specs.file-stream.Record.{is_dir}
+use Rattle.change_set.specs.trove-parts.declared.id.TroveId.{TroveId}
+use Rattle.change_set.specs.trove-parts.declared.files.FileAt.{FileAt}
+use Rattle.change_set.specs.trove-stream.declared.parts.TroveParts.{TroveParts}
+use Rattle.change_set.specs.trove-stream.Trove.{IsTrove}
 use Rattle.manifest_troves.specs.declared.lines.DepLine.{DepLine}
 use Rattle.manifest_troves.specs.declared.lines.TroveLines.{TroveLines}
 use Rattle.manifest_troves.specs.Policy.{component_of}

@@ -7,8 +7,8 @@ ghost use Rattle.manifest_troves.specs.Contents as spec;
 ghost use Rattle.manifest_troves.specs.Contents.{carried_of};
 ghost use Rattle.manifest_troves.specs.Kept.{differing, IsDifference, collision_from, IsCollisionFrom};
 
+use change_set::cny_base::{Bytes, Fault, OutOfMemory, Refusal};
 use change_set::{Carried, CarriedList};
-use cny_base::{Bytes, Fault, OutOfMemory, Refusal};
 use std::alloc::Global;
 use std::collections::BTreeMap;
 

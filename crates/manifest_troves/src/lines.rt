@@ -1,8 +1,7 @@
 //! What the lines of a manifest say.
-use cny_base::{ListOf, Name};
+use change_set::cny_base::{ListOf, Name};
+use change_set::trove_parts::{Files, Refs, TroveId};
 use cny_dep::Dep;
-use trove_id::TroveId;
-use trove_items::{Files, Refs};
 
 /// A trove by its name, and what it requires or provides.
 #[derive(Debug, Drop)]

@@ -1,10 +1,10 @@
 //! The component of a package to which a path falls.
 ghost use Rattle.std.specs.Prelude.{◌≡◌, ◌∷◌, [], ◌++◌, codes};
-ghost use Rattle.cny_base.specs.Below.{begins_with};
+ghost use Rattle.change_set.specs.cny-base.Below.{begins_with};
 ghost use Rattle.manifest_troves.specs.Policy as spec;
 ghost use Rattle.manifest_troves.specs.Policy.{tested, ends_with};
 
-use cny_base::Path;
+use change_set::cny_base::Path;
 
 // Whether a slash comes first, behind the path where it is a directory's.
 fn is_slash_next(rest: &[u8], dir: bool) -> bool

@@ -5,20 +5,19 @@ ghost use Rattle.std.specs.Cmp.Lexicographic.{slice_cmp};
 ghost use Rattle.std.specs.Option.{unwrap_or};
 ghost use Rattle.std.specs.Ordering.{nat_cmp};
 ghost use Rattle.std.specs.Str.{bytes_eq};
-ghost use Rattle.cny_base.specs.Name.{is_name};
+ghost use Rattle.change_set.specs.cny-base.Name.{is_name};
 ghost use Rattle.manifest_troves.specs.Shares.{no_share, share_at, plus_if, plus_file, plus_required, plus_provided, with_files, with_required, with_provided, share_of};
 ghost use Rattle.manifest_troves.specs.Troves.{entry_component, HasBadName};
 
 use crate::lines::{DepLine, DepLines};
 use crate::policy::component_of;
-use cny_base::{Name, OutOfMemory, TextFault};
+use change_set::cny_base::{Name, OutOfMemory, TextFault};
+use change_set::trove_parts::{Deps, FileAt, Files, Refs, TroveId};
+use change_set::trove_stream::Trove;
 use cny_dep::Dep;
 use std::alloc::Global;
 use std::collections::BTreeMap;
 use std::marker::Model;
-use trove_id::TroveId;
-use trove_items::{Deps, FileAt, Files, Refs};
-use trove_stream::Trove;
 
 /// The entries that fall to a component, and what its lines say.
 #[derive(Debug)]
@@ -52,7 +51,7 @@ impl Model for Share {
 }
 
 impl Share {
-    ghost use Rattle.trove_stream.specs.Trove.{IsTrove};
+    ghost use Rattle.change_set.specs.trove-stream.Trove.{IsTrove};
     ghost use Rattle.manifest_troves.specs.Shares as spec;
     ghost use Rattle.manifest_troves.specs.Shares.{trove_of};
 

@@ -3,18 +3,17 @@ ghost use Rattle.std.specs.Prelude.{◌≡◌, ◌∷◌, ◌++◌, [], List, �
 ghost use Rattle.std.specs.BTreeMap.{IsOrdered, keys};
 ghost use Rattle.std.specs.Cmp.Lexicographic.{slice_cmp};
 ghost use Rattle.std.specs.Ordering.{nat_cmp};
-ghost use Rattle.trove_stream.specs.Trove.{IsTrove};
+ghost use Rattle.change_set.specs.trove-stream.Trove.{IsTrove};
 ghost use Rattle.manifest_troves.specs.Shares.{named_trove};
 ghost use Rattle.manifest_troves.specs.Troves as spec;
 ghost use Rattle.manifest_troves.specs.Troves.{with_name, package_of, AreTroves, HasRisingNames, KeepsEntries};
 
 use crate::lines::{DepLine, DepLines, TroveLines};
 use crate::shares::{Shares, shares_of};
-use cny_base::{Copies, ListOf, Name, NameKind, OutOfMemory, TextFault};
+use change_set::cny_base::{Copies, ListOf, Name, NameKind, OutOfMemory, TextFault};
+use change_set::trove_parts::{Deps, Files, Refs, TroveId};
+use change_set::trove_stream::Trove;
 use std::alloc::Global;
-use trove_id::TroveId;
-use trove_items::{Deps, Files, Refs};
-use trove_stream::Trove;
 
 /// A list of troves.
 pub type Troves = ListOf<Trove>;

@@ -1,5 +1,5 @@
 //! Answers.
-use cny_base::{Fault, OutOfMemory, Refusal};
+use cny_manifest::cny_base::{Fault, OutOfMemory, Refusal};
 use std::alloc::{AllocError, AllocFailed, Global};
 
 /// Why a line has no other answer.

@@ -11,7 +11,7 @@ mod manifests;
 use crate::answer::Stop;
 use crate::arguments::{arguments_of, bytes_at, text_at};
 use crate::manifests::LONGEST;
-use cny_base::{Path, TextFault};
+use cny_manifest::cny_base::{Path, TextFault};
 use cny_manifest::component_of;
 use std::alloc::Global;
 use std::io::{self, BufRead, BufReader, BufWriter, Write};

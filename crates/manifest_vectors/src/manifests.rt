@@ -1,15 +1,14 @@
 //! What a manifest makes, as a text.
 use crate::answer::{Stop, digits_of, fault_text};
-use change_set::Carried;
-use cny_base::{Copies, Mode};
 use cny_dep::Dep;
+use cny_manifest::change_set::Carried;
+use cny_manifest::cny_base::{Copies, Mode};
+use cny_manifest::file_stream::{FileRec, Flags, Owner};
+use cny_manifest::trove_parts::{FileAt, TroveId, id_text};
+use cny_manifest::trove_stream::Trove;
 use cny_manifest::{Made, read};
-use file_stream::{FileRec, Flags, Owner};
 use sha1::Sha1;
 use std::alloc::Global;
-use trove_id::{TroveId, id_text};
-use trove_items::FileAt;
-use trove_stream::Trove;
 
 /// A longer text is told by its digest.
 pub const LONGEST: usize = 4_000;

@@ -1,6 +1,6 @@
 -- Contents that tell nothing of what they hold.
 use Rattle.std.specs.Prelude.{false}
-use Rattle.content_store.specs.Contents.{ContentsModel, IsSource}
+use Rattle.job_targets.specs.content-store.Contents.{ContentsModel, IsSource}
 
 abbrev pub known_contents : {C : Type 0} → ContentsModel C
 known_contents = record {

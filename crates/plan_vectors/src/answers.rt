@@ -1,9 +1,9 @@
 //! Answers as texts.
-use cny_base::{Copies, Mode, Refusal, Stop as DiskEnd, octal};
 use cny_report::refusal_text;
 use conflict_plan::Planned;
 use disk_words::{Stop, push_field, word};
-use file_stream::{FileRec, Flags};
+use job_targets::cny_base::{Copies, Mode, Refusal, Stop as DiskEnd, octal};
+use job_targets::file_stream::{FileRec, Flags};
 use std::alloc::Global;
 use tree_scan::Mark;
 

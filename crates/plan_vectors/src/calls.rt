@@ -5,15 +5,15 @@ use crate::nodes::{disk_of, record_of};
 use crate::targets::targets;
 use crate::troves::troves_of;
 use crate::verification::verified_tree;
-use cny_base::{Copies, Options, Path, Stop as DiskEnd};
 use conflict_plan::plan;
 use disk_words::{Quiet, Stop, mode_at, parts_of, path_at, text_at, word};
+use job_targets::cny_base::{Copies, Options, Path, Stop as DiskEnd};
+use job_targets::trove_stream::Trove;
 use std::alloc::Global;
 use tree_scan::{
     Finding, Findings, Found, Mark, Verified, are_same_marks, differing, mark_at, mark_file,
     matches,
 };
-use trove_stream::Trove;
 
 fn copied_mark(alloc: Global, found: &Mark) -> Result<String, Stop> {
     let copy = found.copy()?;

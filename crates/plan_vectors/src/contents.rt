@@ -1,6 +1,6 @@
 //! Contents of a line.
-use cny_base::Bytes;
 use disk_words::{Stop, text_at};
+use job_targets::cny_base::Bytes;
 use std::alloc::Global;
 
 // Appends a byte so many times.

@@ -1,8 +1,8 @@
 //! Contents of a line, which may fail or be damaged.
 use crate::contents::content_of;
-use cny_base::{Bytes, Copies, Path};
-use content_store::{Contents, FarStop};
 use disk_words::Stop;
+use job_targets::cny_base::{Bytes, Copies, Path};
+use job_targets::content_store::{Contents, FarStop};
 use sha1::Sha1;
 use std::alloc::Global;
 use std::collections::BTreeMap;

@@ -1,13 +1,13 @@
 //! Trees and records of a line. A node is `dir MODE PATH`, `file MODE CONTENTS PATH` or `link TARGET PATH`; a record is the same,
 //! but that a file has its flags behind the mode: the letters `c`, `i` and `t`, or a hyphen.
 use crate::contents::contents_at;
-use cny_base::{Mode, Node, Path, Target};
 use disk_words::{Quiet, Stop, mode_at, parts_of, path_at, text_at, tree_with};
-use file_stream::{FileRec, Flags, Owner};
+use job_targets::cny_base::{Mode, Node, Path, Target};
+use job_targets::file_stream::{FileRec, Flags, Owner};
+use job_targets::trove_stream::{FileAt, Files};
 use sha1::Sha1;
 use std::alloc::Global;
 use tree_memory::Nodes;
-use trove_stream::{FileAt, Files};
 
 fn dir_of(alloc: Global, words: &[String]) -> Result<(Path, Node), Stop> {
     let mode = mode_at(words, 1)?;

@@ -2,8 +2,8 @@
 ghost use Rattle.std.specs.Prelude.{◌≡◌, ◌↔◌, All, IfOk, IsTrue};
 ghost use Rattle.std.specs.List.Sorted.{IsStrictlySortedBy};
 ghost use Rattle.sha1.specs.Sha1.{sha1};
-ghost use Rattle.change_set.specs.declared.change.Carried as declared;
-ghost use Rattle.change_set.specs.ChangeSet.{content_cmp};
+ghost use Rattle.job_targets.specs.change-set.declared.change.Carried as declared;
+ghost use Rattle.job_targets.specs.change-set.ChangeSet.{content_cmp};
 
 use crate::answers::{mark_text, stop_text};
 use crate::calls::{has_word, options_of};
@@ -11,13 +11,12 @@ use crate::contents::content_of;
 use crate::far::{Far, far_of};
 use crate::nodes::disk_of;
 use crate::troves::troves_of;
-use change_set::Carried;
-use cny_base::{Copies, Stop as DiskEnd};
 use conflict_plan::{Planned, PlannedList, plan};
 use disk_words::{Quiet, Stop, push_field, text_at, word};
-use job_targets::{Targets, are_rising, targets_of};
-use journal_log::{Put, Want};
-use saved_contents::{Entry, mark_of};
+use job_targets::change_set::Carried;
+use job_targets::cny_base::{Copies, Stop as DiskEnd};
+use job_targets::journal_log::{Put, Want};
+use job_targets::{Entry, Targets, are_rising, mark_of, targets_of};
 use sha1::Sha1;
 use std::alloc::Global;
 

@@ -1,9 +1,9 @@
 //! Troves of a line.
 use crate::nodes::records_of;
 use disk_words::Stop;
+use job_targets::trove_parts::read_id;
+use job_targets::trove_stream::{Deps, Refs, Trove};
 use std::alloc::Global;
-use trove_id::read_id;
-use trove_stream::{Deps, Refs, Trove};
 
 // `NAME: RECORDS`, a component of version 1.0-1-1.
 fn trove_of(alloc: Global, text: &str) -> Result<Trove, Stop> {

@@ -3,15 +3,15 @@ use crate::answers::stop_text;
 use crate::contents::content_of;
 use crate::nodes::disk_of;
 use crate::troves::troves_of;
-use cny_base::{Bytes, Copies, Name};
 use cny_report::verified_text;
-use content_store::{Contents, FarStop};
 use disk_words::{Stop, text_at, word};
-use installed_list::Installed;
+use job_targets::cny_base::{Bytes, Copies, Name};
+use job_targets::content_store::{Contents, FarStop};
+use job_targets::trove_stream::Installed;
+use root_edits::verify;
 use sha1::Sha1;
 use std::alloc::Global;
 use std::collections::BTreeMap;
-use tree_verify::verify;
 
 /// Contents by their SHA-1.
 struct Known {

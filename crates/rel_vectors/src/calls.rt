@@ -1,11 +1,10 @@
 //! The calls.
 use crate::stop::Stop;
 use change_rel::{apply, relative, to_send};
-use cny_base::{Bytes, Fault, Refusal};
 use sha1::Sha1;
 use std::alloc::Global;
-use trove_rel::{RelTrove, decode_rel, encode_rel};
-use trove_stream::{Trove, decode, encode};
+use update_job::cny_base::{Bytes, Fault, Refusal};
+use update_job::trove_stream::{RelTrove, Trove, decode, decode_rel, encode, encode_rel};
 
 // More bytes are answered by their number and their SHA-1.
 const MOST_SHOWN: usize = 400;

@@ -1,12 +1,11 @@
 //! Troves that come with a change set.
 use crate::calls::{refused, shown_stream};
 use crate::stop::Stop;
-use change_set::{ChangeSet, Part, decode};
-use cny_base::{Copies, Fault};
-use coming_troves::{applied, check_allowed};
-use installed_list::Installed;
 use std::alloc::Global;
-use trove_stream::Trove;
+use update_job::change_set::{ChangeSet, Part, decode};
+use update_job::cny_base::{Copies, Fault};
+use update_job::trove_stream::{Installed, Trove};
+use update_job::{applied, check_allowed};
 
 fn set_of(alloc: Global, bytes: &[u8]) -> Result<ChangeSet, Stop> {
     match decode(alloc, bytes) {

@@ -1,6 +1,6 @@
 //! Why a line has no answer.
-use cny_base::{OutOfMemory, TextFault};
 use std::alloc::{AllocError, AllocFailed};
+use update_job::cny_base::{OutOfMemory, TextFault};
 
 #[derive(Debug, Drop)]
 pub enum Stop {

@@ -2,28 +2,28 @@
 use Rattle.std.proofs.Common.{◌≡◌, ◌⊎◌, inl, inr, ⊎_elim, ℕ, ◌≤◌, true, false, IsTrue, List, Result, Ok, Err, IfErr, refl, sym, ap, ◌∙◌, subst, arith}
 use Rattle.std.proofs.lemmas.Bool.{cases_Bool}
 use Rattle.std.specs.Prelude.{IfOk}
-use Rattle.cny_base.specs.declared.refusal.Refusal.{Refusal}
-use Rattle.cny_base.specs.declared.stop.Stop.{Stop}
-use Rattle.cny_base.specs.declared.stop.Stop.TheVariants as stop
-use Rattle.trove_id.specs.declared.id.TroveId.{TroveId}
-use Rattle.trove_stream.specs.declared.parts.TroveParts.{TroveParts}
-use Rattle.tree_disk.specs.Tree.{Name, Tree}
-use Rattle.tree_disk.specs.Disk.{DiskModel, IsDisk, HasRead}
-use Rattle.tree_disk.specs.Clear.{is_within}
-use Rattle.tree_disk.specs.Confined.{Among, Confined, IsUnsynced}
-use Rattle.tree_disk.specs.ConfinedLaws.{leaves_weaker}
-use Rattle.journal_log.specs.Own.{gate}
-use Rattle.tree_journal.specs.Recovery.{is_committed}
-use Rattle.change_set.specs.declared.change.ChangeSet.{ChangeSet}
-use Rattle.content_store.specs.Contents.{ContentMap}
+use Rattle.cli_call.specs.cny-base.declared.refusal.Refusal.{Refusal}
+use Rattle.cli_call.specs.cny-base.declared.stop.Stop.{Stop}
+use Rattle.cli_call.specs.cny-base.declared.stop.Stop.TheVariants as stop
+use Rattle.cli_call.specs.trove-parts.declared.id.TroveId.{TroveId}
+use Rattle.cli_call.specs.trove-stream.declared.parts.TroveParts.{TroveParts}
+use Rattle.cli_call.specs.tree-disk.Tree.{Name, Tree}
+use Rattle.cli_call.specs.tree-disk.Disk.{DiskModel, IsDisk, HasRead}
+use Rattle.cli_call.specs.tree-disk.Clear.{is_within}
+use Rattle.cli_call.specs.tree-disk.Confined.{Among, Confined, IsUnsynced}
+use Rattle.cli_call.specs.tree-disk.ConfinedLaws.{leaves_weaker}
+use Rattle.cli_call.specs.journal-log.Own.{gate}
+use Rattle.cli_call.specs.tree-journal.Recovery.{is_committed}
+use Rattle.cli_call.specs.change-set.declared.change.ChangeSet.{ChangeSet}
+use Rattle.cli_call.specs.content-store.Contents.{ContentMap}
 use Rattle.repo_index.specs.Catalogue.{CatalogueParts}
-use Rattle.repo_state.specs.Files.{repository_base, HoldsCatalogue, StoresRepository}
-use Rattle.repo_state.specs.State.{catalogue_of, troves_of, RepositoryState}
-use Rattle.repository.specs.Contents.{IsDamagedContent}
-use Rattle.repo_commit.specs.Outcome as outcome
-use Rattle.repo_commit.specs.Outcome.{committed_contents, AtEveryMoment, EndsSo, HasMoments, IsAtRest, IsDamagedSource, IsDone, StopsSo}
-use Rattle.repo_commit.specs.Steps.{after_commit, ids_of, IsOldOrNew, IsStep, RecoversToEither, RecoversToRepository}
-use Rattle.repo_commit.specs.Tests.{IsRefused, Passes}
+use Rattle.repo_load.specs.Files.{repository_base, HoldsCatalogue, StoresRepository}
+use Rattle.repo_load.specs.State.{catalogue_of, troves_of, RepositoryState}
+use Rattle.repo_load.specs.Contents.{IsDamagedContent}
+use Rattle.repository.specs.Outcome as outcome
+use Rattle.repository.specs.Outcome.{committed_contents, AtEveryMoment, EndsSo, HasMoments, IsAtRest, IsDamagedSource, IsDone, StopsSo}
+use Rattle.repository.specs.Steps.{after_commit, ids_of, IsOldOrNew, IsStep, RecoversToEither, RecoversToRepository}
+use Rattle.repository.specs.Tests.{IsRefused, Passes}
 use Rattle.cny_report.specs.Troves.{committed_text}
 use Rattle.cli_call.specs.declared.failure.Failure.{Failure}
 use Rattle.cli_call.specs.declared.failure.Failure.TheVariants as failure

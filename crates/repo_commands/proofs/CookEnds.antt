@@ -1,19 +1,19 @@
 -- How `cook` ends, from what the reading of the manifest, the next version and the commit say.
 use Rattle.std.proofs.Common.{◌≡◌, inl, inr, ℕ, Bool, IsTrue, List, Result, Ok, Err, refl, sym, ap, ◌∙◌, subst}
-use Rattle.cny_base.specs.declared.refusal.Fault.{Fault}
-use Rattle.cny_base.specs.declared.refusal.Fault.TheVariants as fault
-use Rattle.cny_base.specs.declared.refusal.Refusal.{Refusal}
-use Rattle.tree_disk.specs.Tree.{Tree}
-use Rattle.tree_disk.specs.Disk.{DiskModel, IsDisk}
-use Rattle.trove_stream.specs.declared.parts.TroveParts.{TroveParts}
-use Rattle.change_set.specs.declared.change.ChangeSet.{ChangeSet}
+use Rattle.cli_call.specs.cny-base.declared.refusal.Fault.{Fault}
+use Rattle.cli_call.specs.cny-base.declared.refusal.Fault.TheVariants as fault
+use Rattle.cli_call.specs.cny-base.declared.refusal.Refusal.{Refusal}
+use Rattle.cli_call.specs.tree-disk.Tree.{Tree}
+use Rattle.cli_call.specs.tree-disk.Disk.{DiskModel, IsDisk}
+use Rattle.cli_call.specs.trove-stream.declared.parts.TroveParts.{TroveParts}
+use Rattle.cli_call.specs.change-set.declared.change.ChangeSet.{ChangeSet}
 use Rattle.cny_manifest.specs.declared.made.Made.{Made}
 use Rattle.cny_manifest.specs.FirstFault.{IsFaultOf}
 use Rattle.cny_manifest.specs.Makes.{Makes}
 use Rattle.repo_index.specs.Catalogue.{CatalogueParts}
-use Rattle.repo_state.specs.Files.{HoldsCatalogue, StoresRepository}
-use Rattle.repo_state.specs.State.{catalogue_of, troves_of, RepositoryState}
-use Rattle.repo_next.specs.Steps.{IsErrOrMemory}
+use Rattle.repo_load.specs.Files.{HoldsCatalogue, StoresRepository}
+use Rattle.repo_load.specs.State.{catalogue_of, troves_of, RepositoryState}
+use Rattle.repo_index.specs.Steps.{IsErrOrMemory}
 use Rattle.cli_call.specs.declared.failure.Failure.{Failure}
 use Rattle.cli_call.specs.declared.failure.Failure.TheVariants as failure
 use Rattle.cli_call.specs.Command.{Disks, AreReady, Performs, StandsFor}

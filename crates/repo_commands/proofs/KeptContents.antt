@@ -1,16 +1,16 @@
 -- Troves with another version record the same contents.
 use Rattle.std.proofs.Common.{◌≡◌, ℕ, ◌||◌, Bool, true, false, IsTrue, List, [], ◌∷◌, length, map, All, Option, Some, None, Result, Ok, Err, refl, sym, ap, subst}
 use Rattle.std.specs.List.{list_any}
-use Rattle.cny_base.specs.declared.refusal.Fault.{Fault}
-use Rattle.cny_base.specs.declared.refusal.Fault.TheVariants as fault
-use Rattle.cny_base.specs.declared.refusal.Refusal.{Refusal}
+use Rattle.cli_call.specs.cny-base.declared.refusal.Fault.{Fault}
+use Rattle.cli_call.specs.cny-base.declared.refusal.Fault.TheVariants as fault
+use Rattle.cli_call.specs.cny-base.declared.refusal.Refusal.{Refusal}
 use Rattle.cny_version.specs.Version.{WholeVersion}
-use Rattle.trove_stream.specs.declared.parts.TroveParts.{TroveParts}
-use Rattle.change_set.specs.declared.change.Carried.{Carried}
-use Rattle.change_set.specs.declared.change.Part.TheVariants.{Whole}
-use Rattle.change_set.specs.ChangeSet.{has_record, HasContents}
-use Rattle.repo_next.specs.Next.{next_refusal, next_troves, next_version, trove_with, unless_refused}
-use Rattle.repo_next.specs.Steps.{IsErrOrMemory}
+use Rattle.cli_call.specs.trove-stream.declared.parts.TroveParts.{TroveParts}
+use Rattle.cli_call.specs.change-set.declared.change.Carried.{Carried}
+use Rattle.cli_call.specs.change-set.declared.change.Part.TheVariants.{Whole}
+use Rattle.cli_call.specs.change-set.ChangeSet.{has_record, HasContents}
+use Rattle.repo_index.specs.Next.{next_refusal, next_troves, next_version, trove_with, unless_refused}
+use Rattle.repo_index.specs.Steps.{IsErrOrMemory}
 use Rattle.repo_commands.specs.Cook.{cooked_troves, set_of, set_of_result}
 
 same_records : (v : WholeVersion) (name : List ℕ) (size : ℕ) (troves : List TroveParts) → list_any (has_record name size) (map Whole (map (trove_with v) troves)) ≡ list_any (has_record name size) (map Whole troves)

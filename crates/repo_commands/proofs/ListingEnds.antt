@@ -1,15 +1,15 @@
 -- How `rq` ends, from the catalogue.
 use Rattle.std.proofs.Common.{◌≡◌, ℕ, List, [], ◌∷◌, ◌++◌, Option, Result, Ok, Err, refl, sym, ap, ◌∙◌}
 use Rattle.std.specs.Prelude.{IsTrue}
-use Rattle.cny_base.specs.declared.refusal.Refusal.TheVariants as refusal
-use Rattle.cny_base.specs.declared.refusal.Fault.{Fault}
-use Rattle.cny_base.specs.declared.refusal.Fault.TheVariants as fault
-use Rattle.tree_disk.specs.Tree.{Tree}
-use Rattle.tree_disk.specs.Disk.{DiskModel, IsDisk}
-use Rattle.trove_stream.specs.declared.parts.TroveParts.{TroveParts}
+use Rattle.cli_call.specs.cny-base.declared.refusal.Refusal.TheVariants as refusal
+use Rattle.cli_call.specs.cny-base.declared.refusal.Fault.{Fault}
+use Rattle.cli_call.specs.cny-base.declared.refusal.Fault.TheVariants as fault
+use Rattle.cli_call.specs.tree-disk.Tree.{Tree}
+use Rattle.cli_call.specs.tree-disk.Disk.{DiskModel, IsDisk}
+use Rattle.cli_call.specs.trove-stream.declared.parts.TroveParts.{TroveParts}
 use Rattle.repo_index.specs.Catalogue.{CatalogueParts}
-use Rattle.repo_state.specs.Files.{HoldsCatalogue, StoresRepository}
-use Rattle.repo_state.specs.State.{catalogue_of, troves_of, RepositoryState}
+use Rattle.repo_load.specs.Files.{HoldsCatalogue, StoresRepository}
+use Rattle.repo_load.specs.State.{catalogue_of, troves_of, RepositoryState}
 use Rattle.cli_call.specs.declared.failure.Failure.{Failure}
 use Rattle.cli_call.specs.Command.{Disks, AreReady, StandsFor, HasCause, Performs}
 use Rattle.cli_call.specs.CommandLaws.{AnswersReading, none_read, performs_reading}
@@ -19,7 +19,7 @@ use Rattle.cli_call.specs.State.{State}
 use Rattle.cli_call.specs.Store.{IsStore}
 use Rattle.cli_call.specs.Stores.{repository_store}
 use Rattle.cny_report.specs.Troves.{troves_text}
-use Rattle.trove_id.specs.Id.{id_text_of}
+use Rattle.cli_call.specs.trove-parts.Id.{id_text_of}
 use Rattle.repo_commands.specs.Listing.{answer, listed_of, listed, list_committed, Lists}
 
 -- the answer to a fault

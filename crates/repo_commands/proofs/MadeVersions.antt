@@ -1,16 +1,16 @@
 -- The troves that a manifest makes have one version.
 use Rattle.std.proofs.Common.{◌≡◌, ℕ, List, [], ◌∷◌, map, All, refl, sym, subst}
 use Rattle.std.proofs.lemmas.List.Elements.{All-map, All-from_recursion, recursion_from_All}
-use Rattle.cny_base.specs.Name.{kind_of_name}
-use Rattle.cny_base.specs.declared.name.NameKind.{NameKind}
-use Rattle.cny_base.specs.declared.name.NameKind.TheVariants.{Component, Package, Group}
-use Rattle.trove_stream.specs.declared.parts.TroveParts.{TroveParts}
-use Rattle.manifest_troves.specs.declared.lines.TroveLines.{TroveLines}
-use Rattle.manifest_troves.specs.Troves.{component_names, component_trove, group_trove, package_of, troves_by, troves_of, whole_component}
+use Rattle.cli_call.specs.cny-base.Name.{kind_of_name}
+use Rattle.cli_call.specs.cny-base.declared.name.NameKind.{NameKind}
+use Rattle.cli_call.specs.cny-base.declared.name.NameKind.TheVariants.{Component, Package, Group}
+use Rattle.cli_call.specs.trove-stream.declared.parts.TroveParts.{TroveParts}
+use Rattle.cny_manifest.specs.manifest-troves.declared.lines.TroveLines.{TroveLines}
+use Rattle.cny_manifest.specs.manifest-troves.Troves.{component_names, component_trove, group_trove, package_of, troves_by, troves_of, whole_component}
 use Rattle.cny_manifest.specs.declared.made.Made.{Made}
 use Rattle.cny_manifest.specs.Made.{lines_of}
 use Rattle.cny_manifest.specs.Makes.{Makes}
-use Rattle.repo_next.specs.Next.{HasOneVersion}
+use Rattle.repo_index.specs.Next.{HasOneVersion}
 
 module _ (l : TroveLines) where
   abbrev HasIts : TroveParts → Type 0

@@ -1,11 +1,11 @@
 -- What `commit` means.
 use Rattle.std.specs.Prelude.{◌≡◌, ℕ, true, List, Result, Ok, Err}
-use Rattle.cny_base.specs.declared.refusal.Refusal.{Refusal}
-use Rattle.trove_stream.specs.declared.parts.TroveParts.{TroveParts}
-use Rattle.change_set.specs.declared.change.ChangeSet.{ChangeSet}
-use Rattle.repo_state.specs.State.{catalogue_of, RepositoryState}
-use Rattle.repo_commit.specs.Steps.{after_commit, ids_of}
-use Rattle.repo_commit.specs.Tests.{IsRefused, Passes}
+use Rattle.cli_call.specs.cny-base.declared.refusal.Refusal.{Refusal}
+use Rattle.cli_call.specs.trove-stream.declared.parts.TroveParts.{TroveParts}
+use Rattle.cli_call.specs.change-set.declared.change.ChangeSet.{ChangeSet}
+use Rattle.repo_load.specs.State.{catalogue_of, RepositoryState}
+use Rattle.repository.specs.Steps.{after_commit, ids_of}
+use Rattle.repository.specs.Tests.{IsRefused, Passes}
 use Rattle.cny_report.specs.Troves.{committed_text}
 use Rattle.cli_call.specs.State.{on_repository, Effect, Meaning, State}
 use Rattle.repo_commands.specs.SetInput.{OfChangeSet}

@@ -1,13 +1,13 @@
 -- What `cook` means.
 use Rattle.std.specs.Prelude.{◌≡◌, Bool, true, false, List, map, Result, Ok, Err}
-use Rattle.cny_base.specs.declared.refusal.Refusal.{Refusal}
-use Rattle.trove_stream.specs.declared.parts.TroveParts.{TroveParts}
-use Rattle.change_set.specs.declared.change.Carried.{Carried}
-use Rattle.change_set.specs.declared.change.ChangeSet.{ChangeSet}
-use Rattle.change_set.specs.declared.change.Part.TheVariants.{Whole}
+use Rattle.cli_call.specs.cny-base.declared.refusal.Refusal.{Refusal}
+use Rattle.cli_call.specs.trove-stream.declared.parts.TroveParts.{TroveParts}
+use Rattle.cli_call.specs.change-set.declared.change.Carried.{Carried}
+use Rattle.cli_call.specs.change-set.declared.change.ChangeSet.{ChangeSet}
+use Rattle.cli_call.specs.change-set.declared.change.Part.TheVariants.{Whole}
 use Rattle.cny_manifest.specs.declared.made.Made.{Made}
-use Rattle.repo_state.specs.State.{troves_of, RepositoryState}
-use Rattle.repo_next.specs.Next.{next_troves}
+use Rattle.repo_load.specs.State.{troves_of, RepositoryState}
+use Rattle.repo_index.specs.Next.{next_troves}
 use Rattle.cli_call.specs.State.{Effect, Meaning}
 use Rattle.repo_commands.specs.Commit.{Commits}
 use Rattle.repo_commands.specs.ManifestInput.{OfManifest}

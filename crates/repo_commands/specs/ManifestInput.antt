@@ -1,6 +1,6 @@
 -- Inputs that are manifests.
 use Rattle.std.specs.Prelude.{◌≡◌, ◌⊎◌, ℕ, List, Result, Err}
-use Rattle.cny_base.specs.declared.refusal.Refusal.{Refusal}
+use Rattle.cli_call.specs.cny-base.declared.refusal.Refusal.{Refusal}
 use Rattle.cny_manifest.specs.declared.made.Made.{Made}
 use Rattle.cny_manifest.specs.FirstFault.{IsFirstFault}
 use Rattle.cny_manifest.specs.Makes.{Makes}

@@ -1,9 +1,9 @@
 -- Inputs that are change sets.
 use Rattle.std.specs.Prelude.{◌≡◌, ◌⊎◌, ℕ, List, Result, Err}
-use Rattle.cny_base.specs.declared.refusal.Refusal.{Refusal}
-use Rattle.change_set.specs.declared.change.ChangeSet.{ChangeSet}
-use Rattle.change_set.specs.ChangeSet.{IsSetStream}
-use Rattle.change_set.specs.FirstFault.{IsFirstFault}
+use Rattle.cli_call.specs.cny-base.declared.refusal.Refusal.{Refusal}
+use Rattle.cli_call.specs.change-set.declared.change.ChangeSet.{ChangeSet}
+use Rattle.cli_call.specs.change-set.ChangeSet.{IsSetStream}
+use Rattle.cli_call.specs.change-set.FirstFault.{IsFirstFault}
 use Rattle.cli_call.specs.State.{Effect}
 
 -- the bytes are no change set's

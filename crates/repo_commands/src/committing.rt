@@ -1,18 +1,18 @@
 //! Commits of change sets.
 ghost use Rattle.std.specs.Prelude.{List, ℕ};
-ghost use Rattle.change_set.specs.ChangeSet.{HasContents};
+ghost use Rattle.cli_call.specs.change-set.ChangeSet.{HasContents};
 ghost use Rattle.cli_call.specs.Command.{disks, AreReady, Performs};
 ghost use Rattle.repo_commands.specs.Commit as spec;
 ghost use Rattle.repo_commands.specs.Commit.{commit_of};
 
-use change_set::{ChangeSet, decode};
+use cli_call::change_set::{ChangeSet, decode};
+use cli_call::cny_base::Text;
+use cli_call::tree_disk::TreeDisk;
 use cli_call::{Failure, Opened, on_repository, store_laws};
-use cny_base::Text;
 use cny_report::committed_text;
-use repo_commit::{commit, commit_step, same_contents};
-use repository::stored_state;
+use repo_load::stored_state;
+use repository::{commit, commit_step, same_contents};
 use std::alloc::Global;
-use tree_disk::TreeDisk;
 
 /// Commits a change set, and tells the ids of the troves that it makes.
 pub fn commit_set<T: TreeDisk, P: TreeDisk>(

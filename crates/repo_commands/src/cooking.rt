@@ -1,23 +1,22 @@
 //! What manifests make, committed.
 ghost use Rattle.std.specs.Prelude.{◌≡◌, IfErr, IfOk, Ok, map};
-ghost use Rattle.change_set.specs.ChangeSet.{HasContents};
-ghost use Rattle.change_set.specs.declared.change.Part.TheVariants.{Whole};
+ghost use Rattle.cli_call.specs.change-set.ChangeSet.{HasContents};
+ghost use Rattle.cli_call.specs.change-set.declared.change.Part.TheVariants.{Whole};
 ghost use Rattle.cny_manifest.specs.Makes.{HasOwnContents};
-ghost use Rattle.repo_next.specs.Next.{HasOneVersion};
-ghost use Rattle.repo_next.specs.Steps.{IsErrOrMemory};
+ghost use Rattle.repo_index.specs.Next.{HasOneVersion};
+ghost use Rattle.repo_index.specs.Steps.{IsErrOrMemory};
 ghost use Rattle.cli_call.specs.Command.{disks, AreReady, Performs};
 ghost use Rattle.repo_commands.specs.Cook as spec;
 
 use crate::committing::commit_set;
-use change_set::{ChangeSet, Part, Parts};
+use cli_call::change_set::{ChangeSet, Part, Parts};
+use cli_call::cny_base::{Fault, OutOfMemory, Text};
+use cli_call::tree_disk::TreeDisk;
 use cli_call::{Failure, Opened, store_laws};
-use cny_base::{Fault, OutOfMemory, Text};
 use cny_manifest::{Made, read};
-use repo_index::Catalogue;
-use repo_next::{Troves, next_troves};
-use repository::stored_state;
+use repo_index::{Catalogue, Troves, next_troves};
+use repo_load::stored_state;
 use std::alloc::Global;
-use tree_disk::TreeDisk;
 
 // The troves as they are, or with the version that comes next.
 fn cooked_troves(

@@ -1,12 +1,22 @@
-//! The commands of the repository.
+//! The commands of the repository, those that take specifications of troves, and those that commit what a specification means on another
+//! label.
 //!
 //! Each has its meaning in a file of its own in `specs/`, and a function with one clause: that it performs this meaning.
 #![tactic(auto)]
 
 mod committing;
 mod cooking;
+mod expanding;
+mod given;
 mod listing;
+mod moving;
+mod sending;
 
+pub use cli_call::{change_set, cny_base, content_store, tree_disk, trove_parts, trove_stream};
 pub use committing::{commit_input, commit_set};
 pub use cooking::cook_manifest;
+pub use expanding::meant;
+pub use given::GivenSpec;
 pub use listing::list_committed;
+pub use moving::commit_moved;
+pub use sending::send_changes;

@@ -7,15 +7,15 @@ ghost use Rattle.cli_call.specs.Command.{disks, AreReady, Performs};
 ghost use Rattle.repo_commands.specs.Listing as spec;
 ghost use Rattle.repo_commands.specs.Listing.{line_of, listed, IsTextOf, Lists};
 
+use cli_call::cny_base::{Fault, Name, OutOfMemory, Refusal, Text};
+use cli_call::tree_disk::TreeDisk;
+use cli_call::trove_stream::Trove;
 use cli_call::{Failure, Opened, store_laws};
-use cny_base::{Fault, Name, OutOfMemory, Refusal, Text};
 use cny_report::troves_text;
 use repo_index::Catalogue;
-use repository::stored_state;
+use repo_load::stored_state;
 use std::alloc::Global;
 use std::slice;
-use tree_disk::TreeDisk;
-use trove_stream::Trove;
 
 // Appends the line of a trove, if there is one.
 fn push_line(alloc: Global, text: &mut String, trove: Option<&Trove>) -> Result<(), OutOfMemory>

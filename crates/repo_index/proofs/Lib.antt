@@ -1,3 +1,11 @@
 pub mod Searching
 pub mod Indexing
 pub mod Placing
+pub mod Texts
+pub mod Branches
+pub mod Searches
+pub mod LatestTrove
+pub mod Refusing
+pub mod Passing
+pub mod Renewed
+pub mod NextLists

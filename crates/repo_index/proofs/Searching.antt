@@ -6,9 +6,9 @@ use Rattle.std.specs.Slice.{IsItemAt}
 use Rattle.std.specs.Str.{bytes_eq}
 use Rattle.std.proofs.lemmas.List.{length_push}
 use Rattle.std.proofs.lemmas.Option.{slice_get_past, slice_get_read}
-use Rattle.cny_flavor.specs.Canonical.{flavor_text}
+use Rattle.trove_stream.specs.cny-flavor.Canonical.{flavor_text}
 use Rattle.cny_version.specs.Version.{version_text}
-use Rattle.trove_id.specs.declared.id.TroveId.{TroveId}
+use Rattle.trove_stream.specs.trove-parts.declared.id.TroveId.{TroveId}
 use Rattle.trove_stream.specs.declared.parts.TroveParts.{TroveParts}
 use Rattle.repo_index.specs.Catalogue.{places_from, has_id, has_name}
 use denote.Ref.{Bor}

@@ -3,3 +3,10 @@ pub mod Places
 pub mod PlacesLaws
 pub mod Keys
 pub mod Index
+pub mod Next
+pub mod Steps
+pub use Rattle.trove_stream.specs.cny-base
+pub use Rattle.trove_stream.specs.cny-flavor
+pub use Rattle.trove_stream.specs.file-stream
+pub use Rattle.trove_stream.specs.trove-parts
+pub use Rattle.trove_stream.specs as trove-stream

@@ -1,7 +1,7 @@
 -- Troves by their places.
 use Rattle.std.specs.Prelude.{◌≡◌, ℕ, List, Some, slice_get}
 use Rattle.std.specs.List.{filter_map}
-use Rattle.trove_id.specs.declared.id.TroveId.{TroveId}
+use Rattle.trove_stream.specs.trove-parts.declared.id.TroveId.{TroveId}
 use Rattle.trove_stream.specs.declared.parts.TroveParts.{TroveParts}
 
 -- the troves at these places, in the order of the places

@@ -1,19 +1,19 @@
 //! The catalogue.
 ghost use Rattle.std.specs.Prelude.{◌≡◌, ◌+◌, ◌<◌, ◌++◌, ◌∷◌, [], ℕ, Some, None, slice_get, IfSome, IfOk, IfErr, OnOk, OnErr};
 ghost use Rattle.std.specs.Option.{option_copied};
-ghost use Rattle.cny_base.specs.declared.limits.TheConstants.{COMMITS_LIMIT};
+ghost use Rattle.trove_stream.specs.cny-base.declared.limits.TheConstants.{COMMITS_LIMIT};
 ghost use Rattle.repo_index.specs.Catalogue as spec;
 ghost use Rattle.repo_index.specs.Catalogue.{no_commits, with_trove, with_commit, found, places_of, named, HasDistinctIds, IsExistsOrMemory};
 ghost use Rattle.repo_index.specs.Places.{IsPlaceOf, troves_at};
 
 use crate::index::Index;
 use crate::search::{find_among, latest_among, place_among, trove_at};
-use cny_base::{Copies, Fault, Name, OutOfMemory, Refusal};
 use cny_version::Count;
 use std::alloc::Global;
 use std::marker::Model;
-use trove_id::{TroveId, id_text};
 use trove_stream::Trove;
+use trove_stream::cny_base::{Copies, Fault, Name, OutOfMemory, Refusal};
+use trove_stream::trove_parts::{TroveId, id_text};
 
 /// The troves of a repository in the order in which they were committed, and how many commits it has.
 ///

@@ -4,16 +4,16 @@ ghost use Rattle.std.specs.List.{list_any};
 ghost use Rattle.std.specs.Str.{bytes_eq};
 ghost use Rattle.trove_stream.specs.declared.parts.TroveParts.{TroveParts};
 ghost use Rattle.repo_index.specs.Catalogue.{places_of, has_content, records_content, is_content, is_file_of, is_file_sized};
-ghost use Rattle.file_stream.specs.Record.{has_name_and_size};
+ghost use Rattle.trove_stream.specs.file-stream.Record.{has_name_and_size};
 ghost use Rattle.repo_index.specs.Keys.{places_in, knows, knows_sized, Extends};
 ghost use Rattle.repo_index.specs.Index.{IsIndexOf};
 
-use cny_base::OutOfMemory;
-use file_stream::FileRec;
 use indexmap::{IndexMap, IndexSet};
 use std::alloc::Global;
-use trove_items::FileAt;
 use trove_stream::Trove;
+use trove_stream::cny_base::OutOfMemory;
+use trove_stream::file_stream::FileRec;
+use trove_stream::trove_parts::FileAt;
 
 /// A content, as a file record tells it.
 #[derive(PartialEq, Eq, Hash, Drop)]

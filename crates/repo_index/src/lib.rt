@@ -1,11 +1,19 @@
-//! The catalogue of a repository: its troves in the order of their commits, with an index by name.
+//! The catalogue of a repository: its troves in the order of their commits, with an index by name; and troves with the version that
+//! comes next on their branch.
 //!
 //! Begin at `catalogue`. It stands on `index` (where the troves of each name stand, and the names of contents) and on
-//! `search` (the searches among the troves of one name).
+//! `search` (the searches among the troves of one name). The next versions begin at `renewing`, which stands on `latest` (the revision
+//! that comes next) and `with_version` (a trove with another version).
 #![tactic(auto)]
 
 mod catalogue;
 mod index;
+mod latest;
+mod renewing;
 mod search;
+mod with_version;
 
 pub use catalogue::Catalogue;
+pub use renewing::{Troves, next_troves};
+pub use trove_stream;
+pub use trove_stream::{cny_base, file_stream, trove_parts};

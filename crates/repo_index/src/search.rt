@@ -7,8 +7,8 @@ ghost use Rattle.repo_index.specs.Catalogue.{has_id, places_of, HasDistinctIds};
 ghost use Rattle.repo_index.specs.Places.{IsPlaceOf, troves_at};
 
 use cny_version::{Count, Version};
-use trove_id::{TroveId, distinct_ids};
 use trove_stream::Trove;
+use trove_stream::trove_parts::{TroveId, distinct_ids};
 
 /// The trove at a place, if there is one.
 pub(crate) fn trove_at(troves: &[Trove], place: usize) -> Option<&Trove>

@@ -3,11 +3,11 @@ use Rattle.std.proofs.Common.{◌≡◌, ℕ, true, List, get_or, is_some, slice
 use Rattle.std.specs.Prelude.{IfSome, IsSome, IsTrue}
 use Rattle.std.proofs.lemmas.List.Elements.{All-contains}
 use Rattle.std.proofs.lemmas.Option.{slice_get-get_or, slice_get_within, same_Some}
-use Rattle.trove_id.specs.declared.id.TroveId.{TroveId}
-use Rattle.trove_id.specs.Id.{IsTroveId}
-use Rattle.trove_id.specs.Order.{id_eq}
-use Rattle.trove_stream.specs.declared.parts.TroveParts.{TroveParts}
-use Rattle.trove_stream.specs.Trove.{IsTrove}
+use Rattle.repo_index.specs.trove-parts.declared.id.TroveId.{TroveId}
+use Rattle.repo_index.specs.trove-parts.Id.{IsTroveId}
+use Rattle.repo_index.specs.trove-parts.Order.{id_eq}
+use Rattle.repo_index.specs.trove-stream.declared.parts.TroveParts.{TroveParts}
+use Rattle.repo_index.specs.trove-stream.Trove.{IsTrove}
 use Rattle.repo_index.specs.Catalogue.{has_id, found}
 use Rattle.repo_index.specs.Places.{IsPlaceOf}
 use Rattle.repo_shadow.specs.Within.{HasId, RefersWithin, AllReferWithin, AllRefsAreFound}

@@ -1,12 +1,12 @@
 -- What a root reaches is moved in one way, or refused for one reason.
 use Rattle.std.proofs.Common.{◌≡◌, List, [], ◌∷◌, inl, inr, sym, ap, ◌∙◌}
 use Rattle.std.proofs.lemmas.Option.{none-some, same_Some}
-use Rattle.cny_base.specs.declared.refusal.Refusal.{Refusal}
-use Rattle.cny_base.specs.declared.refusal.Refusal.TheVariants as refusal
+use Rattle.repo_index.specs.cny-base.declared.refusal.Refusal.{Refusal}
+use Rattle.repo_index.specs.cny-base.declared.refusal.Refusal.TheVariants as refusal
 use Rattle.cny_version.specs.Label.{LabelParts}
-use Rattle.trove_id.specs.declared.id.TroveId.{TroveId}
-use Rattle.trove_id.specs.Id.{id_text_of}
-use Rattle.trove_stream.specs.declared.parts.TroveParts.{TroveParts}
+use Rattle.repo_index.specs.trove-parts.declared.id.TroveId.{TroveId}
+use Rattle.repo_index.specs.trove-parts.Id.{id_text_of}
+use Rattle.repo_index.specs.trove-stream.declared.parts.TroveParts.{TroveParts}
 use Rattle.trove_spec.specs.Expansion.{IsExpansion, first_of_same_name}
 use Rattle.repo_shadow.specs.declared.way.Way.{Way}
 use Rattle.repo_shadow.specs.Moved.{moved_troves, first_refusal, IsMovedExpansion, IsMoveRefusal}

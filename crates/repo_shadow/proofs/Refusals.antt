@@ -4,12 +4,12 @@ use Rattle.std.specs.Option.{option_map}
 use Rattle.std.specs.Result.{IfErr, IsErrAnd}
 use Rattle.std.proofs.lemmas.Option.{none-some}
 use Rattle.std.proofs.lemmas.Result.{err_from_is_err_and}
-use Rattle.cny_base.specs.declared.refusal.Fault.{Fault}
-use Rattle.cny_base.specs.declared.refusal.Fault.TheVariants.{Refused, Memory}
-use Rattle.cny_base.specs.declared.refusal.Refusal.{Refusal}
+use Rattle.repo_index.specs.cny-base.declared.refusal.Fault.{Fault}
+use Rattle.repo_index.specs.cny-base.declared.refusal.Fault.TheVariants.{Refused, Memory}
+use Rattle.repo_index.specs.cny-base.declared.refusal.Refusal.{Refusal}
 use Rattle.cny_version.specs.Label.{LabelParts}
-use Rattle.trove_id.specs.declared.id.TroveId.{TroveId}
-use Rattle.trove_stream.specs.declared.parts.TroveParts.{TroveParts}
+use Rattle.repo_index.specs.trove-parts.declared.id.TroveId.{TroveId}
+use Rattle.repo_index.specs.trove-stream.declared.parts.TroveParts.{TroveParts}
 use Rattle.trove_spec.specs.Expansion.{IsExpansion, IsUnexpanded, first_of_same_name}
 use Rattle.trove_spec.specs.Resolve.{or_else}
 use Rattle.repo_shadow.specs.declared.way.Way.{Way}

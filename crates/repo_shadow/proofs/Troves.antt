@@ -9,19 +9,19 @@ use Rattle.std.specs.declared.cmp.Ordering.TheVariants.{Less, Equal, Greater}
 use Rattle.std.proofs.lemmas.Bool.Decides.{nat_tests}
 use Rattle.std.proofs.lemmas.Cmp.{tied_itself}
 use Rattle.std.proofs.lemmas.List.Elements.{All-map, All-from_recursion, recursion_from_All, Contains-get_or}
-use Rattle.cny_base.specs.Name.{kind_of_name}
-use Rattle.cny_base.specs.declared.name.NameKind.{NameKind}
-use Rattle.cny_base.specs.declared.name.NameKind.TheVariants.{Component, Package, Group}
-use Rattle.cny_base.specs.declared.limits.TheConstants.{REFS_LIMIT}
-use Rattle.cny_flavor.specs.Canonical.{flavor_text}
+use Rattle.repo_index.specs.cny-base.Name.{kind_of_name}
+use Rattle.repo_index.specs.cny-base.declared.name.NameKind.{NameKind}
+use Rattle.repo_index.specs.cny-base.declared.name.NameKind.TheVariants.{Component, Package, Group}
+use Rattle.repo_index.specs.cny-base.declared.limits.TheConstants.{REFS_LIMIT}
+use Rattle.repo_index.specs.cny-flavor.Canonical.{flavor_text}
 use Rattle.cny_version.specs.declared.revision.Revision.{Revision}
 use Rattle.cny_version.specs.Label.{LabelParts}
 use Rattle.cny_version.specs.Version.{version_text}
-use Rattle.trove_id.specs.declared.id.TroveId.{TroveId}
-use Rattle.trove_id.specs.Id.{IsTroveId}
-use Rattle.trove_id.specs.Order.{id_cmp, id_total}
-use Rattle.trove_stream.specs.declared.parts.TroveParts.{TroveParts}
-use Rattle.trove_stream.specs.Trove.{IsTrove, KeepsKind, IsComponentOf, HasOtherName}
+use Rattle.repo_index.specs.trove-parts.declared.id.TroveId.{TroveId}
+use Rattle.repo_index.specs.trove-parts.Id.{IsTroveId}
+use Rattle.repo_index.specs.trove-parts.Order.{id_cmp, id_total}
+use Rattle.repo_index.specs.trove-stream.declared.parts.TroveParts.{TroveParts}
+use Rattle.repo_index.specs.trove-stream.Trove.{IsTrove, KeepsKind, IsComponentOf, HasOtherName}
 use Rattle.repo_shadow.specs.declared.way.Way.{Way}
 use Rattle.repo_shadow.specs.Moved.{moved_version, moved_id}
 use Rattle.repo_shadow.specs.Steps.{wholly_moved}

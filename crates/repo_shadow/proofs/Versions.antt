@@ -2,15 +2,15 @@
 use Rattle.std.proofs.Common.{◌≡◌, ◌↔◌, ◌<◌, inl, inr, false, List, [], ◌∷◌, ◌++◌, length, Result, Ok, Err, refl, sym, ap, ◌∙◌, true≢false}
 use Rattle.std.specs.Prelude.{IsErrOf, OnOk, IfErr}
 use Rattle.std.proofs.lemmas.Bool.{lt-ltb, le-ltb, cases_lt}
-use Rattle.cny_base.specs.declared.limits.TheConstants.{VERSION_LIMIT}
-use Rattle.cny_base.specs.declared.refusal.Fault.{Fault}
-use Rattle.cny_base.specs.declared.refusal.Fault.TheVariants.{Refused, Memory}
-use Rattle.cny_base.specs.declared.refusal.Refusal.{Refusal}
-use Rattle.cny_base.specs.declared.refusal.What.TheVariants as what
+use Rattle.repo_index.specs.cny-base.declared.limits.TheConstants.{VERSION_LIMIT}
+use Rattle.repo_index.specs.cny-base.declared.refusal.Fault.{Fault}
+use Rattle.repo_index.specs.cny-base.declared.refusal.Fault.TheVariants.{Refused, Memory}
+use Rattle.repo_index.specs.cny-base.declared.refusal.Refusal.{Refusal}
+use Rattle.repo_index.specs.cny-base.declared.refusal.What.TheVariants as what
 use Rattle.cny_version.specs.Label.{LabelParts}
 use Rattle.cny_version.specs.TooLarge.{TooLargeOrMemory}
 use Rattle.cny_version.specs.Version.{WholeVersion, last_of, last_label, version_text}
-use Rattle.trove_id.specs.declared.id.TroveId.{TroveId}
+use Rattle.repo_index.specs.trove-parts.declared.id.TroveId.{TroveId}
 use Rattle.repo_shadow.specs.declared.way.Way.{Way}
 use Rattle.repo_shadow.specs.declared.way.Way.TheVariants.{Shadow, Branch}
 use Rattle.repo_shadow.specs.Moved.{moved_version, is_long_version, too_large_version}

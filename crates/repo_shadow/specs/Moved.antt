@@ -3,18 +3,18 @@ use Rattle.std.specs.Prelude.{◌≡◌, ◌⊎◌, Bool, is_some, if◌then◌e
 use Rattle.std.specs.List.{find, list_any}
 use Rattle.std.specs.Option.{option_map}
 use Rattle.std.specs.Str.{bytes_eq}
-use Rattle.cny_base.specs.declared.limits.TheConstants.{VERSION_LIMIT}
-use Rattle.cny_base.specs.declared.refusal.Fault.{Fault}
-use Rattle.cny_base.specs.declared.refusal.Fault.TheVariants.{Refused, Memory}
-use Rattle.cny_base.specs.declared.refusal.Refusal.{Refusal}
-use Rattle.cny_base.specs.declared.refusal.Refusal.TheVariants as refusal
-use Rattle.cny_base.specs.declared.refusal.What.TheVariants as what
+use Rattle.repo_index.specs.cny-base.declared.limits.TheConstants.{VERSION_LIMIT}
+use Rattle.repo_index.specs.cny-base.declared.refusal.Fault.{Fault}
+use Rattle.repo_index.specs.cny-base.declared.refusal.Fault.TheVariants.{Refused, Memory}
+use Rattle.repo_index.specs.cny-base.declared.refusal.Refusal.{Refusal}
+use Rattle.repo_index.specs.cny-base.declared.refusal.Refusal.TheVariants as refusal
+use Rattle.repo_index.specs.cny-base.declared.refusal.What.TheVariants as what
 use Rattle.cny_version.specs.Label.{LabelParts, label_text}
 use Rattle.cny_version.specs.Made.{shadow_onto, branch_onto}
 use Rattle.cny_version.specs.Version.{WholeVersion, last_label, version_text}
-use Rattle.trove_id.specs.declared.id.TroveId.{TroveId}
-use Rattle.trove_id.specs.Id.{id_text_of}
-use Rattle.trove_stream.specs.declared.parts.TroveParts.{TroveParts}
+use Rattle.repo_index.specs.trove-parts.declared.id.TroveId.{TroveId}
+use Rattle.repo_index.specs.trove-parts.Id.{id_text_of}
+use Rattle.repo_index.specs.trove-stream.declared.parts.TroveParts.{TroveParts}
 use Rattle.repo_index.specs.Catalogue.{found}
 use Rattle.trove_spec.specs.Expansion.{IsExpansion, IsOfOneName, first_of_same_name}
 use Rattle.trove_spec.specs.Resolve.{or_else}

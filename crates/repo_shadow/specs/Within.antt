@@ -1,7 +1,7 @@
 -- Troves that refer only to troves of their list.
 use Rattle.std.specs.Prelude.{◌≡◌, List, All, Contains, IsSome}
-use Rattle.trove_id.specs.declared.id.TroveId.{TroveId}
-use Rattle.trove_stream.specs.declared.parts.TroveParts.{TroveParts}
+use Rattle.repo_index.specs.trove-parts.declared.id.TroveId.{TroveId}
+use Rattle.repo_index.specs.trove-stream.declared.parts.TroveParts.{TroveParts}
 use Rattle.repo_index.specs.Catalogue.{found}
 
 -- one of the troves has this id

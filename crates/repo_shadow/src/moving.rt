@@ -1,18 +1,18 @@
 //! Troves, moved onto a label.
 ghost use Rattle.std.specs.Prelude.{◌≡◌, All, map, IfOk, IfErr};
-ghost use Rattle.cny_base.specs.declared.refusal.Fault.TheVariants as fault;
-ghost use Rattle.trove_id.specs.Id.{IsTroveId};
-ghost use Rattle.trove_stream.specs.Trove.{IsTrove};
+ghost use Rattle.repo_index.specs.cny-base.declared.refusal.Fault.TheVariants as fault;
+ghost use Rattle.repo_index.specs.trove-parts.Id.{IsTroveId};
+ghost use Rattle.repo_index.specs.trove-stream.Trove.{IsTrove};
 ghost use Rattle.repo_shadow.specs.Moved as spec;
 ghost use Rattle.repo_shadow.specs.Steps.{Fits, CanMove, wholly_moved};
 
 use crate::way::{Way, add_moved, moved_id};
-use cny_base::Fault;
 use cny_version::Label;
+use repo_index::cny_base::Fault;
+use repo_index::trove_parts::TroveId;
+use repo_index::trove_stream::{Refs, Trove, TroveParts};
 use std::alloc::Global;
-use trove_id::TroveId;
 use trove_spec::Troves;
-use trove_stream::{Refs, Trove, TroveParts};
 
 // The ids, moved.
 fn moved_refs(alloc: Global, refs: &[TroveId], label: &Label, way: Way) -> Result<Refs, Fault>

@@ -5,12 +5,12 @@ ghost use Rattle.repo_shadow.specs.Moved as spec;
 ghost use Rattle.repo_shadow.specs.Steps.{IsRefusalOrMemory};
 
 use crate::way::{Way, add_moved};
-use cny_base::{Fault, Refusal, Text};
 use cny_version::Label;
 use repo_index::Catalogue;
+use repo_index::cny_base::{Fault, Refusal, Text};
+use repo_index::trove_parts::{TroveId, id_text};
+use repo_index::trove_stream::Trove;
 use std::alloc::Global;
-use trove_id::{TroveId, id_text};
-use trove_stream::Trove;
 
 // Whether the trove is on the label.
 fn is_on(label: &Label, trove: &Trove) -> bool

@@ -1,10 +1,10 @@
 //! What a trove reaches by references, moved onto a label.
 ghost use Rattle.std.specs.Prelude.{◌≡◌, All, None, List, IfOk, IfErr};
-ghost use Rattle.cny_base.specs.declared.refusal.Refusal.{Refusal};
+ghost use Rattle.repo_index.specs.cny-base.declared.refusal.Refusal.{Refusal};
 ghost use Rattle.cny_version.specs.Label.{LabelParts};
 ghost use Rattle.cny_version.specs.Version.{last_label};
-ghost use Rattle.trove_id.specs.declared.id.TroveId.{TroveId};
-ghost use Rattle.trove_stream.specs.declared.parts.TroveParts.{TroveParts};
+ghost use Rattle.repo_index.specs.trove-parts.declared.id.TroveId.{TroveId};
+ghost use Rattle.repo_index.specs.trove-stream.declared.parts.TroveParts.{TroveParts};
 ghost use Rattle.repo_index.specs.Catalogue.{found};
 ghost use Rattle.trove_spec.specs.Expansion.{HasRisingNames};
 ghost use Rattle.repo_shadow.specs.declared.way.Way.{Way};
@@ -14,12 +14,12 @@ ghost use Rattle.repo_shadow.specs.Within.{AllReferWithin};
 use crate::moving::moved_troves;
 use crate::refusing::refuse_move;
 use crate::way::Way;
-use cny_base::Fault;
 use cny_version::Label;
 use repo_index::Catalogue;
+use repo_index::cny_base::Fault;
+use repo_index::trove_parts::TroveId;
 use std::alloc::Global;
 use std::slice;
-use trove_id::TroveId;
 use trove_spec::{Troves, expand, one_expansion};
 
 /// The expansion of the root, moved onto the label: copies of the troves of the catalogue that the root reaches, each with its

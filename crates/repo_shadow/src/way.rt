@@ -1,13 +1,13 @@
 //! A version and an id, moved onto a label.
 ghost use Rattle.std.specs.Prelude.{◌≡◌, ◌++◌, ◌∷◌, [], false, IfOk, IfErr, OnOk};
-ghost use Rattle.trove_id.specs.Id.{IsTroveId};
+ghost use Rattle.repo_index.specs.trove-parts.Id.{IsTroveId};
 ghost use Rattle.repo_shadow.specs.Moved as spec;
 ghost use Rattle.repo_shadow.specs.Steps.{Fits, IsTooLongOrMemory};
 
-use cny_base::{Copies, Fault};
 use cny_version::{Label, Version};
+use repo_index::cny_base::{Copies, Fault};
+use repo_index::trove_parts::TroveId;
 use std::alloc::Global;
-use trove_id::TroveId;
 
 /// How versions come onto a label.
 #[derive(Clone, Copy, Debug, PartialEq, Eq)]

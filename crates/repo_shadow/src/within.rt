@@ -1,12 +1,12 @@
 //! Troves that refer only to one another.
 ghost use Rattle.std.specs.Prelude.{◌↔◌, All, List, IsTrue};
-ghost use Rattle.trove_stream.specs.declared.parts.TroveParts.{TroveParts};
-ghost use Rattle.trove_stream.specs.Trove.{IsTrove};
+ghost use Rattle.repo_index.specs.trove-stream.declared.parts.TroveParts.{TroveParts};
+ghost use Rattle.repo_index.specs.trove-stream.Trove.{IsTrove};
 ghost use Rattle.repo_shadow.specs.Within.{HasId, RefersWithin, AllReferWithin, AllRefsAreFound};
 
 use repo_index::Catalogue;
-use trove_id::{TroveId, distinct_ids};
-use trove_stream::Trove;
+use repo_index::trove_parts::{TroveId, distinct_ids};
+use repo_index::trove_stream::Trove;
 
 // Whether a trove of the catalogue has the id.
 fn has_id(catalogue: &Catalogue, id: &TroveId) -> bool

@@ -1,10 +1,10 @@
 //! Calls on the texts of jobs and of verifications.
 use crate::line::{Stop, count_of, number_of, on_a_line, text_at};
-use cny_base::Path;
 use cny_report::{Note, changes_text, rolled_back_text, undos_text, verified_text};
 use std::alloc::Global;
 use tree_scan::{Finding, Findings, Found, Verified};
-use trove_id::read_id;
+use update_job::cny_base::Path;
+use update_job::trove_parts::read_id;
 use update_job::{Change, Changes};
 
 // The change that a field tells: `+`, `~` or `-`, and the text of an id.

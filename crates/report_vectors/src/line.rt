@@ -1,7 +1,7 @@
 //! The arguments of a line, and its answer.
-use cny_base::{OutOfMemory, TextFault};
 use std::alloc::{AllocError, AllocFailed, Global};
-use trove_stream::{Trove, decode};
+use update_job::cny_base::{OutOfMemory, TextFault};
+use update_job::trove_stream::{Trove, decode};
 
 /// Why a line has no answer.
 #[derive(Debug, Drop)]

@@ -1,9 +1,9 @@
 //! Calls on the texts of troves.
 use crate::line::{Stop, on_a_line, text_at, trove_of, troves_of};
-use cny_base::Name;
 use cny_report::{committed_text, named_text, trove_text, troves_text};
 use std::alloc::Global;
-use trove_id::{TroveId, read_id};
+use update_job::cny_base::Name;
+use update_job::trove_parts::{TroveId, read_id};
 
 /// `troves_text` of troves.
 pub fn troves(alloc: Global, fields: &[String]) -> Result<String, Stop> {

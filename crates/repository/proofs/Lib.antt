@@ -1,6 +1,27 @@
-pub mod Joined
-pub mod Resolved
-pub mod CommitsRead
-pub mod Counted
-pub mod Stored
-pub mod Sourced
+pub mod Lists
+pub mod References
+pub mod Sources
+pub mod Making
+pub mod Carrying
+pub mod Held
+pub mod Stepping
+pub mod Checking
+pub mod Preparations
+pub mod Placing
+pub mod Putting
+pub mod States
+pub mod Readying
+pub mod Resting
+pub mod Unique
+pub mod Applied
+pub mod Within
+pub mod Written
+pub mod Outcomes
+pub mod Ordering
+mod Members
+mod Searched
+mod Told
+mod Gathered
+mod Fitting
+mod BetweenCarrying
+mod SetLaws

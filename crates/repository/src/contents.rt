@@ -1,53 +1,80 @@
-//! Contents of a repository.
-ghost use Rattle.std.specs.Prelude.{◌↔◌, IfOk, IsTrue};
-ghost use Rattle.repository.specs.Contents.{FindsContent, IsDamagedContent, IsRecorded, IsSoundAnswer};
-ghost use Rattle.repository.specs.Looks.{Looks};
+//! Contents of troves that are to be committed.
+ghost use Rattle.std.specs.Prelude.{◌≡◌, ◌∷◌, [], length};
+ghost use Rattle.std.specs.List.{list_any};
+ghost use Rattle.std.specs.List.Sorted.{IsStrictlySortedBy};
+ghost use Rattle.change_set.specs.ChangeSet.{content_cmp};
+ghost use Rattle.repo_load.specs.State as state;
+ghost use Rattle.repository.specs.Tests as tests;
+ghost use Rattle.repository.specs.Tests.{files_of, lacks_content, missing_content};
+ghost use Rattle.repository.specs.Verdict.{IsVerdict};
 
-use cny_base::{Bytes, Stop};
-use content_store::get;
+use change_set::Carried;
 use repo_index::Catalogue;
-use repo_state::{content_path, contents_path};
-use sha1::Sha1;
-use std::alloc::Global;
-use tree_disk::TreeDisk;
+use repo_load::cny_base::{Fault, Refusal};
+use repo_load::file_stream::FileRec;
+use repo_load::trove_parts::FileAt;
+use repo_load::trove_stream::Trove;
 
-// Whether the bytes have this name, and one of the troves records a file of this name and of their size.
-fn is_recorded(catalogue: &Catalogue, name: &[u8; 20], bytes: &[u8]) -> bool
-    ensures { IsTrue result ↔ IsRecorded catalogue.now.troves name.now bytes.now }
+// Whether a content of this name and this size is carried.
+fn is_carried(contents: &[Carried], name: &[u8; 20], size: usize) -> bool
+    requires { IsStrictlySortedBy content_cmp contents.now }
+    ensures { result ≡ list_any (tests.is_carried name.now size) contents.now }
 {
-    let digest = Sha1::digest(bytes);
-    let named = digest.as_slice() == name.as_slice();
-    let recorded = catalogue.records_content(name, bytes.len());
-    named && recorded
+    match contents.binary_search_by(|carried| carried.name.cmp(name)) {
+        Ok(place) => contents[place].bytes.get().len() == size,
+        Err(_) => false,
+    }
 }
 
-/// The content of a name, and none exactly where no trove of the catalogue records a file of that name.
-///
-/// `Damaged` names the content's file, exactly where a trove records a content of that name, and no file stands there that
-/// has the name's SHA-1 and a size that is recorded. `Failed` comes only where the disk's count of faults rose. `Refused`
-/// never comes, and no name changes, however it ends.
-pub fn content<D: TreeDisk>(
-    alloc: Global,
-    disk: &mut D,
-    catalogue: &Catalogue,
-    name: &[u8; 20],
-) -> Result<Option<Bytes>, Stop>
-    ensures finds { Looks D.disk (FindsContent catalogue.now.troves name.now) (IsDamagedContent catalogue.now.troves name.now)
-        disk.old disk.new result }
-    // Also where the disk tells no tree.
-    ensures sound { IfOk result (IsSoundAnswer catalogue.now.troves name.now) }
+// Whether a content of this name and this size is carried, or a committed trove records one.
+fn has_source(committed: &Catalogue, contents: &[Carried], name: &[u8; 20], size: usize) -> bool
+    requires { IsStrictlySortedBy content_cmp contents.now }
+    ensures { result ≡ tests.has_source committed.now.troves contents.now name.now size }
 {
-    if !catalogue.has_content(name) {
-        return Ok(None);
-    }
-    let dir = contents_path(alloc)?;
-    let found = get(alloc, disk, &dir, name)?;
-    if let Some(bytes) = found {
-        if is_recorded(catalogue, name, bytes.get()) {
-            return Ok(Some(bytes));
+    let carried = is_carried(contents, name, size);
+    carried || committed.records_content(name, size)
+}
+
+// Whether the content of a file is carried or committed.
+fn check_file(committed: &Catalogue, contents: &[Carried], file: &FileAt) -> Result<(), Fault>
+    requires { IsStrictlySortedBy content_cmp contents.now }
+    ensures { IsVerdict (lacks_content committed.now.troves contents.now file.now.rec) result }
+{
+    match &file.rec {
+        FileRec::Dir { .. } => Ok(()),
+        FileRec::Link { .. } => Ok(()),
+        FileRec::File { size, name, .. } => {
+            if !has_source(committed, contents, name, *size as usize) {
+                return Err(Fault::Refused(Refusal::MissingContent { name: *name }));
+            }
+            Ok(())
         }
     }
-    Err(Stop::Damaged {
-        path: content_path(alloc, name)?,
-    })
+}
+
+// The same for these files.
+fn check_files(committed: &Catalogue, contents: &[Carried], files: &[FileAt]) -> Result<(), Fault>
+    requires { IsStrictlySortedBy content_cmp contents.now }
+    ensures { IsVerdict (missing_content committed.now.troves contents.now files.now) result }
+{
+    for file in files {
+        check_file(committed, contents, file)?;
+    }
+    Ok(())
+}
+
+/// Whether each content that the troves record is carried or committed, with its size. `MissingContent` names the first one
+/// that isn't.
+pub(crate) fn check_contents(
+    committed: &Catalogue,
+    contents: &[Carried],
+    troves: &[Trove],
+) -> Result<(), Fault>
+    requires { IsStrictlySortedBy content_cmp contents.now }
+    ensures { IsVerdict (missing_content committed.now.troves contents.now (files_of troves.now)) result }
+{
+    for trove in troves {
+        check_files(committed, contents, trove.files())?;
+    }
+    Ok(())
 }

@@ -1,53 +1,47 @@
-//! A commit joined to the catalogue of those before it.
-ghost use Rattle.std.specs.Prelude.{◌≡◌, ◌≢◌, ◌++◌, [], true, All, IfOk, None};
-ghost use Rattle.trove_stream.specs.Trove.{IsTrove};
-ghost use Rattle.repo_index.specs.Catalogue.{found, with_trove};
-ghost use Rattle.repo_state.specs.State.{IsAllowed, IsCommit};
-ghost use Rattle.repository.specs.Loading.{IsAnswer};
+//! The troves of a commit joined to the catalogue.
+ghost use Rattle.std.specs.Prelude.{◌≡◌, ◌<◌, IfOk, OnOk};
+ghost use Rattle.repo_load.specs.cny-base.declared.limits.TheConstants.{COMMITS_LIMIT};
+ghost use Rattle.repo_load.specs.State.{AreNew};
+ghost use Rattle.repo_load.specs.Steps.{catalogue_with};
+ghost use Rattle.repository.specs.Steps as spec;
 
-use cny_base::{Fault, OutOfMemory};
 use repo_index::Catalogue;
-use repo_state::Troves;
+use repo_load::cny_base::{Copies, Fault, ListOf, OutOfMemory};
+use repo_load::trove_parts::TroveId;
+use repo_load::trove_stream::Trove;
 use std::alloc::Global;
-use trove_stream::{Trove, check};
 
-// Adds a trove, and answers whether it may be: it records no forbidden path, and none of its id stands there.
-fn add_trove(alloc: Global, catalogue: &mut Catalogue, trove: Trove) -> Result<bool, OutOfMemory>
-    ensures answer { IfOk result (IsAnswer (IsAllowed trove × (found trove.id catalogue.old.troves ≡ None))) }
-    ensures added { IfOk result (λ added. added ≡ true → catalogue.new ≡ with_trove catalogue.old trove) }
+/// A list of ids.
+pub type TroveIds = ListOf<TroveId>;
+
+/// The ids of these troves.
+pub(crate) fn ids_of(alloc: Global, troves: &[Trove]) -> Result<TroveIds, OutOfMemory>
+    ensures { IfOk result (λ ids. ids ≡ spec.ids_of troves.now) }
 {
-    match check(alloc, &trove) {
-        Ok(()) => {}
-        Err(Fault::Refused(_)) => return Ok(false),
-        Err(Fault::Memory) => return Err(OutOfMemory),
+    let mut ids = Vec::new(alloc);
+    for trove in troves {
+        ids.push(trove.id().copy()?)?;
     }
-    match catalogue.add(alloc, trove) {
-        Ok(()) => Ok(true),
-        Err(Fault::Refused(_)) => Ok(false),
-        Err(Fault::Memory) => Err(OutOfMemory),
-    }
+    Ok(TroveIds::new(ids))
 }
 
-/// Adds the troves of a commit behind those of the commits before it, and answers whether it may follow them. Where it
-/// doesn't, the catalogue has some of them.
-pub(crate) fn add_troves(
+/// Adds a commit of these troves. On want of memory the catalogue has some of them.
+pub(crate) fn join(
     alloc: Global,
     catalogue: &mut Catalogue,
-    troves: Troves,
-) -> Result<bool, OutOfMemory>
-    requires full { troves ≢ [] }
-    requires troves { All IsTrove troves }
-    ensures answer { IfOk result (IsAnswer (IsCommit catalogue.old.troves troves)) }
-    ensures added { IfOk result (λ added. added ≡ true
-        → catalogue.new ≡ record { commits = catalogue.old.commits; troves = catalogue.old.troves ++ troves }) }
+    troves: &[Trove],
+) -> Result<(), OutOfMemory>
+    requires few { catalogue.old.commits < COMMITS_LIMIT }
+    requires new_ids { AreNew catalogue.old.troves troves.now }
+    ensures { OnOk result (catalogue.new ≡ catalogue_with troves.now catalogue.old) }
 {
-    let mut left = troves.into_vec().into_iter();
-    'troves: loop {
-        let Some(trove) = left.next() else {
-            return Ok(true);
-        };
-        if !add_trove(alloc, catalogue, trove)? {
-            return Ok(false);
+    for trove in troves {
+        match catalogue.add(alloc, trove.copy()?) {
+            Ok(()) => {}
+            Err(Fault::Memory) => return Err(OutOfMemory),
+            Err(Fault::Refused(_)) => unreachable!(),
         }
     }
+    catalogue.count_commit();
+    Ok(())
 }

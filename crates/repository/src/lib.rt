@@ -1,21 +1,38 @@
-//! A repository on a disk: its catalogue is loaded from the files of its commits, and its contents are read.
+//! A further commit of a repository on a disk, which stands whole or not at all; and the change set that leads from some troves of a
+//! repository to others.
 //!
-//! Begin at `loading` and `contents`. In the order in which each stands on the ones before it: `reading` (the file of a
-//! commit), `joining` (a commit joined to the catalogue), `resolving` (references), `loading` (all commits), `counting` (how
-//! many troves each has). By themselves stand `contents`, and above it `repo_contents` (a repository as a source of contents).
+//! Begin at `committing`. In the order in which each stands on the ones before it: `parts` (the troves that the parts of a change set
+//! make), `refs`, `contents` and `colliding` (the tests of references and of contents), `testing` (all tests), `preparing` (what is
+//! written before the commit's file), `writing` (the file), `joining` (the catalogue), `committing`. Of a change set begin with
+//! `specs/Between` (its parts and contents) and `specs/Damage` (which content can't be sent); its code stands in `between_parts` (what
+//! is told of each trove), `names` (which contents are sent), `between_contents` (their bytes), `sizes` (whether these have the sizes of
+//! the records) and `sets` (all of it).
 #![tactic(auto)]
 
+mod between_contents;
+mod between_laws;
+mod between_parts;
+mod colliding;
+mod committing;
 mod contents;
-mod counting;
 mod joining;
 mod laws;
-mod loading;
-mod reading;
-mod repo_contents;
-mod resolving;
+mod names;
+mod parts;
+mod preparing;
+mod refs;
+mod sets;
+mod sizes;
+mod testing;
+mod writing;
 
-pub use contents::content;
-pub use counting::{Counts, counts};
-pub use laws::stored_state;
-pub use loading::load;
-pub use repo_contents::RepoContents;
+pub use between_laws::{absolute_set, one_set, stored_between};
+pub use change_set;
+pub use committing::commit;
+pub use joining::TroveIds;
+pub use laws::{at_rest, commit_step, kept_files, same_contents};
+pub use repo_load::{
+    RepoContents, cny_base, content, content_store, counts, file_stream, load, trove_parts,
+    trove_stream,
+};
+pub use sets::between;

@@ -1,15 +1,15 @@
 //! Answers as texts.
-ghost use Rattle.change_set.specs.ChangeSet.{HasContents};
+ghost use Rattle.repository.specs.change-set.ChangeSet.{HasContents};
 
-use change_set::{ChangeSet, encode};
-use cny_base::{Bytes, Fault, Refusal, Stop as DiskEnd};
 use cny_report::refusal_text;
 use content_store::FarStop;
 use disk_words::{Stop, push_field, word};
 use repo_index::Catalogue;
-use repository::Counts;
+use repo_load::Counts;
+use repository::change_set::{ChangeSet, encode};
+use repository::cny_base::{Bytes, Fault, Refusal, Stop as DiskEnd};
+use repository::trove_parts::{TroveId, id_text};
 use std::alloc::Global;
-use trove_id::{TroveId, id_text};
 
 fn push_id(alloc: Global, line: &mut String, id: &TroveId) -> Result<(), Stop> {
     let text = id_text(alloc, id)?;

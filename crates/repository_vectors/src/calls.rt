@@ -1,15 +1,15 @@
 //! The calls, and those that read a repository. Each loads the catalogue of a disk first.
-ghost use Rattle.repo_between.specs.Between.{AreCommitted};
+ghost use Rattle.repository.specs.Between.{AreCommitted};
 
 use crate::answers::{catalogue_text, content_text, counts_text, far_text, set_text, stop_text};
 use crate::commits::of_commits;
 use crate::troves::committed;
 use content_store::Contents;
 use disk_words::{Quiet, Stop, disk_of, name_at, parts_of, text_at};
-use installed_list::Installed;
-use repo_between::between;
 use repo_index::Catalogue;
-use repository::{RepoContents, content, counts, load};
+use repo_load::{RepoContents, content, counts, load};
+use repository::between;
+use repository::trove_stream::Installed;
 use std::alloc::Global;
 
 // The number of the call that fails: the first one where a line has a part at a place, and otherwise none.

@@ -1,16 +1,16 @@
 //! The calls that commit change sets.
 ghost use Rattle.std.specs.Prelude.{IfOk};
-ghost use Rattle.change_set.specs.ChangeSet.{HasContents};
+ghost use Rattle.repository.specs.change-set.ChangeSet.{HasContents};
 
 use crate::answers::stop_text;
 use crate::failing::{failed_once, stopped};
 use crate::held::{held_text, ids_text, sizes_text};
-use change_set::{ChangeSet, decode};
-use cny_base::Fault;
 use disk_words::{Quiet, Stop, contents_at, disk_of, nodes_text, pick_at, push_field, text_at};
-use repo_commit::commit;
 use repo_index::Catalogue;
-use repository::load;
+use repo_load::load;
+use repository::change_set::{ChangeSet, decode};
+use repository::cny_base::Fault;
+use repository::commit;
 use std::alloc::Global;
 
 // The private directory of a repository.

@@ -4,7 +4,7 @@ use crate::commits::commit_text;
 use crate::held::held_text;
 use disk_words::{Outcome, Outcomes, Quiet, Stop, disk_of};
 use repo_index::Catalogue;
-use repository::load;
+use repo_load::load;
 use std::alloc::Global;
 
 // More calls than any of the commits makes.

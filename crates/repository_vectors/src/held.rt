@@ -1,15 +1,13 @@
 //! What commits answer, and what a repository holds.
 use crate::answers::stop_text;
-use cny_base::Path;
 use disk_words::{Quiet, Stop, word};
-use file_stream::FileRec;
 use repo_index::Catalogue;
-use repo_state::base_path;
-use repository::{content, load};
+use repo_load::{base_path, content, load};
+use repository::cny_base::Path;
+use repository::file_stream::FileRec;
+use repository::trove_parts::{FileAt, TroveId, id_text};
 use std::alloc::Global;
 use tree_journal::recover;
-use trove_id::{TroveId, id_text};
-use trove_items::FileAt;
 
 fn push_id(alloc: Global, line: &mut String, id: &TroveId) -> Result<(), Stop> {
     let text = id_text(alloc, id)?;

@@ -1,14 +1,13 @@
 //! Troves of a catalogue, by their ids.
 ghost use Rattle.std.specs.Prelude.{IfOk, Contains};
-ghost use Rattle.repo_between.specs.Between.{AreCommitted};
+ghost use Rattle.repository.specs.Between.{AreCommitted};
 
-use cny_base::Copies;
 use disk_words::Stop;
-use installed_list::Installed;
 use repo_index::Catalogue;
+use repository::cny_base::Copies;
+use repository::trove_parts::{TroveId, read_id};
+use repository::trove_stream::{Installed, Trove};
 use std::alloc::Global;
-use trove_id::{TroveId, read_id};
-use trove_stream::Trove;
 
 // A copy of the trove of an id.
 fn trove_of(catalogue: &Catalogue, id: &TroveId) -> Result<Trove, Stop>

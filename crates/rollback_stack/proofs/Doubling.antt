@@ -5,23 +5,23 @@ use Rattle.std.specs.List.{flat_map}
 use Rattle.std.specs.Str.{bytes_eq}
 use Rattle.std.proofs.lemmas.Bool.{cases_Bool}
 use Rattle.std.proofs.lemmas.Slice.Eq.{bytes_eq-Decides}
-use Rattle.cny_base.specs.StrField.{str}
-use Rattle.cny_base.specs.declared.limits.TheConstants.{DATABASE_LIMIT, FORMAT_1_DATABASE_LIMIT}
-use Rattle.cny_stream.specs.Item.{item_bytes}
-use Rattle.file_stream.specs.declared.encoding.Encoding.TheVariants.{Compact, Explicit}
-use Rattle.file_stream.specs.declared.record.FileRec.{FileRec}
-use Rattle.file_stream.specs.declared.record.FileRec.TheVariants.{Dir, File, Link}
-use Rattle.file_stream.specs.Owner.{OwnerNames, is_root, root}
-use Rattle.file_stream.specs.Record.{flag_bits, names_owner, owned, owner_bytes, record_bytes}
-use Rattle.system_state.specs.Formats.{Fits, database_bytes, database_magic, trove_text}
-use Rattle.system_state.specs.declared.format.Format.TheVariants.{One, Two}
-use Rattle.trove_items.specs.declared.files.FileAt.{FileAt}
-use Rattle.trove_items.specs.Deps.{deps_bytes}
-use Rattle.trove_items.specs.Files.{file_value, files_bytes}
-use Rattle.trove_items.specs.Items.{items_bytes}
-use Rattle.trove_items.specs.Refs.{refs_bytes}
-use Rattle.trove_stream.specs.Stream.{head_bytes, lists_bytes}
-use Rattle.trove_stream.specs.declared.parts.TroveParts.{TroveParts}
+use Rattle.job_targets.specs.cny-base.StrField.{str}
+use Rattle.job_targets.specs.cny-base.declared.limits.TheConstants.{DATABASE_LIMIT, FORMAT_1_DATABASE_LIMIT}
+use Rattle.job_targets.specs.cny-stream.Item.{item_bytes}
+use Rattle.job_targets.specs.file-stream.declared.encoding.Encoding.TheVariants.{Compact, Explicit}
+use Rattle.job_targets.specs.file-stream.declared.record.FileRec.{FileRec}
+use Rattle.job_targets.specs.file-stream.declared.record.FileRec.TheVariants.{Dir, File, Link}
+use Rattle.job_targets.specs.file-stream.Owner.{OwnerNames, is_root, root}
+use Rattle.job_targets.specs.file-stream.Record.{flag_bits, names_owner, owned, owner_bytes, record_bytes}
+use Rattle.local_db.specs.Formats.{Fits, database_bytes, database_magic, trove_text}
+use Rattle.local_db.specs.declared.format.Format.TheVariants.{One, Two}
+use Rattle.job_targets.specs.trove-parts.declared.files.FileAt.{FileAt}
+use Rattle.job_targets.specs.trove-parts.Deps.{deps_bytes}
+use Rattle.job_targets.specs.trove-parts.Files.{file_value, files_bytes}
+use Rattle.job_targets.specs.trove-parts.Items.{items_bytes}
+use Rattle.job_targets.specs.trove-parts.Refs.{refs_bytes}
+use Rattle.job_targets.specs.trove-stream.Stream.{head_bytes, lists_bytes}
+use Rattle.job_targets.specs.trove-stream.declared.parts.TroveParts.{TroveParts}
 use Rattle.std.proofs.lemmas.List.Elements.{All-map}
 
 -- ---- fields

@@ -7,20 +7,20 @@ use Rattle.std.specs.FinMap as tree
 use Rattle.std.specs.Ordering.{nat_cmp}
 use Rattle.std.proofs.lemmas.List.Elements.{All-nil, All-push, All-contains}
 use Rattle.std.proofs.lemmas.Map.Views.{Contains-from_lookup}
-use Rattle.journal_log.specs.declared.put.Want.{Want}
-use Rattle.journal_log.specs.declared.put.Want.TheVariants as want
-use Rattle.job_records.proofs.Mapping.{implied}
-use Rattle.saved_contents.specs.Old.{HasMark, IsSaved}
+use Rattle.job_targets.specs.journal-log.declared.put.Want.{Want}
+use Rattle.job_targets.specs.journal-log.declared.put.Want.TheVariants as want
+use Rattle.job_record.proofs.Mapping.{implied}
+use Rattle.job_targets.specs.Old.{HasMark, IsSaved}
 use Rattle.std.specs.Map.{lookup}
-use Rattle.tree_disk.specs.Laws.{same_itself, same_means}
-use Rattle.tree_disk.specs.Looks.{empty_seen, nothing_seen, sees_nothing}
-use Rattle.tree_disk.specs.Rows.{is_empty_at, look_of}
-use Rattle.tree_disk.specs.Tree.{Name, Tree, same_name}
+use Rattle.job_targets.specs.tree-disk.Laws.{same_itself, same_means}
+use Rattle.job_targets.specs.tree-disk.Looks.{empty_seen, nothing_seen, sees_nothing}
+use Rattle.job_targets.specs.tree-disk.Rows.{is_empty_at, look_of}
+use Rattle.job_targets.specs.tree-disk.Tree.{Name, Tree, same_name}
 use Rattle.tree_scan.specs.Marks.{is_nothing}
 use Rattle.tree_scan.specs.declared.mark.Mark.{Mark}
 use Rattle.tree_scan.specs.declared.mark.Mark.TheVariants as mark
-use Rattle.undo_check.specs.declared.found.FoundMark.{FoundMark}
-use Rattle.undo_check.specs.Seen.{FoundMarks}
+use Rattle.rollback_stack.specs.declared.found.FoundMark.{FoundMark}
+use Rattle.rollback_stack.specs.Seen.{FoundMarks}
 use Rattle.rollback_stack.specs.Inverse.{IsOldWant}
 use Rattle.rollback_stack.specs.Wanting.{AreWanted, HasWanted, IsWanted, IsWantedOf, Stays, Wants, stays, want_at}
 

@@ -7,20 +7,20 @@ use Rattle.std.specs.List.Sorted.{IsStrictlySortedBy}
 use Rattle.std.proofs.lemmas.Bool.{cases_Bool, false≢true}
 use Rattle.std.proofs.lemmas.Slice.Eq.{bytes_eq-Decides}
 use Rattle.std.proofs.lemmas.List.Elements.{All-nil, All-cons, All-head, All-tail, All-contains}
-use Rattle.file_stream.specs.declared.encoding.Encoding.{Encoding}
-use Rattle.file_stream.specs.declared.encoding.Encoding.TheVariants.{Explicit}
-use Rattle.installed_list.specs.Installed.{IsRising, has_name, trove_of}
-use Rattle.trove_id.specs.declared.id.TroveId.{TroveId}
-use Rattle.trove_stream.specs.declared.parts.TroveParts.{TroveParts}
-use Rattle.trove_stream.specs.Stream.{stream_bytes}
-use Rattle.trove_stream.specs.Trove.{IsTrove}
-use Rattle.tree_disk.specs.Tree.{Name}
-use Rattle.system_state.specs.Installed.{IsInstalled}
-use Rattle.system_state.proofs.Writes.{nothing_in, contains_first, contains_rest, contains_cases}
-use Rattle.past_list.specs.Past.{AreChangedIds, IsChanged}
-use Rattle.past_list.specs.Past as past
-use Rattle.job_records.proofs.Mapping.{rises_unmapped}
-use Rattle.job_undo.specs.Undo.{GivesBack, GivesBackAt, id_of}
+use Rattle.job_targets.specs.file-stream.declared.encoding.Encoding.{Encoding}
+use Rattle.job_targets.specs.file-stream.declared.encoding.Encoding.TheVariants.{Explicit}
+use Rattle.job_targets.specs.trove-stream.Installed.{IsRising, has_name, trove_of}
+use Rattle.job_targets.specs.trove-parts.declared.id.TroveId.{TroveId}
+use Rattle.job_targets.specs.trove-stream.declared.parts.TroveParts.{TroveParts}
+use Rattle.job_targets.specs.trove-stream.Stream.{stream_bytes}
+use Rattle.job_targets.specs.trove-stream.Trove.{IsTrove}
+use Rattle.job_targets.specs.tree-disk.Tree.{Name}
+use Rattle.local_db.specs.Installed.{IsInstalled}
+use Rattle.local_db.proofs.Writes.{nothing_in, contains_first, contains_rest, contains_cases}
+use Rattle.job_record.specs.Past.{AreChangedIds, IsChanged}
+use Rattle.job_record.specs.Past as past
+use Rattle.job_record.proofs.Mapping.{rises_unmapped}
+use Rattle.rollback_stack.specs.Undo.{GivesBack, GivesBackAt, id_of}
 use Rattle.rollback_stack.specs.Lists.{trove_of_id}
 
 -- ---- elements that are found

@@ -1,17 +1,17 @@
 -- Records that a tree holds, by what is read of them in two steps: their text, and what the list after the job makes of it.
 use Rattle.std.proofs.Common.{◌≡◌, ℕ, List, Some, Bool, Result, Ok, Err, sym, ◌∙◌, subst}
 use Rattle.std.specs.Prelude.{IfErr, IsTrue}
-use Rattle.cny_base.specs.declared.stop.Stop.{Stop}
-use Rattle.cny_base.specs.declared.stop.Stop.TheVariants as stop
-use Rattle.record_text.specs.declared.record.Record.{Record}
-use Rattle.record_text.specs.Lists.{IsReadBy}
-use Rattle.record_text.specs.Text.{IsRecordText}
-use Rattle.trove_stream.specs.declared.parts.TroveParts.{TroveParts}
-use Rattle.tree_disk.specs.Tree.{Tree}
-use Rattle.system_state.specs.declared.format.Format.{Format}
-use Rattle.system_state.specs.Record as state
-use Rattle.system_state.specs.Record.{IsRecord, PassesChecks}
-use Rattle.job_records.specs.Reading.{HoldsNoRecord, HoldsNoText, HoldsRecord, HoldsText, IsCheckStop, IsDamagedJob, IsDamagedText, IsOfNoJob, IsReadStop}
+use Rattle.job_targets.specs.cny-base.declared.stop.Stop.{Stop}
+use Rattle.job_targets.specs.cny-base.declared.stop.Stop.TheVariants as stop
+use Rattle.job_record.specs.declared.record.Record.{Record}
+use Rattle.job_record.specs.Lists.{IsReadBy}
+use Rattle.job_record.specs.Text.{IsRecordText}
+use Rattle.job_targets.specs.trove-stream.declared.parts.TroveParts.{TroveParts}
+use Rattle.job_targets.specs.tree-disk.Tree.{Tree}
+use Rattle.local_db.specs.declared.format.Format.{Format}
+use Rattle.local_db.specs.Record as state
+use Rattle.local_db.specs.Record.{IsRecord, PassesChecks}
+use Rattle.job_record.specs.JobReading.{HoldsNoRecord, HoldsNoText, HoldsRecord, HoldsText, IsCheckStop, IsDamagedJob, IsDamagedText, IsOfNoJob, IsReadStop}
 
 -- the laws of records
 abbrev pub Reading : Type 0

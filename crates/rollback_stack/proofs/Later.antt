@@ -1,13 +1,13 @@
 -- Reads of a disk, one after another.
 use Rattle.std.proofs.Common.{◌≡◌, ℕ, ◌≤◌, Bool, refl, sym, ◌∙◌, ap, subst}
 use Rattle.std.specs.Prelude.{IsTrue}
-use Rattle.cny_base.specs.Count.{Rose}
-use Rattle.cny_base.specs.declared.stop.Stop.{Stop}
-use Rattle.cny_base.specs.declared.stop.Stop.TheVariants as stop
-use Rattle.tree_disk.specs.Disk.{DiskModel, HasRead, IsDisk}
-use Rattle.tree_disk.specs.Moments.{same_on, same_start, time_on, time_start}
-use Rattle.tree_disk.specs.Tree.{Name}
-use Rattle.saved_contents.specs.Old.{IsOldStop}
+use Rattle.job_targets.specs.cny-base.Count.{Rose}
+use Rattle.job_targets.specs.cny-base.declared.stop.Stop.{Stop}
+use Rattle.job_targets.specs.cny-base.declared.stop.Stop.TheVariants as stop
+use Rattle.job_targets.specs.tree-disk.Disk.{DiskModel, HasRead, IsDisk}
+use Rattle.job_targets.specs.tree-disk.Moments.{same_on, same_start, time_on, time_start}
+use Rattle.job_targets.specs.tree-disk.Tree.{Name}
+use Rattle.job_targets.specs.Old.{IsOldStop}
 
 module _ {D : Type 0} {disk : DiskModel D} (laws : IsDisk disk) where
   pub read_start : (d : D) → HasRead disk d d (Unit {0})

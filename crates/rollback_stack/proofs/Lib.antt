@@ -1,5 +1,5 @@
 pub mod Giving
-pub mod Saving
+pub mod SavedByJobs
 pub mod Noting
 pub mod Later
 pub mod Filtered
@@ -14,3 +14,28 @@ pub mod Doubling
 pub mod Holding
 pub mod Rewriting
 pub mod Migrating
+pub mod JobLaws
+pub mod Searching
+pub mod Order
+pub mod Undone
+pub mod Ranging
+pub mod Firsts
+pub mod Meaning
+pub mod Ending
+pub mod Given
+pub mod Rising
+pub mod RisingWrites
+pub mod Preparations
+pub mod Digests
+pub mod Places
+pub mod Putting
+pub mod Saved
+pub mod Keeping
+pub mod Pushed
+pub mod Keyed
+pub mod Before
+pub mod Leading
+pub mod Noted
+pub mod Records
+pub use Rattle.job_record.proofs as job-record
+pub use Rattle.job_targets.proofs.trove-stream

@@ -10,19 +10,19 @@ use Rattle.std.proofs.lemmas.Bool.{cases_Bool}
 use Rattle.std.proofs.lemmas.List.{append-nil}
 use Rattle.std.proofs.lemmas.List.Elements.{All-nil, All-cons, All-map, All-contains, All-contains_itself, Contains-get_or}
 use Rattle.std.proofs.lemmas.Map.Views.{All-found, Contains-from_lookup}
-use Rattle.cny_base.specs.Reserved.{is_reserved}
-use Rattle.journal_log.specs.declared.put.Put.{Put}
-use Rattle.journal_log.specs.declared.put.Want.{Want}
-use Rattle.journal_log.specs.declared.put.Want.TheVariants as want
-use Rattle.journal_log.specs.WriteSet.{Rises}
-use Rattle.job_records.proofs.Mapping.{unmapped}
-use Rattle.system_state.proofs.Places.{record_reserved}
-use Rattle.system_state.proofs.Writes.{contains_first, contains_rest, not_both}
-use Rattle.system_state.specs.Names.{record_file}
-use Rattle.system_state.specs.Steps.{IsUnion, no_record_put}
-use Rattle.tree_disk.specs.ClearLaws.{or_cases, or_left, or_right}
-use Rattle.tree_disk.specs.Laws.{same_itself, same_means}
-use Rattle.tree_disk.specs.Tree.{Name, same_name}
+use Rattle.job_targets.specs.cny-base.Reserved.{is_reserved}
+use Rattle.job_targets.specs.journal-log.declared.put.Put.{Put}
+use Rattle.job_targets.specs.journal-log.declared.put.Want.{Want}
+use Rattle.job_targets.specs.journal-log.declared.put.Want.TheVariants as want
+use Rattle.job_targets.specs.journal-log.WriteSet.{Rises}
+use Rattle.job_record.proofs.Mapping.{unmapped}
+use Rattle.local_db.proofs.Places.{record_reserved}
+use Rattle.local_db.proofs.Writes.{contains_first, contains_rest, not_both}
+use Rattle.local_db.specs.Names.{record_file}
+use Rattle.local_db.specs.Steps.{IsUnion, no_record_put}
+use Rattle.job_targets.specs.tree-disk.ClearLaws.{or_cases, or_left, or_right}
+use Rattle.job_targets.specs.tree-disk.Laws.{same_itself, same_means}
+use Rattle.job_targets.specs.tree-disk.Tree.{Name, same_name}
 use Rattle.rollback_stack.specs.Inverse.{no_records}
 use Rattle.rollback_stack.specs.Wanting.{HasNoRecord, HasNoRecords, Wants, is_record, put_of, puts_in, want_at}
 

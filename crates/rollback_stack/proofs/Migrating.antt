@@ -5,32 +5,32 @@ use Rattle.std.specs.BTreeMap.{IsOrdered}
 use Rattle.std.specs.Cmp.Lexicographic.{slice_cmp}
 use Rattle.std.specs.FinMap.{get}
 use Rattle.std.specs.Ordering.{nat_cmp}
-use Rattle.cny_base.specs.Below.{begins, begins_with}
-use Rattle.cny_base.specs.declared.node.Node.{Node}
-use Rattle.cny_base.specs.declared.node.Node.TheVariants as node
-use Rattle.cny_base.specs.declared.stop.Stop.{Stop}
-use Rattle.cny_base.specs.declared.stop.Stop.TheVariants as stop
-use Rattle.content_store.specs.Store.{file_bytes}
-use Rattle.job_records.specs.Reading.{IsDamagedRecord, IsReadStop}
-use Rattle.journal_log.specs.declared.put.Put.{Put}
-use Rattle.journal_log.specs.declared.put.Want.TheVariants as want
+use Rattle.job_targets.specs.cny-base.Below.{begins, begins_with}
+use Rattle.job_targets.specs.cny-base.declared.node.Node.{Node}
+use Rattle.job_targets.specs.cny-base.declared.node.Node.TheVariants as node
+use Rattle.job_targets.specs.cny-base.declared.stop.Stop.{Stop}
+use Rattle.job_targets.specs.cny-base.declared.stop.Stop.TheVariants as stop
+use Rattle.job_targets.specs.content-store.Store.{file_bytes}
+use Rattle.job_record.specs.JobReading.{IsDamagedRecord, IsReadStop}
+use Rattle.job_targets.specs.journal-log.declared.put.Put.{Put}
+use Rattle.job_targets.specs.journal-log.declared.put.Want.TheVariants as want
 use Rattle.local_db.specs.Database.{IsDatabaseFile}
 use Rattle.local_db.specs.declared.db.Db.{Db}
-use Rattle.record_text.specs.Text.{IsRecordText}
-use Rattle.record_text.specs.declared.record.Record.{Record}
-use Rattle.system_state.specs.Formats.{database_bytes, database_magic, trove_text}
-use Rattle.system_state.specs.Names.{database}
-use Rattle.system_state.specs.Steps.{IsUnion}
-use Rattle.system_state.specs.Stores.{HoldsDatabase, HoldsFile, IsDatabase, absent, written}
-use Rattle.system_state.specs.declared.format.Format.{Format}
-use Rattle.system_state.specs.declared.format.Format.TheVariants.{One, Two}
-use Rattle.trove_items.specs.Items.{items_bytes}
-use Rattle.cny_stream.specs.Item.{item_bytes}
+use Rattle.job_record.specs.Text.{IsRecordText}
+use Rattle.job_record.specs.declared.record.Record.{Record}
+use Rattle.local_db.specs.Formats.{database_bytes, database_magic, trove_text}
+use Rattle.local_db.specs.Names.{database}
+use Rattle.local_db.specs.Steps.{IsUnion}
+use Rattle.local_db.specs.Stores.{HoldsDatabase, HoldsFile, IsDatabase, absent, written}
+use Rattle.local_db.specs.declared.format.Format.{Format}
+use Rattle.local_db.specs.declared.format.Format.TheVariants.{One, Two}
+use Rattle.job_targets.specs.trove-parts.Items.{items_bytes}
+use Rattle.job_targets.specs.cny-stream.Item.{item_bytes}
 use Rattle.std.specs.Int.{w32, to_be_bytes}
-use Rattle.tree_disk.specs.Looks.{nothing_seen, sees_nothing}
-use Rattle.tree_disk.specs.Rows.{look_of}
-use Rattle.tree_disk.specs.Tree.{Name, Tree}
-use Rattle.trove_stream.specs.declared.parts.TroveParts.{TroveParts}
+use Rattle.job_targets.specs.tree-disk.Looks.{nothing_seen, sees_nothing}
+use Rattle.job_targets.specs.tree-disk.Rows.{look_of}
+use Rattle.job_targets.specs.tree-disk.Tree.{Name, Tree}
+use Rattle.job_targets.specs.trove-stream.declared.parts.TroveParts.{TroveParts}
 use Rattle.rollback_stack.specs.Migrated.{AreMigration, AreWritesOf, IsDamagedFile, IsFileStop, IsMigratedStop, IsNoDatabase, IsOldDatabase, IsOldFile, IsOldIn, IsOtherAt, IsRecordsStop, is_up_to_date}
 use Rattle.rollback_stack.specs.Numbers.{job_count}
 use Rattle.rollback_stack.proofs.Finding.{none_seen}

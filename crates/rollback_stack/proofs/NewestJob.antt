@@ -2,26 +2,26 @@
 use Rattle.std.proofs.Common.{◌≡◌, ◌⊎◌, ⊎_elim, inl, inr, ℕ, ◌≤◌, Bool, false, List, Result, Ok, Err, All, refl, sym, ◌∙◌, ap, subst, arith}
 use Rattle.std.specs.Prelude.{◌≢◌, IfErr, IfOk, IsErrAnd, IsTrue}
 use Rattle.std.specs.List.{filter_map}
-use Rattle.cny_base.specs.declared.stop.Stop.{Stop}
-use Rattle.cny_base.specs.declared.stop.Stop.TheVariants as stop
+use Rattle.job_targets.specs.cny-base.declared.stop.Stop.{Stop}
+use Rattle.job_targets.specs.cny-base.declared.stop.Stop.TheVariants as stop
 use Rattle.local_db.specs.declared.db.Db.{Db}
-use Rattle.saved_contents.specs.declared.entry.Entry.{Entry}
-use Rattle.saved_contents.specs.Old.{IsOldStop, IsSaved, is_staged}
-use Rattle.system_state.specs.Formats.{AreEnds}
-use Rattle.system_state.specs.Record as state
-use Rattle.system_state.specs.Record.{PassesChecks}
-use Rattle.system_state.specs.Stores.{IsDatabase}
-use Rattle.system_state.specs.declared.format.Format.TheVariants.{Two}
-use Rattle.tree_disk.specs.Tree.{Name, Tree}
-use Rattle.trove_stream.specs.declared.parts.TroveParts.{TroveParts}
-use Rattle.job_records.specs.declared.reading.Job.{Job}
-use Rattle.job_records.specs.Entries as records
-use Rattle.job_records.specs.Reading.{HoldsRecord, IsDamagedJob, IsJob, IsReadStop}
-use Rattle.job_undo.specs.declared.undo.Undo.{Undo}
-use Rattle.job_undo.specs.Undo.{LeadsTo, entries_of}
+use Rattle.job_targets.specs.declared.entry.Entry.{Entry}
+use Rattle.job_targets.specs.Old.{IsOldStop, IsSaved, is_staged}
+use Rattle.local_db.specs.Formats.{AreEnds}
+use Rattle.local_db.specs.Record as state
+use Rattle.local_db.specs.Record.{PassesChecks}
+use Rattle.local_db.specs.Stores.{IsDatabase}
+use Rattle.local_db.specs.declared.format.Format.TheVariants.{Two}
+use Rattle.job_targets.specs.tree-disk.Tree.{Name, Tree}
+use Rattle.job_targets.specs.trove-stream.declared.parts.TroveParts.{TroveParts}
+use Rattle.job_record.specs.declared.job_reading.Job.{Job}
+use Rattle.job_record.specs.Entries as records
+use Rattle.job_record.specs.JobReading.{HoldsRecord, IsDamagedJob, IsJob, IsReadStop}
+use Rattle.rollback_stack.specs.declared.undo.Undo.{Undo}
+use Rattle.rollback_stack.specs.Undo.{LeadsTo, entries_of}
 use Rattle.rollback_stack.specs.Lists.{trove_of_id}
 use Rattle.rollback_stack.specs.Reading.{IsAllStop, IsDamagedNewest, IsFirstDamaged, IsNewest, IsNewestStop}
-use Rattle.job_records.specs.Reading as reading
+use Rattle.job_record.specs.JobReading as reading
 use Rattle.rollback_stack.proofs.Giving.{Distinct, gives_back}
 
 pub one_at_least : (oldest newest : ℕ) → AreEnds oldest newest → newest ≢ 0 → 1 ≤ newest
@@ -35,7 +35,7 @@ module _ (distinct : Distinct) (db : Db) (before : List TroveParts) (job : Job) 
     is_job = subst (λ (n : ℕ). 1 ≤ n) (sym number) (one_at_least db.oldest db.newest db_is.ends some);
     newest = number;
     gives = gives_back distinct db.installed before db_is.installed is.checks.list job.changed.before undo.after undo.back is.before_ids
-        (subst (Rattle.past_list.specs.Past.AreChangedIds db.installed before) (sym after) is.after_ids) back;
+        (subst (Rattle.job_record.specs.Past.AreChangedIds db.installed before) (sym after) is.after_ids) back;
     entries_are = record {
       given = given;
       entries_are = subst (All state.IsEntry) (sym same) is.entries_are;

@@ -1,19 +1,19 @@
 -- The jobs of a stack, read from the newest down.
 use Rattle.std.proofs.Common.{◌≡◌, ⊎_elim, ℕ, zero, suc, ◌+◌, ◌-◌, ◌<◌, ◌≤◌, List, [], ◌∷◌, ◌++◌, length, map, refl, sym, ◌∙◌, ap, subst, arith, append_assoc, length-append}
 use Rattle.std.proofs.lemmas.List.{append-nil}
-use Rattle.trove_stream.specs.declared.parts.TroveParts.{TroveParts}
-use Rattle.tree_disk.specs.Tree.{Name, Tree}
-use Rattle.system_state.specs.declared.format.Format.{Format}
-use Rattle.system_state.specs.declared.format.Format.TheVariants.{Two}
-use Rattle.system_state.specs.Formats.{AreEnds}
-use Rattle.system_state.specs.Names.{record_file}
-use Rattle.system_state.specs.Record as state
-use Rattle.past_list.specs.Past.{AreChangedIds}
-use Rattle.trove_id.specs.declared.id.TroveId.{TroveId}
-use Rattle.job_records.specs.declared.changes.Change.{Change}
-use Rattle.job_records.specs.Entries as records
-use Rattle.job_records.specs.Reading.{HoldsNoRecord, HoldsRecord, HoldsRecords, IsDamagedRecord}
-use Rattle.job_undo.specs.declared.undo.Note.{Note}
+use Rattle.job_targets.specs.trove-stream.declared.parts.TroveParts.{TroveParts}
+use Rattle.job_targets.specs.tree-disk.Tree.{Name, Tree}
+use Rattle.local_db.specs.declared.format.Format.{Format}
+use Rattle.local_db.specs.declared.format.Format.TheVariants.{Two}
+use Rattle.local_db.specs.Formats.{AreEnds}
+use Rattle.local_db.specs.Names.{record_file}
+use Rattle.local_db.specs.Record as state
+use Rattle.job_record.specs.Past.{AreChangedIds}
+use Rattle.job_targets.specs.trove-parts.declared.id.TroveId.{TroveId}
+use Rattle.job_record.specs.declared.changes.Change.{Change}
+use Rattle.job_record.specs.Entries as records
+use Rattle.job_record.specs.JobReading.{HoldsNoRecord, HoldsRecord, HoldsRecords, IsDamagedRecord}
+use Rattle.rollback_stack.specs.declared.undo.Note.{Note}
 use Rattle.rollback_stack.specs.Numbers.{job_count}
 use Rattle.rollback_stack.specs.Reading.{AreNotes, IsNote}
 

@@ -1,13 +1,13 @@
 -- A tree holds one record of a number at most.
 use Rattle.std.proofs.Common.{◌≡◌, ℕ, suc, ◌-◌, List, [], ◌∷◌, length, Option, Some, All, refl, sym, ◌∙◌, ap, subst, arith}
-use Rattle.cny_stream.specs.Item.{FitsItem}
-use Rattle.tree_disk.specs.Tree.{Tree}
-use Rattle.trove_stream.specs.declared.parts.TroveParts.{TroveParts}
-use Rattle.system_state.specs.declared.format.Format.{Format}
-use Rattle.system_state.specs.Record.{Delta, Entry, TakesBack, entry_value, record_bytes}
-use Rattle.system_state.proofs.OneResult.{OneLed, one_list_back}
-use Rattle.system_state.proofs.Spellings.{Distinct, entries_part, one_delta_list, one_entry_list}
-use Rattle.job_records.specs.Reading.{HoldsRecord, HoldsRecords}
+use Rattle.job_targets.specs.cny-stream.Item.{FitsItem}
+use Rattle.job_targets.specs.tree-disk.Tree.{Tree}
+use Rattle.job_targets.specs.trove-stream.declared.parts.TroveParts.{TroveParts}
+use Rattle.local_db.specs.declared.format.Format.{Format}
+use Rattle.local_db.specs.Record.{Delta, Entry, TakesBack, entry_value, record_bytes}
+use Rattle.local_db.proofs.OneResult.{OneLed, one_list_back}
+use Rattle.local_db.proofs.Spellings.{Distinct, entries_part, one_delta_list, one_entry_list}
+use Rattle.job_record.specs.JobReading.{HoldsRecord, HoldsRecords}
 
 same_some : {A : Type 0} (x y : A) → Some x ≡ Some y → x ≡ y
 same_some x y e = cc e

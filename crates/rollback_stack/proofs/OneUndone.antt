@@ -2,24 +2,24 @@
 use Rattle.std.proofs.Common.{◌≡◌, Bool, false, IsTrue, List, [], map, All, sym, ◌∙◌, ap, subst}
 use Rattle.std.specs.BTreeMap.{BTreeMap}
 use Rattle.std.specs.List.Sorted.{IsStrictlySortedBy}
-use Rattle.cny_base.specs.Reserved.{is_reserved}
-use Rattle.cny_base.specs.declared.stop.Stop.{Stop}
-use Rattle.cny_base.specs.declared.stop.Stop.TheVariants as stop
-use Rattle.tree_disk.specs.Tree.{Name, Tree}
-use Rattle.system_state.specs.Record as state
-use Rattle.system_state.specs.Record.{PassesChecks}
-use Rattle.system_state.specs.SystemState.{IsFree}
-use Rattle.system_state.specs.declared.format.Format.TheVariants.{Two}
-use Rattle.saved_contents.specs.declared.entry.Entry.{Entry}
-use Rattle.saved_contents.specs.Old.{is_staged}
-use Rattle.trove_stream.specs.declared.parts.TroveParts.{TroveParts}
-use Rattle.undo_check.specs.Marks.{CanUndo, marks_of}
-use Rattle.undo_check.proofs.JobLaws.{none_found}
-use Rattle.undo_check.specs.Outcome.{AreUndone, CanUndoNext, IsUndoStop}
-use Rattle.undo_check.specs.Seen.{FoundMarks}
-use Rattle.job_undo.specs.Undo.{AreEntries, entries_of, entry_of}
-use Rattle.job_inverse.specs.Writes.{by_path}
-use Rattle.job_records.proofs.Mapping.{implied, rises_unmapped, unmapped}
+use Rattle.job_targets.specs.cny-base.Reserved.{is_reserved}
+use Rattle.job_targets.specs.cny-base.declared.stop.Stop.{Stop}
+use Rattle.job_targets.specs.cny-base.declared.stop.Stop.TheVariants as stop
+use Rattle.job_targets.specs.tree-disk.Tree.{Name, Tree}
+use Rattle.local_db.specs.Record as state
+use Rattle.local_db.specs.Record.{PassesChecks}
+use Rattle.local_db.specs.SystemState.{IsFree}
+use Rattle.local_db.specs.declared.format.Format.TheVariants.{Two}
+use Rattle.job_targets.specs.declared.entry.Entry.{Entry}
+use Rattle.job_targets.specs.Old.{is_staged}
+use Rattle.job_targets.specs.trove-stream.declared.parts.TroveParts.{TroveParts}
+use Rattle.rollback_stack.specs.Marks.{CanUndo, marks_of}
+use Rattle.rollback_stack.proofs.JobLaws.{none_found}
+use Rattle.rollback_stack.specs.Outcome.{AreUndone, CanUndoNext, IsUndoStop}
+use Rattle.rollback_stack.specs.Seen.{FoundMarks}
+use Rattle.rollback_stack.specs.Undo.{AreEntries, entries_of, entry_of}
+use Rattle.rollback_stack.specs.Writes.{by_path}
+use Rattle.job_record.proofs.Mapping.{implied, rises_unmapped, unmapped}
 use Rattle.rollback_stack.specs.Inverse.{IsInverseStop}
 
 pub paths_rise : (es : List Entry) → AreEntries es → IsStrictlySortedBy by_path es
@@ -42,7 +42,7 @@ stop_first told x found changes es rose stop.Memory none same is = tt
 stop_first told x found changes es rose (stop.Refused why) none same is = (
   is.0,
   λ tells.
-      subst (λ (l : List state.Entry). Rattle.undo_check.specs.Marks.IsUndoRefusal l (marks_of x) why) same (is.1 tells 0 [] (none_undone x found none)),
+      subst (λ (l : List state.Entry). Rattle.rollback_stack.specs.Marks.IsUndoRefusal l (marks_of x) why) same (is.1 tells 0 [] (none_undone x found none)),
 )
 stop_first told x found changes es rose (stop.Damaged path) none same is = is
 stop_first told x found changes es rose stop.FarFailed none same is = is

@@ -7,26 +7,26 @@ use Rattle.std.specs.Ordering.{nat_cmp}
 use Rattle.std.proofs.lemmas.Bool.{cases_Bool}
 use Rattle.std.proofs.lemmas.List.{append-nil}
 use Rattle.std.proofs.lemmas.List.Elements.{All-nil, All-cons, All-push, Contains-append_left, Contains-get_or, Contains-push}
-use Rattle.cny_base.specs.declared.limits.TheConstants.{JOBS_LIMIT}
-use Rattle.cny_base.specs.declared.stop.Stop.{Stop}
-use Rattle.cny_base.specs.declared.stop.Stop.TheVariants as stop
-use Rattle.job_records.proofs.Mapping.{implied, implied_both}
-use Rattle.job_records.specs.Reading.{HoldsNoRecord, HoldsRecord, HoldsRecords, IsDamagedJob, IsDamagedRecord, IsReadStop}
-use Rattle.journal_log.specs.declared.put.Put.{Put}
-use Rattle.journal_log.specs.declared.put.Want.{Want}
-use Rattle.journal_log.specs.declared.put.Want.TheVariants as want
+use Rattle.job_targets.specs.cny-base.declared.limits.TheConstants.{JOBS_LIMIT}
+use Rattle.job_targets.specs.cny-base.declared.stop.Stop.{Stop}
+use Rattle.job_targets.specs.cny-base.declared.stop.Stop.TheVariants as stop
+use Rattle.job_record.proofs.Mapping.{implied, implied_both}
+use Rattle.job_record.specs.JobReading.{HoldsNoRecord, HoldsRecord, HoldsRecords, IsDamagedJob, IsDamagedRecord, IsReadStop}
+use Rattle.job_targets.specs.journal-log.declared.put.Put.{Put}
+use Rattle.job_targets.specs.journal-log.declared.put.Want.{Want}
+use Rattle.job_targets.specs.journal-log.declared.put.Want.TheVariants as want
 use Rattle.local_db.specs.declared.db.Db.{Db}
-use Rattle.system_state.proofs.Places.{job_not_database, job_place, one_job, record_is_job}
-use Rattle.system_state.proofs.Systems.{four_bytes}
-use Rattle.system_state.proofs.Writes.{contains_first}
-use Rattle.system_state.specs.Names.{database, is_job_place, record_file}
-use Rattle.system_state.specs.Record as state
-use Rattle.system_state.specs.Steps.{IsUnion, record_put}
-use Rattle.system_state.specs.Formats.{AreEnds, database_bytes}
-use Rattle.system_state.specs.declared.format.Format.TheVariants.{One, Two}
-use Rattle.tree_disk.specs.Laws.{same_itself, same_means}
-use Rattle.tree_disk.specs.Tree.{Name, Tree, same_name}
-use Rattle.trove_stream.specs.declared.parts.TroveParts.{TroveParts}
+use Rattle.local_db.proofs.Places.{job_not_database, job_place, one_job, record_is_job}
+use Rattle.local_db.proofs.Systems.{four_bytes}
+use Rattle.local_db.proofs.Writes.{contains_first}
+use Rattle.local_db.specs.Names.{database, is_job_place, record_file}
+use Rattle.local_db.specs.Record as state
+use Rattle.local_db.specs.Steps.{IsUnion, record_put}
+use Rattle.local_db.specs.Formats.{AreEnds, database_bytes}
+use Rattle.local_db.specs.declared.format.Format.TheVariants.{One, Two}
+use Rattle.job_targets.specs.tree-disk.Laws.{same_itself, same_means}
+use Rattle.job_targets.specs.tree-disk.Tree.{Name, Tree, same_name}
+use Rattle.job_targets.specs.trove-stream.declared.parts.TroveParts.{TroveParts}
 use Rattle.rollback_stack.specs.Migrated.{AreAdded, AreAllRewritten, AreRewritten, AreWritesOf, HasFile, HasRewritten}
 use Rattle.rollback_stack.specs.Wanting.{Wants, puts_in, want_at}
 use Rattle.rollback_stack.proofs.Finding.{nothing_wanted}

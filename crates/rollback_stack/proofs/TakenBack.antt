@@ -6,35 +6,35 @@ use Rattle.std.specs.FinMap as tree
 use Rattle.std.specs.Cmp.Lexicographic.{slice_cmp}
 use Rattle.std.specs.Ordering.{nat_cmp}
 use Rattle.std.proofs.lemmas.List.Elements.{All-head, All-tail, Contains-get_or}
-use Rattle.cny_base.specs.Reserved.{is_reserved}
-use Rattle.cny_base.specs.declared.refusal.Refusal.{Refusal}
-use Rattle.cny_base.specs.declared.refusal.Refusal.TheVariants.{Edited, Parent, StackEmpty, NoJob}
-use Rattle.cny_base.specs.declared.stop.Stop.{Stop}
-use Rattle.cny_base.specs.declared.stop.Stop.TheVariants as stop
-use Rattle.journal_log.specs.declared.put.Put.{Put}
-use Rattle.journal_log.specs.declared.put.Want.{Want}
-use Rattle.journal_log.specs.declared.put.Want.TheVariants as want
-use Rattle.job_inverse.specs.Writes.{db_below}
-use Rattle.job_records.specs.Reading.{HoldsNoRecord, HoldsRecord, HoldsRecords, IsReadStop}
-use Rattle.job_records.specs.Reading as reading
-use Rattle.job_undo.specs.declared.undo.Back.{Back}
+use Rattle.job_targets.specs.cny-base.Reserved.{is_reserved}
+use Rattle.job_targets.specs.cny-base.declared.refusal.Refusal.{Refusal}
+use Rattle.job_targets.specs.cny-base.declared.refusal.Refusal.TheVariants.{Edited, Parent, StackEmpty, NoJob}
+use Rattle.job_targets.specs.cny-base.declared.stop.Stop.{Stop}
+use Rattle.job_targets.specs.cny-base.declared.stop.Stop.TheVariants as stop
+use Rattle.job_targets.specs.journal-log.declared.put.Put.{Put}
+use Rattle.job_targets.specs.journal-log.declared.put.Want.{Want}
+use Rattle.job_targets.specs.journal-log.declared.put.Want.TheVariants as want
+use Rattle.rollback_stack.specs.Writes.{db_below}
+use Rattle.job_record.specs.JobReading.{HoldsNoRecord, HoldsRecord, HoldsRecords, IsReadStop}
+use Rattle.job_record.specs.JobReading as reading
+use Rattle.rollback_stack.specs.declared.undo.Back.{Back}
 use Rattle.local_db.specs.declared.db.Db.{Db}
-use Rattle.saved_contents.specs.Old.{IsDamagedOld, IsOldStop}
-use Rattle.system_state.specs.Names.{record_file}
-use Rattle.system_state.specs.Record as state
-use Rattle.system_state.specs.Steps.{IsUnion}
-use Rattle.system_state.specs.SystemState.{IsFree}
-use Rattle.system_state.specs.declared.format.Format.TheVariants.{Two}
-use Rattle.tree_disk.specs.Laws.{same_means}
-use Rattle.tree_disk.specs.ClearLaws.{or_cases}
-use Rattle.tree_disk.specs.Tree.{Name, Tree, same_name}
-use Rattle.trove_stream.specs.declared.parts.TroveParts.{TroveParts}
-use Rattle.undo_check.specs.declared.found.FoundMark.{FoundMark}
-use Rattle.undo_check.specs.Jobs.{AreFound, oldest_with, older, undone_all}
-use Rattle.undo_check.specs.Marks.{IsUndoRefusal, is_path_of, marks_of}
-use Rattle.undo_check.specs.Outcome.{AreUndone, IsUndoKind, IsUndoStop}
-use Rattle.undo_check.specs.Seen.{FoundMarks}
-use Rattle.undo_check.proofs.JobLaws.{found_at, not_found}
+use Rattle.job_targets.specs.Old.{IsDamagedOld, IsOldStop}
+use Rattle.local_db.specs.Names.{record_file}
+use Rattle.local_db.specs.Record as state
+use Rattle.local_db.specs.Steps.{IsUnion}
+use Rattle.local_db.specs.SystemState.{IsFree}
+use Rattle.local_db.specs.declared.format.Format.TheVariants.{Two}
+use Rattle.job_targets.specs.tree-disk.Laws.{same_means}
+use Rattle.job_targets.specs.tree-disk.ClearLaws.{or_cases}
+use Rattle.job_targets.specs.tree-disk.Tree.{Name, Tree, same_name}
+use Rattle.job_targets.specs.trove-stream.declared.parts.TroveParts.{TroveParts}
+use Rattle.rollback_stack.specs.declared.found.FoundMark.{FoundMark}
+use Rattle.rollback_stack.specs.Jobs.{AreFound, oldest_with, older, undone_all}
+use Rattle.rollback_stack.specs.Marks.{IsUndoRefusal, is_path_of, marks_of}
+use Rattle.rollback_stack.specs.Outcome.{AreUndone, IsUndoKind, IsUndoStop}
+use Rattle.rollback_stack.specs.Seen.{FoundMarks}
+use Rattle.rollback_stack.proofs.JobLaws.{found_at, not_found}
 use Rattle.rollback_stack.specs.Inverse.{AreJobsTo, AreOldNodes, IsAt, IsBackRefusal, IsBackStop, IsBackTo, IsDamagedContent, IsDamagedJob, IsOldWant, IsOnStack, IsRefusedJob, StaysNothing, no_records}
 use Rattle.rollback_stack.specs.Taking.{AreTaken, IsJobsStop, IsNoJob, IsNoJobStop, IsNotTaken, IsTakeStop, StopsAt}
 use Rattle.rollback_stack.specs.Wanting.{AreWanted, HasNoRecords, IsDamagedFound, IsWantedOf, Wants, puts_in, want_at}

@@ -1,32 +1,32 @@
 -- The writes that take jobs back.
 use Rattle.std.specs.Prelude.{◌≡◌, ◌≢◌, ◌⊎◌, ℕ, zero, suc, ◌+◌, ◌-◌, ◌<◌, ◌≤◌, Bool, IsTrue, List, [], ◌∷◌, map, length, Some, None, All, Contains}
 use Rattle.std.specs.FinMap.{get}
-use Rattle.cny_base.specs.declared.refusal.Refusal.{Refusal}
-use Rattle.cny_base.specs.declared.refusal.Refusal.TheVariants.{StackEmpty, NoJob}
-use Rattle.cny_base.specs.declared.stop.Stop.{Stop}
-use Rattle.cny_base.specs.declared.stop.Stop.TheVariants as stop
-use Rattle.journal_log.specs.declared.put.Put.{Put}
-use Rattle.journal_log.specs.declared.put.Want.{Want}
-use Rattle.journal_log.specs.declared.put.Want.TheVariants as want
-use Rattle.journal_log.specs.WriteSet.{Rises}
-use Rattle.trove_stream.specs.declared.parts.TroveParts.{TroveParts}
-use Rattle.tree_disk.specs.Tree.{Name, Tree}
+use Rattle.job_targets.specs.cny-base.declared.refusal.Refusal.{Refusal}
+use Rattle.job_targets.specs.cny-base.declared.refusal.Refusal.TheVariants.{StackEmpty, NoJob}
+use Rattle.job_targets.specs.cny-base.declared.stop.Stop.{Stop}
+use Rattle.job_targets.specs.cny-base.declared.stop.Stop.TheVariants as stop
+use Rattle.job_targets.specs.journal-log.declared.put.Put.{Put}
+use Rattle.job_targets.specs.journal-log.declared.put.Want.{Want}
+use Rattle.job_targets.specs.journal-log.declared.put.Want.TheVariants as want
+use Rattle.job_targets.specs.journal-log.WriteSet.{Rises}
+use Rattle.job_targets.specs.trove-stream.declared.parts.TroveParts.{TroveParts}
+use Rattle.job_targets.specs.tree-disk.Tree.{Name, Tree}
 use Rattle.tree_scan.specs.declared.mark.Mark.{Mark}
 use Rattle.tree_scan.specs.declared.mark.Mark.TheVariants.{Nothing}
-use Rattle.system_state.specs.declared.format.Format.TheVariants.{Two}
-use Rattle.system_state.specs.Names.{record_file}
-use Rattle.system_state.specs.Steps.{IsUnion, no_record_put}
-use Rattle.system_state.specs.Record as state
+use Rattle.local_db.specs.declared.format.Format.TheVariants.{Two}
+use Rattle.local_db.specs.Names.{record_file}
+use Rattle.local_db.specs.Steps.{IsUnion, no_record_put}
+use Rattle.local_db.specs.Record as state
 use Rattle.local_db.specs.declared.db.Db.{Db}
-use Rattle.saved_contents.specs.Old.{HasMark, IsDamagedOld, IsSaved}
-use Rattle.undo_check.specs.Marks.{IsUndoRefusal, marks_of}
-use Rattle.undo_check.specs.Jobs.{CanUndoAll, oldest_with, undone_all}
-use Rattle.undo_check.specs.Outcome.{IsUndoKind}
-use Rattle.job_records.specs.Reading.{HoldsNoRecord, HoldsRecord, HoldsRecords}
-use Rattle.job_undo.specs.declared.undo.Back.{Back}
-use Rattle.job_undo.specs.declared.undo.Undo.{Undo}
-use Rattle.job_undo.specs.Undo.{LeadsTo}
-use Rattle.job_inverse.specs.Writes.{db_below, put_of}
+use Rattle.job_targets.specs.Old.{HasMark, IsDamagedOld, IsSaved}
+use Rattle.rollback_stack.specs.Marks.{IsUndoRefusal, marks_of}
+use Rattle.rollback_stack.specs.Jobs.{CanUndoAll, oldest_with, undone_all}
+use Rattle.rollback_stack.specs.Outcome.{IsUndoKind}
+use Rattle.job_record.specs.JobReading.{HoldsNoRecord, HoldsRecord, HoldsRecords}
+use Rattle.rollback_stack.specs.declared.undo.Back.{Back}
+use Rattle.rollback_stack.specs.declared.undo.Undo.{Undo}
+use Rattle.rollback_stack.specs.Undo.{LeadsTo}
+use Rattle.rollback_stack.specs.Writes.{db_below, put_of}
 
 -- ---- one job
 

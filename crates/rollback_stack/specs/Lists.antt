@@ -1,8 +1,8 @@
 -- Troves of a list by their ids.
 use Rattle.std.specs.Prelude.{List, Option}
-use Rattle.installed_list.specs.Installed.{trove_of}
-use Rattle.trove_id.specs.declared.id.TroveId.{TroveId}
-use Rattle.trove_stream.specs.declared.parts.TroveParts.{TroveParts}
+use Rattle.job_targets.specs.trove-stream.Installed.{trove_of}
+use Rattle.job_targets.specs.trove-parts.declared.id.TroveId.{TroveId}
+use Rattle.job_targets.specs.trove-stream.declared.parts.TroveParts.{TroveParts}
 
 -- the trove of the list that has the id's name
 abbrev pub trove_of_id : List TroveParts → TroveId → Option TroveParts

@@ -1,25 +1,25 @@
 -- The writes that bring a root from format 1 to format 2.
 use Rattle.std.specs.Prelude.{◌≡◌, ◌≢◌, ◌⊎◌, ℕ, zero, suc, ◌-◌, Bool, true, false, if◌then◌else◌, List, [], ◌∷◌, Option, Some, None, All, Contains}
 use Rattle.std.specs.FinMap.{get}
-use Rattle.cny_base.specs.Below.{begins_with}
-use Rattle.content_store.specs.Store.{file_bytes}
-use Rattle.cny_base.specs.declared.node.Node.{Node}
-use Rattle.cny_base.specs.declared.node.Node.TheVariants as node
-use Rattle.cny_base.specs.declared.stop.Stop.{Stop}
-use Rattle.cny_base.specs.declared.stop.Stop.TheVariants as stop
-use Rattle.journal_log.specs.declared.put.Put.{Put}
-use Rattle.journal_log.specs.declared.put.Want.{Want}
-use Rattle.journal_log.specs.declared.put.Want.TheVariants as want
-use Rattle.trove_stream.specs.declared.parts.TroveParts.{TroveParts}
-use Rattle.tree_disk.specs.Tree.{Name, Tree, same_name}
-use Rattle.system_state.specs.declared.format.Format.TheVariants.{One, Two}
-use Rattle.system_state.specs.Formats.{database_bytes, database_magic}
-use Rattle.system_state.specs.Names.{database, record_file}
-use Rattle.system_state.specs.Record as state
-use Rattle.system_state.specs.Record.{IsRecord}
-use Rattle.system_state.specs.Steps.{IsUnion, record_put}
-use Rattle.system_state.specs.Stores.{HoldsDatabase, IsDatabase}
-use Rattle.job_records.specs.Reading.{HoldsRecord, IsDamagedRecord, IsReadStop}
+use Rattle.job_targets.specs.cny-base.Below.{begins_with}
+use Rattle.job_targets.specs.content-store.Store.{file_bytes}
+use Rattle.job_targets.specs.cny-base.declared.node.Node.{Node}
+use Rattle.job_targets.specs.cny-base.declared.node.Node.TheVariants as node
+use Rattle.job_targets.specs.cny-base.declared.stop.Stop.{Stop}
+use Rattle.job_targets.specs.cny-base.declared.stop.Stop.TheVariants as stop
+use Rattle.job_targets.specs.journal-log.declared.put.Put.{Put}
+use Rattle.job_targets.specs.journal-log.declared.put.Want.{Want}
+use Rattle.job_targets.specs.journal-log.declared.put.Want.TheVariants as want
+use Rattle.job_targets.specs.trove-stream.declared.parts.TroveParts.{TroveParts}
+use Rattle.job_targets.specs.tree-disk.Tree.{Name, Tree, same_name}
+use Rattle.local_db.specs.declared.format.Format.TheVariants.{One, Two}
+use Rattle.local_db.specs.Formats.{database_bytes, database_magic}
+use Rattle.local_db.specs.Names.{database, record_file}
+use Rattle.local_db.specs.Record as state
+use Rattle.local_db.specs.Record.{IsRecord}
+use Rattle.local_db.specs.Steps.{IsUnion, record_put}
+use Rattle.local_db.specs.Stores.{HoldsDatabase, IsDatabase}
+use Rattle.job_record.specs.JobReading.{HoldsRecord, IsDamagedRecord, IsReadStop}
 use Rattle.local_db.specs.declared.db.Db.{Db}
 use Rattle.rollback_stack.specs.Numbers.{job_count}
 use Rattle.rollback_stack.specs.Wanting.{Wants, want_at}

@@ -1,10 +1,10 @@
 -- The numbers of jobs.
 use Rattle.std.specs.Prelude.{◌≡◌, ℕ, zero, suc, ◌-◌}
-use Rattle.cny_base.specs.declared.limits.TheConstants.{JOBS_LIMIT}
-use Rattle.cny_base.specs.declared.refusal.Fault.{Fault}
-use Rattle.cny_base.specs.declared.refusal.Fault.TheVariants as fault
-use Rattle.cny_base.specs.declared.refusal.Refusal.TheVariants.{TooLarge}
-use Rattle.cny_base.specs.declared.refusal.What.TheVariants.{Jobs}
+use Rattle.job_targets.specs.cny-base.declared.limits.TheConstants.{JOBS_LIMIT}
+use Rattle.job_targets.specs.cny-base.declared.refusal.Fault.{Fault}
+use Rattle.job_targets.specs.cny-base.declared.refusal.Fault.TheVariants as fault
+use Rattle.job_targets.specs.cny-base.declared.refusal.Refusal.TheVariants.{TooLarge}
+use Rattle.job_targets.specs.cny-base.declared.refusal.What.TheVariants.{Jobs}
 
 -- the newest job has the greatest number, or no memory was left
 abbrev pub IsFullOrMemory : ℕ → Fault → Type 0

@@ -1,30 +1,30 @@
 -- What the records of a root say.
 use Rattle.std.specs.Prelude.{◌≡◌, ◌≢◌, ◌⊎◌, ℕ, zero, suc, ◌-◌, ◌<◌, Bool, IsTrue, List, [], ◌∷◌, ◌++◌, length, Option, Some, None, All}
-use Rattle.cny_base.specs.declared.refusal.Refusal.{Refusal}
-use Rattle.cny_base.specs.declared.refusal.Refusal.TheVariants.{StackEmpty}
-use Rattle.cny_base.specs.declared.stop.Stop.{Stop}
-use Rattle.cny_base.specs.declared.stop.Stop.TheVariants as stop
-use Rattle.content_store.specs.Store.{content_path, stored}
-use Rattle.journal_log.specs.declared.put.Want.{Want}
-use Rattle.journal_log.specs.declared.put.Want.TheVariants.{Nothing, Dir, File, Link, Staged}
-use Rattle.past_list.specs.Past.{AreChangedIds}
-use Rattle.trove_stream.specs.declared.parts.TroveParts.{TroveParts}
-use Rattle.tree_disk.specs.Tree.{Name, Tree}
+use Rattle.job_targets.specs.cny-base.declared.refusal.Refusal.{Refusal}
+use Rattle.job_targets.specs.cny-base.declared.refusal.Refusal.TheVariants.{StackEmpty}
+use Rattle.job_targets.specs.cny-base.declared.stop.Stop.{Stop}
+use Rattle.job_targets.specs.cny-base.declared.stop.Stop.TheVariants as stop
+use Rattle.job_targets.specs.content-store.Store.{content_path, stored}
+use Rattle.job_targets.specs.journal-log.declared.put.Want.{Want}
+use Rattle.job_targets.specs.journal-log.declared.put.Want.TheVariants.{Nothing, Dir, File, Link, Staged}
+use Rattle.job_record.specs.Past.{AreChangedIds}
+use Rattle.job_targets.specs.trove-stream.declared.parts.TroveParts.{TroveParts}
+use Rattle.job_targets.specs.tree-disk.Tree.{Name, Tree}
 use Rattle.tree_scan.specs.declared.mark.Mark.{Mark}
 use Rattle.tree_scan.specs.declared.mark.Mark.TheVariants as mark
-use Rattle.system_state.specs.declared.format.Format.{Format}
-use Rattle.system_state.specs.declared.format.Format.TheVariants.{Two}
-use Rattle.system_state.specs.Names.{record_file, saved}
-use Rattle.system_state.specs.Record as state
-use Rattle.system_state.specs.Record.{IsRecord, PassesChecks}
-use Rattle.system_state.specs.Stores.{HoldsFile}
+use Rattle.local_db.specs.declared.format.Format.{Format}
+use Rattle.local_db.specs.declared.format.Format.TheVariants.{Two}
+use Rattle.local_db.specs.Names.{record_file, saved}
+use Rattle.local_db.specs.Record as state
+use Rattle.local_db.specs.Record.{IsRecord, PassesChecks}
+use Rattle.local_db.specs.Stores.{HoldsFile}
 use Rattle.local_db.specs.declared.db.Db.{Db}
-use Rattle.saved_contents.specs.declared.entry.Entry.{Entry}
-use Rattle.job_undo.specs.declared.undo.Note.{Note}
-use Rattle.job_undo.specs.declared.undo.Undo.{Undo}
-use Rattle.job_records.specs.Reading.{HoldsNoRecord, HoldsRecord, IsDamagedRecord}
-use Rattle.job_undo.specs.Undo.{entries_of, LeadsTo}
-use Rattle.saved_contents.specs.Old.{IsDamagedOld, IsSaved}
+use Rattle.job_targets.specs.declared.entry.Entry.{Entry}
+use Rattle.rollback_stack.specs.declared.undo.Note.{Note}
+use Rattle.rollback_stack.specs.declared.undo.Undo.{Undo}
+use Rattle.job_record.specs.JobReading.{HoldsNoRecord, HoldsRecord, IsDamagedRecord}
+use Rattle.rollback_stack.specs.Undo.{entries_of, LeadsTo}
+use Rattle.job_targets.specs.Old.{IsDamagedOld, IsSaved}
 
 -- ---- the old contents
 

@@ -1,19 +1,19 @@
 -- Jobs that are read and taken back one after the other, from the newest down.
 use Rattle.std.specs.Prelude.{◌≡◌, ◌≢◌, ◌⊎◌, ℕ, ◌+◌, ◌-◌, ◌<◌, ◌≤◌, Bool, IsTrue, List, [], ◌∷◌, ◌++◌, length}
-use Rattle.cny_base.specs.declared.refusal.Refusal.{Refusal}
-use Rattle.cny_base.specs.declared.refusal.Refusal.TheVariants.{StackEmpty, NoJob}
-use Rattle.cny_base.specs.declared.stop.Stop.{Stop}
-use Rattle.cny_base.specs.declared.stop.Stop.TheVariants as stop
-use Rattle.trove_stream.specs.declared.parts.TroveParts.{TroveParts}
-use Rattle.tree_disk.specs.Tree.{Name, Tree}
-use Rattle.system_state.specs.declared.format.Format.TheVariants.{Two}
-use Rattle.system_state.specs.Record as state
+use Rattle.job_targets.specs.cny-base.declared.refusal.Refusal.{Refusal}
+use Rattle.job_targets.specs.cny-base.declared.refusal.Refusal.TheVariants.{StackEmpty, NoJob}
+use Rattle.job_targets.specs.cny-base.declared.stop.Stop.{Stop}
+use Rattle.job_targets.specs.cny-base.declared.stop.Stop.TheVariants as stop
+use Rattle.job_targets.specs.trove-stream.declared.parts.TroveParts.{TroveParts}
+use Rattle.job_targets.specs.tree-disk.Tree.{Name, Tree}
+use Rattle.local_db.specs.declared.format.Format.TheVariants.{Two}
+use Rattle.local_db.specs.Record as state
 use Rattle.local_db.specs.declared.db.Db.{Db}
-use Rattle.job_records.specs.Reading.{HoldsRecord, HoldsRecords, IsDamagedJob}
-use Rattle.undo_check.specs.Marks.{IsUndoRefusal, marks_of}
-use Rattle.undo_check.specs.Jobs.{AreFound, undone_all}
-use Rattle.undo_check.specs.Outcome.{AreUndone, CanUndoNext, IsUndoKind}
-use Rattle.undo_check.specs.Seen.{FoundMarks}
+use Rattle.job_record.specs.JobReading.{HoldsRecord, HoldsRecords, IsDamagedJob}
+use Rattle.rollback_stack.specs.Marks.{IsUndoRefusal, marks_of}
+use Rattle.rollback_stack.specs.Jobs.{AreFound, undone_all}
+use Rattle.rollback_stack.specs.Outcome.{AreUndone, CanUndoNext, IsUndoKind}
+use Rattle.rollback_stack.specs.Seen.{FoundMarks}
 
 -- there is no job, or none of this number
 abbrev pub IsNoJob : Db → ℕ → Refusal → Type 0

@@ -4,18 +4,18 @@ use Rattle.std.specs.BTreeMap.{BTreeMap, IsOrdered, get}
 use Rattle.std.specs.Cmp.Lexicographic.{slice_cmp}
 use Rattle.std.specs.FinMap as tree
 use Rattle.std.specs.Ordering.{nat_cmp}
-use Rattle.journal_log.specs.declared.put.Put.{Put}
-use Rattle.journal_log.specs.declared.put.Want.{Want}
-use Rattle.journal_log.specs.declared.put.Want.TheVariants as want
-use Rattle.saved_contents.specs.Old.{IsDamagedOld}
-use Rattle.system_state.specs.Names.{record_file}
-use Rattle.tree_disk.specs.Looks.{sees_nothing}
-use Rattle.tree_disk.specs.Rows.{look_of}
-use Rattle.tree_disk.specs.Tree.{Name, Tree, same_name}
+use Rattle.job_targets.specs.journal-log.declared.put.Put.{Put}
+use Rattle.job_targets.specs.journal-log.declared.put.Want.{Want}
+use Rattle.job_targets.specs.journal-log.declared.put.Want.TheVariants as want
+use Rattle.job_targets.specs.Old.{IsDamagedOld}
+use Rattle.local_db.specs.Names.{record_file}
+use Rattle.job_targets.specs.tree-disk.Looks.{sees_nothing}
+use Rattle.job_targets.specs.tree-disk.Rows.{look_of}
+use Rattle.job_targets.specs.tree-disk.Tree.{Name, Tree, same_name}
 use Rattle.tree_scan.specs.Marks.{is_nothing}
 use Rattle.tree_scan.specs.declared.mark.Mark.TheVariants.{Nothing}
-use Rattle.undo_check.specs.declared.found.FoundMark.{FoundMark}
-use Rattle.undo_check.specs.Seen.{FoundMarks}
+use Rattle.rollback_stack.specs.declared.found.FoundMark.{FoundMark}
+use Rattle.rollback_stack.specs.Seen.{FoundMarks}
 use Rattle.rollback_stack.specs.Inverse.{IsOldWant}
 
 abbrev pub Wants : Type 0

@@ -3,20 +3,20 @@ ghost use Rattle.std.specs.Prelude.{◌≡◌, ◌≤◌, IfErr, IfOk, Ok, OnOk}
 ghost use Rattle.std.specs.BTreeMap.{IsOrdered};
 ghost use Rattle.std.specs.Cmp.Lexicographic.{slice_cmp};
 ghost use Rattle.std.specs.Ordering.{nat_cmp};
-ghost use Rattle.cny_base.specs.Count.{Rose};
-ghost use Rattle.saved_contents.specs.Old.{IsDamagedOld, IsOldStop};
-ghost use Rattle.tree_disk.specs.Disk.{Reads};
-ghost use Rattle.tree_disk.specs.Steps.{IsDiskStop, Tests};
+ghost use Rattle.job_targets.specs.cny-base.Count.{Rose};
+ghost use Rattle.job_targets.specs.Old.{IsDamagedOld, IsOldStop};
+ghost use Rattle.job_targets.specs.tree-disk.Disk.{Reads};
+ghost use Rattle.job_targets.specs.tree-disk.Steps.{IsDiskStop, Tests};
 ghost use Rattle.rollback_stack.specs.Wanting.{AreWanted, HasNoRecord, HasNoRecords, HasWanted, IsDamagedFound, puts_in, stays};
 
-use cny_base::{Copies, OutOfMemory, Path, Stop};
-use journal_log::{Put, Puts, Want};
-use saved_contents::old_node;
+use crate::found::{FoundMark, FoundMarks};
+use job_targets::cny_base::{Copies, OutOfMemory, Path, Stop};
+use job_targets::journal_log::{Put, Puts, Want};
+use job_targets::old_node;
+use job_targets::tree_disk::{TreeDisk, steps};
+use local_db::record_path;
 use std::alloc::Global;
 use std::collections::BTreeMap;
-use system_state::record_path;
-use tree_disk::{TreeDisk, steps};
-use undo_check::{FoundMark, FoundMarks};
 
 /// What is to stand at some paths.
 pub(crate) type Wants = BTreeMap<Path, Want>;

@@ -1,24 +1,24 @@
 //! Jobs that are taken back, the newest first.
 ghost use Rattle.std.specs.Prelude.{◌≡◌, ◌≤◌, ◌+◌, ◌-◌, IfErr, IfOk, OnOk};
-ghost use Rattle.cny_base.specs.Count.{Rose};
-ghost use Rattle.job_records.specs.Entries.{entries_of};
-ghost use Rattle.system_state.specs.Formats.{AreEnds, Fits};
-ghost use Rattle.system_state.specs.Installed.{IsInstalled};
-ghost use Rattle.system_state.specs.Stores.{IsDatabase};
-ghost use Rattle.system_state.specs.declared.format.Format.TheVariants.{Two};
-ghost use Rattle.tree_disk.specs.Disk.{Reads};
+ghost use Rattle.job_targets.specs.cny-base.Count.{Rose};
+ghost use Rattle.job_record.specs.Entries.{entries_of};
+ghost use Rattle.local_db.specs.Formats.{AreEnds, Fits};
+ghost use Rattle.local_db.specs.Installed.{IsInstalled};
+ghost use Rattle.local_db.specs.Stores.{IsDatabase};
+ghost use Rattle.local_db.specs.declared.format.Format.TheVariants.{Two};
+ghost use Rattle.job_targets.specs.tree-disk.Disk.{Reads};
 ghost use Rattle.rollback_stack.specs.Inverse.{IsOnStack};
 ghost use Rattle.rollback_stack.specs.Taking.{AreTaken, HasTakenJob, IsJobsStop, IsNoJobStop, IsTakeStop};
 
-use cny_base::{OutOfMemory, Refusal, Stop};
-use job_records::{Change as RecordChange, Job, read_job};
-use local_db::Db;
-use past_list::PastList;
+use crate::change::Change;
+use crate::checking::check_undo;
+use crate::found::{FoundMarks, take_back};
+use job_record::{Change as RecordChange, Job, PastList, read_job};
+use job_targets::cny_base::{OutOfMemory, Refusal, Stop};
+use job_targets::tree_disk::TreeDisk;
+use local_db::{Db, Format};
 use std::alloc::Global;
 use std::collections::BTreeMap;
-use system_state::Format;
-use tree_disk::TreeDisk;
-use undo_check::{Change, FoundMarks, check_undo, take_back};
 
 /// What is known once jobs were taken back.
 #[derive(Drop)]

@@ -1,15 +1,14 @@
 //! Laws of records.
 ghost use Rattle.std.specs.Prelude.{◌≡◌, ℕ, List, length};
-ghost use Rattle.system_state.specs.Record.{Entry};
-ghost use Rattle.system_state.specs.declared.format.Format.{Format};
-ghost use Rattle.tree_disk.specs.Tree.{Tree};
-ghost use Rattle.trove_stream.specs.declared.parts.TroveParts.{TroveParts};
-ghost use Rattle.job_records.specs.Reading.{HoldsRecord, HoldsRecords};
+ghost use Rattle.local_db.specs.Record.{Entry};
+ghost use Rattle.local_db.specs.declared.format.Format.{Format};
+ghost use Rattle.job_targets.specs.tree-disk.Tree.{Tree};
+ghost use Rattle.job_targets.specs.trove-stream.declared.parts.TroveParts.{TroveParts};
+ghost use Rattle.job_record.specs.JobReading.{HoldsRecord, HoldsRecords};
 
 use change_rel::one_result;
-use trove_id::distinct_ids;
-use trove_rel::distinct_rels;
-use trove_stream::distinct_troves;
+use job_targets::trove_parts::distinct_ids;
+use job_targets::trove_stream::{distinct_rels, distinct_troves};
 
 /// A tree holds no more than one record of a number: one list before the job and one row of entries, by the list after it. So it
 /// holds no more than one row of so many records from a number down.

@@ -1,31 +1,30 @@
 //! The writes that bring a root from format 1 to format 2.
 ghost use Rattle.std.specs.Prelude.{◌≡◌, ◌≤◌, false, IfErr, IfOk, IfSome, Ok, OnOk};
 ghost use Rattle.std.specs.FinMap.{get};
-ghost use Rattle.cny_base.specs.Below.{begins_with};
-ghost use Rattle.cny_base.specs.Count.{Rose};
-ghost use Rattle.content_store.specs.Store.{file_bytes};
-ghost use Rattle.job_records.specs.Reading.{IsDamagedJob, IsReadStop};
-ghost use Rattle.system_state.specs.Formats.{database_bytes, database_magic};
-ghost use Rattle.system_state.specs.Installed.{IsInstalled};
-ghost use Rattle.system_state.specs.Stores.{IsDatabase};
-ghost use Rattle.system_state.specs.declared.format.Format.TheVariants.{One, Two};
-ghost use Rattle.tree_disk.specs.Disk.{Reads};
-ghost use Rattle.tree_disk.specs.Looks.{sees_nothing};
-ghost use Rattle.tree_disk.specs.Rows.{look_of};
-ghost use Rattle.tree_disk.specs.Steps.{IsDiskStop, Tests};
+ghost use Rattle.job_targets.specs.cny-base.Below.{begins_with};
+ghost use Rattle.job_targets.specs.cny-base.Count.{Rose};
+ghost use Rattle.job_targets.specs.content-store.Store.{file_bytes};
+ghost use Rattle.job_record.specs.JobReading.{IsDamagedJob, IsReadStop};
+ghost use Rattle.local_db.specs.Formats.{database_bytes, database_magic};
+ghost use Rattle.local_db.specs.Installed.{IsInstalled};
+ghost use Rattle.local_db.specs.Stores.{IsDatabase};
+ghost use Rattle.local_db.specs.declared.format.Format.TheVariants.{One, Two};
+ghost use Rattle.job_targets.specs.tree-disk.Disk.{Reads};
+ghost use Rattle.job_targets.specs.tree-disk.Looks.{sees_nothing};
+ghost use Rattle.job_targets.specs.tree-disk.Rows.{look_of};
+ghost use Rattle.job_targets.specs.tree-disk.Steps.{IsDiskStop, Tests};
 ghost use Rattle.rollback_stack.specs.Migrated.{AreAllRewritten, AreWritesOf, HasFile, HasRewritten, IsFileStop, IsFoundFile, IsMigrated, IsMigratedStop, IsNoDatabase, IsOldDatabase, IsOldFile, IsOldIn, IsOtherAt, IsRecordsStop};
 
 use crate::back::{Wants, puts_of};
-use cny_base::{Bytes, Copies, Fault, Mode, OutOfMemory, Path, Stop, TextFault};
-use job_records::{check_record, read_record};
-use journal_log::{Puts, Want};
-use local_db::{Db, decode, encode as encode_db};
-use past_list::PastList;
-use record_text::{distinct_records, encode, records_by_lists};
+use job_record::{PastList, check_record, distinct_records, encode, read_record, records_by_lists};
+use job_targets::cny_base::{Bytes, Copies, Fault, Mode, OutOfMemory, Path, Stop, TextFault};
+use job_targets::journal_log::{Puts, Want};
+use job_targets::tree_disk::{TreeDisk, steps};
+use local_db::{
+    Db, Format, database_path, decode, distinct_databases, encode as encode_db, record_path,
+};
 use std::alloc::Global;
 use std::collections::BTreeMap;
-use system_state::{Format, database_path, distinct_databases, record_path};
-use tree_disk::{TreeDisk, steps};
 
 /// What the file of a database of format 2 begins with.
 const MAGIC: &[u8] = b"CNYDB02\n";

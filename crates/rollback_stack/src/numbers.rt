@@ -1,9 +1,9 @@
 //! The numbers of jobs.
 ghost use Rattle.std.specs.Prelude.{◌≡◌, ◌≢◌, ◌+◌, IfErr, IfOk, OnOk};
-ghost use Rattle.cny_base.specs.declared.limits.TheConstants.{JOBS_LIMIT};
+ghost use Rattle.job_targets.specs.cny-base.declared.limits.TheConstants.{JOBS_LIMIT};
 ghost use Rattle.rollback_stack.specs.Numbers.{IsFullOrMemory};
 
-use cny_base::{Fault, JOBS_LIMIT, Refusal, What};
+use job_targets::cny_base::{Fault, JOBS_LIMIT, Refusal, What};
 use local_db::Db;
 
 /// The number of the next job: one more than that of the newest, and 1 on an empty stack. `TooLarge` with the greatest number,

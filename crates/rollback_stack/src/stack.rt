@@ -1,28 +1,26 @@
 //! The jobs of the stack, as their records tell them.
 ghost use Rattle.std.specs.Prelude.{◌≡◌, ◌≤◌, All, false, length, IfErr, IfOk};
-ghost use Rattle.cny_base.specs.Count.{Rose};
-ghost use Rattle.job_records.specs.Entries as records;
-ghost use Rattle.saved_contents.specs.declared.entry.Entry as declared;
-ghost use Rattle.saved_contents.specs.Old.{IsDamagedOld, IsOldStop, IsSaved, is_staged};
-ghost use Rattle.system_state.specs.declared.format.Format.TheVariants.{Two};
-ghost use Rattle.system_state.specs.Stores.{IsDatabase};
-ghost use Rattle.tree_disk.specs.Disk.{Reads};
+ghost use Rattle.job_targets.specs.cny-base.Count.{Rose};
+ghost use Rattle.job_record.specs.Entries as records;
+ghost use Rattle.job_targets.specs.declared.entry.Entry as declared;
+ghost use Rattle.job_targets.specs.Old.{IsDamagedOld, IsOldStop, IsSaved, is_staged};
+ghost use Rattle.local_db.specs.declared.format.Format.TheVariants.{Two};
+ghost use Rattle.local_db.specs.Stores.{IsDatabase};
+ghost use Rattle.job_targets.specs.tree-disk.Disk.{Reads};
 ghost use Rattle.rollback_stack.specs.Numbers.{job_count};
 ghost use Rattle.rollback_stack.specs.Reading.{AreNotes, IsAllStop, IsFirstDamaged, IsNewest, IsNewestStop};
-ghost use Rattle.job_undo.specs.Undo.{FitsDb};
-ghost use Rattle.job_undo.specs.Undo as spec;
+ghost use Rattle.rollback_stack.specs.Undo.{FitsDb};
+ghost use Rattle.rollback_stack.specs.Undo as spec;
 
 use crate::troves::troves_of;
-use cny_base::{Refusal, Stop};
-use job_records::{Change, Job, read_job};
-use job_undo::{Note, Notes, Undo};
-use local_db::Db;
-use past_list::{Changed, PastList};
-use saved_contents::{Entries, Entry, old_node};
+use crate::undo::{Note, Notes, Undo};
+use job_record::{Change, Changed, Job, PastList, read_job};
+use job_targets::cny_base::{Refusal, Stop};
+use job_targets::tree_disk::TreeDisk;
+use job_targets::trove_stream::distinct_troves;
+use job_targets::{Entries, Entry, old_node};
+use local_db::{Db, Format};
 use std::alloc::Global;
-use system_state::Format;
-use tree_disk::TreeDisk;
-use trove_stream::distinct_troves;
 
 // The entry of a change, with what was saved of it.
 fn entry_of<D: TreeDisk>(

@@ -1,20 +1,20 @@
 //! Several jobs taken back at once: the writes, and the database afterwards.
 ghost use Rattle.std.specs.Prelude.{◌≤◌, IfErr, IfOk, OnOk};
-ghost use Rattle.cny_base.specs.Count.{Rose};
-ghost use Rattle.system_state.specs.declared.format.Format.TheVariants.{Two};
-ghost use Rattle.system_state.specs.Formats.{Fits};
-ghost use Rattle.system_state.specs.Stores.{IsDatabase};
-ghost use Rattle.tree_disk.specs.Disk.{Reads};
+ghost use Rattle.job_targets.specs.cny-base.Count.{Rose};
+ghost use Rattle.local_db.specs.declared.format.Format.TheVariants.{Two};
+ghost use Rattle.local_db.specs.Formats.{Fits};
+ghost use Rattle.local_db.specs.Stores.{IsDatabase};
+ghost use Rattle.job_targets.specs.tree-disk.Disk.{Reads};
 ghost use Rattle.rollback_stack.specs.Inverse.{IsBackStop, IsBackTo, IsOnStack};
 
 use crate::back::{old_nodes, puts_of, want_no_records};
+use crate::database::db_below;
 use crate::jobs::{TakenBack, check_number, jobs_down_to};
-use cny_base::Stop;
-use job_inverse::db_below;
-use job_undo::Back;
+use crate::undo::Back;
+use job_targets::cny_base::Stop;
+use job_targets::tree_disk::TreeDisk;
 use local_db::Db;
 use std::alloc::Global;
-use tree_disk::TreeDisk;
 
 /// The writes that take all jobs from the newest down to the one of this number back, as if one after the other: at each of their
 /// paths what the oldest of them that has it found there, where something stands or is to stand, and nothing at their records; and

@@ -4,11 +4,10 @@ ghost use Rattle.std.specs.List.{cons_option, filter_map};
 ghost use Rattle.std.specs.Option.{option_copied};
 ghost use Rattle.rollback_stack.specs.Lists.{trove_of_id};
 
-use cny_base::{Copies, OutOfMemory};
-use installed_list::Troves;
-use past_list::{PastList, TroveIds};
+use job_record::{PastList, TroveIds};
+use job_targets::cny_base::{Copies, OutOfMemory};
+use job_targets::trove_stream::{Trove, Troves};
 use std::alloc::Global;
-use trove_stream::Trove;
 
 // Adds a copy of the trove that was found.
 fn push_found(troves: &mut Vec<Trove>, found: Option<&Trove>) -> Result<(), OutOfMemory>

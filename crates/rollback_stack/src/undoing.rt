@@ -1,21 +1,24 @@
 //! The newest job taken back: the writes, and the database afterwards.
 ghost use Rattle.std.specs.Prelude.{◌≤◌, IfErr, IfOk, OnOk};
-ghost use Rattle.cny_base.specs.Count.{Rose};
-ghost use Rattle.system_state.specs.declared.format.Format.TheVariants.{Two};
-ghost use Rattle.system_state.specs.Stores.{IsDatabase};
-ghost use Rattle.tree_disk.specs.Disk.{Reads};
-ghost use Rattle.undo_check.specs.Marks.{CanUndo, marks_of};
-ghost use Rattle.job_undo.specs.Undo.{FitsDb, entries_of};
+ghost use Rattle.job_targets.specs.cny-base.Count.{Rose};
+ghost use Rattle.local_db.specs.declared.format.Format.TheVariants.{Two};
+ghost use Rattle.local_db.specs.Stores.{IsDatabase};
+ghost use Rattle.job_targets.specs.tree-disk.Disk.{Reads};
+ghost use Rattle.rollback_stack.specs.Marks.{CanUndo, marks_of};
+ghost use Rattle.rollback_stack.specs.Undo.{FitsDb, entries_of};
 ghost use Rattle.rollback_stack.specs.Inverse.{IsBack, IsInverseStop};
 
-use cny_base::Stop;
-use job_inverse::{db_below, undo_writes};
-use job_undo::{Back, Undo, list_before};
+use crate::checking::check_undo;
+use crate::database::db_below;
+use crate::entries::changes_of;
+use crate::lists::list_before;
+use crate::undo::{Back, Undo};
+use crate::writes::undo_writes;
+use job_targets::cny_base::Stop;
+use job_targets::tree_disk::TreeDisk;
 use local_db::Db;
 use std::alloc::Global;
 use std::collections::BTreeMap;
-use tree_disk::TreeDisk;
-use undo_check::{changes_of, check_undo};
 
 /// The writes that take the newest job of the database back: the old nodes at its paths and nothing at its record; and the
 /// database afterwards, whose own write isn't among them.

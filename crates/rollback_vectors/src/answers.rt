@@ -1,16 +1,15 @@
 //! Answers as texts.
 ghost use Rattle.std.specs.Prelude.{IfOk};
 ghost use Rattle.local_db.specs.Database.{IsDb};
-ghost use Rattle.system_state.specs.declared.format.Format.TheVariants.{Two};
-ghost use Rattle.system_state.specs.Stores.{IsDatabase};
+ghost use Rattle.local_db.specs.declared.format.Format.TheVariants.{Two};
+ghost use Rattle.local_db.specs.Stores.{IsDatabase};
 
-use cny_base::{Fault, Path, Refusal, Stop as DiskEnd};
 use disk_words::{Quiet, Stop, word};
-use local_db::{Db, encode, load};
+use local_db::{Db, base_path, distinct_databases, encode, load};
 use std::alloc::Global;
-use system_state::{base_path, distinct_databases};
+use system_core::cny_base::{Fault, Path, Refusal, Stop as DiskEnd};
+use system_core::trove_parts::{TroveId, id_text};
 use tree_journal::recover;
-use trove_id::{TroveId, id_text};
 
 fn refusal_text(alloc: Global, refusal: &Refusal) -> Result<String, Stop> {
     match refusal {

@@ -1,6 +1,6 @@
 //! The calls.
-ghost use Rattle.system_state.specs.declared.format.Format.TheVariants.{Two};
-ghost use Rattle.system_state.specs.Stores.{IsDatabase};
+ghost use Rattle.local_db.specs.declared.format.Format.TheVariants.{Two};
+ghost use Rattle.local_db.specs.Stores.{IsDatabase};
 
 use crate::answers::{db_text, held_text, loaded, stop_text};
 use crate::failing::{failed_once, stopped};
@@ -9,7 +9,7 @@ use disk_words::{
 };
 use local_db::Db;
 use std::alloc::Global;
-use system_rollback::{rollback, rollback_to};
+use system_core::{rollback, rollback_to};
 
 /// The private directory of a root.
 pub const BASE: &str = "/var/lib/conarydb";

@@ -1,11 +1,11 @@
 -- How a command ends that answers from the database of the root.
 use Rattle.std.proofs.Common.{◌≡◌, ℕ, List, Result, Ok, Err, refl, sym, ap, ◌∙◌}
 use Rattle.std.specs.Prelude.{IsTrue}
-use Rattle.cny_base.specs.declared.refusal.Fault.{Fault}
-use Rattle.cny_base.specs.declared.refusal.Fault.TheVariants as fault
-use Rattle.cny_base.specs.declared.refusal.Refusal.{Refusal}
-use Rattle.tree_disk.specs.Disk.{DiskModel, IsDisk}
-use Rattle.trove_stream.specs.declared.parts.TroveParts.{TroveParts}
+use Rattle.repo_commands.specs.cny-base.declared.refusal.Fault.{Fault}
+use Rattle.repo_commands.specs.cny-base.declared.refusal.Fault.TheVariants as fault
+use Rattle.repo_commands.specs.cny-base.declared.refusal.Refusal.{Refusal}
+use Rattle.repo_commands.specs.tree-disk.Disk.{DiskModel, IsDisk}
+use Rattle.repo_commands.specs.trove-stream.declared.parts.TroveParts.{TroveParts}
 use Rattle.cli_call.specs.declared.failure.Failure.{Failure}
 use Rattle.cli_call.specs.Alone.{PerformsAlone}
 use Rattle.cli_call.specs.AloneLaws.{AnswersAlone, alone_reading}

@@ -12,14 +12,14 @@ use Rattle.std.proofs.lemmas.List.Elements.{All-contains}
 use Rattle.std.proofs.lemmas.Map.Entries.{place_from_lookup, btree_map_get_place}
 use Rattle.std.proofs.lemmas.Option.{slice_get_within, same_Some, none-some}
 use Rattle.std.proofs.lemmas.Slice.Eq.{bytes_eq-Decides}
-use Rattle.trove_id.specs.declared.id.TroveId.{TroveId}
-use Rattle.trove_stream.specs.declared.parts.TroveParts.{TroveParts}
-use Rattle.installed_list.specs.Installed.{IsNameless, IsRising, trove_of}
-use Rattle.installed_list.proofs.Places.{missed}
-use Rattle.past_list.specs.Past.{AreChangedIds, IsChanged}
-use Rattle.past_list.proofs.Names.{contained, is_named, is_there}
-use Rattle.job_undo.specs.Undo.{id_of}
-use Rattle.job_undo.proofs.Keyed.{contains_cases, found_is}
+use Rattle.repo_commands.specs.trove-parts.declared.id.TroveId.{TroveId}
+use Rattle.repo_commands.specs.trove-stream.declared.parts.TroveParts.{TroveParts}
+use Rattle.repo_commands.specs.trove-stream.Installed.{IsNameless, IsRising, trove_of}
+use Rattle.repo_commands.proofs.trove-stream.Places.{missed}
+use Rattle.repo_commands.specs.job-record.Past.{AreChangedIds, IsChanged}
+use Rattle.repo_commands.proofs.job-record.Names.{contained, is_named, is_there}
+use Rattle.rollback_stack.specs.Undo.{id_of}
+use Rattle.rollback_stack.proofs.Keyed.{contains_cases, found_is}
 use Rattle.update_job.specs.declared.comparing.Change.{Change}
 use Rattle.update_job.specs.declared.comparing.Change.TheVariants.{Installed, Updated, Erased}
 use Rattle.update_job.specs.Changes.{name_of, by_change, AreChanges, IsChange, IsLost, IsReplaced, Noted, noted}

@@ -1,22 +1,22 @@
 -- How `verify` ends with the contents of the repository.
 use Rattle.std.proofs.Common.{◌≡◌, ℕ, List, Result, Ok, Err, OnOk, IfOk, IfErr, refl, sym, ap, ◌∙◌, subst, inl, inr}
 use Rattle.std.specs.Prelude.{IsTrue}
-use Rattle.cny_base.specs.declared.stop.Stop.{Stop}
-use Rattle.cny_base.specs.declared.stop.Stop.TheVariants as stop
-use Rattle.tree_disk.specs.Tree.{Name, Tree}
-use Rattle.tree_disk.specs.Disk.{DiskModel, IsDisk}
-use Rattle.tree_journal.specs.Recovery.{is_committed}
-use Rattle.trove_stream.specs.declared.parts.TroveParts.{TroveParts}
-use Rattle.content_store.specs.Contents.{ContentMap}
+use Rattle.repo_commands.specs.cny-base.declared.stop.Stop.{Stop}
+use Rattle.repo_commands.specs.cny-base.declared.stop.Stop.TheVariants as stop
+use Rattle.repo_commands.specs.tree-disk.Tree.{Name, Tree}
+use Rattle.repo_commands.specs.tree-disk.Disk.{DiskModel, IsDisk}
+use Rattle.repo_commands.specs.tree-journal.Recovery.{is_committed}
+use Rattle.repo_commands.specs.trove-stream.declared.parts.TroveParts.{TroveParts}
+use Rattle.repo_commands.specs.content-store.Contents.{ContentMap}
 use Rattle.repo_index.specs.Catalogue.{CatalogueParts}
-use Rattle.repo_state.specs.Files.{HoldsCatalogue, StoresRepository}
-use Rattle.repo_state.specs.State.{catalogue_of, troves_of, RepositoryState}
-use Rattle.repository.specs.Contents.{IsDamagedContent}
-use Rattle.repository.specs.RepoContents.{repo_contents, HoldsContents}
-use Rattle.repository.specs.declared.repo_contents.RepoContents.{RepoContents}
-use Rattle.tree_scan.specs.declared.verification.Verified.{Verified}
+use Rattle.repo_load.specs.Files.{HoldsCatalogue, StoresRepository}
+use Rattle.repo_load.specs.State.{catalogue_of, troves_of, RepositoryState}
+use Rattle.repo_load.specs.Contents.{IsDamagedContent}
+use Rattle.repo_load.specs.RepoContents.{repo_contents, HoldsContents}
+use Rattle.repo_load.specs.declared.repo_contents.RepoContents.{RepoContents}
+use Rattle.repo_commands.specs.tree-scan.declared.verification.Verified.{Verified}
 use Rattle.update_job.specs.Lists.{AreInstalled, IsNotInstalled}
-use Rattle.tree_verify.specs.Verify.{asked, verified}
+use Rattle.root_edits.specs.Verify.{asked, verified}
 use Rattle.cny_report.specs.Verified.{verified_text}
 use Rattle.cli_call.specs.declared.failure.Failure.{Failure}
 use Rattle.cli_call.specs.declared.failure.Failure.TheVariants as failure

@@ -2,25 +2,25 @@
 use Rattle.std.proofs.Common.{◌≡◌, ℕ, zero, suc, ◌+◌, ◌-◌, ◌<◌, ◌≤◌, List, [], ◌∷◌, length, map, Result, Ok, Err, IfErr, All, refl, sym, ap, ◌∙◌, subst, inl, inr, arith}
 use Rattle.std.specs.Prelude.{IsTrue}
 use Rattle.std.proofs.lemmas.List.Elements.{All-head, All-tail}
-use Rattle.cny_base.specs.Count.{Rose}
-use Rattle.cny_base.specs.declared.stop.Stop.{Stop}
-use Rattle.cny_base.specs.declared.stop.Stop.TheVariants as stop
-use Rattle.tree_disk.specs.Disk.{DiskModel, HasRead, Reads}
-use Rattle.tree_disk.specs.Tree.{Name, Tree}
-use Rattle.trove_stream.specs.declared.parts.TroveParts.{TroveParts}
-use Rattle.installed_list.specs.Installed.{IsRising}
-use Rattle.past_list.specs.Past.{AreChangedIds}
+use Rattle.repo_commands.specs.cny-base.Count.{Rose}
+use Rattle.repo_commands.specs.cny-base.declared.stop.Stop.{Stop}
+use Rattle.repo_commands.specs.cny-base.declared.stop.Stop.TheVariants as stop
+use Rattle.repo_commands.specs.tree-disk.Disk.{DiskModel, HasRead, Reads}
+use Rattle.repo_commands.specs.tree-disk.Tree.{Name, Tree}
+use Rattle.repo_commands.specs.trove-stream.declared.parts.TroveParts.{TroveParts}
+use Rattle.repo_commands.specs.trove-stream.Installed.{IsRising}
+use Rattle.repo_commands.specs.job-record.Past.{AreChangedIds}
 use Rattle.local_db.specs.declared.db.Db.{Db}
-use Rattle.system_state.specs.declared.format.Format.TheVariants.{Two}
-use Rattle.system_state.specs.Record as state
-use Rattle.system_state.specs.Stores.{HoldsDatabase, HoldsStack, StoresSystem}
-use Rattle.system_state.specs.SystemState.{AreNumbered, IsStackItem, StackItem, newest, oldest}
-use Rattle.job_records.specs.Reading.{HoldsNoRecord, HoldsRecord, HoldsRecords, IsDamagedRecord}
+use Rattle.local_db.specs.declared.format.Format.TheVariants.{Two}
+use Rattle.local_db.specs.Record as state
+use Rattle.local_db.specs.Stores.{HoldsDatabase, HoldsStack, StoresSystem}
+use Rattle.local_db.specs.SystemState.{AreNumbered, IsStackItem, StackItem, newest, oldest}
+use Rattle.repo_commands.specs.job-record.JobReading.{HoldsNoRecord, HoldsRecord, HoldsRecords, IsDamagedRecord}
 use Rattle.rollback_stack.specs.Numbers.{job_count}
 use Rattle.rollback_stack.specs.Reading.{AreNotes, IsAllStop}
-use Rattle.job_undo.specs.declared.undo.Note.{Note as Undone}
-use Rattle.system_rollback.proofs.Sequence.{AreFrom, from_newest}
-use Rattle.system_rollback.proofs.Stored.{OneRecord, job_record}
+use Rattle.rollback_stack.specs.declared.undo.Note.{Note as Undone}
+use Rattle.system_core.proofs.Sequence.{AreFrom, from_newest}
+use Rattle.system_core.proofs.NewestStored.{OneRecord, job_record}
 use Rattle.cny_report.specs.declared.note.Note.{Note}
 use Rattle.cli_call.specs.declared.failure.Failure.{Failure}
 use Rattle.cli_call.specs.declared.opened.Opened.{Opened}

@@ -10,3 +10,10 @@ pub mod Changed
 pub mod JobEnds
 pub mod LocalEnds
 pub mod RecordEnds
+pub mod JobStates
+pub mod SpecifiedEnds
+pub mod InstallEnds
+pub mod MoreAnswers
+pub mod FarJobs
+pub mod ComingEnds
+pub mod SpecEnds

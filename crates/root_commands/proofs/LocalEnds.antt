@@ -3,28 +3,28 @@ use Rattle.std.proofs.Common.{◌≡◌, ℕ, List, [], ◌∷◌, Contains, Non
 use Rattle.std.specs.Prelude.{IsTrue}
 use Rattle.std.specs.List.{AllByRecursion}
 use Rattle.std.proofs.lemmas.List.Elements.{All-contains}
-use Rattle.cny_base.specs.Reserved.{is_reserved}
-use Rattle.cny_base.specs.declared.refusal.Fault.{Fault}
-use Rattle.cny_base.specs.declared.refusal.Fault.TheVariants as fault
-use Rattle.cny_base.specs.declared.refusal.Refusal.{Refusal}
-use Rattle.cny_base.specs.declared.stop.Stop.{Stop}
-use Rattle.cny_base.specs.declared.stop.Stop.TheVariants as stop
-use Rattle.tree_disk.specs.Disk.{DiskModel}
-use Rattle.tree_disk.specs.Tree.{Tree, AgreesOutside}
-use Rattle.trove_items.specs.declared.files.FileAt.{FileAt}
-use Rattle.trove_stream.specs.declared.parts.TroveParts.{TroveParts}
-use Rattle.trove_stream.specs.Forbidden.{first_forbidden}
-use Rattle.change_set.specs.ChangeSet.{HasContents, IsSetStream}
-use Rattle.change_set.specs.TooLarge.{too_large, IsTooLargeOrMemory}
-use Rattle.change_set.specs.declared.change.ChangeSet.{ChangeSet}
-use Rattle.change_set.specs.declared.change.Part.{Part}
-use Rattle.manifest_troves.specs.Contents.{contents_of}
-use Rattle.local_changes.specs.Finds.{Ends}
-use Rattle.local_changes.specs.Local.{AreLocalParts, IsLocal, IsLocalPart, IsLocalRefusal, all_contents, all_sights, first_refusal, records}
-use Rattle.local_changes.specs.Reached.{AreReached}
-use Rattle.local_changes.specs.Standing.{Sight, sights}
-use Rattle.system_state.specs.Installed.{IsInstalled}
-use Rattle.system_state.proofs.Writes.{contains_first, contains_rest}
+use Rattle.repo_commands.specs.cny-base.Reserved.{is_reserved}
+use Rattle.repo_commands.specs.cny-base.declared.refusal.Fault.{Fault}
+use Rattle.repo_commands.specs.cny-base.declared.refusal.Fault.TheVariants as fault
+use Rattle.repo_commands.specs.cny-base.declared.refusal.Refusal.{Refusal}
+use Rattle.repo_commands.specs.cny-base.declared.stop.Stop.{Stop}
+use Rattle.repo_commands.specs.cny-base.declared.stop.Stop.TheVariants as stop
+use Rattle.repo_commands.specs.tree-disk.Disk.{DiskModel}
+use Rattle.repo_commands.specs.tree-disk.Tree.{Tree, AgreesOutside}
+use Rattle.repo_commands.specs.trove-parts.declared.files.FileAt.{FileAt}
+use Rattle.repo_commands.specs.trove-stream.declared.parts.TroveParts.{TroveParts}
+use Rattle.repo_commands.specs.trove-stream.Forbidden.{first_forbidden}
+use Rattle.repo_commands.specs.change-set.ChangeSet.{HasContents, IsSetStream}
+use Rattle.repo_commands.specs.change-set.TooLarge.{too_large, IsTooLargeOrMemory}
+use Rattle.repo_commands.specs.change-set.declared.change.ChangeSet.{ChangeSet}
+use Rattle.repo_commands.specs.change-set.declared.change.Part.{Part}
+use Rattle.repo_commands.specs.manifest-troves.Contents.{contents_of}
+use Rattle.root_edits.specs.Finds.{Ends}
+use Rattle.root_edits.specs.Local.{AreLocalParts, IsLocal, IsLocalPart, IsLocalRefusal, all_contents, all_sights, first_refusal, records}
+use Rattle.root_edits.specs.Reached.{AreReached}
+use Rattle.root_edits.specs.Standing.{Sight, sights}
+use Rattle.local_db.specs.Installed.{IsInstalled}
+use Rattle.local_db.proofs.Writes.{contains_first, contains_rest}
 use Rattle.update_job.proofs.Elements.{contains_at}
 use Rattle.cli_call.specs.declared.failure.Failure.{Failure}
 use Rattle.cli_call.specs.declared.opened.Opened.{Opened}

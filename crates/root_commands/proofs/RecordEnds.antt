@@ -2,39 +2,39 @@
 use Rattle.std.proofs.Common.{◌≡◌, ⊎_elim, Bool, false, ℕ, zero, suc, ◌+◌, ◌-◌, ◌<◌, ◌≤◌, List, [], ◌∷◌, ◌++◌, length, None, Some, Result, Ok, Err, IfOk, IfErr, All, refl, sym, ap, ◌∙◌, subst, inl, inr, arith, length-append}
 use Rattle.std.specs.Prelude.{◌⊎◌, IsTrue}
 use Rattle.std.proofs.lemmas.List.Elements.{All-contains}
-use Rattle.cny_base.specs.declared.refusal.Refusal.{Refusal}
-use Rattle.cny_base.specs.declared.refusal.Refusal.TheVariants.{Edited, NoJob, Parent, StackEmpty}
-use Rattle.cny_base.specs.declared.stop.Stop.{Stop}
-use Rattle.cny_base.specs.declared.stop.Stop.TheVariants as stop
-use Rattle.journal_log.specs.declared.put.Put.{Put}
-use Rattle.journal_log.specs.declared.put.Want.{Want}
-use Rattle.journal_log.specs.declared.put.Want.TheVariants as want
-use Rattle.journal_log.specs.Targets.{node_of}
-use Rattle.tree_disk.specs.Disk.{DiskModel}
-use Rattle.tree_disk.specs.Tree.{Name, Tree}
-use Rattle.tree_scan.specs.declared.mark.Mark.{Mark}
-use Rattle.tree_scan.specs.Marks.{fingerprint}
-use Rattle.trove_stream.specs.declared.parts.TroveParts.{TroveParts}
+use Rattle.repo_commands.specs.cny-base.declared.refusal.Refusal.{Refusal}
+use Rattle.repo_commands.specs.cny-base.declared.refusal.Refusal.TheVariants.{Edited, NoJob, Parent, StackEmpty}
+use Rattle.repo_commands.specs.cny-base.declared.stop.Stop.{Stop}
+use Rattle.repo_commands.specs.cny-base.declared.stop.Stop.TheVariants as stop
+use Rattle.repo_commands.specs.journal-log.declared.put.Put.{Put}
+use Rattle.repo_commands.specs.journal-log.declared.put.Want.{Want}
+use Rattle.repo_commands.specs.journal-log.declared.put.Want.TheVariants as want
+use Rattle.repo_commands.specs.journal-log.Targets.{node_of}
+use Rattle.repo_commands.specs.tree-disk.Disk.{DiskModel}
+use Rattle.repo_commands.specs.tree-disk.Tree.{Name, Tree}
+use Rattle.repo_commands.specs.tree-scan.declared.mark.Mark.{Mark}
+use Rattle.repo_commands.specs.tree-scan.Marks.{fingerprint}
+use Rattle.repo_commands.specs.trove-stream.declared.parts.TroveParts.{TroveParts}
 use Rattle.local_db.specs.declared.db.Db.{Db}
-use Rattle.saved_contents.specs.declared.entry.Entry.{Entry}
-use Rattle.saved_contents.specs.Old.{IsDamagedOld, IsSaved, is_staged}
-use Rattle.system_state.specs.declared.format.Format.TheVariants.{Two}
-use Rattle.system_state.specs.Record as state
-use Rattle.undo_check.specs.Jobs.{CanUndoAll, oldest_with, undone_all}
-use Rattle.undo_check.specs.Marks.{CanUndo, IsEdited, IsUndoRefusal, Marks, marks_of, undone}
-use Rattle.job_records.specs.Reading.{HoldsNoRecord, HoldsRecord, HoldsRecords}
-use Rattle.job_undo.specs.declared.undo.Note.{Note as Undone}
-use Rattle.job_undo.specs.declared.undo.Back.{Back}
-use Rattle.job_undo.specs.declared.undo.Undo.{Undo}
-use Rattle.job_undo.specs.Undo.{entries_of, entry_of}
+use Rattle.repo_commands.specs.job-targets.declared.entry.Entry.{Entry}
+use Rattle.repo_commands.specs.job-targets.Old.{IsDamagedOld, IsSaved, is_staged}
+use Rattle.local_db.specs.declared.format.Format.TheVariants.{Two}
+use Rattle.local_db.specs.Record as state
+use Rattle.rollback_stack.specs.Jobs.{CanUndoAll, oldest_with, undone_all}
+use Rattle.rollback_stack.specs.Marks.{CanUndo, IsEdited, IsUndoRefusal, Marks, marks_of, undone}
+use Rattle.repo_commands.specs.job-record.JobReading.{HoldsNoRecord, HoldsRecord, HoldsRecords}
+use Rattle.rollback_stack.specs.declared.undo.Note.{Note as Undone}
+use Rattle.rollback_stack.specs.declared.undo.Back.{Back}
+use Rattle.rollback_stack.specs.declared.undo.Undo.{Undo}
+use Rattle.rollback_stack.specs.Undo.{entries_of, entry_of}
 use Rattle.rollback_stack.specs.Inverse.{IsBackRefusal, IsDamagedContent, IsDamagedJob, IsOldWant, IsRefusedJob}
 use Rattle.rollback_stack.specs.Numbers.{job_count}
 use Rattle.rollback_stack.specs.Reading.{AreNotes, IsAllStop, IsDamagedAt, IsDamagedNewest, IsNewest}
 use Rattle.rollback_stack.proofs.Noting.{records_push}
-use Rattle.system_rollback.specs.Preparing.{IsRefusal}
-use Rattle.system_rollback.specs.Rollback.{HasTakenBack, StopsSo}
-use Rattle.system_rollback.specs.Several.{HasTakenBackTo, IsStepTo, StopsTo}
-use Rattle.system_rollback.proofs.Stored.{OneRecord, all_middle, split_map}
+use Rattle.system_core.specs.Preparing.{IsRefusal}
+use Rattle.system_core.specs.Rollback.{HasTakenBack, StopsSo}
+use Rattle.system_core.specs.Several.{HasTakenBackTo, IsStepTo, StopsTo}
+use Rattle.system_core.proofs.NewestStored.{OneRecord, all_middle, split_map}
 use Rattle.cli_call.specs.declared.failure.Failure.{Failure}
 use Rattle.cli_call.specs.Stops.{root_failure, root_result}
 use Rattle.root_commands.specs.Records.{IsDamagedOfAll, ListsWhole, NoneIs, TakesBackWhole}

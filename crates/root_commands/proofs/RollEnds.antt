@@ -3,23 +3,23 @@ use Rattle.std.proofs.Common.{◌≡◌, ◌≤◌, ◌<◌, ◌+◌, ◌-◌, �
 use Rattle.std.specs.Prelude.{◌⊎◌, ◌||◌, IsTrue, Contains, min}
 use Rattle.std.proofs.lemmas.List.{length-take, take-append-drop}
 use Rattle.std.proofs.lemmas.List.Elements.{Contains-append_left}
-use Rattle.cny_base.specs.Count.{Rose}
-use Rattle.cny_base.specs.declared.refusal.Refusal.{Refusal}
-use Rattle.cny_base.specs.declared.stop.Stop.{Stop}
-use Rattle.cny_base.specs.declared.stop.Stop.TheVariants as stop
-use Rattle.tree_disk.specs.Tree.{Name, Tree, same_name}
-use Rattle.tree_disk.specs.Disk.{DiskModel}
+use Rattle.repo_commands.specs.cny-base.Count.{Rose}
+use Rattle.repo_commands.specs.cny-base.declared.refusal.Refusal.{Refusal}
+use Rattle.repo_commands.specs.cny-base.declared.stop.Stop.{Stop}
+use Rattle.repo_commands.specs.cny-base.declared.stop.Stop.TheVariants as stop
+use Rattle.repo_commands.specs.tree-disk.Tree.{Name, Tree, same_name}
+use Rattle.repo_commands.specs.tree-disk.Disk.{DiskModel}
 use Rattle.local_db.specs.declared.db.Db.{Db}
-use Rattle.system_state.specs.declared.format.Format.TheVariants.{Two}
-use Rattle.system_state.specs.SystemState.{AreNumbered, StackItem, SystemState, is_listed, newest}
-use Rattle.system_state.specs.Steps.{after_rollback, after_rollbacks}
-use Rattle.system_state.specs.Stores.{StoresIn}
-use Rattle.system_state.proofs.Writes.{contains_first, contains_rest}
+use Rattle.local_db.specs.declared.format.Format.TheVariants.{Two}
+use Rattle.local_db.specs.SystemState.{AreNumbered, StackItem, SystemState, is_listed, newest}
+use Rattle.local_db.specs.Steps.{after_rollback, after_rollbacks}
+use Rattle.local_db.specs.Stores.{StoresIn}
+use Rattle.local_db.proofs.Writes.{contains_first, contains_rest}
 use Rattle.rollback_stack.specs.Inverse.{IsDamagedContent, IsDamagedJob}
 use Rattle.rollback_stack.specs.Reading.{IsDamagedNewest}
-use Rattle.system_rollback.specs.Rollback.{CanTakeBack, EndsSo, HasCause, HasTakenBack, IsSystemRefusal, IsTakenBack, OfNewest, RollsBack, StopsSo, newest_paths, rolled_back, without_newest}
-use Rattle.system_rollback.specs.Preparing.{IsRefusalKind}
-use Rattle.system_rollback.specs.Several.{AreTakenBack, CanTakeBackTo, EndsTo, HasTakenBackTo, IsRefusalKindTo, IsRefusalTo, RollsBackTo, StopsTo, jobs_below, jobs_to, paths_of_jobs, rolled_back_to}
+use Rattle.system_core.specs.Rollback.{CanTakeBack, EndsSo, HasCause, HasTakenBack, IsSystemRefusal, IsTakenBack, OfNewest, RollsBack, StopsSo, newest_paths, rolled_back, without_newest}
+use Rattle.system_core.specs.Preparing.{IsRefusalKind}
+use Rattle.system_core.specs.Several.{AreTakenBack, CanTakeBackTo, EndsTo, HasTakenBackTo, IsRefusalKindTo, IsRefusalTo, RollsBackTo, StopsTo, jobs_below, jobs_to, paths_of_jobs, rolled_back_to}
 use Rattle.cny_report.specs.Jobs.{rolled_back_text}
 use Rattle.cli_call.specs.declared.opened.Opened.{Opened}
 use Rattle.cli_call.specs.Command.{LeavesName}

@@ -2,20 +2,20 @@
 use Rattle.std.proofs.Common.{◌≡◌, ◌≤◌, ℕ, List, Result, Ok, Err, OnOk, IfErr, refl, sym, ap, ◌∙◌, subst, inl, inr, ⊎_elim, arith}
 use Rattle.std.specs.Prelude.{◌⊎◌, false, IsTrue}
 use Rattle.std.specs.FinMap.{get}
-use Rattle.cny_base.specs.Count.{Rose}
-use Rattle.cny_base.specs.declared.refusal.Refusal.{Refusal}
-use Rattle.cny_base.specs.declared.stop.Stop.{Stop}
-use Rattle.cny_base.specs.declared.stop.Stop.TheVariants as stop
-use Rattle.tree_disk.specs.Tree.{Name, Tree}
-use Rattle.tree_disk.specs.Disk.{DiskModel, IsDisk, HasRead}
-use Rattle.tree_disk.specs.ConfinedLaws.{leaves_weaker}
-use Rattle.tree_disk.specs.Unfailed.{unfailed_weaker}
-use Rattle.tree_journal.specs.Recovery.{is_committed}
+use Rattle.repo_commands.specs.cny-base.Count.{Rose}
+use Rattle.repo_commands.specs.cny-base.declared.refusal.Refusal.{Refusal}
+use Rattle.repo_commands.specs.cny-base.declared.stop.Stop.{Stop}
+use Rattle.repo_commands.specs.cny-base.declared.stop.Stop.TheVariants as stop
+use Rattle.repo_commands.specs.tree-disk.Tree.{Name, Tree}
+use Rattle.repo_commands.specs.tree-disk.Disk.{DiskModel, IsDisk, HasRead}
+use Rattle.repo_commands.specs.tree-disk.ConfinedLaws.{leaves_weaker}
+use Rattle.repo_commands.specs.tree-disk.Unfailed.{unfailed_weaker}
+use Rattle.repo_commands.specs.tree-journal.Recovery.{is_committed}
 use Rattle.local_db.specs.declared.db.Db.{Db}
-use Rattle.system_state.specs.declared.format.Format.TheVariants.{Two}
-use Rattle.system_state.specs.SystemState.{is_listed}
-use Rattle.system_state.specs.Stores.{HoldsDatabase, StoresIn}
-use Rattle.system_rollback.specs.Rollback.{HasOnlyRead, Moves}
+use Rattle.local_db.specs.declared.format.Format.TheVariants.{Two}
+use Rattle.local_db.specs.SystemState.{is_listed}
+use Rattle.local_db.specs.Stores.{HoldsDatabase, StoresIn}
+use Rattle.system_core.specs.Rollback.{HasOnlyRead, Moves}
 use Rattle.cli_call.specs.declared.failure.Failure.{Failure}
 use Rattle.cli_call.specs.declared.failure.Failure.TheVariants as failure
 use Rattle.cli_call.specs.declared.opened.Opened.{Opened}

@@ -2,11 +2,11 @@
 use Rattle.std.proofs.Common.{◌≡◌, ℕ, ◌+◌, ◌<◌, Bool, true, false, cond, List, [], ◌∷◌, ◌++◌, length, get_or, take, Option, Some, None, refl, sym, ap, subst, ◌∙◌}
 use Rattle.std.specs.Option.{option_or}
 use Rattle.std.proofs.lemmas.List.{take_more}
-use Rattle.trove_id.specs.declared.id.TroveId.{TroveId}
-use Rattle.job_undo.specs.Undo.{id_of}
-use Rattle.job_undo.specs.declared.undo.Note.{Note as Undone}
-use Rattle.job_undo.proofs.Keyed.{found_more}
-use Rattle.tree_disk.specs.Tree.{same_name}
+use Rattle.repo_commands.specs.trove-parts.declared.id.TroveId.{TroveId}
+use Rattle.rollback_stack.specs.Undo.{id_of}
+use Rattle.rollback_stack.specs.declared.undo.Note.{Note as Undone}
+use Rattle.rollback_stack.proofs.Keyed.{found_more}
+use Rattle.repo_commands.specs.tree-disk.Tree.{same_name}
 use Rattle.update_job.specs.declared.comparing.Change.{Change}
 use Rattle.update_job.specs.declared.comparing.Change.TheVariants.{Installed, Updated, Erased}
 use Rattle.cny_report.specs.declared.note.Note.{Note}

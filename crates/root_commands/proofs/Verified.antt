@@ -5,20 +5,20 @@ use Rattle.std.specs.FinMap.{get}
 use Rattle.std.specs.List.{AllByRecursion, cons_option}
 use Rattle.std.specs.Option.{option_map}
 use Rattle.std.proofs.lemmas.List.Elements.{All-filter, recursion_from_All}
-use Rattle.cny_base.specs.Reserved.{is_reserved}
-use Rattle.file_stream.specs.declared.record.FileRec.{FileRec}
-use Rattle.file_stream.specs.declared.record.FileRec.TheVariants as rec
-use Rattle.trove_items.specs.declared.files.FileAt.{FileAt}
-use Rattle.trove_stream.specs.declared.parts.TroveParts.{TroveParts}
-use Rattle.trove_stream.specs.Forbidden.{first_forbidden, is_forbidden_file}
-use Rattle.tree_disk.specs.Tree.{Name, Tree, AgreesOutside}
-use Rattle.content_store.specs.Contents.{ContentMap}
-use Rattle.system_state.specs.Installed.{IsInstalled}
-use Rattle.tree_scan.specs.declared.mark.Mark.{Mark}
-use Rattle.tree_scan.specs.declared.mark.Mark.TheVariants as mark
-use Rattle.tree_scan.specs.declared.verification.Found.{Found}
-use Rattle.tree_scan.specs.Marks.{fingerprint}
-use Rattle.tree_verify.specs.Verify.{asked, change_at, finding_of, findings, found_at, is_asked, records, verified}
+use Rattle.repo_commands.specs.cny-base.Reserved.{is_reserved}
+use Rattle.repo_commands.specs.file-stream.declared.record.FileRec.{FileRec}
+use Rattle.repo_commands.specs.file-stream.declared.record.FileRec.TheVariants as rec
+use Rattle.repo_commands.specs.trove-parts.declared.files.FileAt.{FileAt}
+use Rattle.repo_commands.specs.trove-stream.declared.parts.TroveParts.{TroveParts}
+use Rattle.repo_commands.specs.trove-stream.Forbidden.{first_forbidden, is_forbidden_file}
+use Rattle.repo_commands.specs.tree-disk.Tree.{Name, Tree, AgreesOutside}
+use Rattle.repo_commands.specs.content-store.Contents.{ContentMap}
+use Rattle.local_db.specs.Installed.{IsInstalled}
+use Rattle.repo_commands.specs.tree-scan.declared.mark.Mark.{Mark}
+use Rattle.repo_commands.specs.tree-scan.declared.mark.Mark.TheVariants as mark
+use Rattle.repo_commands.specs.tree-scan.declared.verification.Found.{Found}
+use Rattle.repo_commands.specs.tree-scan.Marks.{fingerprint}
+use Rattle.root_edits.specs.Verify.{asked, change_at, finding_of, findings, found_at, is_asked, records, verified}
 
 -- the files whose paths aren't reserved
 abbrev pub AreOuter : List FileAt → Type 0

@@ -1,17 +1,17 @@
 -- How `verify` ends without contents.
 use Rattle.std.proofs.Common.{◌≡◌, ℕ, List, None, Result, Ok, Err, IfErr, refl, ap, ◌∙◌, subst, arith}
 use Rattle.std.specs.Prelude.{IsTrue}
-use Rattle.cny_base.specs.Count.{Rose}
-use Rattle.cny_base.specs.declared.stop.Stop.{Stop}
-use Rattle.cny_base.specs.declared.stop.Stop.TheVariants as stop
-use Rattle.tree_disk.specs.Disk.{DiskModel}
-use Rattle.trove_stream.specs.declared.parts.TroveParts.{TroveParts}
-use Rattle.content_store.specs.Contents.{ContentMap, ContentsModel, empty_contents}
-use Rattle.content_store.specs.declared.contents.NoContents.{NoContents}
-use Rattle.tree_scan.specs.declared.verification.Verified.{Verified}
+use Rattle.repo_commands.specs.cny-base.Count.{Rose}
+use Rattle.repo_commands.specs.cny-base.declared.stop.Stop.{Stop}
+use Rattle.repo_commands.specs.cny-base.declared.stop.Stop.TheVariants as stop
+use Rattle.repo_commands.specs.tree-disk.Disk.{DiskModel}
+use Rattle.repo_commands.specs.trove-stream.declared.parts.TroveParts.{TroveParts}
+use Rattle.repo_commands.specs.content-store.Contents.{ContentMap, ContentsModel, empty_contents}
+use Rattle.repo_commands.specs.content-store.declared.contents.NoContents.{NoContents}
+use Rattle.repo_commands.specs.tree-scan.declared.verification.Verified.{Verified}
 use Rattle.update_job.specs.Lists.{AreInstalled, IsNotInstalled}
-use Rattle.tree_verify.specs.Search.{Searches}
-use Rattle.tree_verify.specs.Verify.{asked, records, verified, IsVerified, LacksOne}
+use Rattle.root_edits.specs.Search.{Searches}
+use Rattle.root_edits.specs.Verify.{asked, records, verified, IsVerified, LacksOne}
 use Rattle.cny_report.specs.Verified.{verified_text}
 use Rattle.cli_call.specs.declared.failure.Failure.{Failure}
 use Rattle.cli_call.specs.declared.opened.Opened.{Opened}

@@ -1,8 +1,8 @@
 -- What `rblist` means.
 use Rattle.std.specs.Prelude.{◌≡◌, false, List, [], ◌∷◌, length, Result, Ok, Err}
-use Rattle.cny_base.specs.declared.refusal.Refusal.{Refusal}
-use Rattle.trove_stream.specs.declared.parts.TroveParts.{TroveParts}
-use Rattle.system_state.specs.SystemState.{StackItem}
+use Rattle.repo_commands.specs.cny-base.declared.refusal.Refusal.{Refusal}
+use Rattle.repo_commands.specs.trove-stream.declared.parts.TroveParts.{TroveParts}
+use Rattle.local_db.specs.SystemState.{StackItem}
 use Rattle.update_job.specs.Changes.{AreChanges}
 use Rattle.cny_report.specs.declared.note.Note.{Note}
 use Rattle.cny_report.specs.Jobs.{undos_text}

@@ -6,3 +6,8 @@ pub mod Noting
 pub mod Jobs
 pub mod LocalChanges
 pub mod Records
+pub mod JobOutcome
+pub mod Erase
+pub mod Install
+pub mod Update
+pub mod UpdateSpecs

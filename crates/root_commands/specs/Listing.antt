@@ -1,9 +1,9 @@
 -- What `q` means.
 use Rattle.std.specs.Prelude.{◌≡◌, ℕ, false, List, Option, Some, None, Result, Ok, Err}
-use Rattle.cny_base.specs.declared.refusal.Refusal.{Refusal}
-use Rattle.cny_base.specs.declared.refusal.Refusal.TheVariants as refusal
-use Rattle.trove_stream.specs.declared.parts.TroveParts.{TroveParts}
-use Rattle.installed_list.specs.Installed.{trove_of}
+use Rattle.repo_commands.specs.cny-base.declared.refusal.Refusal.{Refusal}
+use Rattle.repo_commands.specs.cny-base.declared.refusal.Refusal.TheVariants as refusal
+use Rattle.repo_commands.specs.trove-stream.declared.parts.TroveParts.{TroveParts}
+use Rattle.repo_commands.specs.trove-stream.Installed.{trove_of}
 use Rattle.cny_report.specs.Records.{trove_text}
 use Rattle.cny_report.specs.Troves.{troves_text}
 use Rattle.cli_call.specs.State.{Effect, Meaning}

@@ -1,10 +1,10 @@
 -- What `localcs` means.
 use Rattle.std.specs.Prelude.{◌≡◌, ◌⊎◌, ℕ, false, List, None, Some, Result, Ok, Err}
-use Rattle.cny_base.specs.declared.refusal.Refusal.{Refusal}
-use Rattle.change_set.specs.ChangeSet.{IsSetStream}
-use Rattle.change_set.specs.TooLarge.{too_large}
-use Rattle.change_set.specs.declared.change.ChangeSet.{ChangeSet}
-use Rattle.local_changes.specs.Local.{IsLocal, IsLocalRefusal}
+use Rattle.repo_commands.specs.cny-base.declared.refusal.Refusal.{Refusal}
+use Rattle.repo_commands.specs.change-set.ChangeSet.{IsSetStream}
+use Rattle.repo_commands.specs.change-set.TooLarge.{too_large}
+use Rattle.repo_commands.specs.change-set.declared.change.ChangeSet.{ChangeSet}
+use Rattle.root_edits.specs.Local.{IsLocal, IsLocalRefusal}
 use Rattle.cli_call.specs.State.{nothing, tree_of, Effect, Meaning, RootState}
 
 -- nothing changes, and the stream of the change set is answered; or the set is too large to have one

@@ -1,16 +1,16 @@
 -- What is told of a job, by the ids of the troves that it changed.
 use Rattle.std.specs.Prelude.{◌≡◌, ℕ, Bool, true, false, if◌then◌else◌, List, [], ◌∷◌, Option, Some, None}
 use Rattle.std.specs.Option.{option_or}
-use Rattle.trove_id.specs.declared.id.TroveId.{TroveId}
-use Rattle.trove_stream.specs.declared.parts.TroveParts.{TroveParts}
-use Rattle.tree_disk.specs.Tree.{same_name}
-use Rattle.installed_list.specs.Installed.{IsRising}
+use Rattle.repo_commands.specs.trove-parts.declared.id.TroveId.{TroveId}
+use Rattle.repo_commands.specs.trove-stream.declared.parts.TroveParts.{TroveParts}
+use Rattle.repo_commands.specs.tree-disk.Tree.{same_name}
+use Rattle.repo_commands.specs.trove-stream.Installed.{IsRising}
 use Rattle.update_job.specs.declared.comparing.Change.{Change}
 use Rattle.update_job.specs.declared.comparing.Change.TheVariants.{Installed, Updated, Erased}
 use Rattle.update_job.specs.Changes.{AreChanges, Noted, noted}
-use Rattle.past_list.specs.Past.{AreChangedIds}
-use Rattle.job_undo.specs.Undo.{id_of}
-use Rattle.job_undo.specs.declared.undo.Note.{Note as Undone}
+use Rattle.repo_commands.specs.job-record.Past.{AreChangedIds}
+use Rattle.rollback_stack.specs.Undo.{id_of}
+use Rattle.rollback_stack.specs.declared.undo.Note.{Note as Undone}
 use Rattle.cny_report.specs.declared.note.Note.{Note}
 use Rattle.cny_report.specs.Jobs.{undos_text}
 

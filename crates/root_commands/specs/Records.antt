@@ -1,12 +1,12 @@
 -- A damaged record isn't passed over by the commands that read records, also where the root stores no system.
 use Rattle.std.specs.Prelude.{◌⊎◌, ℕ, Option, None, Some, Result, Ok, Err}
-use Rattle.job_records.specs.Reading.{IsDamagedRecord}
+use Rattle.repo_commands.specs.job-record.JobReading.{IsDamagedRecord}
 use Rattle.local_db.specs.declared.db.Db.{Db}
 use Rattle.rollback_stack.specs.Inverse.{IsDamagedContent, IsDamagedJob}
 use Rattle.rollback_stack.specs.Numbers.{job_count}
 use Rattle.rollback_stack.specs.Reading.{IsDamagedNewest}
-use Rattle.system_state.specs.declared.format.Format.TheVariants.{Two}
-use Rattle.tree_disk.specs.Tree.{Name, Tree}
+use Rattle.local_db.specs.declared.format.Format.TheVariants.{Two}
+use Rattle.repo_commands.specs.tree-disk.Tree.{Name, Tree}
 use Rattle.cli_call.specs.declared.failure.Failure.{Failure}
 use Rattle.cli_call.specs.declared.failure.Failure.TheVariants as failure
 

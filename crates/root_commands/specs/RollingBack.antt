@@ -1,9 +1,9 @@
 -- What `rollback` means.
 use Rattle.std.specs.Prelude.{◌≡◌, ℕ, false, List, length, Option, Some, None, Result, Ok, Err}
-use Rattle.cny_base.specs.declared.refusal.Refusal.{Refusal}
-use Rattle.system_state.specs.SystemState.{newest}
-use Rattle.system_rollback.specs.Rollback.{CanTakeBack, IsSystemRefusal, rolled_back}
-use Rattle.system_rollback.specs.Several.{CanTakeBackTo, IsRefusalTo, jobs_to, rolled_back_to}
+use Rattle.repo_commands.specs.cny-base.declared.refusal.Refusal.{Refusal}
+use Rattle.local_db.specs.SystemState.{newest}
+use Rattle.system_core.specs.Rollback.{CanTakeBack, IsSystemRefusal, rolled_back}
+use Rattle.system_core.specs.Several.{CanTakeBackTo, IsRefusalTo, jobs_to, rolled_back_to}
 use Rattle.cny_report.specs.Jobs.{rolled_back_text}
 use Rattle.cli_call.specs.State.{on_root, Effect, Meaning, RootState}
 

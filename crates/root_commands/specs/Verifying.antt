@@ -1,9 +1,9 @@
 -- What `verify` means.
 use Rattle.std.specs.Prelude.{◌≡◌, ℕ, false, List, None, Result, Ok, Err}
-use Rattle.cny_base.specs.declared.refusal.Refusal.{Refusal}
-use Rattle.content_store.specs.Contents.{ContentMap}
+use Rattle.repo_commands.specs.cny-base.declared.refusal.Refusal.{Refusal}
+use Rattle.repo_commands.specs.content-store.Contents.{ContentMap}
 use Rattle.update_job.specs.Lists.{AreInstalled, IsNotInstalled}
-use Rattle.tree_verify.specs.Verify.{asked, verified}
+use Rattle.root_edits.specs.Verify.{asked, verified}
 use Rattle.cny_report.specs.Verified.{verified_text}
 use Rattle.cli_call.specs.State.{tree_of, Effect, Meaning, RootState}
 use Rattle.root_commands.specs.Answer.{answer}

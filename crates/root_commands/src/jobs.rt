@@ -8,12 +8,12 @@ ghost use Rattle.root_commands.specs.Records.{ListsWhole};
 
 use crate::noting::noted_jobs;
 use cli_call::{Failure, Opened, on_root, store_laws};
-use cny_base::{OutOfMemory, Text};
 use cny_report::undos_text;
+use local_db::distinct_databases;
+use repo_commands::cny_base::{OutOfMemory, Text};
+use repo_commands::tree_disk::TreeDisk;
 use rollback_stack::{Note, all, one_record};
 use std::alloc::Global;
-use system_state::distinct_databases;
-use tree_disk::TreeDisk;
 
 fn told(alloc: Global, jobs: &[Note]) -> Result<Text, OutOfMemory>
     ensures { IfOk result (AreToldBy jobs.now) }

@@ -1,18 +1,26 @@
-//! The commands that only read the root, and that which takes its jobs back.
+//! The commands of the root: those that only read it, that which takes its jobs back, and those that are jobs.
 //!
-//! Each has its meaning in `specs/`, and a function with two clauses: that it performs this meaning, and that it works on the root
-//! alone. `verify_fully` reads the contents of the repository too, and has the first one.
+//! Each has its meaning in a file of its own in `specs/`, and a function with two clauses: that it performs this meaning, and that it
+//! works on the root alone. `verify_fully` reads the contents of the repository too, and has the first one.
 #![tactic(auto)]
 
+mod erasing;
+mod installing;
 mod jobs;
 mod listing;
 mod local;
 mod noting;
 mod rolling_back;
+mod specified;
+mod updating;
 mod verifying;
 
+pub use erasing::erase_troves;
+pub use installing::install_manifest;
 pub use jobs::list_jobs;
 pub use listing::list_installed;
 pub use local::change_locally;
 pub use rolling_back::roll_back;
+pub use specified::update_specs;
+pub use updating::update_input;
 pub use verifying::{verify_fully, verify_installed};

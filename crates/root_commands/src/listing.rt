@@ -7,12 +7,12 @@ ghost use Rattle.root_commands.specs.Listing as spec;
 ghost use Rattle.root_commands.specs.Listing.{listed};
 
 use cli_call::{Failure, Opened, store_laws};
-use cny_base::{Fault, Name, Refusal, Text};
 use cny_report::{trove_text, troves_text};
-use installed_list::Installed;
+use local_db::distinct_databases;
+use repo_commands::cny_base::{Fault, Name, Refusal, Text};
+use repo_commands::tree_disk::TreeDisk;
+use repo_commands::trove_stream::Installed;
 use std::alloc::Global;
-use system_state::distinct_databases;
-use tree_disk::TreeDisk;
 
 // What the installed trove of a name records.
 fn describe(alloc: Global, installed: &Installed, name: &Name) -> Result<Text, Fault>

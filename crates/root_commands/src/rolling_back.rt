@@ -6,13 +6,13 @@ ghost use Rattle.root_commands.specs.Records.{TakesBackWhole};
 ghost use Rattle.root_commands.specs.RollingBack as spec;
 
 use cli_call::{Failure, Opened, on_root, store_laws};
-use cny_base::Text;
 use cny_report::rolled_back_text;
+use local_db::distinct_databases;
+use repo_commands::cny_base::Text;
+use repo_commands::tree_disk::TreeDisk;
 use rollback_stack::one_record;
 use std::alloc::Global;
-use system_rollback::{rollback, rollback_to};
-use system_state::distinct_databases;
-use tree_disk::TreeDisk;
+use system_core::{rollback, rollback_to};
 
 // Takes the newest job back.
 fn undo_newest<T: TreeDisk, P: TreeDisk>(

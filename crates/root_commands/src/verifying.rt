@@ -5,14 +5,14 @@ ghost use Rattle.cli_call.specs.Command.{disks, AreReady, Performs};
 ghost use Rattle.root_commands.specs.Verifying as spec;
 
 use cli_call::{Failure, Opened, on_root, store_laws};
-use cny_base::{Name, Text};
 use cny_report::verified_text;
-use content_store::NoContents;
-use repository::{RepoContents, stored_state};
+use local_db::distinct_databases;
+use repo_commands::cny_base::{Name, Text};
+use repo_commands::content_store::NoContents;
+use repo_commands::tree_disk::TreeDisk;
+use repo_load::{RepoContents, stored_state};
+use root_edits::verify;
 use std::alloc::Global;
-use system_state::distinct_databases;
-use tree_disk::TreeDisk;
-use tree_verify::verify;
 
 /// Compares the root with what the installed troves of these names record, or all where there are none: a line for each recorded path
 /// at which something else stands, or nothing, and last how many paths were looked at and how many differ. `NotInstalled` for the first

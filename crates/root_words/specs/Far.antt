@@ -1,6 +1,6 @@
 -- Contents that tell nothing of what they hold, but how often they failed.
 use Rattle.std.specs.Prelude.{ℕ, false}
-use Rattle.content_store.specs.Contents.{ContentsModel, IsSource}
+use Rattle.system_core.specs.content-store.Contents.{ContentsModel, IsSource}
 
 abbrev pub far_contents : {C : Type 0} → (C → ℕ) → ContentsModel C
 far_contents failed = record {

@@ -2,14 +2,14 @@
 ghost use Rattle.std.specs.Prelude.{◌≡◌, ◌↔◌, All, IfOk, IsTrue};
 ghost use Rattle.std.specs.List.Sorted.{IsStrictlySortedBy};
 ghost use Rattle.sha1.specs.Sha1.{sha1};
-ghost use Rattle.change_set.specs.declared.change.Carried as declared;
-ghost use Rattle.change_set.specs.ChangeSet.{content_cmp};
+ghost use Rattle.system_core.specs.change-set.declared.change.Carried as declared;
+ghost use Rattle.system_core.specs.change-set.ChangeSet.{content_cmp};
 
 use crate::contents::contents_of;
-use change_set::Carried;
 use sha1::Sha1;
 use state_words::Stop;
 use std::alloc::Global;
+use system_core::change_set::Carried;
 
 /// The contents that are carried, with a comma between two; none for a hyphen.
 pub fn carried_of(alloc: Global, text: &str) -> Result<Vec<Carried>, Stop>

@@ -1,7 +1,7 @@
 //! Contents of a line.
-use cny_base::Bytes;
 use state_words::Stop;
 use std::alloc::Global;
+use system_core::cny_base::Bytes;
 
 // Appends a byte so many times.
 fn push_times(bytes: &mut Vec<u8>, count: u32, byte: u8) -> Result<(), Stop> {

@@ -1,16 +1,16 @@
 //! The database of a root.
 ghost use Rattle.std.specs.Prelude.{IfOk};
-ghost use Rattle.system_state.specs.declared.format.Format.TheVariants.{Two};
-ghost use Rattle.system_state.specs.Stores.{IsDatabase};
+ghost use Rattle.local_db.specs.declared.format.Format.TheVariants.{Two};
+ghost use Rattle.local_db.specs.Stores.{IsDatabase};
 
 use crate::ends::end_text;
 use crate::quiet::Quiet;
-use cny_base::Stop as DiskEnd;
 use local_db::Db;
-use root_ready::ready;
 use state_words::Stop;
 use std::alloc::Global;
-use trove_id::{TroveId, id_text};
+use system_core::cny_base::Stop as DiskEnd;
+use system_core::ready;
+use system_core::trove_parts::{TroveId, id_text};
 
 fn push_id(alloc: Global, line: &mut String, id: &TroveId) -> Result<(), Stop> {
     let text = id_text(alloc, id)?;

@@ -1,8 +1,8 @@
 //! Why a call on a root ended, as a text.
-use cny_base::{Refusal, Stop as DiskEnd};
 use cny_report::refusal_text;
 use state_words::{Stop, word};
 use std::alloc::Global;
+use system_core::cny_base::{Refusal, Stop as DiskEnd};
 
 /// Whether the call was refused.
 pub fn is_refusal(end: &DiskEnd) -> bool {

@@ -1,11 +1,11 @@
 //! Contents of a line, which may fail or be damaged.
 use crate::contents::contents_of;
-use cny_base::{Bytes, Copies, Path};
-use content_store::{Contents, FarStop};
 use sha1::Sha1;
 use state_words::Stop;
 use std::alloc::Global;
 use std::collections::BTreeMap;
+use system_core::cny_base::{Bytes, Copies, Path};
+use system_core::content_store::{Contents, FarStop};
 
 /// Contents by their SHA-1. It counts how often it was asked.
 pub struct Far {

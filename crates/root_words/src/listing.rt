@@ -1,9 +1,9 @@
 //! What stands in a tree, as a text.
-use cny_base::{Copies, Mode, Node, Path, octal};
 use sha1::Sha1;
 use state_words::Stop;
 use std::alloc::Global;
-use tree_disk::{DiskStop, TreeDisk};
+use system_core::cny_base::{Copies, Mode, Node, Path, octal};
+use system_core::tree_disk::{DiskStop, TreeDisk};
 use tree_memory::MemoryTree;
 
 // More nodes than any of the trees has.

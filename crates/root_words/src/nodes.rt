@@ -1,9 +1,9 @@
 //! Trees of a line. A node is `dir MODE PATH`, `file MODE CONTENTS PATH` or `link TARGET PATH`; `nothing PATH` is none.
 use crate::contents::content_of;
 use crate::quiet::Quiet;
-use cny_base::{Fails, Mode, Node, Path, Target};
 use state_words::{Stop, mode_at, parts_of, path_at, text_at};
 use std::alloc::Global;
+use system_core::cny_base::{Fails, Mode, Node, Path, Target};
 use tree_memory::{MemoryTree, Nodes, TreeFault};
 
 fn dir_of(alloc: Global, words: &[String]) -> Result<(Path, Node), Stop> {

@@ -1,12 +1,12 @@
 //! A disk in memory that tells contracts nothing of its tree: what its nodes don't allow counts as a fault. It counts its calls.
 ghost use Rattle.std.specs.Prelude.{◌≡◌, ◌≤◌, IfOk, IsErrOf, Ok};
-ghost use Rattle.cny_base.specs.Count.{Rose};
-ghost use Rattle.tree_disk.specs.declared.disk.DiskStop.TheVariants.{Failed, Memory, Refused};
-ghost use Rattle.tree_disk.specs.Untold.{untold, untold_laws};
+ghost use Rattle.system_core.specs.cny-base.Count.{Rose};
+ghost use Rattle.system_core.specs.tree-disk.declared.disk.DiskStop.TheVariants.{Failed, Memory, Refused};
+ghost use Rattle.system_core.specs.tree-disk.Untold.{untold, untold_laws};
 
-use cny_base::{Mode, Names, Path, Target};
 use std::alloc::Global;
-use tree_disk::{DiskStop, Look, TreeDisk};
+use system_core::cny_base::{Mode, Names, Path, Target};
+use system_core::tree_disk::{DiskStop, Look, TreeDisk};
 use tree_memory::MemoryTree;
 
 /// The disk, how often a call of it failed or wasn't allowed, and how many calls were made: all of them, and those that looked at a

@@ -1,13 +1,13 @@
 //! What the calls answer, as texts.
-use cny_base::{Refusal, Stop as DiskEnd};
 use cny_report::refusal_text;
-use job_undo::{Back, Note, TroveIds, Undo};
-use journal_log::Puts;
-use saved_contents::Entry;
+use job_targets::Entry;
+use rollback_stack::{Back, Note, TroveIds, Undo};
 use state_words::{Stop, mark_text, want_text, word};
 use std::alloc::Global;
-use trove_id::{TroveId, id_text};
-use trove_stream::Trove;
+use system_core::cny_base::{Refusal, Stop as DiskEnd};
+use system_core::journal_log::Puts;
+use system_core::trove_parts::{TroveId, id_text};
+use system_core::trove_stream::Trove;
 
 /// Why a call is refused.
 pub fn refused_text(alloc: Global, refusal: &Refusal) -> Result<String, Stop> {

@@ -4,17 +4,17 @@ ghost use Rattle.std.specs.Prelude.{◌≤◌, length};
 use crate::answers::{back_text, notes_text, puts_text, refused_text, stop_text, undo_text};
 use crate::databases::database_of;
 use crate::roots::{root_of, stands_text};
-use cny_base::{Fault, Path, Stop as DiskEnd};
 use disk_words::Quiet;
-use job_pushing::push_puts;
-use job_undo::{Back, Notes, Undo};
-use journal_log::Puts;
+use job_targets::stashable;
 use local_db::decode;
-use rollback_stack::{all, inverse, inverse_to, migrated, newest, next_number};
-use root_ready::ready;
-use saved_contents::stashable;
+use rollback_stack::{
+    Back, Notes, Undo, all, inverse, inverse_to, migrated, newest, next_number, push_puts,
+};
 use state_words::{Stop, bytes_of, entries_of, number_at, parts_of, text_at, word};
 use std::alloc::Global;
+use system_core::cny_base::{Fault, Path, Stop as DiskEnd};
+use system_core::journal_log::Puts;
+use system_core::ready;
 
 fn fault_text(alloc: Global, fault: Fault) -> Result<String, Stop> {
     match fault {

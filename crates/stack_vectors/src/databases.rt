@@ -1,14 +1,13 @@
 //! The database of a root, for calls that need one of format 2.
 ghost use Rattle.std.specs.Prelude.{IfOk};
-ghost use Rattle.system_state.specs.Stores.{IsDatabase};
-ghost use Rattle.system_state.specs.declared.format.Format.TheVariants.{Two};
+ghost use Rattle.local_db.specs.Stores.{IsDatabase};
+ghost use Rattle.local_db.specs.declared.format.Format.TheVariants.{Two};
 ghost use Rattle.local_db.specs.Database.{IsDb};
 
-use cny_base::{Fault, Stop as DiskEnd};
 use disk_words::Quiet;
-use local_db::{Db, encode, load};
+use local_db::{Db, distinct_databases, encode, load};
 use std::alloc::Global;
-use system_state::distinct_databases;
+use system_core::cny_base::{Fault, Stop as DiskEnd};
 
 // The database, which has to fit format 2: that of each line does.
 fn fitting(alloc: Global, db: Db) -> Result<Db, DiskEnd>

@@ -1,8 +1,8 @@
 //! Roots in memory, whose calls tell contracts nothing.
-use cny_base::{Node, Path};
 use disk_words::Quiet;
 use state_words::{Stop, dir_text, file_text, parts_of, tree_of, word};
 use std::alloc::Global;
+use system_core::cny_base::{Node, Path};
 use tree_memory::MemoryTree;
 
 /// A disk with these nodes, of which the call of this number fails; none for 0.

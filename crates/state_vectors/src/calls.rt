@@ -3,12 +3,12 @@ use crate::records::{read, rewritten};
 use crate::saved::{can_save, old, stop_text};
 use crate::trees::disk_of;
 use crate::undoing::undo_all;
-use cny_base::{Bytes, Copies, Fault, TextFault};
+use local_db::cny_base::{Bytes, Copies, Fault, TextFault};
+use local_db::trove_parts::id_text;
 use local_db::{Db, decode, encode, load};
 use sha1::Sha1;
 use state_words::{Stop, bytes_of, word};
 use std::alloc::Global;
-use trove_id::id_text;
 
 /// The answer to a line.
 pub type Answer = Result<String, Stop>;

@@ -1,11 +1,11 @@
 //! Rollback records as texts.
 use crate::calls::Answer;
-use cny_base::{Copies, TextFault};
-use record_text::{Delta, Record, Told, ToldEntry, decode, encode};
+use job_record::{Delta, Record, Told, ToldEntry, decode, encode};
+use local_db::Format;
+use local_db::cny_base::{Copies, TextFault};
+use local_db::trove_parts::{TroveId, id_text};
 use state_words::{Stop, bytes_of, mark_text, word};
 use std::alloc::Global;
-use system_state::Format;
-use trove_id::{TroveId, id_text};
 
 fn told_text(alloc: Global, told: &Told) -> Answer {
     match told {

@@ -1,7 +1,7 @@
 //! Calls on the contents that jobs save.
 use crate::calls::Answer;
-use cny_base::{Copies, Fault, Refusal, Stop as DiskEnd};
-use saved_contents::{Entries, Entry, old_node, stashable};
+use job_targets::{Entries, Entry, old_node, stashable};
+use local_db::cny_base::{Copies, Fault, Refusal, Stop as DiskEnd};
 use state_words::{
     Stop, entries_of, mark_of, number_at, parts_of, text_at, tree_of, want_text, word,
 };

@@ -1,5 +1,5 @@
 //! Roots in memory.
-use cny_base::{Bytes, Fails, Mode, Node, Path, Target};
+use local_db::cny_base::{Bytes, Fails, Mode, Node, Path, Target};
 use state_words::{Stop, bytes_of};
 use std::alloc::Global;
 use tree_memory::{MemoryTree, Nodes, TreeFault};

@@ -1,12 +1,12 @@
 //! Calls on jobs that are taken back.
 use crate::calls::Answer;
-use cny_base::{Refusal, Stop as DiskEnd};
+use local_db::cny_base::{Refusal, Stop as DiskEnd};
+use rollback_stack::{Change, FoundMarks, are_rising, changes_of, check_undo, take_back};
 use state_words::{Stop, entries_of, number_at, parts_of, text_at, tree_of};
 use std::alloc::Global;
 use std::collections::BTreeMap;
 use tree_memory::MemoryTree;
 use tree_scan::Mark;
-use undo_check::{Change, FoundMarks, are_rising, changes_of, check_undo, take_back};
 
 fn refusal_text(alloc: Global, number: u32, refusal: &Refusal) -> Answer {
     match refusal {

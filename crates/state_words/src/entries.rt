@@ -3,9 +3,9 @@
 //! fingerprint the same but `f:MODE:SIZE:NAME`.
 use crate::stop::Stop;
 use crate::words::{bytes_at, mode_at, number_at, parts_of, path_at, text_at};
-use cny_base::Target;
-use journal_log::Want;
-use saved_contents::{Entries, Entry};
+use job_targets::cny_base::Target;
+use job_targets::journal_log::Want;
+use job_targets::{Entries, Entry};
 use std::alloc::Global;
 use tree_scan::Mark;
 

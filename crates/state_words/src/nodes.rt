@@ -2,7 +2,7 @@
 //! rising paths.
 use crate::stop::Stop;
 use crate::words::{bytes_at, mode_at, parts_of, text_at};
-use cny_base::{Fails, Node, Path, Target};
+use job_targets::cny_base::{Fails, Node, Path, Target};
 use std::alloc::Global;
 use tree_memory::{MemoryTree, Nodes, TreeFault};
 

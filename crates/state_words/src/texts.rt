@@ -1,7 +1,7 @@
 //! What is told of nodes, as words.
 use crate::stop::Stop;
-use cny_base::{Mode, octal};
-use journal_log::Want;
+use job_targets::cny_base::{Mode, octal};
+use job_targets::journal_log::Want;
 use std::alloc::Global;
 use tree_scan::Mark;
 

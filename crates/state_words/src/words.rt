@@ -1,7 +1,7 @@
 //! The words of a line.
 use crate::bytes::bytes_of;
 use crate::stop::Stop;
-use cny_base::{Bytes, Mode, Path, read_octal};
+use job_targets::cny_base::{Bytes, Mode, Path, read_octal};
 use std::alloc::Global;
 
 /// The parts of a text between these separators.

@@ -1,5 +1,5 @@
 //! Answers.
-use cny_base::{OutOfMemory, TextFault};
+use cny_report::cny_base::{OutOfMemory, TextFault};
 use sha1::Sha1;
 use std::alloc::{AllocError, AllocFailed, Global};
 

@@ -2,9 +2,9 @@
 use crate::answer::Stop;
 use crate::arguments::{bytes_at, number_at, text_at};
 use crate::sets::read_answer;
-use cny_base::TextFault;
+use cny_report::cny_base::TextFault;
+use cny_report::trove_stream::{decode_rel, decode_rel_full};
 use std::alloc::Global;
-use trove_rel::{decode_rel, decode_rel_full};
 
 // `ok`, or `bad`.
 fn told<T: Drop>(alloc: Global, read: Result<T, TextFault>) -> Result<String, Stop> {
@@ -18,10 +18,10 @@ fn told<T: Drop>(alloc: Global, read: Result<T, TextFault>) -> Result<String, St
 // What the reader of this kind of bytes answers.
 fn answer(alloc: Global, kind: &str, bytes: &[u8]) -> Result<String, Stop> {
     match kind {
-        "record" => told(alloc, file_stream::decode(alloc, bytes)),
-        "record_full" => told(alloc, file_stream::decode_full(alloc, bytes)),
-        "trove" => told(alloc, trove_stream::decode(alloc, bytes)),
-        "trove_full" => told(alloc, trove_stream::decode_full(alloc, bytes)),
+        "record" => told(alloc, cny_report::file_stream::decode(alloc, bytes)),
+        "record_full" => told(alloc, cny_report::file_stream::decode_full(alloc, bytes)),
+        "trove" => told(alloc, cny_report::trove_stream::decode(alloc, bytes)),
+        "trove_full" => told(alloc, cny_report::trove_stream::decode_full(alloc, bytes)),
         "relative" => told(alloc, decode_rel(alloc, bytes)),
         "relative_full" => told(alloc, decode_rel_full(alloc, bytes)),
         "set" => read_answer(alloc, bytes),

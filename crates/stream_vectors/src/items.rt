@@ -4,7 +4,7 @@ ghost use Rattle.cny_stream.specs.Item.{FitsOpen};
 
 use crate::answer::{Stop, digest, push_field};
 use crate::arguments::{bytes_at, count_at};
-use cny_base::{Bytes, OutOfMemory};
+use cny_report::cny_base::{Bytes, OutOfMemory};
 use cny_stream::{OpenItem, close_item, next_item, open_item, put_item};
 use std::alloc::Global;
 

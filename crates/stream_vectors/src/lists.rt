@@ -4,16 +4,16 @@ ghost use Rattle.std.specs.Prelude.{◌≤◌, length};
 use crate::answer::{Stop, given, push_compared, push_field, push_number, told};
 use crate::arguments::{bytes_at, count_at, name_at, tag_at};
 use crate::records::{have_spellings, record_text};
-use cny_base::{Bytes, Copies, Mode, OutOfMemory, Path, next_str};
 use cny_dep::Dep;
-use cny_stream::next_item;
-use file_stream::{Encoding, FileRec, Flags, Owner, decode};
-use std::alloc::Global;
-use trove_id::{TroveId, id_text, next_id};
-use trove_items::{
-    FileAt, are_deps, are_files, are_paths, are_refs, put_deps, put_files, put_id_item, put_paths,
-    put_refs, take_deps, take_files, take_id_item, take_paths, take_refs,
+use cny_report::cny_base::{Bytes, Copies, Mode, OutOfMemory, Path, next_str};
+use cny_report::file_stream::{Encoding, FileRec, Flags, Owner, decode};
+use cny_report::trove_parts::{
+    FileAt, TroveId, are_deps, are_files, are_paths, are_refs, id_text, next_id, put_deps,
+    put_files, put_id_item, put_paths, put_refs, take_deps, take_files, take_id_item, take_paths,
+    take_refs,
 };
+use cny_stream::next_item;
+use std::alloc::Global;
 
 // So many elements of a list are shown.
 const SHOWN: usize = 8;

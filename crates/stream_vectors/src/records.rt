@@ -1,14 +1,18 @@
 //! Calls on file records.
 ghost use Rattle.std.specs.Prelude.{◌↔◌, ◌<◌, IsTrue, All, IfOk};
-ghost use Rattle.file_stream.specs.Record.{FitsSize};
-ghost use Rattle.trove_items.specs.Files.{FitsFile};
+ghost use Rattle.cny_report.specs.file-stream.Record.{FitsSize};
+ghost use Rattle.cny_report.specs.trove-parts.Files.{FitsFile};
 
 use crate::answer::{Stop, begun, given, push_compared, push_field, told};
 use crate::arguments::{bytes_at, count_at, name_at, text_at};
-use cny_base::{Bytes, CONTENT_LIMIT, Copies, Mode, OutOfMemory, Target, octal, read_octal};
-use file_stream::{FileRec, Flags, Owner, decode, decode_full, encode, encode_full, file_id};
+use cny_report::cny_base::{
+    Bytes, CONTENT_LIMIT, Copies, Mode, OutOfMemory, Target, octal, read_octal,
+};
+use cny_report::file_stream::{
+    FileRec, Flags, Owner, decode, decode_full, encode, encode_full, file_id,
+};
+use cny_report::trove_parts::FileAt;
 use std::alloc::Global;
-use trove_items::FileAt;
 
 // Whether the size of a file's contents is within its limit, as `encode` asks for.
 fn has_spelling(rec: &FileRec) -> bool

@@ -1,7 +1,7 @@
 //! Refusals as texts.
 use crate::answer::Stop;
 use crate::arguments::{count_at, name_at, number_at, text_at};
-use cny_base::{Copies, Refusal, Text, What};
+use cny_report::cny_base::{Copies, Refusal, Text, What};
 use cny_report::refusal_text;
 use std::alloc::Global;
 

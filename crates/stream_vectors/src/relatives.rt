@@ -4,11 +4,12 @@ use crate::arguments::{bytes_at, text_at};
 use crate::lists::{
     deps_of, files_of, paths_of, push_deps, push_files, push_paths, push_refs, refs_of,
 };
-use cny_base::{Bytes, Copies, OutOfMemory, Paths};
+use cny_report::cny_base::{Bytes, Copies, OutOfMemory, Paths};
+use cny_report::trove_parts::{TroveId, id_text, read_id};
+use cny_report::trove_stream::{
+    Deps, Files, Refs, RelParts, RelTrove, decode_rel, decode_rel_full, encode_rel, encode_rel_full,
+};
 use std::alloc::Global;
-use trove_id::{TroveId, id_text, read_id};
-use trove_rel::{RelParts, RelTrove, decode_rel, decode_rel_full, encode_rel, encode_rel_full};
-use trove_stream::{Deps, Files, Refs};
 
 // The ids of a relative trove.
 fn ids_line(alloc: Global, parts: &RelParts) -> Result<String, Stop> {

@@ -3,8 +3,8 @@ ghost use Rattle.std.specs.Prelude.{◌≡◌, [], IfOk};
 
 use crate::answer::{Stop, begun, digest, on_a_line, push_compared, push_field};
 use crate::arguments::bytes_at;
-use change_set::{CarriedList, ChangeSet, Parts, decode, encode};
-use cny_base::{Bytes, Copies, Fault};
+use cny_report::change_set::{CarriedList, ChangeSet, Parts, decode, encode};
+use cny_report::cny_base::{Bytes, Copies, Fault};
 use cny_report::{change_text, refusal_text};
 use std::alloc::Global;
 

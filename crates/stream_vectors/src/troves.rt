@@ -2,11 +2,13 @@
 use crate::answer::{Stop, begun, given, on_a_line, push_compared, push_digest};
 use crate::arguments::{bytes_at, text_at};
 use crate::lists::{deps_of, files_of, push_deps, push_files, push_refs, refs_of};
-use cny_base::{Bytes, Copies, Fault, OutOfMemory, TextFault};
+use cny_report::cny_base::{Bytes, Copies, Fault, OutOfMemory, TextFault};
+use cny_report::trove_parts::{id_text, read_id};
+use cny_report::trove_stream::{
+    Deps, Files, Refs, Trove, check, decode, decode_full, encode, encode_full,
+};
 use cny_report::{refusal_text, troves_text};
 use std::alloc::Global;
-use trove_id::{id_text, read_id};
-use trove_stream::{Deps, Files, Refs, Trove, check, decode, decode_full, encode, encode_full};
 
 // The id and the lists of a trove.
 fn trove_text(alloc: Global, trove: &Trove) -> Result<String, Stop> {

@@ -1,12 +1,12 @@
 //! What the calls answer, as texts. What a call returns is taken whole by the function that tells it, so that only this function
 //! lets it go.
-use cny_base::Stop as DiskEnd;
 use cny_report::{changes_text, verified_text};
 use local_db::Db;
+use root_edits::cny_base::Stop as DiskEnd;
 use root_words::{db_text, end_text, is_refusal};
 use state_words::{Stop, word};
 use std::alloc::Global;
-use system_job::Done;
+use system_core::Done;
 use tree_scan::Verified;
 
 fn push_letter(line: &mut String, letter: char) -> Result<(), Stop> {

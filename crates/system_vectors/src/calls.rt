@@ -2,7 +2,7 @@
 use crate::jobs::{adopt_text, erase_text, update_text};
 use crate::undoing::{rollback_text, rollback_to_text};
 use crate::verifying::verify_text;
-use cny_base::{Node, Path};
+use root_edits::cny_base::{Node, Path};
 use root_words::{Call, Quiet, edit_of};
 use state_words::{Stop, parts_of, text_at, word};
 use std::alloc::Global;

@@ -2,23 +2,22 @@
 ghost use Rattle.std.specs.Prelude.{◌≡◌, All};
 ghost use Rattle.std.specs.List.Sorted.{IsStrictlySortedBy};
 ghost use Rattle.sha1.specs.Sha1.{sha1};
-ghost use Rattle.change_set.specs.declared.change.Carried as declared;
-ghost use Rattle.change_set.specs.ChangeSet.{content_cmp};
-ghost use Rattle.system_state.specs.declared.format.Format.TheVariants.{Two};
-ghost use Rattle.system_state.specs.Stores.{IsDatabase};
-ghost use Rattle.system_job.specs.Lists.{AreAllowed};
+ghost use Rattle.root_edits.specs.change-set.declared.change.Carried as declared;
+ghost use Rattle.root_edits.specs.change-set.ChangeSet.{content_cmp};
+ghost use Rattle.local_db.specs.declared.format.Format.TheVariants.{Two};
+ghost use Rattle.local_db.specs.Stores.{IsDatabase};
+ghost use Rattle.system_core.specs.Lists.{AreAllowed};
 
 use crate::answers::told;
 use crate::troves::{are_allowed, list_of, names_of, troves_of};
-use change_set::Carried;
-use cny_base::{Name, Options};
-use installed_list::Installed;
 use local_db::Db;
+use root_edits::change_set::Carried;
+use root_edits::cny_base::{Name, Options};
+use root_edits::trove_stream::{Installed, Trove};
 use root_words::{Far, Quiet, are_in_order, carried_of, far_of, readied};
 use state_words::{Stop, text_at};
 use std::alloc::Global;
-use system_job::{adopt, erase, update};
-use trove_stream::Trove;
+use system_core::{adopt, erase, update};
 
 fn options_of(text: &str) -> Options {
     Options {

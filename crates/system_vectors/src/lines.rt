@@ -1,6 +1,6 @@
 //! The lines.
 use crate::calls::{Words, call_text};
-use cny_base::Path;
+use root_edits::cny_base::Path;
 use root_words::{Part, Quiet, disk_of, failed_once, nodes_text, ready_text, seen_text, stopped};
 use state_words::{Stop, parts_of, text_at, word};
 use std::alloc::Global;

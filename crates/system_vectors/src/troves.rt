@@ -1,13 +1,12 @@
 //! Troves and names of a line.
 ghost use Rattle.std.specs.Prelude.{◌≡◌, ◌↔◌, All, IsTrue, None};
-ghost use Rattle.trove_stream.specs.Forbidden.{first_forbidden};
+ghost use Rattle.root_edits.specs.trove-stream.Forbidden.{first_forbidden};
 
-use cny_base::Name;
-use installed_list::Installed;
+use root_edits::cny_base::Name;
+use root_edits::trove_stream::{Installed, Trove, check, decode_full};
 use root_words::content_of;
 use state_words::{Stop, bytes_of, number_at, parts_of, text_at};
 use std::alloc::Global;
-use trove_stream::{Trove, check, decode_full};
 
 fn push_trove(alloc: Global, troves: &mut Vec<Trove>, stream: &[u8]) -> Result<(), Stop> {
     let trove = decode_full(alloc, stream)?;

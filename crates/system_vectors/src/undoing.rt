@@ -1,13 +1,13 @@
 //! Jobs taken back.
-ghost use Rattle.system_state.specs.declared.format.Format.TheVariants.{Two};
-ghost use Rattle.system_state.specs.Stores.{IsDatabase};
+ghost use Rattle.local_db.specs.declared.format.Format.TheVariants.{Two};
+ghost use Rattle.local_db.specs.Stores.{IsDatabase};
 
 use crate::answers::{back_text, ended};
 use local_db::Db;
 use root_words::{Quiet, readied};
 use state_words::{Stop, number_at};
 use std::alloc::Global;
-use system_rollback::{rollback, rollback_to};
+use system_core::{rollback, rollback_to};
 
 // The job of this number is taken back.
 fn one_back(alloc: Global, number: u32, db: &Db) -> Result<String, Stop> {

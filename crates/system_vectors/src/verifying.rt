@@ -1,12 +1,12 @@
 //! Roots compared with what their troves record.
 use crate::answers::{ended, told_found};
 use crate::troves::names_of;
-use cny_base::Name;
 use local_db::Db;
+use root_edits::cny_base::Name;
+use root_edits::verify;
 use root_words::{Far, Quiet, far_of, readied};
 use state_words::{Stop, text_at};
 use std::alloc::Global;
-use tree_verify::verify;
 
 fn verified(
     alloc: Global,

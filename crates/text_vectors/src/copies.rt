@@ -3,7 +3,7 @@ ghost use Rattle.std.specs.Prelude.{◌≤◌, ◌+◌, length};
 
 use crate::line::{Stop, bytes_at, equality, number_at, push_field, text_at, word};
 use crate::texts::push_mode;
-use cny_base::{
+use cny_version::cny_base::{
     Bytes, Copies, Fails, Fault, Mode, Names, Node, Path, Paths, Refusal, Target, Text, read_octal,
 };
 use std::alloc::Global;
@@ -121,9 +121,9 @@ pub fn link(alloc: Global, arguments: &[Vec<u8>]) -> Result<String, Stop> {
 // ---- stops
 
 // The stop that comes of a copy of a fault.
-fn of_fault(fault: &Fault) -> Result<cny_base::Stop, Stop> {
+fn of_fault(fault: &Fault) -> Result<cny_version::cny_base::Stop, Stop> {
     let copy = fault.copy()?;
-    Ok(cny_base::Stop::from(copy))
+    Ok(cny_version::cny_base::Stop::from(copy))
 }
 
 fn path_at(alloc: Global, arguments: &[Vec<u8>], place: usize) -> Result<Path, Stop> {
@@ -131,16 +131,16 @@ fn path_at(alloc: Global, arguments: &[Vec<u8>], place: usize) -> Result<Path, S
 }
 
 // The stop of this name, with a path where it has one.
-fn stop_of(alloc: Global, arguments: &[Vec<u8>]) -> Result<cny_base::Stop, Stop> {
+fn stop_of(alloc: Global, arguments: &[Vec<u8>]) -> Result<cny_version::cny_base::Stop, Stop> {
     match text_at(arguments, 0)? {
         "stack empty" => of_fault(&Fault::Refused(Refusal::StackEmpty)),
         "memory" => of_fault(&Fault::Memory),
-        "failed" => Ok(cny_base::Stop::Failed),
-        "damaged" => Ok(cny_base::Stop::Damaged {
+        "failed" => Ok(cny_version::cny_base::Stop::Failed),
+        "damaged" => Ok(cny_version::cny_base::Stop::Damaged {
             path: path_at(alloc, arguments, 1)?,
         }),
-        "far failed" => Ok(cny_base::Stop::FarFailed),
-        "far damaged" => Ok(cny_base::Stop::FarDamaged {
+        "far failed" => Ok(cny_version::cny_base::Stop::FarFailed),
+        "far damaged" => Ok(cny_version::cny_base::Stop::FarDamaged {
             path: path_at(alloc, arguments, 1)?,
         }),
         _ => Err(Stop::Unreadable),
@@ -153,19 +153,23 @@ fn word_and_path(alloc: Global, name: &str, path: &Path) -> Result<String, Stop>
     Ok(line)
 }
 
-fn stop_text(alloc: Global, stop: &cny_base::Stop) -> Result<String, Stop> {
+fn stop_text(alloc: Global, stop: &cny_version::cny_base::Stop) -> Result<String, Stop> {
     match stop {
-        cny_base::Stop::Refused(Refusal::StackEmpty) => word(alloc, "stack empty"),
-        cny_base::Stop::Refused(_) => word(alloc, "other"),
-        cny_base::Stop::Memory => word(alloc, "memory"),
-        cny_base::Stop::Failed => word(alloc, "failed"),
-        cny_base::Stop::Damaged { path } => word_and_path(alloc, "damaged", path),
-        cny_base::Stop::FarFailed => word(alloc, "far failed"),
-        cny_base::Stop::FarDamaged { path } => word_and_path(alloc, "far damaged", path),
+        cny_version::cny_base::Stop::Refused(Refusal::StackEmpty) => word(alloc, "stack empty"),
+        cny_version::cny_base::Stop::Refused(_) => word(alloc, "other"),
+        cny_version::cny_base::Stop::Memory => word(alloc, "memory"),
+        cny_version::cny_base::Stop::Failed => word(alloc, "failed"),
+        cny_version::cny_base::Stop::Damaged { path } => word_and_path(alloc, "damaged", path),
+        cny_version::cny_base::Stop::FarFailed => word(alloc, "far failed"),
+        cny_version::cny_base::Stop::FarDamaged { path } => word_and_path(
+            alloc,
+            "far damaged",
+            path,
+        ),
     }
 }
 
-fn text_of_copy(alloc: Global, stop: &cny_base::Stop) -> Result<String, Stop> {
+fn text_of_copy(alloc: Global, stop: &cny_version::cny_base::Stop) -> Result<String, Stop> {
     let copy = stop.copy()?;
     stop_text(alloc, &copy)
 }

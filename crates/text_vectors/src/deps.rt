@@ -1,8 +1,8 @@
 //! Calls on dependencies.
 use crate::line;
 use crate::line::{Stop, fault, ok_text, push_field, text_at, word, yes_or_no};
-use cny_base::{Copies, Name, OutOfMemory, TextFault};
 use cny_dep::{Class, Dep, Flag, satisfies};
+use cny_version::cny_base::{Copies, Name, OutOfMemory, TextFault};
 use std::alloc::Global;
 
 fn push_flag(line: &mut String, flag: &Flag) -> Result<(), OutOfMemory> {

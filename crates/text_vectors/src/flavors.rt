@@ -1,7 +1,7 @@
 //! Calls on flavors, and their score.
 use crate::line::{Stop, equality, fault, ok_text, push_field, text_at, word};
-use cny_base::{Copies, OutOfMemory, TextFault};
 use cny_flavor::{Flag, Flavor, InstructionSet, Sense, score};
+use cny_version::cny_base::{Copies, OutOfMemory, TextFault};
 use std::alloc::Global;
 
 fn sense_word(sense: Sense) -> &'static str {

@@ -3,9 +3,9 @@ ghost use Rattle.std.specs.Prelude.{◌≤◌, length};
 
 use crate::line;
 use crate::line::{Stop, bytes_at, fault, number_at, ok_text, push_field, text_at};
-use cny_base::{Bytes, Copies};
+use cny_version::cny_base::{Bytes, Copies};
 use std::alloc::Global;
-use trove_id::{TroveId, id_text, next_id, put_id, read_id};
+use trove_parts::{TroveId, id_text, next_id, put_id, read_id};
 
 // The text of an id, its parts, and its bytes behind two others.
 fn id_parts(alloc: Global, id: &TroveId) -> Result<String, Stop> {

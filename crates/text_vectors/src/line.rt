@@ -1,5 +1,5 @@
 //! The arguments of a line, and its answer.
-use cny_base::{Fault, OutOfMemory, Refusal, TextFault, What};
+use cny_version::cny_base::{Fault, OutOfMemory, Refusal, TextFault, What};
 use std::alloc::{AllocError, AllocFailed, Global};
 use std::cmp::Ordering;
 

@@ -1,6 +1,6 @@
 //! Calls on texts that are read from bytes.
 use crate::line::{Stop, bytes_at, fault, ok_text};
-use cny_base::{Name, Path, Target, Text};
+use cny_version::cny_base::{Name, Path, Target, Text};
 use std::alloc::Global;
 
 // The answer that says `ok` and the digits of the bytes of a text.

@@ -1,7 +1,7 @@
 //! Calls on schedules of calls that fail.
 use crate::copies::numbers_from;
 use crate::line::{Stop, number_at, word};
-use cny_base::{Fails, Schedule};
+use cny_version::cny_base::{Fails, Schedule};
 use std::alloc::Global;
 
 // A letter for each of so many further calls, `f` where it fails and else `-`, and the counts behind them.

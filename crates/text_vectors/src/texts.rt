@@ -1,12 +1,12 @@
 //! Calls on names, words, paths, targets, modes, numbers and fields of streams.
 ghost use Rattle.std.specs.Prelude.{◌≤◌, length};
-ghost use Rattle.cny_base.specs.StrField.{FitsStr};
+ghost use Rattle.cny_version.specs.cny-base.StrField.{FitsStr};
 
 use crate::line::{
     Stop, bytes_at, equality, fault, number_at, ok_text, order, push_field, text_at, word,
     yes_or_no,
 };
-use cny_base::{
+use cny_version::cny_base::{
     Bytes, Copies, Mode, Name, NameKind, Path, Target, decimal, is_word, last_name, next_str,
     octal, parent_of, put_str, read_decimal, read_octal,
 };

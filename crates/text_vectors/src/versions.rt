@@ -6,7 +6,7 @@ ghost use Rattle.cny_version.specs.Version.{depth};
 use crate::line::{
     Stop, equality, fault, ok_text, push_field, refused, small_number_at, text_at, word,
 };
-use cny_base::{Copies, Fault, OutOfMemory, TextFault, VERSION_LIMIT};
+use cny_version::cny_base::{Copies, Fault, OutOfMemory, TextFault, VERSION_LIMIT};
 use cny_version::{Count, Label, Revision, Version, next_revision};
 use std::alloc::Global;
 

@@ -16,3 +16,4 @@ pub mod Whole
 pub mod Clear
 pub mod ClearLaws
 pub mod Children
+pub use Rattle.cny_base.specs as cny-base

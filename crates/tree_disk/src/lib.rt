@@ -9,6 +9,7 @@ mod whole;
 mod write;
 
 pub use clear::clear_tree;
+pub use cny_base;
 pub use disk::{DiskStop, Look, TreeDisk};
 pub use ranges::{byte_ranges, node_ranges};
 pub use whole::read_whole;

@@ -1,11 +1,11 @@
 // The changing calls of a directory of the host. Whatever the host's own mask of modes is, what is made has the mode that is asked for.
 use crate::host::{Host, Seen};
 use crate::stop::HostStop;
-use cny_base::{Mode, Path, Target};
 use std::alloc::Global;
 use std::fs::{self, DirBuilder, Files, OpenFile, OpenOptions, Permissions};
 use std::io::Write;
 use std::os::unix::fs::{DirBuilderExt, OpenOptionsExt, PermissionsExt};
+use tree_disk::cny_base::{Mode, Path, Target};
 
 fn permissions(mode: Mode) -> Permissions {
     Permissions::from_mode(u32::from(mode.bits()))

@@ -3,12 +3,12 @@
 ghost use Rattle.std.specs.Prelude.{◌≤◌, length, IfOk};
 
 use crate::stop::HostStop;
-use cny_base::{Mode, OutOfMemory, Path, Target, Text};
 use std::alloc::Global;
 use std::fs::{self, Files, Metadata, OpenFile};
 use std::io::{Error, ErrorKind, Read, Seek, SeekFrom};
 use std::os::unix::fs::PermissionsExt;
 use tree_disk::Look;
+use tree_disk::cny_base::{Mode, OutOfMemory, Path, Target, Text};
 
 // No path has more names.
 const MOST_NAMES: usize = 1_024;

@@ -1,14 +1,14 @@
 // The names in a directory of the host.
 ghost use Rattle.std.specs.Prelude.{IfOk, IsTrue, All};
-ghost use Rattle.cny_base.specs.Path.{is_path, join};
+ghost use Rattle.tree_disk.specs.cny-base.Path.{is_path, join};
 ghost use Rattle.tree_disk.specs.Disk.{NamesOf};
 
 use crate::host::{Host, Seen};
 use crate::stop::HostStop;
-use cny_base::{Names, Path, Text};
 use std::alloc::Global;
 use std::fs::Files;
 use std::io::{ErrorKind, Read};
+use tree_disk::cny_base::{Names, Path, Text};
 
 // How many bytes of names are read at once. A host refuses to give names to a buffer that is too short for one.
 const PIECE: usize = 4_096;

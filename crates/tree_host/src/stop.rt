@@ -2,9 +2,9 @@
 ghost use Rattle.std.specs.Prelude.{◌≡◌};
 ghost use Rattle.tree_host.specs.declared.stop.HostStop.TheVariants.{Failed, Memory};
 
-use cny_base::{OutOfMemory, TextFault};
 use std::alloc::{AllocError, AllocFailed};
 use std::io;
+use tree_disk::cny_base::{OutOfMemory, TextFault};
 
 #[derive(Clone, Copy, Debug, PartialEq, Eq)]
 pub(crate) enum HostStop {

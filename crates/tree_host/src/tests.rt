@@ -1,11 +1,11 @@
 // What the calls do to a directory of the host, which no clause tells: each wanted answer worked by hand.
 use crate::HostTree;
-use cny_base::{Mode, Path, Target, Text};
 use std::alloc::Global;
 use std::fmt::Write;
 use std::os::unix::fs::symlink;
 use std::test::Fail;
 use std::{env, fs, io, process};
+use tree_disk::cny_base::{Mode, Path, Target, Text};
 use tree_disk::{DiskStop, Look, TreeDisk};
 
 type Tree<'a> = HostTree<'a, HostRuntime>;

@@ -1,10 +1,10 @@
 // The names that a sync has to keep.
 use crate::host::Host;
 use crate::stop::HostStop;
-use cny_base::{Copies, OutOfMemory, Path};
 use std::alloc::Global;
 use std::collections::BTreeSet;
 use std::fs::Files;
+use tree_disk::cny_base::{Copies, OutOfMemory, Path};
 
 // No path has more names.
 const MOST_NAMES: usize = 1_024;

@@ -1,16 +1,16 @@
 // A directory of the host as a disk.
 ghost use Rattle.std.specs.Prelude.{◌≡◌, ◌≤◌, IfOk, IsErrOf, Ok};
-ghost use Rattle.cny_base.specs.Count.{Rose};
+ghost use Rattle.tree_disk.specs.cny-base.Count.{Rose};
 ghost use Rattle.tree_disk.specs.declared.disk.DiskStop.TheVariants.{Failed, Memory, Refused};
 ghost use Rattle.tree_disk.specs.Untold.{untold, untold_laws};
 
 use crate::host::Host;
 use crate::stop::HostStop;
 use crate::touched::Touched;
-use cny_base::{Mode, Names, OutOfMemory, Path, Target, Text};
 use std::alloc::Global;
 use std::fs::Files;
 use std::marker::Model;
+use tree_disk::cny_base::{Mode, Names, OutOfMemory, Path, Target, Text};
 use tree_disk::{DiskStop, Look, TreeDisk};
 
 /// A directory of the host as a disk, which tells nothing but its count of faults.

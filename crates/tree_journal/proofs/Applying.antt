@@ -6,24 +6,24 @@ use Rattle.std.proofs.lemmas.Bool.Decides.{nat_tests}
 use Rattle.std.specs.Fmt.{decimal}
 use Rattle.std.specs.List.{All}
 use Rattle.std.specs.FinMap.{get}
-use Rattle.cny_base.specs.Count.{Rose}
-use Rattle.cny_base.specs.Path.{is_path}
-use Rattle.cny_base.specs.Below.{is_below}
-use Rattle.cny_base.specs.declared.node.Node.{Node}
-use Rattle.cny_base.specs.declared.node.Node.TheVariants as node
-use Rattle.cny_base.specs.declared.stop.Stop.{Stop}
-use Rattle.cny_base.specs.declared.stop.Stop.TheVariants.{Refused, Memory, Failed, Damaged, FarFailed, FarDamaged}
-use Rattle.tree_disk.specs.Tree.{Name, Tree, same_name, is_dir, is_file, children, AgreesOutside, WellFormed}
-use Rattle.tree_disk.specs.Laws.{same_means, same_itself, get_put_here, get_put_other, reads_image}
-use Rattle.tree_disk.specs.Children.{none_below, stands_or_not}
-use Rattle.tree_disk.specs.Clear.{is_within, without_tree}
-use Rattle.tree_disk.specs.ClearLaws.{below_within, within_itself, or_left, or_right, or_cases}
-use Rattle.tree_disk.specs.Disk.{DiskModel, IsDisk, IsImageOf}
-use Rattle.tree_disk.specs.Confined.{Among, Confined, DiffersOnlyAt, IsUnsyncedOr, IsSynced, LeavesOnly}
-use Rattle.tree_disk.specs.ConfinedLaws.{leaves_weaker, leaves_then, confined_start, confined_wider, confined_then}
-use Rattle.tree_disk.specs.Steps.{no_name, Ended, IsDiskStop, Makes}
-use Rattle.tree_disk.specs.Moments.{rose_before}
-use Rattle.tree_disk.specs.Unfailed.{UnlessFailed, unfailed_start, unfailed_weaker, unfailed_then, unfailed_confined}
+use Rattle.journal_log.specs.cny-base.Count.{Rose}
+use Rattle.journal_log.specs.cny-base.Path.{is_path}
+use Rattle.journal_log.specs.cny-base.Below.{is_below}
+use Rattle.journal_log.specs.cny-base.declared.node.Node.{Node}
+use Rattle.journal_log.specs.cny-base.declared.node.Node.TheVariants as node
+use Rattle.journal_log.specs.cny-base.declared.stop.Stop.{Stop}
+use Rattle.journal_log.specs.cny-base.declared.stop.Stop.TheVariants.{Refused, Memory, Failed, Damaged, FarFailed, FarDamaged}
+use Rattle.journal_log.specs.tree-disk.Tree.{Name, Tree, same_name, is_dir, is_file, children, AgreesOutside, WellFormed}
+use Rattle.journal_log.specs.tree-disk.Laws.{same_means, same_itself, get_put_here, get_put_other, reads_image}
+use Rattle.journal_log.specs.tree-disk.Children.{none_below, stands_or_not}
+use Rattle.journal_log.specs.tree-disk.Clear.{is_within, without_tree}
+use Rattle.journal_log.specs.tree-disk.ClearLaws.{below_within, within_itself, or_left, or_right, or_cases}
+use Rattle.journal_log.specs.tree-disk.Disk.{DiskModel, IsDisk, IsImageOf}
+use Rattle.journal_log.specs.tree-disk.Confined.{Among, Confined, DiffersOnlyAt, IsUnsyncedOr, IsSynced, LeavesOnly}
+use Rattle.journal_log.specs.tree-disk.ConfinedLaws.{leaves_weaker, leaves_then, confined_start, confined_wider, confined_then}
+use Rattle.journal_log.specs.tree-disk.Steps.{no_name, Ended, IsDiskStop, Makes}
+use Rattle.journal_log.specs.tree-disk.Moments.{rose_before}
+use Rattle.journal_log.specs.tree-disk.Unfailed.{UnlessFailed, unfailed_start, unfailed_weaker, unfailed_then, unfailed_confined}
 use Rattle.journal_log.specs.declared.put.Want.{Want}
 use Rattle.journal_log.specs.declared.put.Want.TheVariants as want
 use Rattle.journal_log.specs.declared.put.Put.{Put}

@@ -5,15 +5,15 @@ use Rattle.std.proofs.lemmas.List.Elements.{All-contains}
 use Rattle.std.specs.List.{All}
 use Rattle.std.specs.FinMap.{get}
 use Rattle.std.specs.Cmp.Lexicographic.{nat_list_cmp_total}
-use Rattle.cny_base.specs.Path.{root, parent}
-use Rattle.cny_base.specs.Below.{is_below, child_below}
-use Rattle.cny_base.specs.declared.node.Node.{Node}
-use Rattle.cny_base.specs.declared.node.Node.TheVariants as node
-use Rattle.tree_disk.specs.Tree.{Name, Tree, same_name, is_dir, is_file, is_link, is_child, WellFormed}
-use Rattle.tree_disk.specs.Rows.{can_remove, is_childless, without, look_of, seen_as}
-use Rattle.tree_disk.specs.Laws.{same_means, get_put_here, get_put_other}
-use Rattle.tree_disk.specs.Allowed.{remove_well_formed}
-use Rattle.tree_disk.specs.Children.{childless_from}
+use Rattle.journal_log.specs.cny-base.Path.{root, parent}
+use Rattle.journal_log.specs.cny-base.Below.{is_below, child_below}
+use Rattle.journal_log.specs.cny-base.declared.node.Node.{Node}
+use Rattle.journal_log.specs.cny-base.declared.node.Node.TheVariants as node
+use Rattle.journal_log.specs.tree-disk.Tree.{Name, Tree, same_name, is_dir, is_file, is_link, is_child, WellFormed}
+use Rattle.journal_log.specs.tree-disk.Rows.{can_remove, is_childless, without, look_of, seen_as}
+use Rattle.journal_log.specs.tree-disk.Laws.{same_means, get_put_here, get_put_other}
+use Rattle.journal_log.specs.tree-disk.Allowed.{remove_well_formed}
+use Rattle.journal_log.specs.tree-disk.Children.{childless_from}
 use Rattle.journal_log.specs.declared.put.Want.{Want}
 use Rattle.journal_log.specs.declared.put.Want.TheVariants as want
 use Rattle.journal_log.specs.declared.put.Put.{Put}

@@ -5,17 +5,17 @@ use Rattle.std.proofs.lemmas.Bool.{cases_Bool, cases_lt}
 use Rattle.std.proofs.lemmas.List.{take_all, take_at, take_min, length-drop}
 use Rattle.std.specs.FinMap.{get}
 use Rattle.std.specs.Prelude.{codes}
-use Rattle.cny_base.specs.Path.{is_path, parent}
-use Rattle.cny_base.specs.declared.node.Node.{Node}
-use Rattle.cny_base.specs.declared.node.Node.TheVariants as node
-use Rattle.tree_disk.specs.Tree.{Name, Tree, same_name, put, is_dir, is_file, is_link}
-use Rattle.tree_disk.specs.Rows.{bytes_of, bytes_at, can_append, can_make, can_rename, can_set_mode, is_file_at, grown, of_mode, with_append, with_mode, with_node, with_rename}
-use Rattle.tree_disk.specs.Laws.{same_means, get_put, get_put_here, get_put_other, put_put, same_tree}
+use Rattle.journal_log.specs.cny-base.Path.{is_path, parent}
+use Rattle.journal_log.specs.cny-base.declared.node.Node.{Node}
+use Rattle.journal_log.specs.cny-base.declared.node.Node.TheVariants as node
+use Rattle.journal_log.specs.tree-disk.Tree.{Name, Tree, same_name, put, is_dir, is_file, is_link}
+use Rattle.journal_log.specs.tree-disk.Rows.{bytes_of, bytes_at, can_append, can_make, can_rename, can_set_mode, is_file_at, grown, of_mode, with_append, with_mode, with_node, with_rename}
+use Rattle.journal_log.specs.tree-disk.Laws.{same_means, get_put, get_put_here, get_put_other, put_put, same_tree}
 use Rattle.journal_log.specs.Own.{work, is_own}
-use Rattle.tree_disk.specs.Clear.{is_within}
-use Rattle.tree_disk.specs.ClearLaws.{within_itself, or_left, or_right, or_cases}
-use Rattle.tree_disk.specs.Disk.{two_names}
-use Rattle.cny_base.specs.Below.{is_below}
+use Rattle.journal_log.specs.tree-disk.Clear.{is_within}
+use Rattle.journal_log.specs.tree-disk.ClearLaws.{within_itself, or_left, or_right, or_cases}
+use Rattle.journal_log.specs.tree-disk.Disk.{two_names}
+use Rattle.journal_log.specs.cny-base.Below.{is_below}
 use Rattle.tree_journal.specs.Passes.{is_work_or_name, CanCopy, CanMove, CanWork}
 use Rattle.tree_journal.proofs.OwnNames.{parent_join, in_work}
 

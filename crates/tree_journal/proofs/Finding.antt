@@ -1,13 +1,13 @@
 -- How runs of calls that only read follow one another.
 use Rattle.std.proofs.Common.{◌≡◌, ℕ, ◌≤◌, Bool, IsTrue, Result, Ok, Err, IfOk, IfErr, IsErrAnd, sym, ◌∙◌, subst, arith}
-use Rattle.cny_base.specs.Count.{Rose}
-use Rattle.cny_base.specs.declared.refusal.Refusal.{Refusal}
-use Rattle.cny_base.specs.declared.stop.Stop.{Stop}
-use Rattle.cny_base.specs.declared.stop.Stop.TheVariants.{Refused, Memory, Failed, Damaged, FarFailed, FarDamaged}
-use Rattle.tree_disk.specs.Tree.{Tree}
-use Rattle.tree_disk.specs.Disk.{DiskModel, IsDisk}
-use Rattle.tree_disk.specs.Moments.{same_start, same_on, time_start, time_on, rose_before}
-use Rattle.tree_disk.specs.Steps.{IsDiskStop, Found, Tests}
+use Rattle.journal_log.specs.cny-base.Count.{Rose}
+use Rattle.journal_log.specs.cny-base.declared.refusal.Refusal.{Refusal}
+use Rattle.journal_log.specs.cny-base.declared.stop.Stop.{Stop}
+use Rattle.journal_log.specs.cny-base.declared.stop.Stop.TheVariants.{Refused, Memory, Failed, Damaged, FarFailed, FarDamaged}
+use Rattle.journal_log.specs.tree-disk.Tree.{Tree}
+use Rattle.journal_log.specs.tree-disk.Disk.{DiskModel, IsDisk}
+use Rattle.journal_log.specs.tree-disk.Moments.{same_start, same_on, time_start, time_on, rose_before}
+use Rattle.journal_log.specs.tree-disk.Steps.{IsDiskStop, Found, Tests}
 use Rattle.tree_journal.specs.Found.{IsFaultOr, Finds}
 
 if_ok_err : {X : Type 0} (P : X → Type 0) (e : Stop) (r : Result X Stop) → IsErrAnd r (λ s. s ≡ e) → IfOk r P

@@ -7,10 +7,10 @@ use Rattle.std.proofs.lemmas.List.Elements.{All-contains, All-more}
 use Rattle.std.specs.List.{All}
 use Rattle.std.specs.Str.{bytes_eq}
 use Rattle.sha1.specs.Sha1.{sha1}
-use Rattle.cny_base.specs.declared.node.Node.{Node}
-use Rattle.cny_base.specs.declared.node.Node.TheVariants as node
-use Rattle.tree_disk.specs.Tree.{Name, Tree, is_file}
-use Rattle.tree_disk.specs.Rows.{bytes_of, seen_as}
+use Rattle.journal_log.specs.cny-base.declared.node.Node.{Node}
+use Rattle.journal_log.specs.cny-base.declared.node.Node.TheVariants as node
+use Rattle.journal_log.specs.tree-disk.Tree.{Name, Tree, is_file}
+use Rattle.journal_log.specs.tree-disk.Rows.{bytes_of, seen_as}
 use Rattle.journal_log.specs.declared.put.Put.{Put}
 use Rattle.journal_log.specs.WriteSet.{Rises}
 use Rattle.tree_journal.specs.Staging.{is_content, has_content, AllStaged}

@@ -5,16 +5,16 @@ use Rattle.std.proofs.lemmas.List.Elements.{All-contains}
 use Rattle.std.specs.List.{All}
 use Rattle.std.specs.FinMap.{get}
 use Rattle.std.specs.declared.cmp.Ordering.TheVariants.{Less}
-use Rattle.cny_base.specs.Path.{is_path, root, parent}
-use Rattle.cny_base.specs.Parent.{parent_is_path}
-use Rattle.cny_base.specs.Below.{is_below, child_below, parent_first}
-use Rattle.cny_base.specs.declared.node.Node.{Node}
-use Rattle.cny_base.specs.declared.node.Node.TheVariants as node
-use Rattle.tree_disk.specs.Tree.{Name, Tree, same_name, put, is_dir, is_file, WellFormed}
-use Rattle.tree_disk.specs.Rows.{can_make, can_set_mode, with_mode, of_mode, look_of, seen_as}
-use Rattle.tree_disk.specs.Laws.{same_means, same_itself, get_put, get_put_here, get_put_other, same_tree}
-use Rattle.tree_disk.specs.ClearLaws.{within_itself}
-use Rattle.tree_disk.specs.Looks.{sees_dir}
+use Rattle.journal_log.specs.cny-base.Path.{is_path, root, parent}
+use Rattle.journal_log.specs.cny-base.Parent.{parent_is_path}
+use Rattle.journal_log.specs.cny-base.Below.{is_below, child_below, parent_first}
+use Rattle.journal_log.specs.cny-base.declared.node.Node.{Node}
+use Rattle.journal_log.specs.cny-base.declared.node.Node.TheVariants as node
+use Rattle.journal_log.specs.tree-disk.Tree.{Name, Tree, same_name, put, is_dir, is_file, WellFormed}
+use Rattle.journal_log.specs.tree-disk.Rows.{can_make, can_set_mode, with_mode, of_mode, look_of, seen_as}
+use Rattle.journal_log.specs.tree-disk.Laws.{same_means, same_itself, get_put, get_put_here, get_put_other, same_tree}
+use Rattle.journal_log.specs.tree-disk.ClearLaws.{within_itself}
+use Rattle.journal_log.specs.tree-disk.Looks.{sees_dir}
 use Rattle.journal_log.specs.declared.put.Want.{Want}
 use Rattle.journal_log.specs.declared.put.Want.TheVariants as want
 use Rattle.journal_log.specs.declared.put.Put.{Put}

@@ -2,19 +2,19 @@
 use Rattle.std.proofs.Common.{◌≡◌, ◌≢◌, inl, inr, ⊎_elim, ℕ, Bool, true, false, cond, not, ◌&&◌, ◌||◌, List, length, Option, Some, None, is_some, Result, Ok, Err, OnOk, IsTrue, refl, sym, ◌∙◌, ap, arith}
 use Rattle.std.proofs.lemmas.Bool.{cases_Bool}
 use Rattle.std.specs.FinMap.{get}
-use Rattle.cny_base.specs.Path.{is_path, root, parent}
-use Rattle.cny_base.specs.Below.{parent_shorter}
-use Rattle.cny_base.specs.declared.node.Node.{Node}
-use Rattle.cny_base.specs.declared.node.Node.TheVariants as node
-use Rattle.cny_base.specs.declared.stop.Stop.{Stop}
-use Rattle.tree_disk.specs.Tree.{Name, Tree, same_name, put, is_dir, is_file, is_link, WellFormed}
-use Rattle.tree_disk.specs.Rows.{can_append, can_make, can_remove, is_childless, with_append, with_node, without, grown, look_of, seen_as}
-use Rattle.tree_disk.specs.Laws.{same_means, same_itself, get_put_here, get_put_other, put_put}
-use Rattle.tree_disk.specs.Clear.{is_within, without_tree}
-use Rattle.tree_disk.specs.Looks.{sees_nothing}
-use Rattle.tree_disk.specs.Steps.{Ended}
-use Rattle.tree_disk.specs.ClearLaws.{get-without_tree, bare_without, within_itself, or_left, or_right}
-use Rattle.tree_disk.proofs.Clearing.{without-nothing}
+use Rattle.journal_log.specs.cny-base.Path.{is_path, root, parent}
+use Rattle.journal_log.specs.cny-base.Below.{parent_shorter}
+use Rattle.journal_log.specs.cny-base.declared.node.Node.{Node}
+use Rattle.journal_log.specs.cny-base.declared.node.Node.TheVariants as node
+use Rattle.journal_log.specs.cny-base.declared.stop.Stop.{Stop}
+use Rattle.journal_log.specs.tree-disk.Tree.{Name, Tree, same_name, put, is_dir, is_file, is_link, WellFormed}
+use Rattle.journal_log.specs.tree-disk.Rows.{can_append, can_make, can_remove, is_childless, with_append, with_node, without, grown, look_of, seen_as}
+use Rattle.journal_log.specs.tree-disk.Laws.{same_means, same_itself, get_put_here, get_put_other, put_put}
+use Rattle.journal_log.specs.tree-disk.Clear.{is_within, without_tree}
+use Rattle.journal_log.specs.tree-disk.Looks.{sees_nothing}
+use Rattle.journal_log.specs.tree-disk.Steps.{Ended}
+use Rattle.journal_log.specs.tree-disk.ClearLaws.{get-without_tree, bare_without, within_itself, or_left, or_right}
+use Rattle.journal_log.proofs.tree-disk.Clearing.{without-nothing}
 use Rattle.tree_journal.specs.Apply.{with_base}
 use Rattle.tree_journal.specs.Steps.{with_own_file, IsOther}
 use Rattle.tree_journal.proofs.OwnNames.{not_longer}

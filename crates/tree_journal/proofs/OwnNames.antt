@@ -7,14 +7,14 @@ use Rattle.std.specs.Str.{is_utf8}
 use Rattle.std.proofs.Common.{lit<}
 use Rattle.std.proofs.lemmas.Str.{IsUtf8-from_ascii, is_utf8-from_IsUtf8}
 use Rattle.std.proofs.lemmas.Str.Ascii.{IsAscii-nil, IsAscii-cons}
-use Rattle.cny_base.specs.Path.{has_slash, before_slash, is_path, join, parent, root, or_root, are_parts}
-use Rattle.cny_base.specs.Below.{is_below, below_rest, before_join, below_parent}
-use Rattle.cny_base.specs.Parent.{join_is_path}
-use Rattle.tree_disk.specs.Tree.{Name, same_name}
-use Rattle.tree_disk.specs.Laws.{same_means}
-use Rattle.tree_disk.specs.Clear.{is_within}
-use Rattle.tree_disk.specs.Children.{path_short}
-use Rattle.tree_disk.specs.ClearLaws.{below_trans, below_within, within_itself, or_left, or_right, or_cases}
+use Rattle.journal_log.specs.cny-base.Path.{has_slash, before_slash, is_path, join, parent, root, or_root, are_parts}
+use Rattle.journal_log.specs.cny-base.Below.{is_below, below_rest, before_join, below_parent}
+use Rattle.journal_log.specs.cny-base.Parent.{join_is_path}
+use Rattle.journal_log.specs.tree-disk.Tree.{Name, same_name}
+use Rattle.journal_log.specs.tree-disk.Laws.{same_means}
+use Rattle.journal_log.specs.tree-disk.Clear.{is_within}
+use Rattle.journal_log.specs.tree-disk.Children.{path_short}
+use Rattle.journal_log.specs.tree-disk.ClearLaws.{below_trans, below_within, within_itself, or_left, or_right, or_cases}
 use Rattle.journal_log.specs.Own.{gate, log, work, staged, is_own_file, is_own}
 use Rattle.tree_journal.specs.Steps.{is_log_or_staged}
 use Rattle.tree_journal.proofs.WriteSets.{or_none}

@@ -6,22 +6,22 @@ use Rattle.std.proofs.lemmas.List.Elements.{All-contains, All-more}
 use Rattle.std.specs.List.{All, list_any}
 use Rattle.std.specs.FinMap.{get}
 use Rattle.std.specs.declared.cmp.Ordering.TheVariants.{Less}
-use Rattle.cny_base.specs.Path.{is_path, root, parent, join}
-use Rattle.cny_base.specs.Parent.{parent_is_path}
-use Rattle.cny_base.specs.Below.{is_below, below_parent, child_below, none_below_root, parent_shorter}
-use Rattle.tree_disk.specs.declared.disk.Look.{Look}
-use Rattle.tree_disk.specs.Tree.{Name, Tree, same_name, is_dir, children, WellFormed}
-use Rattle.tree_disk.specs.Laws.{same_means}
-use Rattle.tree_disk.specs.Rows.{look_of}
-use Rattle.tree_disk.specs.Clear.{is_within}
-use Rattle.tree_disk.specs.ClearLaws.{below_trans, join_below, or_cases}
-use Rattle.tree_disk.specs.Children.{none_below, stands_or_not, covered_up, children_stand, child_longer, path_short, child_not_root}
+use Rattle.journal_log.specs.cny-base.Path.{is_path, root, parent, join}
+use Rattle.journal_log.specs.cny-base.Parent.{parent_is_path}
+use Rattle.journal_log.specs.cny-base.Below.{is_below, below_parent, child_below, none_below_root, parent_shorter}
+use Rattle.journal_log.specs.tree-disk.declared.disk.Look.{Look}
+use Rattle.journal_log.specs.tree-disk.Tree.{Name, Tree, same_name, is_dir, children, WellFormed}
+use Rattle.journal_log.specs.tree-disk.Laws.{same_means}
+use Rattle.journal_log.specs.tree-disk.Rows.{look_of}
+use Rattle.journal_log.specs.tree-disk.Clear.{is_within}
+use Rattle.journal_log.specs.tree-disk.ClearLaws.{below_trans, join_below, or_cases}
+use Rattle.journal_log.specs.tree-disk.Children.{none_below, stands_or_not, covered_up, children_stand, child_longer, path_short, child_not_root}
 use Rattle.journal_log.specs.declared.put.Put.{Put}
 use Rattle.journal_log.specs.WriteSet.{Rises}
 use Rattle.journal_log.specs.Targets.{is_target}
 use Rattle.tree_journal.specs.CanBePut.{CanBePut, AllCanBePut, HasWay, IsClearBelow}
 use Rattle.tree_journal.specs.Recovery.{IsFirstBlocked}
-use Rattle.tree_disk.specs.Looks.{sees_dir}
+use Rattle.journal_log.specs.tree-disk.Looks.{sees_dir}
 use Rattle.tree_journal.specs.Found.{IsAbove, IsChild, IsAnswer, AreClear}
 use Rattle.tree_journal.proofs.WriteSets.{name_cmp, not_itself, not_back, contains_cases, contains_first, contains_rest, is_target-from, first_before}
 use Rattle.tree_journal.proofs.MakePass.{dir_seen}

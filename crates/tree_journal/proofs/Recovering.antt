@@ -3,21 +3,21 @@ use Rattle.std.proofs.Common.{◌≡◌, inl, inr, ⊎_elim, ◌≤◌, Bool, tr
 use Rattle.std.proofs.lemmas.Bool.{cases_Bool}
 use Rattle.std.specs.Prelude.{codes}
 use Rattle.std.specs.FinMap.{get}
-use Rattle.cny_base.specs.Count.{Rose}
-use Rattle.cny_base.specs.Path.{is_path}
-use Rattle.cny_base.specs.declared.node.Node.{Node}
-use Rattle.cny_base.specs.declared.refusal.Refusal.TheVariants as refusal
-use Rattle.cny_base.specs.declared.stop.Stop.{Stop}
-use Rattle.cny_base.specs.declared.stop.Stop.TheVariants.{Refused, Memory, Failed, Damaged, FarFailed, FarDamaged}
-use Rattle.tree_disk.specs.Tree.{Name, Tree, same_name, is_dir, WellFormed}
-use Rattle.tree_disk.specs.Laws.{get_put_here, get_put_other, reads_image, same_tree}
-use Rattle.tree_disk.specs.Moments.{rose_before, same_start, same_on, time_start, time_on}
-use Rattle.tree_disk.specs.Disk.{DiskModel, IsDisk, IsImageOf, HasRead}
-use Rattle.tree_disk.specs.Confined.{Among, Confined, IsSynced, LeavesOnly}
-use Rattle.tree_disk.specs.Steps.{no_name, Ended, Makes}
-use Rattle.tree_disk.specs.ConfinedLaws.{false_from_not, leaves_weaker, leaves_then, confined_read, confined_then}
-use Rattle.tree_disk.specs.Unfailed.{UnlessFailed, unfailed_weaker, unfailed_then, unfailed_confined}
-use Rattle.tree_disk.specs.ClearLaws.{or_left}
+use Rattle.journal_log.specs.cny-base.Count.{Rose}
+use Rattle.journal_log.specs.cny-base.Path.{is_path}
+use Rattle.journal_log.specs.cny-base.declared.node.Node.{Node}
+use Rattle.journal_log.specs.cny-base.declared.refusal.Refusal.TheVariants as refusal
+use Rattle.journal_log.specs.cny-base.declared.stop.Stop.{Stop}
+use Rattle.journal_log.specs.cny-base.declared.stop.Stop.TheVariants.{Refused, Memory, Failed, Damaged, FarFailed, FarDamaged}
+use Rattle.journal_log.specs.tree-disk.Tree.{Name, Tree, same_name, is_dir, WellFormed}
+use Rattle.journal_log.specs.tree-disk.Laws.{get_put_here, get_put_other, reads_image, same_tree}
+use Rattle.journal_log.specs.tree-disk.Moments.{rose_before, same_start, same_on, time_start, time_on}
+use Rattle.journal_log.specs.tree-disk.Disk.{DiskModel, IsDisk, IsImageOf, HasRead}
+use Rattle.journal_log.specs.tree-disk.Confined.{Among, Confined, IsSynced, LeavesOnly}
+use Rattle.journal_log.specs.tree-disk.Steps.{no_name, Ended, Makes}
+use Rattle.journal_log.specs.tree-disk.ConfinedLaws.{false_from_not, leaves_weaker, leaves_then, confined_read, confined_then}
+use Rattle.journal_log.specs.tree-disk.Unfailed.{UnlessFailed, unfailed_weaker, unfailed_then, unfailed_confined}
+use Rattle.journal_log.specs.tree-disk.ClearLaws.{or_left}
 use Rattle.journal_log.specs.declared.put.Put.{Put}
 use Rattle.journal_log.specs.Own.{gate, log, is_own, StoresSame}
 use Rattle.tree_journal.specs.Staging.{outcome}

@@ -4,18 +4,18 @@ use Rattle.std.proofs.lemmas.Bool.{cases_Bool}
 use Rattle.std.proofs.lemmas.List.Elements.{All-contains, Contains-get_or}
 use Rattle.std.specs.List.{All}
 use Rattle.std.specs.FinMap.{get}
-use Rattle.cny_base.specs.Path.{is_path, join, parent, has_slash}
-use Rattle.cny_base.specs.Below.{is_below, below_parent}
-use Rattle.cny_base.specs.declared.node.Node.{Node}
-use Rattle.cny_base.specs.declared.node.Node.TheVariants as node
-use Rattle.tree_disk.specs.Tree.{Name, Tree, same_name, is_dir, is_file}
-use Rattle.tree_disk.specs.Laws.{same_means, same_itself, only_reads}
-use Rattle.tree_disk.specs.Clear.{is_within, without_tree}
-use Rattle.tree_disk.specs.ClearLaws.{below_within, within_itself, or_left, or_cases, get-without_tree, bare_without}
-use Rattle.tree_disk.specs.Disk.{DiskModel, IsDisk}
-use Rattle.tree_disk.specs.Confined.{Among, Confined, DiffersOnlyAt, IsUnsyncedOr, IsSynced, LeavesOnly}
-use Rattle.tree_disk.specs.ConfinedLaws.{leaves_weaker}
-use Rattle.tree_disk.specs.Steps.{no_name}
+use Rattle.journal_log.specs.cny-base.Path.{is_path, join, parent, has_slash}
+use Rattle.journal_log.specs.cny-base.Below.{is_below, below_parent}
+use Rattle.journal_log.specs.cny-base.declared.node.Node.{Node}
+use Rattle.journal_log.specs.cny-base.declared.node.Node.TheVariants as node
+use Rattle.journal_log.specs.tree-disk.Tree.{Name, Tree, same_name, is_dir, is_file}
+use Rattle.journal_log.specs.tree-disk.Laws.{same_means, same_itself, only_reads}
+use Rattle.journal_log.specs.tree-disk.Clear.{is_within, without_tree}
+use Rattle.journal_log.specs.tree-disk.ClearLaws.{below_within, within_itself, or_left, or_cases, get-without_tree, bare_without}
+use Rattle.journal_log.specs.tree-disk.Disk.{DiskModel, IsDisk}
+use Rattle.journal_log.specs.tree-disk.Confined.{Among, Confined, DiffersOnlyAt, IsUnsyncedOr, IsSynced, LeavesOnly}
+use Rattle.journal_log.specs.tree-disk.ConfinedLaws.{leaves_weaker}
+use Rattle.journal_log.specs.tree-disk.Steps.{no_name}
 use Rattle.journal_log.specs.declared.put.Put.{Put}
 use Rattle.journal_log.specs.Own.{gate, log, work, staged, is_own, StoresSame}
 use Rattle.journal_log.specs.WriteSet.{CanBeNamed, IsLoggable}

@@ -3,16 +3,16 @@ use Rattle.std.proofs.Common.{◌≡◌, ◌⊎◌, inl, inr, ⊎_elim, ℕ, zer
 use Rattle.std.proofs.lemmas.Bool.{cases_Bool}
 use Rattle.std.specs.FinMap.{get}
 use Rattle.std.specs.List.{All}
-use Rattle.cny_base.specs.Path.{is_path}
-use Rattle.cny_base.specs.declared.node.Node.{Node}
-use Rattle.cny_base.specs.declared.node.Node.TheVariants as node
-use Rattle.tree_disk.specs.Tree.{Name, Tree, same_name, put}
-use Rattle.tree_disk.specs.Laws.{same_means, get_put_here, get_put_other}
-use Rattle.tree_disk.specs.Disk.{DiskModel, HasRead}
-use Rattle.tree_disk.specs.Moments.{shows_weaker}
-use Rattle.tree_disk.specs.Confined.{AgreesExcept, Among, Confined}
-use Rattle.tree_disk.specs.Steps.{Makes}
-use Rattle.tree_disk.specs.Unfailed.{IsEither, UnlessFailed, unfailed_weaker, unfailed_then, unfailed_confined}
+use Rattle.journal_log.specs.cny-base.Path.{is_path}
+use Rattle.journal_log.specs.cny-base.declared.node.Node.{Node}
+use Rattle.journal_log.specs.cny-base.declared.node.Node.TheVariants as node
+use Rattle.journal_log.specs.tree-disk.Tree.{Name, Tree, same_name, put}
+use Rattle.journal_log.specs.tree-disk.Laws.{same_means, get_put_here, get_put_other}
+use Rattle.journal_log.specs.tree-disk.Disk.{DiskModel, HasRead}
+use Rattle.journal_log.specs.tree-disk.Moments.{shows_weaker}
+use Rattle.journal_log.specs.tree-disk.Confined.{AgreesExcept, Among, Confined}
+use Rattle.journal_log.specs.tree-disk.Steps.{Makes}
+use Rattle.journal_log.specs.tree-disk.Unfailed.{IsEither, UnlessFailed, unfailed_weaker, unfailed_then, unfailed_confined}
 use Rattle.journal_log.specs.declared.put.Want.{Want}
 use Rattle.journal_log.specs.declared.put.Want.TheVariants as want
 use Rattle.journal_log.specs.declared.put.Put.{Put}

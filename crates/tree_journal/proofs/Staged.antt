@@ -7,16 +7,16 @@ use Rattle.std.proofs.lemmas.List.Elements.{All-contains, All-weaker}
 use Rattle.std.specs.Fmt.{decimal}
 use Rattle.std.specs.List.{All, list_any}
 use Rattle.std.specs.FinMap.{get}
-use Rattle.cny_base.specs.Path.{is_path, is_slash, has_slash, join, or_root, parent}
-use Rattle.cny_base.specs.Below.{before_join, is_below, rest_below}
-use Rattle.cny_base.specs.declared.node.Node.{Node}
-use Rattle.cny_base.specs.declared.node.Node.TheVariants as node
-use Rattle.tree_disk.specs.Tree.{Name, Tree, same_name, put, is_dir, is_file}
-use Rattle.tree_disk.specs.Rows.{bytes_of}
-use Rattle.tree_disk.specs.Laws.{get_put_here}
-use Rattle.tree_disk.specs.Clear.{is_within}
-use Rattle.tree_disk.specs.ClearLaws.{below_within, within_itself}
-use Rattle.tree_disk.specs.Children.{child_longer}
+use Rattle.journal_log.specs.cny-base.Path.{is_path, is_slash, has_slash, join, or_root, parent}
+use Rattle.journal_log.specs.cny-base.Below.{before_join, is_below, rest_below}
+use Rattle.journal_log.specs.cny-base.declared.node.Node.{Node}
+use Rattle.journal_log.specs.cny-base.declared.node.Node.TheVariants as node
+use Rattle.journal_log.specs.tree-disk.Tree.{Name, Tree, same_name, put, is_dir, is_file}
+use Rattle.journal_log.specs.tree-disk.Rows.{bytes_of}
+use Rattle.journal_log.specs.tree-disk.Laws.{get_put_here}
+use Rattle.journal_log.specs.tree-disk.Clear.{is_within}
+use Rattle.journal_log.specs.tree-disk.ClearLaws.{below_within, within_itself}
+use Rattle.journal_log.specs.tree-disk.Children.{child_longer}
 use Rattle.journal_log.specs.declared.put.Want.{Want}
 use Rattle.journal_log.specs.declared.put.Want.TheVariants as want
 use Rattle.journal_log.specs.declared.put.Put.{Put}

@@ -10,17 +10,17 @@ use Rattle.std.specs.List.{All, list_any, filter}
 use Rattle.std.specs.FinMap.{get}
 use Rattle.std.specs.Str.{bytes_eq}
 use Rattle.sha1.specs.Sha1.{sha1}
-use Rattle.cny_base.specs.Path.{is_path, join, root, parent, has_slash}
-use Rattle.cny_base.specs.Below.{is_below}
-use Rattle.cny_base.specs.declared.node.Node.{Node}
-use Rattle.cny_base.specs.declared.node.Node.TheVariants as node
-use Rattle.tree_disk.specs.Tree.{Name, Tree, same_name, is_dir, children, WellFormed}
-use Rattle.tree_disk.specs.Rows.{bytes_of}
-use Rattle.tree_disk.specs.Laws.{same_means}
-use Rattle.tree_disk.specs.Clear.{is_within, without_tree, without_each}
-use Rattle.tree_disk.specs.ClearLaws.{below_within, join_below, within_join_below, or_cases, or_left, or_right}
-use Rattle.tree_disk.specs.Children.{child_longer, covered_up, not_below_itself, stands_or_not}
-use Rattle.tree_disk.proofs.Clearing.{get-without_each, without_each-append}
+use Rattle.journal_log.specs.cny-base.Path.{is_path, join, root, parent, has_slash}
+use Rattle.journal_log.specs.cny-base.Below.{is_below}
+use Rattle.journal_log.specs.cny-base.declared.node.Node.{Node}
+use Rattle.journal_log.specs.cny-base.declared.node.Node.TheVariants as node
+use Rattle.journal_log.specs.tree-disk.Tree.{Name, Tree, same_name, is_dir, children, WellFormed}
+use Rattle.journal_log.specs.tree-disk.Rows.{bytes_of}
+use Rattle.journal_log.specs.tree-disk.Laws.{same_means}
+use Rattle.journal_log.specs.tree-disk.Clear.{is_within, without_tree, without_each}
+use Rattle.journal_log.specs.tree-disk.ClearLaws.{below_within, join_below, within_join_below, or_cases, or_left, or_right}
+use Rattle.journal_log.specs.tree-disk.Children.{child_longer, covered_up, not_below_itself, stands_or_not}
+use Rattle.journal_log.proofs.tree-disk.Clearing.{get-without_each, without_each-append}
 use Rattle.journal_log.specs.declared.put.Want.{Want}
 use Rattle.journal_log.specs.declared.put.Want.TheVariants as want
 use Rattle.journal_log.specs.declared.put.Put.{Put}

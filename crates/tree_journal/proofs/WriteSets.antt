@@ -7,9 +7,9 @@ use Rattle.std.specs.Ordering.{nat_cmp, is_eq}
 use Rattle.std.specs.declared.cmp.Ordering.{Ordering}
 use Rattle.std.specs.declared.cmp.Ordering.TheVariants.{Less}
 use Rattle.std.specs.Cmp.Lexicographic.{slice_cmp, nat_list_cmp_total}
-use Rattle.cny_base.specs.Below.{is_below, below_rest, shorter_less}
-use Rattle.tree_disk.specs.Tree.{Name, Tree, same_name, put}
-use Rattle.tree_disk.specs.Laws.{same_means, same_itself, get_put, get_put_here, get_put_other, same_tree}
+use Rattle.journal_log.specs.cny-base.Below.{is_below, below_rest, shorter_less}
+use Rattle.journal_log.specs.tree-disk.Tree.{Name, Tree, same_name, put}
+use Rattle.journal_log.specs.tree-disk.Laws.{same_means, same_itself, get_put, get_put_here, get_put_other, same_tree}
 use Rattle.journal_log.specs.declared.put.Put.{Put}
 use Rattle.journal_log.specs.WriteSet.{Rises}
 use Rattle.journal_log.specs.Targets.{node_of, is_target, with_targets}

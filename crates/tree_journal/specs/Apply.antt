@@ -2,18 +2,18 @@
 use Rattle.std.specs.Prelude.{◌≡◌, ◌≢◌, ◌⊎◌, ℕ, ◌≤◌, Bool, false, ◌||◌, IsTrue, List, Some, None, Result, OnOk, OnErr, IfErr, IsErrOf, if◌then◌else◌}
 use Rattle.std.specs.List.{All}
 use Rattle.std.specs.FinMap.{get}
-use Rattle.cny_base.specs.Count.{Rose}
-use Rattle.cny_base.specs.Below.{is_below}
-use Rattle.cny_base.specs.Path.{parent}
-use Rattle.cny_base.specs.declared.stop.Stop.{Stop}
-use Rattle.cny_base.specs.declared.stop.Stop.TheVariants.{Failed}
-use Rattle.cny_base.specs.declared.node.Node.TheVariants as node
-use Rattle.tree_disk.specs.Tree.{Name, Tree, put, WellFormed}
-use Rattle.tree_disk.specs.Rows.{is_dir_at}
-use Rattle.tree_disk.specs.Disk.{DiskModel, IsImageOf}
-use Rattle.tree_disk.specs.Confined.{Among, Confined, IsSynced, LeavesOnly}
-use Rattle.tree_disk.specs.Steps.{IsDiskStop}
-use Rattle.tree_disk.specs.Unfailed.{UnlessFailed}
+use Rattle.journal_log.specs.cny-base.Count.{Rose}
+use Rattle.journal_log.specs.cny-base.Below.{is_below}
+use Rattle.journal_log.specs.cny-base.Path.{parent}
+use Rattle.journal_log.specs.cny-base.declared.stop.Stop.{Stop}
+use Rattle.journal_log.specs.cny-base.declared.stop.Stop.TheVariants.{Failed}
+use Rattle.journal_log.specs.cny-base.declared.node.Node.TheVariants as node
+use Rattle.journal_log.specs.tree-disk.Tree.{Name, Tree, put, WellFormed}
+use Rattle.journal_log.specs.tree-disk.Rows.{is_dir_at}
+use Rattle.journal_log.specs.tree-disk.Disk.{DiskModel, IsImageOf}
+use Rattle.journal_log.specs.tree-disk.Confined.{Among, Confined, IsSynced, LeavesOnly}
+use Rattle.journal_log.specs.tree-disk.Steps.{IsDiskStop}
+use Rattle.journal_log.specs.tree-disk.Unfailed.{UnlessFailed}
 use Rattle.journal_log.specs.declared.put.Put.{Put}
 use Rattle.journal_log.specs.Numbers.{IsNumbered}
 use Rattle.journal_log.specs.Own.{gate, is_own, staged, staged_file, StoresSame}

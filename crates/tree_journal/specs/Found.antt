@@ -1,17 +1,17 @@
 -- What recovery finds.
 use Rattle.std.specs.Prelude.{◌≡◌, ◌≢◌, ℕ, ◌<◌, ◌≤◌, length, Bool, true, false, ◌==◌, IsTrue, List, Option, Some, None, Result, IfOk, IfErr}
 use Rattle.std.specs.List.{All}
-use Rattle.cny_base.specs.Count.{Rose}
-use Rattle.cny_base.specs.Path.{is_path, join, parent, root}
-use Rattle.cny_base.specs.declared.node.Node.{Node}
-use Rattle.cny_base.specs.declared.node.Node.TheVariants as node
-use Rattle.cny_base.specs.declared.refusal.Refusal.TheVariants as refusal
-use Rattle.cny_base.specs.declared.stop.Stop.{Stop}
-use Rattle.cny_base.specs.declared.stop.Stop.TheVariants.{Refused, Memory, Failed, Damaged, FarFailed, FarDamaged}
-use Rattle.tree_disk.specs.declared.disk.Look.{Look}
-use Rattle.tree_disk.specs.declared.disk.Look.TheVariants as look
-use Rattle.tree_disk.specs.Tree.{Name, Tree}
-use Rattle.tree_disk.specs.Disk.{DiskModel, HasRead}
+use Rattle.journal_log.specs.cny-base.Count.{Rose}
+use Rattle.journal_log.specs.cny-base.Path.{is_path, join, parent, root}
+use Rattle.journal_log.specs.cny-base.declared.node.Node.{Node}
+use Rattle.journal_log.specs.cny-base.declared.node.Node.TheVariants as node
+use Rattle.journal_log.specs.cny-base.declared.refusal.Refusal.TheVariants as refusal
+use Rattle.journal_log.specs.cny-base.declared.stop.Stop.{Stop}
+use Rattle.journal_log.specs.cny-base.declared.stop.Stop.TheVariants.{Refused, Memory, Failed, Damaged, FarFailed, FarDamaged}
+use Rattle.journal_log.specs.tree-disk.declared.disk.Look.{Look}
+use Rattle.journal_log.specs.tree-disk.declared.disk.Look.TheVariants as look
+use Rattle.journal_log.specs.tree-disk.Tree.{Name, Tree}
+use Rattle.journal_log.specs.tree-disk.Disk.{DiskModel, HasRead}
 use Rattle.journal_log.specs.declared.put.Want.{Want}
 use Rattle.journal_log.specs.declared.put.Put.{Put}
 use Rattle.journal_log.specs.Targets.{is_target}

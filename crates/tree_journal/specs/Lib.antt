@@ -7,3 +7,5 @@ pub mod Apply
 pub mod Steps
 pub mod Found
 pub mod Recovering
+pub use Rattle.journal_log.specs as journal-log
+pub use Rattle.journal_log.specs.tree-disk

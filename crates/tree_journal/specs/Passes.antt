@@ -3,14 +3,14 @@
 use Rattle.std.specs.Prelude.{◌≡◌, ◌≢◌, ◌⊎◌, ℕ, Bool, true, false, not, IsTrue, List, [], ◌∷◌, Option, Some, None, length, if◌then◌else◌}
 use Rattle.std.specs.FinMap.{get}
 use Rattle.std.specs.List.{All}
-use Rattle.cny_base.specs.Path.{parent}
-use Rattle.cny_base.specs.declared.node.Node.{Node}
-use Rattle.cny_base.specs.declared.node.Node.TheVariants as node
-use Rattle.tree_disk.specs.declared.disk.Look.{Look}
-use Rattle.tree_disk.specs.declared.disk.Look.TheVariants as look
-use Rattle.tree_disk.specs.Clear.{is_within, without_tree}
-use Rattle.tree_disk.specs.Tree.{Name, Tree, same_name, put}
-use Rattle.tree_disk.specs.Rows.{bytes_at, is_dir_at, is_file_at, can_make, can_remove, without}
+use Rattle.journal_log.specs.cny-base.Path.{parent}
+use Rattle.journal_log.specs.cny-base.declared.node.Node.{Node}
+use Rattle.journal_log.specs.cny-base.declared.node.Node.TheVariants as node
+use Rattle.journal_log.specs.tree-disk.declared.disk.Look.{Look}
+use Rattle.journal_log.specs.tree-disk.declared.disk.Look.TheVariants as look
+use Rattle.journal_log.specs.tree-disk.Clear.{is_within, without_tree}
+use Rattle.journal_log.specs.tree-disk.Tree.{Name, Tree, same_name, put}
+use Rattle.journal_log.specs.tree-disk.Rows.{bytes_at, is_dir_at, is_file_at, can_make, can_remove, without}
 use Rattle.journal_log.specs.declared.put.Want.{Want}
 use Rattle.journal_log.specs.declared.put.Want.TheVariants as want
 use Rattle.journal_log.specs.declared.put.Put.{Put}

@@ -1,11 +1,11 @@
 -- What a recovery does, as one fact.
 use Rattle.std.specs.Prelude.{◌≡◌, ◌≤◌, Bool, true, false, IsTrue, Result, IfOk, IfErr, OnOk}
-use Rattle.cny_base.specs.declared.stop.Stop.{Stop}
-use Rattle.tree_disk.specs.Tree.{Name, Tree}
-use Rattle.tree_disk.specs.Disk.{DiskModel}
-use Rattle.tree_disk.specs.Confined.{Among, Confined, LeavesOnly}
-use Rattle.tree_disk.specs.Steps.{no_name}
-use Rattle.tree_disk.specs.Unfailed.{UnlessFailed}
+use Rattle.journal_log.specs.cny-base.declared.stop.Stop.{Stop}
+use Rattle.journal_log.specs.tree-disk.Tree.{Name, Tree}
+use Rattle.journal_log.specs.tree-disk.Disk.{DiskModel}
+use Rattle.journal_log.specs.tree-disk.Confined.{Among, Confined, LeavesOnly}
+use Rattle.journal_log.specs.tree-disk.Steps.{no_name}
+use Rattle.journal_log.specs.tree-disk.Unfailed.{UnlessFailed}
 use Rattle.tree_journal.specs.Recovery.{is_committed, HasPutLog, HasReplayable, IsRecovered, RecoversAsThen, RecoversTo}
 use Rattle.tree_journal.specs.Found.{StopsSo}
 use Rattle.tree_journal.specs.Visible.{IsVisible}

@@ -6,11 +6,11 @@ use Rattle.std.specs.List.{Contains}
 use Rattle.std.specs.Ordering.{nat_cmp}
 use Rattle.std.specs.declared.cmp.Ordering.TheVariants.{Less}
 use Rattle.std.specs.Cmp.Lexicographic.{slice_cmp}
-use Rattle.cny_base.specs.declared.node.Node.{Node}
-use Rattle.cny_base.specs.declared.node.Node.TheVariants as node
-use Rattle.tree_disk.specs.Tree.{Name, Tree}
-use Rattle.tree_disk.specs.Disk.{DiskModel, IsImageOf}
-use Rattle.tree_disk.specs.Confined.{IsSynced}
+use Rattle.journal_log.specs.cny-base.declared.node.Node.{Node}
+use Rattle.journal_log.specs.cny-base.declared.node.Node.TheVariants as node
+use Rattle.journal_log.specs.tree-disk.Tree.{Name, Tree}
+use Rattle.journal_log.specs.tree-disk.Disk.{DiskModel, IsImageOf}
+use Rattle.journal_log.specs.tree-disk.Confined.{IsSynced}
 use Rattle.journal_log.specs.declared.put.Put.{Put}
 use Rattle.journal_log.specs.declared.put.Want.{Want}
 use Rattle.journal_log.specs.declared.put.Want.TheVariants.{Nothing, Dir, File, Link, Staged}

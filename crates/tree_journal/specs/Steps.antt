@@ -1,15 +1,15 @@
 -- What the steps of the journal make of a tree, and what they need.
 use Rattle.std.specs.Prelude.{◌≡◌, ◌⊎◌, ℕ, Bool, true, false, ◌||◌, not, IsTrue, List, [], ◌∷◌, Option, Some, None, codes}
 use Rattle.std.specs.FinMap.{get}
-use Rattle.cny_base.specs.Below.{is_below}
-use Rattle.cny_base.specs.Path.{join, parent}
-use Rattle.cny_base.specs.declared.node.Node.{Node}
-use Rattle.cny_base.specs.declared.node.Node.TheVariants as node
-use Rattle.tree_disk.specs.Tree.{Name, Tree, same_name, put, is_file, is_link}
-use Rattle.tree_disk.specs.Rows.{is_dir_at, without}
-use Rattle.tree_disk.specs.Clear.{is_within, without_tree}
-use Rattle.tree_disk.specs.Disk.{DiskModel}
-use Rattle.tree_disk.specs.Confined.{IsSynced}
+use Rattle.journal_log.specs.cny-base.Below.{is_below}
+use Rattle.journal_log.specs.cny-base.Path.{join, parent}
+use Rattle.journal_log.specs.cny-base.declared.node.Node.{Node}
+use Rattle.journal_log.specs.cny-base.declared.node.Node.TheVariants as node
+use Rattle.journal_log.specs.tree-disk.Tree.{Name, Tree, same_name, put, is_file, is_link}
+use Rattle.journal_log.specs.tree-disk.Rows.{is_dir_at, without}
+use Rattle.journal_log.specs.tree-disk.Clear.{is_within, without_tree}
+use Rattle.journal_log.specs.tree-disk.Disk.{DiskModel}
+use Rattle.journal_log.specs.tree-disk.Confined.{IsSynced}
 use Rattle.journal_log.specs.declared.put.Put.{Put}
 use Rattle.journal_log.specs.declared.put.Want.{Want}
 use Rattle.journal_log.specs.declared.put.Want.TheVariants as want
@@ -17,8 +17,8 @@ use Rattle.journal_log.specs.Own.{gate, log, work, staged, staged_file, StoresSa
 use Rattle.journal_log.specs.Staged.{names_staged_at}
 use Rattle.journal_log.specs.Targets.{is_target}
 use Rattle.std.specs.List.{filter}
-use Rattle.tree_disk.specs.Tree.{children}
-use Rattle.tree_disk.specs.Clear.{without_each}
+use Rattle.journal_log.specs.tree-disk.Tree.{children}
+use Rattle.journal_log.specs.tree-disk.Clear.{without_each}
 use Rattle.tree_journal.specs.Staging.{outcome}
 use Rattle.tree_journal.specs.Recovery.{is_committed, HoldsLog, RecoversTo}
 use Rattle.tree_journal.specs.Apply.{with_base}

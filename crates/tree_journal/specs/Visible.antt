@@ -2,8 +2,8 @@
 use Rattle.std.specs.Prelude.{◌≡◌, ◌⊎◌, Bool, true, false, not, List, Option, Some, None, if◌then◌else◌}
 use Rattle.std.specs.List.{Contains}
 use Rattle.std.specs.FinMap.{get}
-use Rattle.cny_base.specs.declared.node.Node.{Node}
-use Rattle.tree_disk.specs.Tree.{Name, Tree, is_dir}
+use Rattle.journal_log.specs.cny-base.declared.node.Node.{Node}
+use Rattle.journal_log.specs.tree-disk.Tree.{Name, Tree, is_dir}
 use Rattle.journal_log.specs.declared.put.Put.{Put}
 use Rattle.journal_log.specs.Own.{is_own}
 use Rattle.tree_journal.specs.Passes.{obstructs}

@@ -1,17 +1,17 @@
 //! Which write of a write set can't be put into the tree as it stands.
 ghost use Rattle.std.specs.Prelude.{◌≡◌, ◌≢◌, IfErr, IfNone, IfOk, IfSome, IsTrue};
 ghost use Rattle.std.specs.List.{All};
-ghost use Rattle.cny_base.specs.Path.{is_path, join, root};
-ghost use Rattle.cny_base.specs.declared.stop.Stop.TheVariants as stop;
-ghost use Rattle.tree_disk.specs.Disk.{NamesOf};
-ghost use Rattle.tree_disk.specs.Rows.{is_dir_at};
+ghost use Rattle.journal_log.specs.cny-base.Path.{is_path, join, root};
+ghost use Rattle.journal_log.specs.cny-base.declared.stop.Stop.TheVariants as stop;
+ghost use Rattle.journal_log.specs.tree-disk.Disk.{NamesOf};
+ghost use Rattle.journal_log.specs.tree-disk.Rows.{is_dir_at};
 ghost use Rattle.tree_journal.specs.CanBePut.{CanBePut, HasWay, IsClearBelow};
 ghost use Rattle.tree_journal.specs.Found.{AreClear, Finds, FindsBlocked, IsAbove, IsAnswer, IsChild};
 
-use cny_base::{Copies, Path, Stop, Text, TextFault};
+use journal_log::cny_base::{Copies, Path, Stop, Text, TextFault};
+use journal_log::tree_disk::{TreeDisk, steps};
 use journal_log::{Put, Puts};
 use std::alloc::Global;
-use tree_disk::{TreeDisk, steps};
 
 /// The path of the first write that can't be put.
 pub fn first_blocked<D: TreeDisk>(

@@ -1,15 +1,15 @@
 //! A file, copied piece by piece.
 ghost use Rattle.std.specs.Prelude.{◌≡◌, ◌<◌, ◌≤◌, ◌-◌, length, min, take, drop, IfOk, OnOk, IsTrue, Some};
-ghost use Rattle.cny_base.specs.declared.node.Node.TheVariants as node;
-ghost use Rattle.tree_disk.specs.Disk.{one_name};
-ghost use Rattle.tree_disk.specs.Rows.{bytes_at, is_file_at, can_append, with_append, with_node};
-ghost use Rattle.tree_disk.specs.Steps.{Makes};
-ghost use Rattle.tree_disk.specs.Tree.{same_name};
+ghost use Rattle.journal_log.specs.cny-base.declared.node.Node.TheVariants as node;
+ghost use Rattle.journal_log.specs.tree-disk.Disk.{one_name};
+ghost use Rattle.journal_log.specs.tree-disk.Rows.{bytes_at, is_file_at, can_append, with_append, with_node};
+ghost use Rattle.journal_log.specs.tree-disk.Steps.{Makes};
+ghost use Rattle.journal_log.specs.tree-disk.Tree.{same_name};
 ghost use Rattle.tree_journal.specs.Passes.{CanCopy};
 
-use cny_base::{Path, Stop};
+use journal_log::cny_base::{Path, Stop};
+use journal_log::tree_disk::{TreeDisk, steps};
 use std::alloc::Global;
-use tree_disk::{TreeDisk, steps};
 
 // The greatest number of bytes that one call reads or appends.
 const PIECE: u32 = 65_536;

@@ -1,20 +1,20 @@
 //! The journal's own files: the base, the log and the commit flag.
 ghost use Rattle.std.specs.Prelude.{◌≡◌, ◌≢◌, ◌≤◌, IfErr, IfOk, IsTrue, OnOk, length};
 ghost use Rattle.std.specs.FinMap.{get};
-ghost use Rattle.cny_base.specs.Path.{are_parts, is_path, join, parent, root};
-ghost use Rattle.cny_base.specs.declared.node.Node.TheVariants as node;
-ghost use Rattle.cny_base.specs.declared.stop.Stop.TheVariants as stop;
-ghost use Rattle.tree_disk.specs.Clear.{is_within};
-ghost use Rattle.tree_disk.specs.Confined.{IsSynced};
-ghost use Rattle.tree_disk.specs.Disk.{one_name};
-ghost use Rattle.tree_disk.specs.Rows.{can_make, is_dir_at, is_file_at, with_node, without};
-ghost use Rattle.tree_disk.specs.Steps.{Makes};
+ghost use Rattle.journal_log.specs.cny-base.Path.{are_parts, is_path, join, parent, root};
+ghost use Rattle.journal_log.specs.cny-base.declared.node.Node.TheVariants as node;
+ghost use Rattle.journal_log.specs.cny-base.declared.stop.Stop.TheVariants as stop;
+ghost use Rattle.journal_log.specs.tree-disk.Clear.{is_within};
+ghost use Rattle.journal_log.specs.tree-disk.Confined.{IsSynced};
+ghost use Rattle.journal_log.specs.tree-disk.Disk.{one_name};
+ghost use Rattle.journal_log.specs.tree-disk.Rows.{can_make, is_dir_at, is_file_at, with_node, without};
+ghost use Rattle.journal_log.specs.tree-disk.Steps.{Makes};
 ghost use Rattle.tree_journal.specs.Apply.{with_base};
 ghost use Rattle.tree_journal.specs.Steps.{with_own_file, IsOther};
 
-use cny_base::{Mode, Path, Stop, TextFault};
+use journal_log::cny_base::{Mode, Path, Stop, TextFault};
+use journal_log::tree_disk::{TreeDisk, steps};
 use std::alloc::Global;
-use tree_disk::{TreeDisk, steps};
 
 /// The path of one of the journal's own names below the base.
 pub fn own_path(alloc: Global, base: &Path, last: &str) -> Result<Path, Stop>

@@ -1,17 +1,17 @@
 //! What stands behind the commit flag.
 ghost use Rattle.std.specs.Prelude.{◌≡◌, IfOk, IfSome, IsTrue, Some};
 ghost use Rattle.std.specs.FinMap.{get};
-ghost use Rattle.cny_base.specs.Path.{join};
+ghost use Rattle.journal_log.specs.cny-base.Path.{join};
 ghost use Rattle.journal_log.specs.Own.{gate, log};
 ghost use Rattle.journal_log.specs.WriteSet.{IsLoggable};
 ghost use Rattle.tree_journal.specs.Found.{file_bytes, Finds, FindsLog};
 ghost use Rattle.tree_journal.specs.Recovery.{is_flag};
 
 use crate::unstaged::has_size;
-use cny_base::{Bytes, Path, Stop, TextFault};
+use journal_log::cny_base::{Bytes, Path, Stop, TextFault};
+use journal_log::tree_disk::{TreeDisk, steps};
 use journal_log::{Puts, decode_log};
 use std::alloc::Global;
-use tree_disk::{TreeDisk, steps};
 
 // The bytes of the file at a path, where one stands.
 fn read_file<D: TreeDisk>(alloc: Global, disk: &mut D, path: &Path) -> Result<Option<Bytes>, Stop>

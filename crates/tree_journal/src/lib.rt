@@ -13,6 +13,7 @@ mod staging;
 mod unstaged;
 mod writing;
 
-pub use journal_log::{Put, Puts, Want};
+pub use journal_log;
+pub use journal_log::{Put, Puts, Want, cny_base, tree_disk};
 pub use recovery::recover;
 pub use writing::apply;

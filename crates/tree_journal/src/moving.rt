@@ -1,22 +1,22 @@
 //! A file or a link that is made at the work name and renamed into its place: whoever reads the path meanwhile sees what
 //! stood there or what is to stand, and nothing between.
 ghost use Rattle.std.specs.Prelude.{◌≡◌, IsTrue, Some};
-ghost use Rattle.cny_base.specs.Path.{is_path};
-ghost use Rattle.cny_base.specs.declared.node.Node.TheVariants as node;
-ghost use Rattle.tree_disk.specs.Disk.{one_name};
-ghost use Rattle.tree_disk.specs.Rows.{bytes_at, with_node};
-ghost use Rattle.tree_disk.specs.Steps.{Makes};
-ghost use Rattle.tree_disk.specs.Tree.{put as with_put};
-ghost use Rattle.tree_disk.specs.Unfailed.{UnlessFailed};
+ghost use Rattle.journal_log.specs.cny-base.Path.{is_path};
+ghost use Rattle.journal_log.specs.cny-base.declared.node.Node.TheVariants as node;
+ghost use Rattle.journal_log.specs.tree-disk.Disk.{one_name};
+ghost use Rattle.journal_log.specs.tree-disk.Rows.{bytes_at, with_node};
+ghost use Rattle.journal_log.specs.tree-disk.Steps.{Makes};
+ghost use Rattle.journal_log.specs.tree-disk.Tree.{put as with_put};
+ghost use Rattle.journal_log.specs.tree-disk.Unfailed.{UnlessFailed};
 ghost use Rattle.journal_log.specs.Own.{staged, staged_file, work};
 ghost use Rattle.tree_journal.specs.Passes.{is_work_or_name, CanMove, CanWork, HasSize};
 ghost use Rattle.tree_journal.specs.Visible.{IsBetween};
 
 use crate::copying::copy_file;
 use crate::unstaged::path_of;
-use cny_base::{Mode, Path, Stop, Target};
+use journal_log::cny_base::{Mode, Path, Stop, Target};
+use journal_log::tree_disk::{TreeDisk, steps};
 use std::alloc::Global;
-use tree_disk::{TreeDisk, steps};
 
 /// Puts a link.
 pub fn put_link<D: TreeDisk>(

@@ -2,14 +2,14 @@
 //! the shallowest first.
 ghost use Rattle.std.specs.Prelude.{◌≡◌, IsTrue, OnOk, Some};
 ghost use Rattle.std.specs.List.{All};
-ghost use Rattle.cny_base.specs.Path.{is_path};
-ghost use Rattle.cny_base.specs.declared.node.Node.TheVariants as node;
-ghost use Rattle.tree_disk.specs.Confined.{IsSynced};
-ghost use Rattle.tree_disk.specs.Disk.{one_name};
-ghost use Rattle.tree_disk.specs.Rows.{with_node};
-ghost use Rattle.tree_disk.specs.Steps.{Makes};
-ghost use Rattle.tree_disk.specs.Tree.{put as with_put};
-ghost use Rattle.tree_disk.specs.Unfailed.{IsEither, UnlessFailed};
+ghost use Rattle.journal_log.specs.cny-base.Path.{is_path};
+ghost use Rattle.journal_log.specs.cny-base.declared.node.Node.TheVariants as node;
+ghost use Rattle.journal_log.specs.tree-disk.Confined.{IsSynced};
+ghost use Rattle.journal_log.specs.tree-disk.Disk.{one_name};
+ghost use Rattle.journal_log.specs.tree-disk.Rows.{with_node};
+ghost use Rattle.journal_log.specs.tree-disk.Steps.{Makes};
+ghost use Rattle.journal_log.specs.tree-disk.Tree.{put as with_put};
+ghost use Rattle.journal_log.specs.tree-disk.Unfailed.{IsEither, UnlessFailed};
 ghost use Rattle.journal_log.specs.Own.{staged, work};
 ghost use Rattle.journal_log.specs.Targets.{is_target};
 ghost use Rattle.journal_log.specs.WriteSet.{CanBeLogged};
@@ -20,10 +20,10 @@ ghost use Rattle.tree_journal.specs.Staging.{outcome};
 ghost use Rattle.tree_journal.specs.Visible.{IsBetween, IsPartCleared, IsVisible};
 
 use crate::moving::{put_file, put_link};
-use cny_base::{Mode, Path, Stop};
+use journal_log::cny_base::{Mode, Path, Stop};
+use journal_log::tree_disk::{Look, TreeDisk, steps};
 use journal_log::{Put, Want};
 use std::alloc::Global;
-use tree_disk::{Look, TreeDisk, steps};
 
 // Whether a file or a link is wanted.
 fn renames(want: &Want) -> bool

@@ -1,12 +1,12 @@
 //! Recovery: what a crash left of an applied write set is brought to its end.
 ghost use Rattle.std.specs.Prelude.{◌≡◌, ◌≤◌, false, true, length, IfErr, IfNone, IfOk, IfSome, IsTrue, OnOk, Some};
-ghost use Rattle.cny_base.specs.Path.{is_path, join};
-ghost use Rattle.cny_base.specs.declared.stop.Stop.TheVariants as stop;
-ghost use Rattle.tree_disk.specs.Confined.{Among, Confined, IsSynced, LeavesOnly};
-ghost use Rattle.tree_disk.specs.Disk.{HasRead};
-ghost use Rattle.tree_disk.specs.Steps.{no_name};
-ghost use Rattle.tree_disk.specs.Tree.{Tree};
-ghost use Rattle.tree_disk.specs.Unfailed.{UnlessFailed};
+ghost use Rattle.journal_log.specs.cny-base.Path.{is_path, join};
+ghost use Rattle.journal_log.specs.cny-base.declared.stop.Stop.TheVariants as stop;
+ghost use Rattle.journal_log.specs.tree-disk.Confined.{Among, Confined, IsSynced, LeavesOnly};
+ghost use Rattle.journal_log.specs.tree-disk.Disk.{HasRead};
+ghost use Rattle.journal_log.specs.tree-disk.Steps.{no_name};
+ghost use Rattle.journal_log.specs.tree-disk.Tree.{Tree};
+ghost use Rattle.journal_log.specs.tree-disk.Unfailed.{UnlessFailed};
 ghost use Rattle.journal_log.specs.Own.{gate, log, staged};
 ghost use Rattle.journal_log.specs.WriteSet.{IsLoggable};
 ghost use Rattle.tree_journal.specs.Found.{Finds, FindsLog, FindsReplayable, StopsSo};
@@ -18,10 +18,10 @@ use crate::flag::own_path;
 use crate::found::{is_flag_set, read_log};
 use crate::replay::replay;
 use crate::unstaged::first_unstaged;
-use cny_base::{Path, Refusal, Stop, Text, TextFault};
 use journal_log::Puts;
+use journal_log::cny_base::{Path, Refusal, Stop, Text, TextFault};
+use journal_log::tree_disk::{TreeDisk, steps};
 use std::alloc::Global;
-use tree_disk::{TreeDisk, steps};
 
 /// Brings to its end what a crash or a fault left of an applied write set, and answers whether its commit flag was set.
 /// The base is the journal's private directory. It may itself be cut off at any moment.

@@ -1,9 +1,9 @@
 //! The replay of a log behind a commit flag that is set.
 ghost use Rattle.std.specs.Prelude.{◌≡◌, IsTrue, OnOk};
-ghost use Rattle.cny_base.specs.Path.{is_path};
-ghost use Rattle.tree_disk.specs.Confined.{IsSynced, LeavesOnly};
-ghost use Rattle.tree_disk.specs.Steps.{Makes};
-ghost use Rattle.tree_disk.specs.Unfailed.{UnlessFailed};
+ghost use Rattle.journal_log.specs.cny-base.Path.{is_path};
+ghost use Rattle.journal_log.specs.tree-disk.Confined.{IsSynced, LeavesOnly};
+ghost use Rattle.journal_log.specs.tree-disk.Steps.{Makes};
+ghost use Rattle.journal_log.specs.tree-disk.Unfailed.{UnlessFailed};
 ghost use Rattle.journal_log.specs.Own.{gate, staged, work};
 ghost use Rattle.journal_log.specs.Rules.{AreLogged};
 ghost use Rattle.tree_journal.specs.Recovery.{RecoversTo};
@@ -13,10 +13,10 @@ ghost use Rattle.tree_journal.specs.Visible.{IsVisible};
 
 use crate::flag::{clear_flag, own_path};
 use crate::passes::put_targets;
-use cny_base::{Path, Stop};
 use journal_log::Put;
+use journal_log::cny_base::{Path, Stop};
+use journal_log::tree_disk::TreeDisk;
 use std::alloc::Global;
-use tree_disk::TreeDisk;
 
 /// Puts all targets of the log, and takes the commit flag away.
 pub fn replay<D: TreeDisk>(

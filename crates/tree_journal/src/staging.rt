@@ -3,11 +3,11 @@
 ghost use Rattle.std.specs.Prelude.{◌≡◌, ◌≢◌, ◌≤◌, IsTrue, None, OnOk, length};
 ghost use Rattle.std.specs.FinMap.{get};
 ghost use Rattle.std.specs.List.{All};
-ghost use Rattle.cny_base.specs.Path.{is_path, join, parent, root};
-ghost use Rattle.tree_disk.specs.Clear.{is_within, without_tree};
-ghost use Rattle.tree_disk.specs.Disk.{NamesOf};
-ghost use Rattle.tree_disk.specs.Rows.{is_dir_at};
-ghost use Rattle.tree_disk.specs.Steps.{Makes};
+ghost use Rattle.journal_log.specs.cny-base.Path.{is_path, join, parent, root};
+ghost use Rattle.journal_log.specs.tree-disk.Clear.{is_within, without_tree};
+ghost use Rattle.journal_log.specs.tree-disk.Disk.{NamesOf};
+ghost use Rattle.journal_log.specs.tree-disk.Rows.{is_dir_at};
+ghost use Rattle.journal_log.specs.tree-disk.Steps.{Makes};
 ghost use Rattle.journal_log.specs.Numbers.{IsNumbered};
 ghost use Rattle.journal_log.specs.Own.{staged, staged_file};
 ghost use Rattle.journal_log.specs.Rules.{AreLogged};
@@ -18,10 +18,10 @@ ghost use Rattle.tree_journal.specs.Steps.{with_all_bytes, with_bytes, with_own_
 use crate::blocked::child_of;
 use crate::flag::{make_base, own_path};
 use crate::unstaged::path_of;
-use cny_base::{Path, Stop, Text};
+use journal_log::cny_base::{Path, Stop, Text};
+use journal_log::tree_disk::{TreeDisk, steps};
 use journal_log::{Put, Puts, StagedNumbers, Want};
 use std::alloc::Global;
-use tree_disk::{TreeDisk, steps};
 
 /// Clears the directory of staged bytes but for the files that writes name, and writes the bytes of each file to the
 /// staged file that its numbered write names.

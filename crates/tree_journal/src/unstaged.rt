@@ -2,21 +2,21 @@
 ghost use Rattle.std.specs.Prelude.{◌≡◌, ◌<◌, ◌≤◌, [], length, min, OnOk, IfOk, IfErr, IfSome, IsTrue};
 ghost use Rattle.std.specs.FinMap.{get};
 ghost use Rattle.std.specs.Fmt.{decimal};
-ghost use Rattle.cny_base.specs.Path.{is_path, join};
+ghost use Rattle.journal_log.specs.cny-base.Path.{is_path, join};
 ghost use Rattle.sha1.specs.Sha1.{sha1, Holds};
-ghost use Rattle.cny_base.specs.declared.stop.Stop.TheVariants as stop;
-ghost use Rattle.tree_disk.specs.Rows.{bytes_at, is_file_at};
+ghost use Rattle.journal_log.specs.cny-base.declared.stop.Stop.TheVariants as stop;
+ghost use Rattle.journal_log.specs.tree-disk.Rows.{bytes_at, is_file_at};
 ghost use Rattle.journal_log.specs.Own.{staged};
 ghost use Rattle.journal_log.specs.WriteSet.{IsLoggable, CanBeLogged};
 ghost use Rattle.tree_journal.specs.Found.{sees_size, Finds, FindsUnstaged, FindsContent};
 ghost use Rattle.tree_journal.specs.Staging.{is_content};
 
 use crate::copying::piece_size;
-use cny_base::{Path, Stop, TextFault};
+use journal_log::cny_base::{Path, Stop, TextFault};
+use journal_log::tree_disk::{Look, TreeDisk, steps};
 use journal_log::{Put, Puts, Want, staged_path};
 use sha1::Sha1;
 use std::alloc::Global;
-use tree_disk::{Look, TreeDisk, steps};
 
 /// The path of the first staged file of a log, in the order of its writes, that doesn't stand with its size and SHA-1.
 pub fn first_unstaged<D: TreeDisk>(

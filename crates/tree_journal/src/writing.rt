@@ -1,13 +1,13 @@
 //! A write set, applied as a whole.
 ghost use Rattle.std.specs.Prelude.{◌≡◌, ◌≤◌, IfErr, IsErrOf, IsTrue, OnErr, OnOk, length};
 ghost use Rattle.std.specs.List.{All};
-ghost use Rattle.cny_base.specs.Count.{Rose};
-ghost use Rattle.cny_base.specs.Path.{is_path, parent};
-ghost use Rattle.tree_disk.specs.Rows.{is_dir_at};
-ghost use Rattle.cny_base.specs.declared.stop.Stop.TheVariants as stop;
-ghost use Rattle.tree_disk.specs.Confined.{Among, Confined, IsSynced, LeavesOnly};
-ghost use Rattle.tree_disk.specs.Steps.{IsDiskStop, Makes};
-ghost use Rattle.tree_disk.specs.Unfailed.{UnlessFailed};
+ghost use Rattle.journal_log.specs.cny-base.Count.{Rose};
+ghost use Rattle.journal_log.specs.cny-base.Path.{is_path, parent};
+ghost use Rattle.journal_log.specs.tree-disk.Rows.{is_dir_at};
+ghost use Rattle.journal_log.specs.cny-base.declared.stop.Stop.TheVariants as stop;
+ghost use Rattle.journal_log.specs.tree-disk.Confined.{Among, Confined, IsSynced, LeavesOnly};
+ghost use Rattle.journal_log.specs.tree-disk.Steps.{IsDiskStop, Makes};
+ghost use Rattle.journal_log.specs.tree-disk.Unfailed.{UnlessFailed};
 ghost use Rattle.journal_log.specs.Numbers.{IsNumbered};
 ghost use Rattle.journal_log.specs.Own.{gate, log};
 ghost use Rattle.journal_log.specs.Rules.{AreLogged};
@@ -20,10 +20,10 @@ ghost use Rattle.tree_journal.specs.Visible.{IsVisible};
 use crate::flag::{make_base, own_path, write_own_file};
 use crate::replay::replay;
 use crate::staging::stage;
-use cny_base::{Path, Stop};
+use journal_log::cny_base::{Path, Stop};
+use journal_log::tree_disk::{TreeDisk, steps};
 use journal_log::{Put, Puts, encode_log, numbered};
 use std::alloc::Global;
-use tree_disk::{TreeDisk, steps};
 
 /// Puts all targets of a write set at once: a crash at any moment leaves a disk that recovers to the tree before, or to
 /// the tree with all targets. The base is the journal's private directory; it is made where it isn't one.

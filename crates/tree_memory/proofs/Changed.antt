@@ -10,11 +10,11 @@ use Rattle.std.specs.BTreeSet.{BTreeSet, contains_text, insert_key}
 use Rattle.std.proofs.lemmas.List.{take_all}
 use Rattle.std.specs.List.{list_all, list_any}
 use Rattle.std.specs.FinMap.{from_entries}
-use Rattle.cny_base.specs.Path.{is_path}
-use Rattle.cny_base.specs.declared.node.Node.{Node}
-use Rattle.tree_disk.specs.Tree.{Name, Tree, same_name}
-use Rattle.tree_disk.specs.Disk.{one_name, two_names}
-use Rattle.tree_disk.specs.Laws.{same_means}
+use Rattle.tree_nodes.specs.cny-base.Path.{is_path}
+use Rattle.tree_nodes.specs.cny-base.declared.node.Node.{Node}
+use Rattle.tree_nodes.specs.tree-disk.Tree.{Name, Tree, same_name}
+use Rattle.tree_nodes.specs.tree-disk.Disk.{one_name, two_names}
+use Rattle.tree_nodes.specs.tree-disk.Laws.{same_means}
 use Rattle.tree_memory.specs.declared.change.Change.{Change}
 use Rattle.tree_memory.specs.State.{State, settled, step, replay, state_of, tree_after, names_of, settles}
 use Rattle.tree_memory.specs.Replay.{reads_step}

@@ -3,8 +3,8 @@ use Rattle.std.proofs.Common.{◌≡◌, ℕ, ◌-◌, ◌<◌, ◌≤◌, true,
 use Rattle.std.specs.declared.alloc.Global.{Global}
 use Rattle.std.specs.List.{list_all}
 use Rattle.std.specs.BTreeSet.{BTreeSet, contains_text}
-use Rattle.cny_base.specs.declared.node.Node.{Node}
-use Rattle.tree_disk.specs.Tree.{Name, Tree}
+use Rattle.tree_nodes.specs.cny-base.declared.node.Node.{Node}
+use Rattle.tree_nodes.specs.tree-disk.Tree.{Name, Tree}
 use Rattle.tree_memory.specs.declared.change.Change.{Change}
 use Rattle.tree_memory.specs.State.{state_of, settles}
 use Rattle.tree_memory.specs.Since.{any_names, keeps}

@@ -2,9 +2,9 @@
 use Rattle.std.proofs.Common.{◌≡◌, inl, inr, ⊎_elim, ℕ, ◌+◌, ◌≤◌, Bool, true, false, cond, ◌||◌, [], ◌∷◌, ◌++◌, length, take, refl, sym, ◌∙◌, ap, subst, arith, length-append, Option}
 use Rattle.std.proofs.lemmas.Bool.{cases_lt}
 use Rattle.std.specs.FinMap.{from_entries}
-use Rattle.cny_base.specs.declared.node.Node.{Node}
-use Rattle.tree_disk.specs.Tree.{Name, put}
-use Rattle.tree_disk.specs.Disk.{Unchanged, Elapses, InOneStep, IsCrashImage}
+use Rattle.tree_nodes.specs.cny-base.declared.node.Node.{Node}
+use Rattle.tree_nodes.specs.tree-disk.Tree.{Name, put}
+use Rattle.tree_nodes.specs.tree-disk.Disk.{Unchanged, Elapses, InOneStep, IsCrashImage}
 use Rattle.tree_memory.specs.declared.change.Change.{Change}
 use Rattle.tree_memory.specs.declared.change.Change.TheVariants.{Edit}
 use Rattle.tree_memory.specs.declared.memory.MemoryTree.{MemoryTree}

@@ -1,7 +1,7 @@
 -- What is kept of one change more.
 use Rattle.std.proofs.Common.{◌≡◌, Bool, true, false, cond, List, [], ◌∷◌, ◌++◌, refl, sym, ◌∙◌, ap, subst, Result, Ok, Err, OnErr, is_ok}
-use Rattle.cny_base.specs.declared.node.Node.{Node}
-use Rattle.tree_disk.specs.Tree.{Name, Tree, WellFormed}
+use Rattle.tree_nodes.specs.cny-base.declared.node.Node.{Node}
+use Rattle.tree_nodes.specs.tree-disk.Tree.{Name, Tree, WellFormed}
 use Rattle.std.specs.FinMap.{from_entries}
 use Rattle.tree_memory.specs.declared.change.Change.{Change}
 use Rattle.tree_memory.specs.declared.change.Change.TheVariants.{Sync}

@@ -1,12 +1,12 @@
 -- What a changing call does.
 use Rattle.std.specs.Prelude.{◌≡◌, ◌≤◌, Bool, true, false, Result, IsErrOf}
-use Rattle.tree_disk.specs.declared.disk.DiskStop.{DiskStop}
-use Rattle.tree_disk.specs.declared.disk.DiskStop.TheVariants.{Failed}
-use Rattle.tree_disk.specs.Disk.{HasCause, HasChanged}
+use Rattle.tree_nodes.specs.tree-disk.declared.disk.DiskStop.{DiskStop}
+use Rattle.tree_nodes.specs.tree-disk.declared.disk.DiskStop.TheVariants.{Failed}
+use Rattle.tree_nodes.specs.tree-disk.Disk.{HasCause, HasChanged}
 use Rattle.tree_memory.specs.declared.change.Change.{Change}
 use Rattle.tree_memory.specs.declared.memory.MemoryTree.{MemoryTree}
 use Rattle.tree_memory.specs.State.{tree_after, names_of, settles, failed_change}
-use Rattle.cny_base.specs.Count.{next}
+use Rattle.tree_nodes.specs.cny-base.Count.{next}
 use Rattle.tree_memory.specs.Counts.{one_less}
 use Rattle.tree_memory.specs.Memory.{memory_disk, state, calls_of, stop_of, fails_of, faults_of, fails_next, does_part, IsCounted}
 

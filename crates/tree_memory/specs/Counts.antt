@@ -1,7 +1,7 @@
 -- Numbers of calls, and which of them fail.
 use Rattle.std.specs.Prelude.{ℕ, Bool, true, false, Option, Some, None, Result, Ok, Err, ◌==◌, ◌-◌}
-use Rattle.tree_disk.specs.declared.disk.DiskStop.{DiskStop}
-use Rattle.tree_disk.specs.declared.disk.DiskStop.TheVariants.{Failed}
+use Rattle.tree_nodes.specs.tree-disk.declared.disk.DiskStop.{DiskStop}
+use Rattle.tree_nodes.specs.tree-disk.declared.disk.DiskStop.TheVariants.{Failed}
 
 -- whether the stop has come: no call is left before it
 abbrev pub is_stopped : Option ℕ → Bool

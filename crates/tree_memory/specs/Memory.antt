@@ -2,14 +2,14 @@
 use Rattle.std.specs.Prelude.{◌≡◌, ◌⊎◌, ℕ, ◌≤◌, Bool, true, ◌||◌, ◌&&◌, not, IsTrue, List, Option, None, Result, IsErrOf, length, take, if◌then◌else◌}
 use Rattle.std.proofs.Common.{sym, ◌∙◌, ap, subst, arith}
 use Rattle.std.specs.FinMap.{from_entries}
-use Rattle.cny_base.specs.Count.{next}
-use Rattle.tree_disk.specs.declared.disk.DiskStop.{DiskStop}
-use Rattle.tree_disk.specs.declared.disk.DiskStop.TheVariants.{Failed, Memory}
-use Rattle.tree_disk.specs.Tree.{Tree, WellFormed}
-use Rattle.tree_disk.specs.Disk.{DiskModel, IsDisk, IsCrashImage, Elapses, InOneStep}
+use Rattle.tree_nodes.specs.cny-base.Count.{next}
+use Rattle.tree_nodes.specs.tree-disk.declared.disk.DiskStop.{DiskStop}
+use Rattle.tree_nodes.specs.tree-disk.declared.disk.DiskStop.TheVariants.{Failed, Memory}
+use Rattle.tree_nodes.specs.tree-disk.Tree.{Tree, WellFormed}
+use Rattle.tree_nodes.specs.tree-disk.Disk.{DiskModel, IsDisk, IsCrashImage, Elapses, InOneStep}
 use Rattle.tree_memory.specs.declared.memory.MemoryTree.{MemoryTree}
 use Rattle.tree_memory.specs.State.{State, settled, state_of, replay}
-use Rattle.cny_base.specs.Schedule.{is_listed}
+use Rattle.tree_nodes.specs.cny-base.Schedule.{is_listed}
 use Rattle.tree_memory.specs.Counts.{is_stopped, one_less, is_failed}
 use Rattle.tree_memory.specs.Replay.{take_whole}
 

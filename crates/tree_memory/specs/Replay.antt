@@ -2,9 +2,9 @@
 use Rattle.std.specs.Prelude.{◌≡◌, ℕ, ◌≤◌, Bool, true, false, cond, ◌||◌, List, [], ◌∷◌, ◌++◌, length, take, Some, None, refl}
 use Rattle.std.proofs.Common.{◌∙◌, ap, zero, suc, arith}
 use Rattle.std.specs.FinMap.{get}
-use Rattle.tree_disk.specs.Tree.{Name, Tree, same_name, put, AgreesOutside}
-use Rattle.tree_disk.specs.Rows.{grown, of_mode}
-use Rattle.tree_disk.specs.Laws.{get_put_other}
+use Rattle.tree_nodes.specs.tree-disk.Tree.{Name, Tree, same_name, put, AgreesOutside}
+use Rattle.tree_nodes.specs.tree-disk.Rows.{grown, of_mode}
+use Rattle.tree_nodes.specs.tree-disk.Laws.{get_put_other}
 use Rattle.tree_memory.specs.declared.change.Change.{Change}
 use Rattle.tree_memory.specs.declared.change.Change.TheVariants.{Append, Put, SetMode, Rename, Touch, TouchBoth, Sync, Edit}
 use Rattle.tree_memory.specs.State.{State, settled, tree_after, names_of, settles, step, replay}

@@ -1,6 +1,6 @@
 -- What the changes since the last sync did.
 use Rattle.std.specs.Prelude.{Bool, false, ◌||◌, not, List, [], ◌∷◌}
-use Rattle.tree_disk.specs.Tree.{Name, Tree}
+use Rattle.tree_nodes.specs.tree-disk.Tree.{Name, Tree}
 use Rattle.tree_memory.specs.declared.change.Change.{Change}
 use Rattle.tree_memory.specs.State.{names_of, settles, tree_after}
 

@@ -1,10 +1,10 @@
 -- The states of a disk, and what each change makes of them.
 use Rattle.std.specs.Prelude.{◌/◌, ℕ, Bool, true, false, ◌||◌, List, [], ◌∷◌, Some, None, length, take, cond}
 use Rattle.std.specs.FinMap.{from_entries}
-use Rattle.cny_base.specs.declared.node.Node.{Node}
-use Rattle.tree_disk.specs.Tree.{Name, Tree, put}
-use Rattle.tree_disk.specs.Rows.{can_append, can_make, can_remove, can_rename, can_set_mode, with_append, with_mode, with_rename}
-use Rattle.tree_disk.specs.Disk.{one_name, two_names}
+use Rattle.tree_nodes.specs.cny-base.declared.node.Node.{Node}
+use Rattle.tree_nodes.specs.tree-disk.Tree.{Name, Tree, put}
+use Rattle.tree_nodes.specs.tree-disk.Rows.{can_append, can_make, can_remove, can_rename, can_set_mode, with_append, with_mode, with_rename}
+use Rattle.tree_nodes.specs.tree-disk.Disk.{one_name, two_names}
 use Rattle.tree_memory.specs.declared.change.Change.{Change}
 use Rattle.tree_memory.specs.declared.change.Change.TheVariants.{Append, Put, SetMode, Rename, Touch, TouchBoth, Sync, Edit}
 

@@ -1,10 +1,10 @@
 // The calls of a disk, on a tree in memory.
 ghost use Rattle.std.specs.Prelude.{◌≡◌, ◌↔◌, ◌≤◌, Bool, true, false, length, IfOk, IsErrOf, IsTrue, if◌then◌else◌};
-ghost use Rattle.cny_base.specs.declared.node.Node.TheVariants.{Dir, Link};
-ghost use Rattle.tree_disk.specs.declared.disk.DiskStop.TheVariants.{Failed};
-ghost use Rattle.tree_disk.specs.Tree.{children};
-ghost use Rattle.tree_disk.specs.Rows.{is_file_at, is_dir_at, can_append, can_make, can_set_mode, can_remove, can_rename, with_append, with_node, with_mode, without, with_rename, ReadsFrom, look_of};
-ghost use Rattle.tree_disk.specs.Disk.{HasCause, Reads, Changes, Syncs, one_name, two_names, NamesOf};
+ghost use Rattle.tree_nodes.specs.cny-base.declared.node.Node.TheVariants.{Dir, Link};
+ghost use Rattle.tree_nodes.specs.tree-disk.declared.disk.DiskStop.TheVariants.{Failed};
+ghost use Rattle.tree_nodes.specs.tree-disk.Tree.{children};
+ghost use Rattle.tree_nodes.specs.tree-disk.Rows.{is_file_at, is_dir_at, can_append, can_make, can_set_mode, can_remove, can_rename, with_append, with_node, with_mode, without, with_rename, ReadsFrom, look_of};
+ghost use Rattle.tree_nodes.specs.tree-disk.Disk.{HasCause, Reads, Changes, Syncs, one_name, two_names, NamesOf};
 ghost use Rattle.tree_memory.specs.declared.change.Change.{Change};
 ghost use Rattle.tree_memory.specs.State.{allows, first_half, settles};
 ghost use Rattle.tree_memory.specs.Memory.{memory_disk, memory_laws, state, fails_next, does_part, IsCounted};
@@ -12,9 +12,9 @@ ghost use Rattle.tree_memory.specs.Calls.{IsCall, IsDone, GoesOn, IsFailure};
 
 use crate::change::Change;
 use crate::memory::MemoryTree;
-use cny_base::{Mode, Names, OutOfMemory, Path, Target};
 use std::alloc::Global;
-use tree_disk::{DiskStop, Look, TreeDisk};
+use tree_nodes::cny_base::{Mode, Names, OutOfMemory, Path, Target};
+use tree_nodes::tree_disk::{DiskStop, Look, TreeDisk};
 
 // Makes a changing call. It counts also where no memory was left for its change.
 fn perform(

@@ -1,8 +1,8 @@
 // What changed a tree in memory, one change for each call and edit.
-use cny_base::{Bytes, Copies, Mode, Node, OutOfMemory, Path, Target};
 use std::alloc::Global;
-use tree_disk::byte_ranges;
 use tree_nodes::NodeMap;
+use tree_nodes::cny_base::{Bytes, Copies, Mode, Node, OutOfMemory, Path, Target};
+use tree_nodes::tree_disk::byte_ranges;
 
 /// One change. The disk keeps them all, since it tells what a crash at a moment that has passed may have left.
 #[derive(Drop)]
@@ -24,9 +24,9 @@ pub(crate) enum Change {
 
 impl Change {
     ghost use Rattle.std.specs.Prelude.{◌≡◌, ◌&&◌, false, not, IfOk, Some, None};
-    ghost use Rattle.cny_base.specs.declared.node.Node.TheVariants.{Dir, Link};
+    ghost use Rattle.tree_nodes.specs.cny-base.declared.node.Node.TheVariants.{Dir, Link};
     ghost use Rattle.tree_memory.specs.declared.change.Change.TheVariants.{Append, Put, SetMode, Rename};
-    ghost use Rattle.tree_disk.specs.Tree.{WellFormed};
+    ghost use Rattle.tree_nodes.specs.tree-disk.Tree.{WellFormed};
     ghost use Rattle.tree_memory.specs.State.{allows, failed_change, settles, tree_after};
     ghost use Rattle.tree_memory.specs.Calls.{IsCall};
 

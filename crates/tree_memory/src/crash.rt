@@ -2,9 +2,9 @@
 ghost use Rattle.std.specs.Prelude.{◌≡◌, ◌≤◌, ◌<◌, ◌-◌, ◌||◌, true, drop, length, get_or, IfOk, OnOk};
 ghost use Rattle.std.specs.List.{list_all};
 ghost use Rattle.std.specs.BTreeSet.{contains_text};
-ghost use Rattle.cny_base.specs.Path.{is_path};
-ghost use Rattle.tree_disk.specs.Tree.{Name, WellFormed};
-ghost use Rattle.tree_disk.specs.Disk.{IsCrashImage, one_name, two_names};
+ghost use Rattle.tree_nodes.specs.cny-base.Path.{is_path};
+ghost use Rattle.tree_nodes.specs.tree-disk.Tree.{Name, WellFormed};
+ghost use Rattle.tree_nodes.specs.tree-disk.Disk.{IsCrashImage, one_name, two_names};
 ghost use Rattle.tree_nodes.specs.Crash.{IsPicked};
 ghost use Rattle.tree_memory.specs.State as states;
 ghost use Rattle.tree_memory.specs.State.{state_of};
@@ -12,9 +12,9 @@ ghost use Rattle.tree_memory.specs.Since.{any_names, keeps};
 
 use crate::change::Change;
 use crate::memory::apply;
-use cny_base::{OutOfMemory, Path};
 use std::alloc::Global;
 use std::collections::BTreeSet;
+use tree_nodes::cny_base::{OutOfMemory, Path};
 use tree_nodes::{Crash, NodeMap, Nodes};
 
 fn settles(change: &Change) -> bool

@@ -8,4 +8,4 @@ mod memory;
 mod turns;
 
 pub use memory::{MemoryTree, TreeFault};
-pub use tree_nodes::Nodes;
+pub use tree_nodes::{Nodes, cny_base, tree_disk};

@@ -1,7 +1,7 @@
 // A tree in memory.
 ghost use Rattle.std.specs.Prelude.{◌≡◌, ◌++◌, ◌∷◌, [], false, IsTrue, IfOk, OnOk, OnErr};
-ghost use Rattle.tree_disk.specs.Rows.{can_remove, without};
-ghost use Rattle.tree_disk.specs.Tree.{WellFormed, put};
+ghost use Rattle.tree_nodes.specs.tree-disk.Rows.{can_remove, without};
+ghost use Rattle.tree_nodes.specs.tree-disk.Tree.{WellFormed, put};
 ghost use Rattle.tree_nodes.specs.Attempts.{IsTried};
 ghost use Rattle.tree_nodes.specs.Codes.{WellFormed-prop, tree_set};
 ghost use Rattle.tree_memory.specs.declared.change.Change.TheVariants.{Put, Sync};
@@ -10,9 +10,9 @@ ghost use Rattle.tree_memory.specs.State.{allows, state_of, tree_after};
 use crate::change::Change;
 use crate::crash;
 use crate::turns::Turns;
-use cny_base::{Copies, Fails, Node, OutOfMemory, Path};
 use std::alloc::Global;
-use tree_disk::node_ranges;
+use tree_nodes::cny_base::{Copies, Fails, Node, OutOfMemory, Path};
+use tree_nodes::tree_disk::node_ranges;
 use tree_nodes::{NodeMap, Nodes};
 
 /// A disk in memory.
@@ -174,7 +174,7 @@ impl MemoryTree {
     ghost use Rattle.std.specs.FinMap.{get, from_entries};
     ghost use Rattle.std.specs.Option.{option_copied};
     ghost use Rattle.tree_nodes.specs.Start.{IsTree};
-    ghost use Rattle.tree_disk.specs.Disk.{Elapses};
+    ghost use Rattle.tree_nodes.specs.tree-disk.Disk.{Elapses};
     ghost use Rattle.tree_memory.specs.Memory.{state, memory_disk, calls_of, fails_of, faults_of, stop_of, Begins, IsEdited, IsSame};
 
     /// A disk with these nodes, all synced. Its calls fail at these numbers, the first being 1.
@@ -247,8 +247,8 @@ impl MemoryTree {
 }
 
 impl MemoryTree {
-    ghost use Rattle.tree_disk.specs.Tree.{AgreesOutside};
-    ghost use Rattle.tree_disk.specs.Disk.{IsImageOf};
+    ghost use Rattle.tree_nodes.specs.tree-disk.Tree.{AgreesOutside};
+    ghost use Rattle.tree_nodes.specs.tree-disk.Disk.{IsImageOf};
     ghost use Rattle.tree_nodes.specs.Crash.{IsPicked};
     ghost use Rattle.tree_memory.specs.Memory.{state, memory_disk, Begins};
 

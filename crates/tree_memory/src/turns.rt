@@ -1,10 +1,10 @@
 // Which calls of a disk in memory fail.
 ghost use Rattle.std.specs.Prelude.{◌≡◌, ◌||◌, None};
-ghost use Rattle.cny_base.specs.Count.{next};
-ghost use Rattle.cny_base.specs.Schedule.{is_listed};
+ghost use Rattle.tree_nodes.specs.cny-base.Count.{next};
+ghost use Rattle.tree_nodes.specs.cny-base.Schedule.{is_listed};
 ghost use Rattle.tree_memory.specs.Counts.{is_stopped, one_less};
 
-use cny_base::{Fails, Schedule};
+use tree_nodes::cny_base::{Fails, Schedule};
 
 /// The calls that are to fail, and a stop.
 #[derive(Drop)]

@@ -14,9 +14,9 @@ use Rattle.std.specs.String.{string_cmp}
 use Rattle.std.specs.FinMap.{get, from_entries, entries, entries-insert, contains_key-keys}
 use Rattle.std.specs.FinMap as fin
 use Rattle.std.specs.FinMap.Entries as Entries
-use Rattle.cny_base.specs.declared.node.Node.{Node}
-use Rattle.cny_base.specs.Path.{is_path, root, parent, last_name}
-use Rattle.cny_base.specs.Below.{begins_with, is_below, below_parent, child_below, none_below_root, parent_shorter}
+use Rattle.tree_disk.specs.cny-base.declared.node.Node.{Node}
+use Rattle.tree_disk.specs.cny-base.Path.{is_path, root, parent, last_name}
+use Rattle.tree_disk.specs.cny-base.Below.{begins_with, is_below, below_parent, child_below, none_below_root, parent_shorter}
 use Rattle.tree_disk.specs.Tree.{Name, Tree, same_name, is_child, children, is_dir, WellFormed}
 use Rattle.tree_disk.specs.Rows.{is_childless}
 use Rattle.tree_disk.specs.Laws.{same_means, same_itself}

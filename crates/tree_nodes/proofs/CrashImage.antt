@@ -9,9 +9,9 @@ use Rattle.std.specs.List.Sorted.{IsStrictlySortedBy}
 use Rattle.std.specs.Ordering.{nat_cmp, eq_by_cmp, is_eq}
 use Rattle.std.specs.Cmp.Lexicographic.{slice_cmp, nat_list_cmp_total}
 use Rattle.std.specs.FinMap.{get, keys, contains_key-keys}
-use Rattle.cny_base.specs.Path.{is_path, root, parent}
-use Rattle.cny_base.specs.Below.{is_below, below_parent, above_parent, child_below, parent_first, none_below_root, parent_shorter}
-use Rattle.cny_base.specs.declared.node.Node.{Node}
+use Rattle.tree_disk.specs.cny-base.Path.{is_path, root, parent}
+use Rattle.tree_disk.specs.cny-base.Below.{is_below, below_parent, above_parent, child_below, parent_first, none_below_root, parent_shorter}
+use Rattle.tree_disk.specs.cny-base.declared.node.Node.{Node}
 use Rattle.tree_disk.specs.Tree.{Name, Tree, same_name, put, is_dir, WellFormed}
 use Rattle.tree_disk.specs.Laws.{same_means, same_itself, get_put_here, get_put_other}
 use Rattle.tree_disk.specs.Disk.{IsCrashImage}

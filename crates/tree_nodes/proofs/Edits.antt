@@ -6,10 +6,10 @@ use Rattle.std.specs.List.{filter, list_any}
 use Rattle.std.specs.Ordering.{nat_cmp, eq_by_cmp, is_eq}
 use Rattle.std.specs.Cmp.Lexicographic.{slice_cmp}
 use Rattle.std.specs.FinMap.{get, keys, contains_key-keys}
-use Rattle.cny_base.specs.Path.{is_path, root, parent, last_name}
-use Rattle.cny_base.specs.Below.{parent_first}
-use Rattle.cny_base.specs.declared.node.Node.{Node}
-use Rattle.cny_base.specs.declared.node.Node.TheVariants.{Dir, File, Link}
+use Rattle.tree_disk.specs.cny-base.Path.{is_path, root, parent, last_name}
+use Rattle.tree_disk.specs.cny-base.Below.{parent_first}
+use Rattle.tree_disk.specs.cny-base.declared.node.Node.{Node}
+use Rattle.tree_disk.specs.cny-base.declared.node.Node.TheVariants.{Dir, File, Link}
 use Rattle.tree_disk.specs.Tree.{Name, Tree, same_name, put, is_dir, is_child, is_node, may_stand, WellFormed}
 use Rattle.tree_disk.specs.Rows.{is_dir_at, is_childless}
 use Rattle.tree_disk.specs.Laws.{same_means, same_itself, same_tree, get_put, get_put_here, get_put_other}

@@ -5,9 +5,9 @@ use Rattle.std.specs.List.{list_any}
 use Rattle.std.specs.List.Sorted.{IsStrictlySortedBy}
 use Rattle.std.specs.String.{string_cmp}
 use Rattle.std.specs.FinMap as fin
-use Rattle.cny_base.specs.declared.node.Node.{Node}
-use Rattle.cny_base.specs.Path.{root}
-use Rattle.cny_base.specs.Below.{begins_with, is_below}
+use Rattle.tree_disk.specs.cny-base.declared.node.Node.{Node}
+use Rattle.tree_disk.specs.cny-base.Path.{root}
+use Rattle.tree_disk.specs.cny-base.Below.{begins_with, is_below}
 use Rattle.tree_disk.specs.Tree.{Name, same_name}
 use Rattle.tree_nodes.specs.Stored.{tree_of}
 use Rattle.tree_nodes.specs.Below.{has_prefix, entries_with_prefix}

@@ -10,8 +10,8 @@ use Rattle.std.specs.BTreeMap.{is_at}
 use Rattle.std.specs.BTreeSet.{BTreeSet, contains_text}
 use Rattle.std.specs.declared.cmp.Ordering.TheVariants.{Less}
 use Rattle.std.specs.FinMap.{get}
-use Rattle.cny_base.specs.Path.{parent}
-use Rattle.cny_base.specs.declared.node.Node.{Node}
+use Rattle.tree_disk.specs.cny-base.Path.{parent}
+use Rattle.tree_disk.specs.cny-base.declared.node.Node.{Node}
 use Rattle.tree_disk.specs.Tree.{Name, Tree, same_name, put, is_dir, may_stand, WellFormed}
 use Rattle.tree_disk.specs.Laws.{get_put}
 use Rattle.tree_nodes.proofs.StoredTree.{put_same}

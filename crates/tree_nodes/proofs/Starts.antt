@@ -7,8 +7,8 @@ use Rattle.std.specs.Ordering.{nat_cmp, eq_by_cmp}
 use Rattle.std.specs.Cmp.Lexicographic.{slice_cmp, nat_list_cmp_total}
 use Rattle.std.specs.FinMap.{get, from_entries, get-from_entries}
 use Rattle.std.specs.FinMap.Entries as Entries
-use Rattle.cny_base.specs.Path.{is_path, root, parent}
-use Rattle.cny_base.specs.declared.node.Node.{Node}
+use Rattle.tree_disk.specs.cny-base.Path.{is_path, root, parent}
+use Rattle.tree_disk.specs.cny-base.declared.node.Node.{Node}
 use Rattle.tree_disk.specs.Tree.{Name, Tree, same_name, is_dir, is_node, may_stand, WellFormed}
 use Rattle.tree_disk.specs.Laws.{same_means, same_itself}
 use Rattle.tree_nodes.specs.Start.{stands_right, holds}

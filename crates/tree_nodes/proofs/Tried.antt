@@ -1,8 +1,8 @@
 -- What the calls do that test by themselves whether they are allowed.
 use Rattle.std.proofs.Common.{◌≡◌, Bool, true, false, cond, ◌||◌, ◌&&◌, not, Option, Some, None, is_some, refl, sym, ◌∙◌, ap, subst, ℕ, List, Result, Ok, Err, IfOk, IfErr, IfSome, IfNone, OnOk, OnErr}
 use Rattle.std.specs.FinMap.{get}
-use Rattle.cny_base.specs.declared.node.Node.{Node}
-use Rattle.cny_base.specs.declared.node.Node.TheVariants.{Dir, File, Link}
+use Rattle.tree_disk.specs.cny-base.declared.node.Node.{Node}
+use Rattle.tree_disk.specs.cny-base.declared.node.Node.TheVariants.{Dir, File, Link}
 use Rattle.tree_disk.specs.Tree.{Name, Tree, WellFormed, same_name, put, is_dir, is_file}
 use Rattle.tree_disk.specs.Laws.{get_put, get_put_here, get_put_other, put_put, same_tree}
 use Rattle.tree_disk.specs.Rows.{can_set_mode, grown, is_empty_at, is_file_at, of_mode, with_append, with_mode, with_rename}

@@ -1,6 +1,6 @@
 -- What a changing call does that tests by itself whether it is allowed.
 use Rattle.std.specs.Prelude.{◌≡◌, Bool, false, ◌||◌, not, IsTrue, Option, is_some}
-use Rattle.cny_base.specs.declared.node.Node.{Node}
+use Rattle.tree_disk.specs.cny-base.declared.node.Node.{Node}
 use Rattle.tree_disk.specs.Tree.{Tree, is_file, is_link}
 
 -- it is done where it is allowed, and nothing is changed where it isn't

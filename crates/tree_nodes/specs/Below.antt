@@ -2,9 +2,9 @@
 use Rattle.std.specs.Prelude.{ℕ, Bool, cond, List, [], ◌∷◌, ◌++◌, String, string_bytes}
 use Rattle.std.specs.declared.alloc.Global.{Global}
 use Rattle.std.specs.List.{filter}
-use Rattle.cny_base.specs.Path.{root}
-use Rattle.cny_base.specs.Below.{begins_with}
-use Rattle.cny_base.specs.declared.node.Node.{Node}
+use Rattle.tree_disk.specs.cny-base.Path.{root}
+use Rattle.tree_disk.specs.cny-base.Below.{begins_with}
+use Rattle.tree_disk.specs.cny-base.declared.node.Node.{Node}
 use Rattle.tree_disk.specs.Tree.{Name, same_name}
 
 -- what stands before the slash in the names below a directory: nothing for `/`

@@ -5,10 +5,10 @@ use Rattle.std.specs.Cmp.Lexicographic.{slice_cmp}
 use Rattle.std.specs.List.{list_any}
 use Rattle.std.specs.List.Sorted.{IsStrictlySortedBy}
 use Rattle.std.specs.FinMap.{get, keys}
-use Rattle.cny_base.specs.Path.{root, parent}
-use Rattle.cny_base.specs.Below.{is_below}
-use Rattle.cny_base.specs.declared.node.Node.{Node}
-use Rattle.cny_base.specs.declared.node.Node.TheVariants.{File}
+use Rattle.tree_disk.specs.cny-base.Path.{root, parent}
+use Rattle.tree_disk.specs.cny-base.Below.{is_below}
+use Rattle.tree_disk.specs.cny-base.declared.node.Node.{Node}
+use Rattle.tree_disk.specs.cny-base.declared.node.Node.TheVariants.{File}
 use Rattle.tree_disk.specs.Tree.{Name, Tree, same_name, put, is_dir, may_stand}
 
 -- each node is one that a disk can hold

@@ -1,8 +1,8 @@
 -- Where a tree stays one with this node, or with none, at a path.
 use Rattle.std.specs.Prelude.{Bool, ◌&&◌, not, Option, Some, None}
-use Rattle.cny_base.specs.Path.{root, parent}
-use Rattle.cny_base.specs.declared.node.Node.{Node}
-use Rattle.cny_base.specs.declared.node.Node.TheVariants.{Dir}
+use Rattle.tree_disk.specs.cny-base.Path.{root, parent}
+use Rattle.tree_disk.specs.cny-base.declared.node.Node.{Node}
+use Rattle.tree_disk.specs.cny-base.declared.node.Node.TheVariants.{Dir}
 use Rattle.tree_disk.specs.Tree.{Name, Tree, same_name}
 use Rattle.tree_disk.specs.Rows.{is_dir_at, is_childless}
 

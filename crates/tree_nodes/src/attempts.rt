@@ -1,7 +1,7 @@
 // Changing calls of a disk, each tested and done in one pass: the search that finds a path serves the test and the change.
 ghost use Rattle.std.specs.Prelude.{◌≡◌, ◌||◌, ◌&&◌, IfOk, IfErr, IfSome, IfNone, OnOk, OnErr, Some, true, false, is_some, string_bytes};
 ghost use Rattle.std.specs.FinMap.{get};
-ghost use Rattle.cny_base.specs.declared.node.Node.TheVariants.{Dir};
+ghost use Rattle.tree_disk.specs.cny-base.declared.node.Node.TheVariants.{Dir};
 ghost use Rattle.tree_disk.specs.Tree as names;
 ghost use Rattle.tree_disk.specs.Tree.{WellFormed, is_file, put};
 ghost use Rattle.tree_disk.specs.Rows as rows;
@@ -12,11 +12,11 @@ ghost use Rattle.tree_nodes.specs.Stored.{tree_of};
 use crate::conditions::same_name;
 use crate::effects::{new_file, put_grown, replace_at, set_mode_at};
 use crate::map::NodeMap;
-use cny_base::{Mode, Node, OutOfMemory, Path, parent_of};
 use std::alloc::{AllocFailed, Global};
 use std::collections::BTreeMap;
 use std::mem;
 use tree_disk::byte_ranges;
+use tree_disk::cny_base::{Mode, Node, OutOfMemory, Path, parent_of};
 
 // Puts the node back over which a new file was put, with more bytes where it is a file, and answers whether it is one.
 fn put_back(

@@ -4,9 +4,9 @@ ghost use Rattle.std.specs.BTreeMap.{IsOrdered};
 ghost use Rattle.std.specs.BTreeSet.{contains_text};
 ghost use Rattle.std.specs.FinMap.{keys};
 ghost use Rattle.std.specs.List.{list_any};
-ghost use Rattle.cny_base.specs.Below.{is_below};
+ghost use Rattle.tree_disk.specs.cny-base.Below.{is_below};
 ghost use Rattle.std.specs.String.{string_cmp};
-ghost use Rattle.cny_base.specs.Path.{root};
+ghost use Rattle.tree_disk.specs.cny-base.Path.{root};
 ghost use Rattle.tree_disk.specs.Tree as names;
 ghost use Rattle.tree_disk.specs.Tree.{WellFormed};
 ghost use Rattle.tree_disk.specs.Rows as rows;
@@ -15,10 +15,10 @@ ghost use Rattle.tree_nodes.specs.Below as spec;
 
 use crate::conditions::same_name;
 use crate::map::NodeMap;
-use cny_base::{Names, Node, OutOfMemory, Path, Text, last_name, parent_of};
 use std::alloc::Global;
 use std::collections::btree_map::Range;
 use std::collections::{BTreeMap, BTreeSet};
+use tree_disk::cny_base::{Names, Node, OutOfMemory, Path, Text, last_name, parent_of};
 
 // What stands before the slash in the names below a directory: nothing for `/`.
 fn front(dir: &str) -> &str

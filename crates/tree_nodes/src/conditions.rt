@@ -3,8 +3,8 @@ ghost use Rattle.std.specs.Prelude.{◌≡◌, ◌||◌, ℕ, List, IsTrue, IfOk
 ghost use Rattle.std.specs.Option.{option_copied};
 ghost use Rattle.std.specs.FinMap.{get};
 ghost use Rattle.std.specs.List.{list_all};
-ghost use Rattle.cny_base.specs.declared.node.Node.{Node};
-ghost use Rattle.cny_base.specs.Path.{is_path};
+ghost use Rattle.tree_disk.specs.cny-base.declared.node.Node.{Node};
+ghost use Rattle.tree_disk.specs.cny-base.Path.{is_path};
 ghost use Rattle.tree_disk.specs.Tree as names;
 ghost use Rattle.tree_disk.specs.Tree.{WellFormed, put, is_byte, is_file, is_link, is_node, may_stand};
 ghost use Rattle.tree_disk.specs.Rows as rows;
@@ -12,8 +12,8 @@ ghost use Rattle.tree_disk.specs.Rows.{with_append, with_node, without};
 ghost use Rattle.tree_nodes.specs.Edit.{can_edit};
 
 use crate::map::NodeMap;
-use cny_base::{Node, OutOfMemory, Path, parent_of};
 use std::alloc::Global;
+use tree_disk::cny_base::{Node, OutOfMemory, Path, parent_of};
 
 // Whether two texts are equal.
 pub(crate) fn same_name(a: &str, b: &str) -> bool

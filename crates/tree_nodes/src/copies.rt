@@ -8,9 +8,9 @@ ghost use Rattle.tree_nodes.specs.Stored.{by_bytes, tree_of};
 
 use crate::Nodes;
 use crate::map::NodeMap;
-use cny_base::{Copies, Node, OutOfMemory, Path, TextFault};
 use std::alloc::Global;
 use std::collections::BTreeMap;
+use tree_disk::cny_base::{Copies, Node, OutOfMemory, Path, TextFault};
 
 fn list_of(alloc: Global, nodes: &BTreeMap<String, Node>) -> Result<Vec<(Path, Node)>, OutOfMemory>
     requires { WellFormed (tree_of nodes.now.entries) }

@@ -3,7 +3,7 @@ ghost use Rattle.std.specs.Prelude.{◌≡◌, ◌&&◌, ℕ, None, cond, map, n
 ghost use Rattle.std.specs.BTreeSet.{contains_text, IsOrdered};
 ghost use Rattle.std.specs.String.{string_cmp};
 ghost use Rattle.std.specs.FinMap.{get};
-ghost use Rattle.cny_base.specs.Path.{is_path, parent};
+ghost use Rattle.tree_disk.specs.cny-base.Path.{is_path, parent};
 ghost use Rattle.tree_disk.specs.Tree as names;
 ghost use Rattle.tree_disk.specs.Tree.{Name, WellFormed, may_stand, put};
 ghost use Rattle.tree_disk.specs.Disk.{IsCrashImage};
@@ -12,9 +12,9 @@ ghost use Rattle.tree_nodes.specs.Crash.{HoldsNodes};
 
 use crate::conditions::{node_ranges, same_name};
 use crate::map::NodeMap;
-use cny_base::{Bytes, Mode, Node, OutOfMemory, parent_of};
 use std::alloc::Global;
 use std::collections::BTreeSet;
+use tree_disk::cny_base::{Bytes, Mode, Node, OutOfMemory, parent_of};
 
 /// A disk at a crash: what it reads, what it read at the last sync, and the names changed since.
 #[derive(Clone, Copy)]

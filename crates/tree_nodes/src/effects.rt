@@ -7,9 +7,9 @@ ghost use Rattle.tree_nodes.specs.Stored.{tree_of};
 ghost use Rattle.tree_disk.specs.Rows.{can_set_mode, grown, of_mode, with_append, with_mode, with_rename};
 
 use crate::map::NodeMap;
-use cny_base::{Bytes, Mode, Node, OutOfMemory, Path};
 use std::alloc::Global;
 use std::collections::BTreeMap;
+use tree_disk::cny_base::{Bytes, Mode, Node, OutOfMemory, Path};
 
 // A file of mode 0600.
 pub(crate) fn new_file(alloc: Global, bytes: &[u8]) -> Result<Node, OutOfMemory>

@@ -11,9 +11,11 @@ mod map;
 mod reads;
 mod start;
 
-use cny_base::{ListOf, Node, Path};
 pub use crash::Crash;
 pub use map::NodeMap;
+pub use tree_disk;
+pub use tree_disk::cny_base;
+use tree_disk::cny_base::{ListOf, Node, Path};
 
 /// Nodes with their paths.
 pub type Nodes = ListOf<(Path, Node)>;

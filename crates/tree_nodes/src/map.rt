@@ -5,10 +5,10 @@ ghost use Rattle.std.specs.FinMap.{get, empty};
 ghost use Rattle.tree_disk.specs.Tree.{put};
 ghost use Rattle.tree_nodes.specs.Stored.{tree_of};
 
-use cny_base::{Copies, Node, OutOfMemory};
 use std::alloc::Global;
 use std::collections::BTreeMap;
 use std::marker::Model;
+use tree_disk::cny_base::{Copies, Node, OutOfMemory};
 
 /// The nodes of a tree. Contracts see it as the tree.
 #[derive(Drop)]

@@ -3,8 +3,8 @@ ghost use Rattle.std.specs.Prelude.{◌≡◌, ◌-◌, ◌++◌, min, length, t
 ghost use Rattle.tree_disk.specs.Rows as rows;
 
 use crate::map::NodeMap;
-use cny_base::{Bytes, Copies, Node, OutOfMemory, Path};
 use tree_disk::Look;
+use tree_disk::cny_base::{Bytes, Copies, Node, OutOfMemory, Path};
 
 fn size_of(bytes: &Bytes) -> u64
     ensures { result ≡ length bytes.now }

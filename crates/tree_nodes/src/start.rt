@@ -8,8 +8,8 @@ ghost use Rattle.tree_nodes.specs.Start.{IsTree};
 
 use crate::Nodes;
 use crate::map::NodeMap;
-use cny_base::{Copies, Node, OutOfMemory, Path, parent_of};
 use std::alloc::Global;
+use tree_disk::cny_base::{Copies, Node, OutOfMemory, Path, parent_of};
 
 // Whether the paths strictly rise.
 fn rises(nodes: &[(Path, Node)]) -> bool

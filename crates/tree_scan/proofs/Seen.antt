@@ -4,8 +4,8 @@ use Rattle.std.specs.Prelude.{◌==◌, unwrap_or}
 use Rattle.std.specs.FinMap.{get}
 use Rattle.std.specs.Str.{bytes_eq}
 use Rattle.sha1.specs.Sha1.{sha1}
-use Rattle.cny_base.specs.declared.node.Node.{Node}
-use Rattle.cny_base.specs.declared.node.Node.TheVariants as node
+use Rattle.tree_disk.specs.cny-base.declared.node.Node.{Node}
+use Rattle.tree_disk.specs.cny-base.declared.node.Node.TheVariants as node
 use Rattle.file_stream.specs.declared.record.FileRec.{FileRec}
 use Rattle.file_stream.specs.declared.record.FileRec.TheVariants as rec
 use Rattle.tree_disk.specs.declared.disk.Look.{Look}

@@ -1,7 +1,7 @@
 -- One test after another.
 use Rattle.std.proofs.Common.{Result, Ok, refl}
-use Rattle.cny_base.specs.declared.refusal.Refusal.{Refusal}
-use Rattle.cny_base.specs.declared.stop.Stop.{Stop}
+use Rattle.tree_disk.specs.cny-base.declared.refusal.Refusal.{Refusal}
+use Rattle.tree_disk.specs.cny-base.declared.stop.Stop.{Stop}
 use Rattle.tree_disk.specs.Tree.{Tree}
 use Rattle.tree_disk.specs.Disk.{DiskModel, IsDisk}
 use Rattle.tree_disk.specs.StepLaws.{tests_then}

@@ -3,8 +3,8 @@ use Rattle.std.specs.Prelude.{Bool, true, false, ◌&&◌, ◌==◌, length, Opt
 use Rattle.std.specs.Str.{bytes_eq}
 use Rattle.std.specs.FinMap.{get}
 use Rattle.sha1.specs.Sha1.{sha1}
-use Rattle.cny_base.specs.declared.node.Node.{Node}
-use Rattle.cny_base.specs.declared.node.Node.TheVariants as node
+use Rattle.tree_disk.specs.cny-base.declared.node.Node.{Node}
+use Rattle.tree_disk.specs.cny-base.declared.node.Node.TheVariants as node
 use Rattle.file_stream.specs.declared.record.FileRec.{FileRec}
 use Rattle.file_stream.specs.declared.record.FileRec.TheVariants as rec
 use Rattle.tree_disk.specs.Tree.{Name, Tree}

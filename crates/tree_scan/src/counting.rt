@@ -6,9 +6,9 @@ ghost use Rattle.tree_disk.specs.Steps.{IsDiskStop, Tests};
 ghost use Rattle.tree_scan.specs.Differing.{count_of_differing_bytes};
 
 use crate::pieces::{piece_room, room_for};
-use cny_base::{Path, Stop};
 use cny_lanes::count_different;
 use std::alloc::Global;
+use tree_disk::cny_base::{Path, Stop};
 use tree_disk::{TreeDisk, steps};
 
 // How many bytes of a piece were read, and how many of them differ.

@@ -13,4 +13,5 @@ pub use counting::differing;
 pub use laws::distinct_marks;
 pub use mark::{Mark, are_same_marks, mark_file};
 pub use scanning::{mark_at, matches};
+pub use tree_disk;
 pub use verification::{Finding, Findings, Found, Verified};

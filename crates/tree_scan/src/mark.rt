@@ -1,13 +1,13 @@
 //! Fingerprints of what stands at a path.
 ghost use Rattle.std.specs.Prelude.{◌≡◌, Some};
-ghost use Rattle.cny_base.specs.declared.node.Node.TheVariants as node;
+ghost use Rattle.tree_disk.specs.cny-base.declared.node.Node.TheVariants as node;
 ghost use Rattle.tree_scan.specs.declared.mark.Mark.TheVariants as mark;
 ghost use Rattle.tree_scan.specs.Marks as spec;
 ghost use Rattle.tree_scan.specs.Marks.{fingerprint, fingerprint_of_record, same_mark};
 
-use cny_base::{Copies, Mode, OutOfMemory, Target};
 use file_stream::FileRec;
 use sha1::Sha1;
+use tree_disk::cny_base::{Copies, Mode, OutOfMemory, Target};
 
 /// A fingerprint: what stands at a path, a file by its size and the SHA-1 of its bytes. Owners and flags are no part of it.
 #[derive(Debug, Drop)]

@@ -4,9 +4,9 @@ ghost use Rattle.sha1.specs.Sha1.{sha1, Holds};
 ghost use Rattle.tree_disk.specs.Rows.{bytes_at, is_file_at};
 ghost use Rattle.tree_disk.specs.Steps.{IsDiskStop, Tests};
 
-use cny_base::{Path, Stop};
 use sha1::Sha1;
 use std::alloc::Global;
+use tree_disk::cny_base::{Path, Stop};
 use tree_disk::{TreeDisk, steps};
 
 /// How many bytes of a file are read at once.

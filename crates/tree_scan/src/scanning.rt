@@ -7,9 +7,9 @@ ghost use Rattle.tree_scan.specs.Marks.{fingerprint_at, matches_record};
 
 use crate::mark::Mark;
 use crate::pieces::hash_file;
-use cny_base::{Path, Stop};
 use file_stream::FileRec;
 use std::alloc::Global;
+use tree_disk::cny_base::{Path, Stop};
 use tree_disk::{Look, TreeDisk, steps};
 
 // The fingerprint of what was seen; of a file, its bytes have this name.

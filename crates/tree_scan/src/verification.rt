@@ -1,5 +1,5 @@
 //! What a verification finds.
-use cny_base::{Copies, ListOf, OutOfMemory, Path};
+use tree_disk::cny_base::{Copies, ListOf, OutOfMemory, Path};
 
 /// How a recorded path differs from its record.
 #[derive(Clone, Copy, Debug, PartialEq, Eq)]

@@ -5,7 +5,7 @@ use Rattle.std.proofs.lemmas.Grind.{fold-append}
 use Rattle.cny_flavor.specs.declared.parts.Parts.{Parts}
 use Rattle.cny_version.specs.Label.{LabelParts}
 use Rattle.cny_version.specs.Version.{WholeVersion}
-use Rattle.trove_stream.specs.declared.parts.TroveParts.{TroveParts}
+use Rattle.repo_index.specs.trove-stream.declared.parts.TroveParts.{TroveParts}
 use Rattle.repo_index.specs.Places.{troves_at}
 use Rattle.repo_index.specs.PlacesLaws.{at, at-push, passing-push}
 use Rattle.trove_spec.specs.Resolve.{better_of, best, kept, chosen_of, of_version, candidates_of, is_candidate, has_version, is_wanted}

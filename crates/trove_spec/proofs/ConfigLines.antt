@@ -7,9 +7,9 @@ use Rattle.std.proofs.lemmas.List.Sums.{take_while-cons}
 use Rattle.std.specs.Cmp.Lexicographic.{pointwise}
 use Rattle.std.specs.Prelude.{Err, IsErrOf, nat_eq, ◌==◌, ◌&&◌}
 use Rattle.std.proofs.lemmas.Bool.Decides.{nat_tests}
-use Rattle.cny_base.specs.Below.{begins_with}
-use Rattle.cny_base.specs.declared.text.TextFault.{TextFault}
-use Rattle.cny_base.specs.declared.text.TextFault.TheVariants.{Bad}
+use Rattle.repo_index.specs.cny-base.Below.{begins_with}
+use Rattle.repo_index.specs.cny-base.declared.text.TextFault.{TextFault}
+use Rattle.repo_index.specs.cny-base.declared.text.TextFault.TheVariants.{Bad}
 use Rattle.cny_flavor.specs.declared.parts.Parts.{Parts}
 use Rattle.cny_flavor.specs.Spelling.{IsRelaxedText, IsReadAs}
 use Rattle.trove_spec.specs.declared.config.Config.{Config}

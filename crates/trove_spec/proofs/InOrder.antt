@@ -15,9 +15,9 @@ use Rattle.std.proofs.lemmas.Map.Keys.{IsDistinct-head, IsDistinct-tail, IsDisti
 use Rattle.std.proofs.lemmas.Option.{none-some}
 use Rattle.cny_flavor.specs.Canonical.{flavor_text}
 use Rattle.cny_version.specs.Version.{version_text}
-use Rattle.trove_id.specs.declared.id.TroveId.{TroveId}
-use Rattle.trove_id.specs.Order.{id_eq, id_cmp, id_equiv, id_total, id_ties}
-use Rattle.trove_stream.specs.declared.parts.TroveParts.{TroveParts}
+use Rattle.repo_index.specs.trove-parts.declared.id.TroveId.{TroveId}
+use Rattle.repo_index.specs.trove-parts.Order.{id_eq, id_cmp, id_equiv, id_total, id_ties}
+use Rattle.repo_index.specs.trove-stream.declared.parts.TroveParts.{TroveParts}
 use Rattle.repo_index.specs.Catalogue.{HasDistinctIds}
 use Rattle.repo_index.specs.Places.{troves_at}
 use Rattle.trove_spec.specs.Expansion.{trove_cmp, IsExpansion, IsClosedIn, by_name_cmp, HasRisingNames, first_of_same_name}

@@ -12,3 +12,5 @@ pub mod InOrder
 pub mod Adding
 pub mod Meant
 pub mod OneConfig
+pub mod PathText
+pub mod Sizes

@@ -9,7 +9,7 @@ use Rattle.std.proofs.lemmas.Bool.Decides.{nat_tests}
 use Rattle.std.proofs.lemmas.Fmt.{digits_decimal}
 use Rattle.std.proofs.lemmas.List.Folds.{list_all-append}
 use Rattle.std.proofs.lemmas.Str.Parse.{IsNumeralModel, numerals_by_fold}
-use Rattle.cny_base.specs.Number.{is_digit, decimal_on, decimal_value}
+use Rattle.repo_index.specs.cny-base.Number.{is_digit, decimal_on, decimal_value}
 use Rattle.cny_version.specs.declared.revision.Revision.{Revision}
 use Rattle.cny_version.specs.Label.{LabelParts, label_text, is_label_byte, is_label_part, is_label}
 use Rattle.cny_version.specs.Revision.{count_text, build_text, revision_text, is_upstream_byte, is_upstream, fits_32_bits, ends_above_zero, is_count, is_build, is_revision}

@@ -1,8 +1,8 @@
 -- What a label read from a text says of the place that the text means.
 use Rattle.std.proofs.Common.{◌≡◌, ℕ, true, false, List, [], ◌∷◌, ◌++◌, Err, IsTrue, refl, sym, ap, ◌∙◌, true≢false}
 use Rattle.std.specs.List.{flat_map}
-use Rattle.cny_base.specs.declared.text.TextFault.{TextFault}
-use Rattle.cny_base.specs.declared.text.TextFault.TheVariants.{Bad, Memory}
+use Rattle.repo_index.specs.cny-base.declared.text.TextFault.{TextFault}
+use Rattle.repo_index.specs.cny-base.declared.text.TextFault.TheVariants.{Bad, Memory}
 use Rattle.cny_version.specs.Label.{LabelParts, label_text, is_label, IsLabelText}
 use Rattle.cny_version.specs.Version.{Part, labels_text, part_text}
 use Rattle.cny_version.specs.Filled.{AbbreviatedLabel, abbreviated_label_text, AbbreviatedVersion, abbreviated_text}

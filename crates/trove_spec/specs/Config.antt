@@ -2,10 +2,10 @@
 use Rattle.std.specs.Prelude.{◌≡◌, ℕ, ◌+◌, ◌<◌, ◌≤◌, Bool, true, false, ◌&&◌, ◌||◌, not, ◌==◌, if◌then◌else◌, IsTrue, List, [], ◌∷◌, length, drop, take, map, filter, codes, slice_index_or}
 use Rattle.std.specs.List.{take_while, fold, slice_split, AllZip}
 use Rattle.std.specs.Str.{is_utf8}
-use Rattle.cny_base.specs.Below.{begins_with}
-use Rattle.cny_base.specs.declared.refusal.Fault.{Fault}
-use Rattle.cny_base.specs.declared.refusal.Fault.TheVariants.{Refused, Memory}
-use Rattle.cny_base.specs.declared.refusal.Refusal.TheVariants as refusal
+use Rattle.repo_index.specs.cny-base.Below.{begins_with}
+use Rattle.repo_index.specs.cny-base.declared.refusal.Fault.{Fault}
+use Rattle.repo_index.specs.cny-base.declared.refusal.Fault.TheVariants.{Refused, Memory}
+use Rattle.repo_index.specs.cny-base.declared.refusal.Refusal.TheVariants as refusal
 use Rattle.cny_flavor.specs.Canonical.{no_parts}
 use Rattle.cny_flavor.specs.Spelling.{IsRelaxedText}
 use Rattle.cny_version.specs.Label.{LabelParts, label_text, is_label}

@@ -4,3 +4,4 @@ pub mod Config
 pub mod Reach
 pub mod Expansion
 pub mod Reached
+pub mod RootConfig

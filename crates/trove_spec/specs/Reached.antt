@@ -1,8 +1,8 @@
 -- The places of the troves that some roots reach, as they are gathered.
 use Rattle.std.specs.Prelude.{◌≡◌, ℕ, List, ◌++◌, Contains, eqb, slice_get, Some}
 use Rattle.std.specs.List.{IsDistinct}
-use Rattle.trove_id.specs.declared.id.TroveId.{TroveId}
-use Rattle.trove_stream.specs.declared.parts.TroveParts.{TroveParts}
+use Rattle.repo_index.specs.trove-parts.declared.id.TroveId.{TroveId}
+use Rattle.repo_index.specs.trove-stream.declared.parts.TroveParts.{TroveParts}
 use Rattle.repo_index.specs.Places.{IsPlaceOf}
 use Rattle.trove_spec.specs.Expansion.{IsReached}
 

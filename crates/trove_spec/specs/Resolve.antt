@@ -6,16 +6,16 @@ use Rattle.std.specs.Option.{option_and_then}
 use Rattle.std.specs.Ordering.{nat_cmp, int_cmp, ordering_then, is_lt}
 use Rattle.std.specs.declared.cmp.Ordering.{Ordering}
 use Rattle.std.specs.Str.{bytes_eq}
-use Rattle.cny_base.specs.declared.refusal.Fault.{Fault}
-use Rattle.cny_base.specs.declared.refusal.Fault.TheVariants.{Refused, Memory}
-use Rattle.cny_base.specs.declared.refusal.Refusal.{Refusal}
-use Rattle.cny_base.specs.declared.refusal.Refusal.TheVariants as refusal
+use Rattle.repo_index.specs.cny-base.declared.refusal.Fault.{Fault}
+use Rattle.repo_index.specs.cny-base.declared.refusal.Fault.TheVariants.{Refused, Memory}
+use Rattle.repo_index.specs.cny-base.declared.refusal.Refusal.{Refusal}
+use Rattle.repo_index.specs.cny-base.declared.refusal.Refusal.TheVariants as refusal
 use Rattle.cny_flavor.specs.declared.parts.Parts.{Parts}
 use Rattle.cny_flavor.specs.Canonical.{flavor_text}
 use Rattle.cny_flavor.specs.Score.{flavor_score}
 use Rattle.cny_version.specs.Label.{LabelParts, label_text}
 use Rattle.cny_version.specs.Version.{WholeVersion, last_label, version_text}
-use Rattle.trove_stream.specs.declared.parts.TroveParts.{TroveParts}
+use Rattle.repo_index.specs.trove-stream.declared.parts.TroveParts.{TroveParts}
 use Rattle.repo_index.specs.Catalogue.{named}
 use Rattle.trove_spec.specs.declared.config.Config.{Config}
 use Rattle.trove_spec.specs.declared.spec.Place.{Place}

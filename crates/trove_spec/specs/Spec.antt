@@ -1,8 +1,8 @@
 -- Specifications of troves and their texts.
 use Rattle.std.specs.Prelude.{◌≡◌, ℕ, ◌<◌, Bool, false, ◌==◌, IsTrue, List, [], ◌∷◌, ◌++◌, length, slice_index, Option, Some, None, Result, Ok, Err}
-use Rattle.cny_base.specs.Name.{is_name}
-use Rattle.cny_base.specs.declared.text.TextFault.{TextFault}
-use Rattle.cny_base.specs.declared.text.TextFault.TheVariants as fault
+use Rattle.repo_index.specs.cny-base.Name.{is_name}
+use Rattle.repo_index.specs.cny-base.declared.text.TextFault.{TextFault}
+use Rattle.repo_index.specs.cny-base.declared.text.TextFault.TheVariants as fault
 use Rattle.cny_flavor.specs.declared.parts.Parts.{Parts}
 use Rattle.cny_flavor.specs.Spelling.{IsRelaxedText}
 use Rattle.cny_version.specs.Label.{label_text, is_label}

@@ -9,7 +9,7 @@ ghost use Rattle.trove_spec.specs.Resolve.{candidates_of, best, kept};
 use cny_flavor::{Flavor, score};
 use cny_version::{Label, Version};
 use repo_index::Catalogue;
-use trove_stream::Trove;
+use repo_index::trove_stream::Trove;
 
 // Whether the version is on this label, where one is given.
 fn is_on(label: Option<&Label>, version: &Version) -> bool

@@ -1,18 +1,18 @@
 //! The configuration.
 ghost use Rattle.std.specs.Prelude.{◌≡◌, ◌+◌, ◌-◌, ◌^◌, ◌<◌, ◌≤◌, ◌==◌, ◌↔◌, true, false, not, IsTrue, IfOk, IfErr, IsErrOf, List, ℕ, length, drop, map, filter, MatchOption};
 ghost use Rattle.std.specs.List.{AllZip, slice_split, take_while};
-ghost use Rattle.cny_base.specs.declared.limits.TheConstants.{CONFIG_LIMIT};
-ghost use Rattle.cny_base.specs.declared.refusal.Fault.TheVariants as fault;
-ghost use Rattle.cny_base.specs.declared.refusal.Refusal.TheVariants as refusal;
+ghost use Rattle.repo_index.specs.cny-base.declared.limits.TheConstants.{CONFIG_LIMIT};
+ghost use Rattle.repo_index.specs.cny-base.declared.refusal.Fault.TheVariants as fault;
+ghost use Rattle.repo_index.specs.cny-base.declared.refusal.Refusal.TheVariants as refusal;
 ghost use Rattle.cny_version.specs.Label.{LabelParts};
 ghost use Rattle.trove_spec.specs.Config as spec;
 ghost use Rattle.trove_spec.specs.Config.{cleaned, has_key, is_word_there, IsTextOf, IsPathSetting, IsRelaxedSetting, IsFlavorSetting, IsSetting, IsConfigOf, IsBadConfigOrMemory, no_config, with_setting, lines_of, is_before_section, as_space, without_front, without_back, without_cr};
 ghost use Rattle.trove_spec.specs.declared.config.Config.{Config};
 ghost use Rattle.trove_spec.specs.declared.config.Setting.{Setting};
 
-use cny_base::{Copies, Fault, ListOf, OutOfMemory, Refusal, TextFault, text_of};
 use cny_flavor::Flavor;
 use cny_version::{Label, distinct_texts};
+use repo_index::cny_base::{Copies, Fault, ListOf, OutOfMemory, Refusal, TextFault, text_of};
 use std::alloc::{AllocError, Global};
 
 /// A list of labels.

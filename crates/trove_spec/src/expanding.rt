@@ -1,19 +1,19 @@
 //! Which troves some roots reach by references.
 ghost use Rattle.std.specs.Prelude.{◌≡◌, ◌<◌, ◌++◌, ◌∷◌, [], None, List, length, map, OnOk, IfOk, IfErr};
 ghost use Rattle.std.specs.Option.{option_map};
-ghost use Rattle.trove_id.specs.declared.id.TroveId.{TroveId};
-ghost use Rattle.trove_stream.specs.declared.parts.TroveParts.{TroveParts};
+ghost use Rattle.repo_index.specs.trove-parts.declared.id.TroveId.{TroveId};
+ghost use Rattle.repo_index.specs.trove-stream.declared.parts.TroveParts.{TroveParts};
 ghost use Rattle.repo_index.specs.Places.{troves_at};
 ghost use Rattle.trove_spec.specs.Expansion as spec;
 ghost use Rattle.trove_spec.specs.Expansion.{IsExpansion, IsClosedIn, HasRisingNames, IsUnexpanded};
 ghost use Rattle.trove_spec.specs.Reached.{HasAddedPlaces, HasAddedRefs, ArePlacesReached};
 
-use cny_base::{Copies, Fault, ListOf, OutOfMemory, Refusal};
 use indexmap::IndexSet;
 use repo_index::Catalogue;
+use repo_index::cny_base::{Copies, Fault, ListOf, OutOfMemory, Refusal};
+use repo_index::trove_parts::{TroveId, id_text};
+use repo_index::trove_stream::Trove;
 use std::alloc::Global;
-use trove_id::{TroveId, id_text};
-use trove_stream::Trove;
 
 /// A list of troves.
 pub type Troves = ListOf<Trove>;

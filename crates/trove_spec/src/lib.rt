@@ -1,17 +1,20 @@
-//! Specifications of troves, the configuration, which trove a specification means, and which troves its references reach.
+//! Specifications of troves, the configuration and the file of a root that holds it, which trove a specification means, and which
+//! troves its references reach.
 //!
 //! Begin at `spec` and `resolving`. In the order in which each stands on the ones before it: `spec` (specifications and their
 //! texts), `config` (the label path and the flavor), `candidates` (the troves of a name that may be meant), `resolving`. By
-//! itself stands `expanding` (the troves that some roots reach).
+//! themselves stand `expanding` (the troves that some roots reach) and `reading` (the configuration of a root).
 #![tactic(auto)]
 
 mod candidates;
 mod config;
 mod expanding;
+mod reading;
 mod resolving;
 mod spec;
 
 pub use config::{Config, Labels};
 pub use expanding::{Troves, expand, one_expansion};
+pub use reading::read_config;
 pub use resolving::{best_of_newest, meant_troves, resolve};
 pub use spec::{Place, Spec};

@@ -3,7 +3,7 @@ ghost use Rattle.std.specs.Prelude.{◌≡◌, true, false, List, [], Some, None
 ghost use Rattle.std.specs.List.{last_or};
 ghost use Rattle.std.specs.Option.{option_copied, option_map};
 ghost use Rattle.cny_flavor.specs.declared.parts.Parts.{Parts};
-ghost use Rattle.trove_stream.specs.declared.parts.TroveParts.{TroveParts};
+ghost use Rattle.repo_index.specs.trove-stream.declared.parts.TroveParts.{TroveParts};
 ghost use Rattle.trove_spec.specs.declared.config.Config.{Config};
 ghost use Rattle.trove_spec.specs.declared.spec.Spec.{Spec};
 ghost use Rattle.trove_spec.specs.Resolve.{chosen, chosen_of, has_version, is_better, first_chosen, resolution, system_flavor, lacks_label, IsUnresolved};
@@ -11,13 +11,13 @@ ghost use Rattle.trove_spec.specs.Resolve.{chosen, chosen_of, has_version, is_be
 use crate::candidates::{best_candidate, last_candidate};
 use crate::config::Config;
 use crate::spec::{Place, Spec};
-use cny_base::{Copies, Fault, Name, Refusal, Text};
 use cny_flavor::Flavor;
 use cny_version::{Label, Version};
 use repo_index::Catalogue;
+use repo_index::cny_base::{Copies, Fault, Name, Refusal, Text};
+use repo_index::trove_parts::TroveId;
+use repo_index::trove_stream::Trove;
 use std::alloc::Global;
-use trove_id::TroveId;
-use trove_stream::Trove;
 
 // The trove that is chosen among those of a name, on this label and of this version, where they are given.
 fn chosen<'a>(

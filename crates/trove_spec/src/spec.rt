@@ -7,9 +7,9 @@ ghost use Rattle.trove_spec.specs.declared.spec.Place.{Place};
 ghost use Rattle.trove_spec.specs.Spec as spec;
 ghost use Rattle.trove_spec.specs.Spec.{IsSpecText, ArePartsOf, IsPlaceText, IsFlavorText, IsCutAtEquals, IsCutAtBracket, IsReadAs};
 
-use cny_base::{Copies, Name, OutOfMemory, TextFault};
 use cny_flavor::Flavor;
 use cny_version::{Label, Version};
+use repo_index::cny_base::{Copies, Name, OutOfMemory, TextFault};
 use std::alloc::Global;
 
 /// Where a trove is looked for.

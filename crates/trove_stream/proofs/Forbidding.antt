@@ -1,7 +1,7 @@
 -- The first file that no trove may record.
 use Rattle.std.proofs.Common.{◌≡◌, ℕ, ◌<◌, suc, Bool, true, false, cond, List, length, get_or, drop, Option, Some, refl, ap, ◌∙◌}
 use Rattle.std.proofs.Math.Seq.{drop-cons}
-use Rattle.trove_items.specs.declared.files.FileAt.{FileAt}
+use Rattle.trove_parts.specs.declared.files.FileAt.{FileAt}
 use Rattle.trove_stream.specs.Forbidden.{is_forbidden_file, first_forbidden}
 
 at_true : (b : Bool) (x y : Option (List ℕ)) → b ≡ true → cond b x y ≡ x

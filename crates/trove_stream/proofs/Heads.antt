@@ -4,14 +4,14 @@ use Rattle.std.specs.Int.{w16, w32, to_be_bytes, from_be_bytes}
 use Rattle.std.proofs.Math.Seq.{drop-append_seam}
 use Rattle.std.proofs.lemmas.List.{drop-drop}
 use Rattle.std.proofs.lemmas.Nat.{from_be_bytes-to_be_bytes_2}
-use Rattle.cny_base.specs.StrField.{FitsStr, str}
-use Rattle.cny_flavor.specs.Canonical.{flavor_text}
+use Rattle.trove_parts.specs.cny-base.StrField.{FitsStr, str}
+use Rattle.trove_parts.specs.cny-flavor.Canonical.{flavor_text}
 use Rattle.cny_stream.specs.Item.{item_bytes}
 use Rattle.cny_stream.specs.ItemLaws.{same_front, same_item}
 use Rattle.cny_version.specs.Version.{version_text}
-use Rattle.trove_id.specs.declared.id.TroveId.{TroveId}
-use Rattle.trove_id.specs.Id.{IsTroveId, id_bytes, IsIdAt}
-use Rattle.trove_id.specs.Parts.{AreTextsOf, three_strs}
+use Rattle.trove_parts.specs.declared.id.TroveId.{TroveId}
+use Rattle.trove_parts.specs.Id.{IsTroveId, id_bytes, IsIdAt}
+use Rattle.trove_parts.specs.Parts.{AreTextsOf, three_strs}
 use Rattle.trove_stream.specs.declared.head.HeadItems.{HeadItems}
 use Rattle.trove_stream.specs.Head.{name_in, version_in, flavor_in, AreHeadItems}
 use Rattle.trove_stream.specs.Stream.{three_items, head_bytes}

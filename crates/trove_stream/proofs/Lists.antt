@@ -3,13 +3,13 @@ use Rattle.std.proofs.Common.{◌≡◌, ℕ, ◌≤◌, false, List, [], ◌∷
 use Rattle.std.specs.Prelude.{◌==◌}
 use Rattle.std.proofs.lemmas.List.{length-drop}
 use Rattle.cny_dep.specs.Dep.{dep_text}
-use Rattle.file_stream.specs.declared.encoding.Encoding.{Encoding}
-use Rattle.trove_id.specs.Id.{id_bytes}
-use Rattle.trove_items.specs.Deps.{deps_bytes}
-use Rattle.trove_items.specs.Files.{file_value, files_bytes}
-use Rattle.trove_items.specs.Items.{begins_with_tag, BeginsWithItems, AreItemsAt}
-use Rattle.trove_items.specs.ItemsLaws.{other_tag}
-use Rattle.trove_items.specs.Refs.{refs_bytes}
+use Rattle.trove_parts.specs.file-stream.declared.encoding.Encoding.{Encoding}
+use Rattle.trove_parts.specs.Id.{id_bytes}
+use Rattle.trove_parts.specs.Deps.{deps_bytes}
+use Rattle.trove_parts.specs.Files.{file_value, files_bytes}
+use Rattle.trove_parts.specs.Items.{begins_with_tag, BeginsWithItems, AreItemsAt}
+use Rattle.trove_parts.specs.ItemsLaws.{other_tag}
+use Rattle.trove_parts.specs.Refs.{refs_bytes}
 use Rattle.trove_stream.specs.declared.parts.TroveParts.{TroveParts}
 use Rattle.trove_stream.specs.Stream.{head_bytes, lists_bytes, stream_bytes, IsHeadOf}
 

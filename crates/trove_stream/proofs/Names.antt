@@ -3,7 +3,7 @@ use Rattle.std.proofs.Common.{◌≡◌, ℕ, Bool, true, false, ◌&&◌, nat_e
 use Rattle.std.specs.Prelude.{◌==◌}
 use Rattle.std.specs.Cmp.Lexicographic.{pointwise}
 use Rattle.std.proofs.lemmas.Bool.Decides.{nat_tests}
-use Rattle.cny_base.specs.Below.{begins_with}
+use Rattle.trove_parts.specs.cny-base.Below.{begins_with}
 use Rattle.trove_stream.specs.Trove.{begins_with_colon, is_component_of}
 
 same_bit : (a b : ℕ) (x y : Bool) → x ≡ y → (nat_eq b a && x) ≡ ((a == b) && y)

@@ -1,20 +1,20 @@
 -- A stream is that of one trove, and the streams in both encodings.
 use Rattle.std.proofs.Common.{◌≡◌, ◌↔◌, ℕ, ◌≤◌, List, [], ◌++◌, length, All, refl, sym, ap, ◌∙◌, append-nil}
 use Rattle.cny_dep.specs.Dep.{IsDependency, dep_text}
-use Rattle.cny_flavor.specs.Canonical.{flavor_text}
+use Rattle.trove_parts.specs.cny-flavor.Canonical.{flavor_text}
 use Rattle.cny_stream.specs.Item.{item_bytes}
 use Rattle.cny_stream.specs.ItemLaws.{same_item}
 use Rattle.cny_version.specs.Version.{version_text}
-use Rattle.file_stream.specs.declared.encoding.Encoding.{Encoding}
-use Rattle.file_stream.specs.declared.encoding.Encoding.TheVariants.{Compact, Explicit}
-use Rattle.trove_id.specs.declared.id.TroveId.{TroveId}
-use Rattle.trove_id.specs.Id.{IsTroveId, id_bytes}
-use Rattle.trove_id.specs.Parts.{three_strs}
-use Rattle.trove_items.specs.Deps.{deps_bytes}
-use Rattle.trove_items.specs.declared.files.FileAt.{FileAt}
-use Rattle.trove_items.specs.Files.{IsFileAt, HasOtherOwner, file_value, files_bytes}
-use Rattle.trove_items.specs.Items.{AreOfOneList}
-use Rattle.trove_items.specs.ItemsLaws.{same_middle}
+use Rattle.trove_parts.specs.file-stream.declared.encoding.Encoding.{Encoding}
+use Rattle.trove_parts.specs.file-stream.declared.encoding.Encoding.TheVariants.{Compact, Explicit}
+use Rattle.trove_parts.specs.declared.id.TroveId.{TroveId}
+use Rattle.trove_parts.specs.Id.{IsTroveId, id_bytes}
+use Rattle.trove_parts.specs.Parts.{three_strs}
+use Rattle.trove_parts.specs.Deps.{deps_bytes}
+use Rattle.trove_parts.specs.declared.files.FileAt.{FileAt}
+use Rattle.trove_parts.specs.Files.{IsFileAt, HasOtherOwner, file_value, files_bytes}
+use Rattle.trove_parts.specs.Items.{AreOfOneList}
+use Rattle.trove_parts.specs.ItemsLaws.{same_middle}
 use Rattle.trove_stream.specs.declared.parts.TroveParts.{TroveParts}
 use Rattle.trove_stream.specs.Stream.{head_bytes, lists_bytes, stream_bytes}
 use Rattle.trove_stream.specs.Trove.{IsTrove}

@@ -1,11 +1,11 @@
 -- Paths that no trove may record.
 use Rattle.std.specs.Prelude.{◌≡◌, ℕ, Bool, if◌then◌else◌, List, [], ◌∷◌, Option, Some, None}
-use Rattle.cny_base.specs.Reserved.{is_forbidden}
-use Rattle.cny_base.specs.declared.refusal.Fault.{Fault}
-use Rattle.cny_base.specs.declared.refusal.Fault.TheVariants.{Refused, Memory}
-use Rattle.cny_base.specs.declared.refusal.Refusal.TheVariants.{Reserved}
-use Rattle.file_stream.specs.Record.{is_dir}
-use Rattle.trove_items.specs.declared.files.FileAt.{FileAt}
+use Rattle.trove_parts.specs.cny-base.Reserved.{is_forbidden}
+use Rattle.trove_parts.specs.cny-base.declared.refusal.Fault.{Fault}
+use Rattle.trove_parts.specs.cny-base.declared.refusal.Fault.TheVariants.{Refused, Memory}
+use Rattle.trove_parts.specs.cny-base.declared.refusal.Refusal.TheVariants.{Reserved}
+use Rattle.trove_parts.specs.file-stream.Record.{is_dir}
+use Rattle.trove_parts.specs.declared.files.FileAt.{FileAt}
 
 -- no trove may record its path as it does
 abbrev pub is_forbidden_file : FileAt → Bool

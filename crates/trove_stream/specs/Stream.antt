@@ -1,15 +1,15 @@
 -- The stream of a trove, as a function of it.
 use Rattle.std.specs.Prelude.{◌≡◌, ℕ, ◌≤◌, List, ◌++◌, length, drop}
-use Rattle.cny_flavor.specs.Canonical.{flavor_text}
+use Rattle.trove_parts.specs.cny-flavor.Canonical.{flavor_text}
 use Rattle.cny_stream.specs.Item.{item_bytes}
 use Rattle.cny_version.specs.Version.{version_text}
-use Rattle.file_stream.specs.declared.encoding.Encoding.{Encoding}
-use Rattle.file_stream.specs.declared.encoding.Encoding.TheVariants.{Compact, Explicit}
-use Rattle.trove_id.specs.declared.id.TroveId.{TroveId}
-use Rattle.trove_id.specs.Id.{IsTroveId}
-use Rattle.trove_items.specs.Deps.{deps_bytes}
-use Rattle.trove_items.specs.Files.{files_bytes}
-use Rattle.trove_items.specs.Refs.{refs_bytes}
+use Rattle.trove_parts.specs.file-stream.declared.encoding.Encoding.{Encoding}
+use Rattle.trove_parts.specs.file-stream.declared.encoding.Encoding.TheVariants.{Compact, Explicit}
+use Rattle.trove_parts.specs.declared.id.TroveId.{TroveId}
+use Rattle.trove_parts.specs.Id.{IsTroveId}
+use Rattle.trove_parts.specs.Deps.{deps_bytes}
+use Rattle.trove_parts.specs.Files.{files_bytes}
+use Rattle.trove_parts.specs.Refs.{refs_bytes}
 use Rattle.trove_stream.specs.declared.parts.TroveParts.{TroveParts}
 
 -- three items: the name, and the texts of the version and the flavor

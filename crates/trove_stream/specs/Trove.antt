@@ -1,16 +1,16 @@
 -- The rules of troves.
 use Rattle.std.specs.Prelude.{◌≡◌, ◌≢◌, ℕ, ◌≤◌, Bool, false, ◌-◌, ◌&&◌, ◌==◌, not, is_some, IsTrue, List, [], ◌∷◌, length, drop, codes, All}
 use Rattle.std.specs.Str.{bytes_eq}
-use Rattle.cny_base.specs.Below.{begins_with}
-use Rattle.cny_base.specs.Name.{kind_of_name}
-use Rattle.cny_base.specs.declared.limits.TheConstants.{FILES_LIMIT, REFS_LIMIT, DEPS_LIMIT}
-use Rattle.cny_base.specs.declared.name.NameKind.{NameKind}
-use Rattle.cny_base.specs.declared.name.NameKind.TheVariants.{Component, Package, Group}
-use Rattle.trove_id.specs.declared.id.TroveId.{TroveId}
-use Rattle.trove_id.specs.Id.{IsTroveId}
-use Rattle.trove_items.specs.Deps.{AreDeps}
-use Rattle.trove_items.specs.Files.{AreFiles}
-use Rattle.trove_items.specs.Refs.{AreRefs}
+use Rattle.trove_parts.specs.cny-base.Below.{begins_with}
+use Rattle.trove_parts.specs.cny-base.Name.{kind_of_name}
+use Rattle.trove_parts.specs.cny-base.declared.limits.TheConstants.{FILES_LIMIT, REFS_LIMIT, DEPS_LIMIT}
+use Rattle.trove_parts.specs.cny-base.declared.name.NameKind.{NameKind}
+use Rattle.trove_parts.specs.cny-base.declared.name.NameKind.TheVariants.{Component, Package, Group}
+use Rattle.trove_parts.specs.declared.id.TroveId.{TroveId}
+use Rattle.trove_parts.specs.Id.{IsTroveId}
+use Rattle.trove_parts.specs.Deps.{AreDeps}
+use Rattle.trove_parts.specs.Files.{AreFiles}
+use Rattle.trove_parts.specs.Refs.{AreRefs}
 use Rattle.trove_stream.specs.declared.parts.TroveParts.{TroveParts}
 
 -- ---- build counts

@@ -5,9 +5,9 @@ ghost use Rattle.trove_stream.specs.Forbidden as spec;
 ghost use Rattle.trove_stream.specs.Forbidden.{first_forbidden, IsReservedOrMemory};
 
 use crate::trove::Trove;
-use cny_base::{Fault, Path, Refusal, Text};
 use std::alloc::Global;
-use trove_items::FileAt;
+use trove_parts::FileAt;
+use trove_parts::cny_base::{Fault, Path, Refusal, Text};
 
 fn is_forbidden_file(file: &FileAt) -> bool
     ensures { result ≡ spec.is_forbidden_file file.now }

@@ -1,16 +1,16 @@
 //! The id of a trove, from the items with which its stream begins.
 ghost use Rattle.std.specs.Prelude.{◌≡◌, ◌++◌, List, ℕ, drop, IfOk, IsErrOf, IfSome, IfNone};
 ghost use Rattle.cny_stream.specs.Item.{FitsItem};
-ghost use Rattle.trove_id.specs.declared.id.TroveId.{TroveId};
-ghost use Rattle.trove_id.specs.Id.{IsTroveId};
+ghost use Rattle.trove_parts.specs.declared.id.TroveId.{TroveId};
+ghost use Rattle.trove_parts.specs.Id.{IsTroveId};
 ghost use Rattle.trove_stream.specs.Stream.{three_items, head_bytes, IsHeadOf};
 ghost use Rattle.trove_stream.specs.Head.{AreHeadItems};
 
 use crate::writing::{FLAVOR, NAME, VERSION};
-use cny_base::TextFault;
 use cny_stream::{Item, next_item};
 use std::alloc::Global;
-use trove_id::{IdAt, id_of_bytes, short_ids};
+use trove_parts::cny_base::TextFault;
+use trove_parts::{IdAt, id_of_bytes, short_ids};
 
 /// Where the texts of an id stand.
 #[derive(Clone, Copy)]

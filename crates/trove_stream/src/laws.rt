@@ -1,14 +1,13 @@
 //! Bytes are the stream of one trove at most, and a trove has one stream in both encodings or two.
 ghost use Rattle.std.specs.Prelude.{◌≡◌, ◌↔◌, All};
-ghost use Rattle.file_stream.specs.declared.encoding.Encoding.{Encoding};
-ghost use Rattle.file_stream.specs.declared.encoding.Encoding.TheVariants.{Compact, Explicit};
-ghost use Rattle.trove_items.specs.Files.{HasOtherOwner};
+ghost use Rattle.trove_parts.specs.file-stream.declared.encoding.Encoding.{Encoding};
+ghost use Rattle.trove_parts.specs.file-stream.declared.encoding.Encoding.TheVariants.{Compact, Explicit};
+ghost use Rattle.trove_parts.specs.Files.{HasOtherOwner};
 ghost use Rattle.trove_stream.specs.declared.parts.TroveParts.{TroveParts};
 ghost use Rattle.trove_stream.specs.Stream.{stream_bytes};
 ghost use Rattle.trove_stream.specs.Trove.{IsTrove};
 
-use trove_id::{distinct_ids, short_ids};
-use trove_items::distinct_lists;
+use trove_parts::{distinct_ids, distinct_lists, short_ids};
 
 /// No bytes are the streams of two troves, whichever the encodings of both. The two streams of a trove are equal exactly where
 /// root owns no directory and no file of it.

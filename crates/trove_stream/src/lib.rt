@@ -1,20 +1,36 @@
-//! Troves: what a version of a component, a package or a group holds, and their streams.
+//! Troves: what a version of a component, a package or a group holds, and their streams; relative troves, which lead from one trove to
+//! another of its name, and theirs; and lists of installed troves, each with a name of its own.
 #![tactic(auto)]
 
+mod disjoint;
 mod forbidden;
 mod head;
+mod installed;
 mod laws;
 mod parts;
 mod reading;
+mod rel;
+mod rel_laws;
+mod rel_reading;
+mod rel_writing;
 mod rules;
+mod together;
 mod trove;
 mod writing;
 
 pub use forbidden::check;
+pub use installed::{Installed, Troves};
 pub use laws::distinct_troves;
 pub use parts::TroveParts;
 pub use reading::{decode, decode_full};
+pub use rel::{RelParts, RelTrove};
+pub use rel_laws::distinct_rels;
+pub use rel_reading::{decode_rel, decode_rel_full};
+pub use rel_writing::{encode_rel, encode_rel_full};
 pub use trove::Trove;
-pub use trove_id::{IdAt, TroveId, id_text, next_id, put_id, read_id};
-pub use trove_items::{Deps, FileAt, Files, Refs};
+pub use trove_parts;
+pub use trove_parts::{
+    Deps, FileAt, Files, IdAt, Refs, TroveId, cny_base, file_stream, id_text, next_id, put_id,
+    read_id,
+};
 pub use writing::{encode, encode_full};

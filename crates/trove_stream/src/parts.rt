@@ -1,7 +1,6 @@
 //! The parts of troves.
-use cny_base::{Copies, OutOfMemory};
-use trove_id::TroveId;
-use trove_items::{Deps, Files, Refs};
+use trove_parts::cny_base::{Copies, OutOfMemory};
+use trove_parts::{Deps, Files, Refs, TroveId};
 
 /// What a trove holds, with the rules of troves kept or not.
 #[derive(Debug, Drop)]

@@ -8,10 +8,10 @@ use crate::head::take_head;
 use crate::parts::TroveParts;
 use crate::trove::Trove;
 use crate::writing::{FILE, PROVIDE, REF, REQUIRE};
-use cny_base::{DEPS_LIMIT, FILES_LIMIT, REFS_LIMIT, TextFault};
-use file_stream::Encoding;
 use std::alloc::Global;
-use trove_items::{take_deps, take_files, take_refs};
+use trove_parts::cny_base::{DEPS_LIMIT, FILES_LIMIT, REFS_LIMIT, TextFault};
+use trove_parts::file_stream::Encoding;
+use trove_parts::{take_deps, take_files, take_refs};
 
 // The parts that the bytes spell, all of them. Of no list more elements are read than a trove has at most, so that bytes that
 // are no trove's take no more memory than those of a trove.

@@ -1,14 +1,13 @@
 //! The rules of troves.
 ghost use Rattle.std.specs.Prelude.{◌≡◌, ◌↔◌, [], IsTrue, All};
-ghost use Rattle.cny_base.specs.Name.{kind_of_name};
+ghost use Rattle.trove_parts.specs.cny-base.Name.{kind_of_name};
 ghost use Rattle.trove_stream.specs.Trove as spec;
 ghost use Rattle.trove_stream.specs.Trove.{HasRightBuild, IsComponentOf, HasOtherName, HasRefsAlone, KeepsKind, HasLists, IsWithinLimits, KeepsRules};
 
 use crate::parts::TroveParts;
-use cny_base::{DEPS_LIMIT, FILES_LIMIT, NameKind, REFS_LIMIT};
 use cny_version::{Version, distinct_texts};
-use trove_id::TroveId;
-use trove_items::{are_deps, are_files, are_refs};
+use trove_parts::cny_base::{DEPS_LIMIT, FILES_LIMIT, NameKind, REFS_LIMIT};
+use trove_parts::{TroveId, are_deps, are_files, are_refs};
 
 /// Whether the lists are in their order.
 pub(crate) fn has_lists(parts: &TroveParts) -> bool

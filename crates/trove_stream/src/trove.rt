@@ -4,11 +4,10 @@ ghost use Rattle.trove_stream.specs.Trove.{HasLists, IsTrove};
 
 use crate::parts::TroveParts;
 use crate::rules::{has_lists, keeps_rules};
-use cny_base::{Copies, OutOfMemory, TextFault};
 use cny_dep::Dep;
 use std::marker::Model;
-use trove_id::TroveId;
-use trove_items::{Deps, FileAt, Files, Refs};
+use trove_parts::cny_base::{Copies, OutOfMemory, TextFault};
+use trove_parts::{Deps, FileAt, Files, Refs, TroveId};
 
 /// A version of a component, of a package or of a group. A component holds files, and what it requires and provides; a
 /// package refers to its components of the same version and flavor, a group to other troves. A component `NAME:source` has

@@ -4,12 +4,11 @@ ghost use Rattle.trove_stream.specs.Stream.{head_bytes, stream_bytes, trove_byte
 ghost use Rattle.trove_stream.specs.Trove.{IsTrove};
 
 use crate::trove::Trove;
-use cny_base::{Bytes, OutOfMemory};
 use cny_stream::put_item;
-use file_stream::Encoding;
 use std::alloc::Global;
-use trove_id::{TroveId, short_ids};
-use trove_items::{put_deps, put_files, put_refs};
+use trove_parts::cny_base::{Bytes, OutOfMemory};
+use trove_parts::file_stream::Encoding;
+use trove_parts::{TroveId, put_deps, put_files, put_refs, short_ids};
 
 /// The tags of a trove's items.
 pub(crate) const NAME: u8 = 1;

@@ -5,7 +5,7 @@ use Rattle.std.proofs.lemmas.Bool.{eqb-true, cases_lt}
 use Rattle.std.proofs.lemmas.List.Elements.{Contains-append_left, Contains-push, Contains-push_cases}
 use Rattle.std.proofs.lemmas.Option.{slice_get_within}
 use Rattle.std.proofs.lemmas.Map.Views.{Contains-from_any}
-use Rattle.trove_stream.specs.declared.parts.TroveParts.{TroveParts}
+use Rattle.change_set.specs.trove-stream.declared.parts.TroveParts.{TroveParts}
 use Rattle.update_job.specs.Reach.{IsReachedIn}
 use Rattle.update_job.specs.Gone.{IsPlace, Leads, LeadsPast, IsReached, IsOutside, IsKept, IsGone, IsLeft}
 use Rattle.update_job.specs.Places.{ArePlacesReached, AreOthers, ArePlaces, ArePlacesLeft}

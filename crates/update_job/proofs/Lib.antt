@@ -5,3 +5,8 @@ pub mod Leaving
 pub mod Mapped
 pub mod Lists
 pub mod Noting
+pub mod Firsts
+pub mod Reserved
+pub mod Making
+pub mod Unique
+pub mod Bases

@@ -5,11 +5,11 @@ use Rattle.std.specs.Cmp.Lexicographic.{slice_cmp}
 use Rattle.std.specs.Map.{lookup}
 use Rattle.std.specs.Ordering.{nat_cmp}
 use Rattle.std.proofs.lemmas.Option.{slice_get-get_or, same_Some, none-some}
-use Rattle.cny_base.specs.declared.refusal.Refusal.{Refusal}
-use Rattle.cny_base.specs.declared.refusal.Refusal.TheVariants as refusal
+use Rattle.change_set.specs.cny-base.declared.refusal.Refusal.{Refusal}
+use Rattle.change_set.specs.cny-base.declared.refusal.Refusal.TheVariants as refusal
 use Rattle.indexmap.specs.IndexSet.{insert_key}
-use Rattle.installed_list.specs.Installed.{IsPlaceOf, IsNameless}
-use Rattle.trove_stream.specs.declared.parts.TroveParts.{TroveParts}
+use Rattle.change_set.specs.trove-stream.Installed.{IsPlaceOf, IsNameless}
+use Rattle.change_set.specs.trove-stream.declared.parts.TroveParts.{TroveParts}
 use Rattle.update_job.specs.Lists.{IsPlaceOfOne, Stays, IsErased, AreInstalled, IsNotInstalled, HasTroveOf, IsUpdated}
 use Rattle.update_job.specs.Places.{ArePlaces, ArePlacesLeft, ArePlacesOf}
 use Rattle.update_job.specs.ByName.{ByName, found, AreNamed, IsAtOne, HasPutAll, AreByName}

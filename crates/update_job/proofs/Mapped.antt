@@ -15,10 +15,10 @@ use Rattle.std.proofs.lemmas.List.Elements.{Contains-get_or}
 use Rattle.std.proofs.lemmas.Map.Entries.{place_from_lookup, btree_map_get_place}
 use Rattle.std.proofs.lemmas.Map.Keys.{Less-from_sorted}
 use Rattle.std.proofs.lemmas.Option.{slice_get-get_or, slice_get_within, same_Some, none-some}
-use Rattle.cny_base.specs.declared.refusal.Fault.{Fault}
-use Rattle.cny_base.specs.declared.refusal.Fault.TheVariants.{Refused, Memory}
-use Rattle.installed_list.specs.Installed.{by_name, IsRising}
-use Rattle.trove_stream.specs.declared.parts.TroveParts.{TroveParts}
+use Rattle.change_set.specs.cny-base.declared.refusal.Fault.{Fault}
+use Rattle.change_set.specs.cny-base.declared.refusal.Fault.TheVariants.{Refused, Memory}
+use Rattle.change_set.specs.trove-stream.Installed.{by_name, IsRising}
+use Rattle.change_set.specs.trove-stream.declared.parts.TroveParts.{TroveParts}
 use Rattle.update_job.specs.Lists.{IsOneOfEach, IsUnupdated}
 use Rattle.update_job.specs.Places.{ArePlaces}
 use Rattle.update_job.specs.ByName.{ByName, found, same, AreNamed, HasPut, HasPutAt, IsAtOne, HasPutAll, AreByName, HasAdmitted, IsNotAdmitted}

@@ -7,8 +7,8 @@ use Rattle.std.proofs.lemmas.List.Elements.{Contains-append_left, Contains-get_o
 use Rattle.std.proofs.lemmas.Map.Steps.{length-le_from_distinct_below}
 use Rattle.std.proofs.lemmas.Map.Views.{Contains-from_any}
 use Rattle.std.proofs.lemmas.Option.{slice_get_within, same_Some}
-use Rattle.trove_id.specs.declared.id.TroveId.{TroveId}
-use Rattle.trove_stream.specs.declared.parts.TroveParts.{TroveParts}
+use Rattle.change_set.specs.trove-parts.declared.id.TroveId.{TroveId}
+use Rattle.change_set.specs.trove-stream.declared.parts.TroveParts.{TroveParts}
 use Rattle.update_job.specs.Reach.{IsReachedIn}
 use Rattle.update_job.specs.Gone.{IsPlace, Leads, LeadsPast}
 use Rattle.update_job.specs.Places.{IsPlaceOfItem, HasAddedPlaces, HasAddedRefs, ArePlacesReached, HasSame, ArePlaces, name_of_id}

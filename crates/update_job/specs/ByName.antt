@@ -3,11 +3,11 @@ use Rattle.std.specs.Prelude.{◌≡◌, ◌⊎◌, ℕ, Bool, if◌then◌else�
 use Rattle.std.specs.BTreeMap.{BTreeMap, get, is_at}
 use Rattle.std.specs.Cmp.Lexicographic.{slice_cmp}
 use Rattle.std.specs.Ordering.{nat_cmp}
-use Rattle.cny_base.specs.declared.refusal.Fault.{Fault}
-use Rattle.cny_base.specs.declared.refusal.Fault.TheVariants.{Refused, Memory}
-use Rattle.cny_base.specs.declared.refusal.Refusal.TheVariants as refusal
-use Rattle.trove_id.specs.Id.{id_text_of}
-use Rattle.trove_stream.specs.declared.parts.TroveParts.{TroveParts}
+use Rattle.change_set.specs.cny-base.declared.refusal.Fault.{Fault}
+use Rattle.change_set.specs.cny-base.declared.refusal.Fault.TheVariants.{Refused, Memory}
+use Rattle.change_set.specs.cny-base.declared.refusal.Refusal.TheVariants as refusal
+use Rattle.change_set.specs.trove-parts.Id.{id_text_of}
+use Rattle.change_set.specs.trove-stream.declared.parts.TroveParts.{TroveParts}
 
 -- by name: a trove
 abbrev pub ByName : Type 0

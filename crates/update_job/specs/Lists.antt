@@ -1,12 +1,12 @@
 -- The lists after an update and an erasure, and when there is none.
 use Rattle.std.specs.Prelude.{◌≡◌, ℕ, ◌⊎◌, List, take, slice_get, Some, Contains}
-use Rattle.cny_base.specs.declared.refusal.Fault.{Fault}
-use Rattle.cny_base.specs.declared.refusal.Fault.TheVariants.{Refused, Memory}
-use Rattle.cny_base.specs.declared.refusal.Refusal.{Refusal}
-use Rattle.cny_base.specs.declared.refusal.Refusal.TheVariants as refusal
-use Rattle.installed_list.specs.Installed.{IsRising, IsPlaceOf, IsNameless}
-use Rattle.trove_id.specs.Id.{id_text_of}
-use Rattle.trove_stream.specs.declared.parts.TroveParts.{TroveParts}
+use Rattle.change_set.specs.cny-base.declared.refusal.Fault.{Fault}
+use Rattle.change_set.specs.cny-base.declared.refusal.Fault.TheVariants.{Refused, Memory}
+use Rattle.change_set.specs.cny-base.declared.refusal.Refusal.{Refusal}
+use Rattle.change_set.specs.cny-base.declared.refusal.Refusal.TheVariants as refusal
+use Rattle.change_set.specs.trove-stream.Installed.{IsRising, IsPlaceOf, IsNameless}
+use Rattle.change_set.specs.trove-parts.Id.{id_text_of}
+use Rattle.change_set.specs.trove-stream.declared.parts.TroveParts.{TroveParts}
 use Rattle.update_job.specs.Gone.{IsLeft}
 
 -- the place of a trove with one of these names

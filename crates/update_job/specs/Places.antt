@@ -1,8 +1,8 @@
 -- Places of installed troves, as they are gathered.
 use Rattle.std.specs.Prelude.{◌≡◌, ℕ, List, length, slice_get, Some, Contains, ◌++◌}
-use Rattle.installed_list.specs.Installed.{IsPlaceOf}
-use Rattle.trove_id.specs.declared.id.TroveId.{TroveId}
-use Rattle.trove_stream.specs.declared.parts.TroveParts.{TroveParts}
+use Rattle.change_set.specs.trove-stream.Installed.{IsPlaceOf}
+use Rattle.change_set.specs.trove-parts.declared.id.TroveId.{TroveId}
+use Rattle.change_set.specs.trove-stream.declared.parts.TroveParts.{TroveParts}
 use Rattle.update_job.specs.Reach.{IsReachedIn}
 use Rattle.update_job.specs.Gone.{IsPlace, LeadsPast, IsLeft}
 use Rattle.update_job.specs.Lists.{IsPlaceOfOne}

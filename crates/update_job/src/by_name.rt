@@ -7,12 +7,11 @@ ghost use Rattle.update_job.specs.Lists.{IsOneOfEach, IsUnupdated};
 ghost use Rattle.update_job.specs.Places.{ArePlaces};
 ghost use Rattle.update_job.specs.ByName.{AreNamed, HasPut, HasPutAt, HasPutAll, AreByName, HasAdmitted, IsNotAdmitted};
 
-use cny_base::{Bytes, Copies, Fault, Name, OutOfMemory, Refusal};
-use installed_list::Installed;
+use change_set::cny_base::{Bytes, Copies, Fault, Name, OutOfMemory, Refusal};
+use change_set::trove_parts::id_text;
+use change_set::trove_stream::{Installed, Trove, distinct_troves, encode};
 use std::alloc::Global;
 use std::collections::BTreeMap;
-use trove_id::id_text;
-use trove_stream::{Trove, distinct_troves, encode};
 
 /// Troves by their names.
 pub(crate) type ByName = BTreeMap<Name, Trove>;

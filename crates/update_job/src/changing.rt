@@ -1,18 +1,17 @@
 //! The installed lists after an update and an erasure.
 ghost use Rattle.std.specs.Prelude.{◌≡◌, ℕ, List, Contains, IfOk, IfErr, OnOk};
-ghost use Rattle.installed_list.specs.Installed.{IsNameless};
-ghost use Rattle.cny_base.specs.declared.refusal.Refusal.TheVariants as refusal;
+ghost use Rattle.change_set.specs.trove-stream.Installed.{IsNameless};
+ghost use Rattle.change_set.specs.cny-base.declared.refusal.Refusal.TheVariants as refusal;
 ghost use Rattle.update_job.specs.Lists.{AreInstalled, IsErased, IsUnerased, IsUpdated, IsUnupdated, IsOneOfEach, HasTroveOf};
 ghost use Rattle.update_job.specs.Places.{ArePlacesOf};
 
 use crate::by_name::{by_name, in_order, put_all};
 use crate::reaching::places_left;
-use cny_base::{Fault, Name, OutOfMemory, Refusal, Text};
+use change_set::cny_base::{Fault, Name, OutOfMemory, Refusal, Text};
+use change_set::trove_stream::{Installed, Trove};
 use indexmap::IndexSet;
-use installed_list::Installed;
 use std::alloc::Global;
 use std::collections::BTreeMap;
-use trove_stream::Trove;
 
 // The refusal of a name of which no trove is installed.
 fn not_installed(alloc: Global, name: &Name) -> Result<Refusal, OutOfMemory>

@@ -3,16 +3,15 @@ ghost use Rattle.std.specs.Prelude.{◌≡◌, IfOk, OnOk};
 ghost use Rattle.std.specs.BTreeMap.{values, IsOrdered};
 ghost use Rattle.std.specs.Cmp.Lexicographic.{slice_cmp};
 ghost use Rattle.std.specs.Ordering.{nat_cmp};
-ghost use Rattle.installed_list.specs.Installed.{IsRising};
+ghost use Rattle.change_set.specs.trove-stream.Installed.{IsRising};
 ghost use Rattle.update_job.specs.Changes.{AreChanges, IsLost, IsFresh, HasNoted, NotesOne, NotesAll};
 
 use crate::by_name::are_equal;
-use cny_base::{Copies, ListOf, Name, OutOfMemory};
-use installed_list::Installed;
+use change_set::cny_base::{Copies, ListOf, Name, OutOfMemory};
+use change_set::trove_parts::TroveId;
+use change_set::trove_stream::{Installed, Trove};
 use std::alloc::Global;
 use std::collections::BTreeMap;
-use trove_id::TroveId;
-use trove_stream::Trove;
 
 /// A change of an installed list.
 #[derive(Debug, Drop)]

@@ -3,11 +3,11 @@ ghost use Rattle.std.specs.Prelude.{◌≡◌, [], ◌∷◌, ◌++◌, if◌the
 ghost use Rattle.std.specs.List.{list_any};
 ghost use Rattle.update_job.specs.Places.{IsOpenPlace, HasAddedPlaces, HasAddedRefs, ArePlacesReached, HasSame, AreOthers, ArePlaces, ArePlacesLeft, name_of_id};
 
-use cny_base::{Name, OutOfMemory};
+use change_set::cny_base::{Name, OutOfMemory};
+use change_set::trove_parts::TroveId;
+use change_set::trove_stream::Installed;
 use indexmap::IndexSet;
-use installed_list::Installed;
 use std::alloc::Global;
-use trove_id::TroveId;
 
 // The place of the trove of this name, if it is installed and its place isn't barred.
 fn open_place(installed: &Installed, barred: &IndexSet<usize>, name: &Name) -> Option<usize>

@@ -3,11 +3,11 @@ use super::crashes::{cuts, images};
 use super::listed::ListedDisk;
 use super::runs::{Case, MANY, Run, apply_up_to, calls_before, case_of, recover_up_to};
 use super::words::{BASE, GATE, expanded, shown, stored, whole};
-use cny_base::{Path, Refusal, Stop as DiskEnd};
 use disk_words::{Stop, disk_of, number_at, parts_of, pick_at, text_at, word};
 use std::alloc::Global;
-use tree_disk::TreeDisk;
+use tree_journal::cny_base::{Path, Refusal, Stop as DiskEnd};
 use tree_journal::recover;
+use tree_journal::tree_disk::TreeDisk;
 use tree_memory::MemoryTree;
 
 // `apply TREE PUTS`: the whole tree after the application.

@@ -1,12 +1,12 @@
 // A disk that lists what is looked at.
 ghost use Rattle.std.specs.Prelude.{◌≡◌, OnErr};
-ghost use Rattle.tree_disk.specs.declared.disk.DiskStop.TheVariants.{Memory};
-ghost use Rattle.tree_disk.specs.Untold.{untold, untold_laws};
+ghost use Rattle.tree_journal.specs.tree-disk.declared.disk.DiskStop.TheVariants.{Memory};
+ghost use Rattle.tree_journal.specs.tree-disk.Untold.{untold, untold_laws};
 
-use cny_base::{Mode, Names, Path, Target};
 use disk_words::Quiet;
 use std::alloc::Global;
-use tree_disk::{DiskStop, Look, TreeDisk};
+use tree_journal::cny_base::{Mode, Names, Path, Target};
+use tree_journal::tree_disk::{DiskStop, Look, TreeDisk};
 
 /// A disk, the paths that were looked at, with a semicolon behind each, and how many calls had been made before the first
 /// sync, none before that.

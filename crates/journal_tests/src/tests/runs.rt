@@ -2,10 +2,10 @@
 ghost use Rattle.std.specs.Prelude.{◌≤◌, IfOk, length};
 
 use super::words::{BASE, puts_of, stands, stored};
-use cny_base::{Path, Stop as DiskEnd};
 use disk_words::{Quiet, Stop, disk_of, text_at};
-use journal_log::Puts;
 use std::alloc::Global;
+use tree_journal::cny_base::{Path, Stop as DiskEnd};
+use tree_journal::journal_log::Puts;
 use tree_journal::{apply, recover};
 use tree_memory::MemoryTree;
 

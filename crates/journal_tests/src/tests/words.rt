@@ -5,12 +5,12 @@
 // none. A tree that is given has `/` of mode 0755 besides, and its paths rise; one that is answered has the paths directly
 // below `/` first, then those below these, and a `;` before each node. A write set has the same nodes, and `nothing PATH`
 // and `staged MODE NUMBER SIZE DIGEST PATH`, and its paths rise.
-use cny_base::{Node, Path, Target};
 use disk_words::{
     Stop, contents_at, mode_at, name_at, nodes_text, number_at, parts_of, path_at, text_at, word,
 };
-use journal_log::{Put, Puts, Want};
 use std::alloc::Global;
+use tree_journal::cny_base::{Node, Path, Target};
+use tree_journal::journal_log::{Put, Puts, Want};
 use tree_memory::MemoryTree;
 
 /// The private directory of the journal.

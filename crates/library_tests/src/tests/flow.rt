@@ -1,4 +1,4 @@
-use cny_base::{Bytes, Fails};
+use cny_flow::cny_base::{Bytes, Fails};
 use cny_flow::{FlowFault, MemorySink, MemorySource, Sink, Source, StdSink, StdSource};
 use std::alloc::{AllocError, Global};
 use std::io;

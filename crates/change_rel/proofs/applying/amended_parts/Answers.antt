@@ -1,8 +1,8 @@
 use Rattle.std.proofs.Common.{subst, sym}
 use Rattle.std.specs.List.Sorted.{IsStrictlySortedBy}
 use Rattle.cny_dep.specs.Order.{dep_cmp}
-use Rattle.trove_id.specs.Order.{id_cmp}
-use Rattle.trove_items.specs.Files.{file_cmp}
+use Rattle.trove_stream.specs.trove-parts.Order.{id_cmp}
+use Rattle.trove_stream.specs.trove-parts.Files.{file_cmp}
 use Rattle.change_rel.proofs.applying.amended_parts.Goals as goal
 
 pub amended-requires-clause-old : goal.amended-requires-clause-old

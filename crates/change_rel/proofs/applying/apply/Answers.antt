@@ -1,6 +1,6 @@
 use Rattle.std.proofs.Common.{Option, MatchOption, subst}
 use Rattle.trove_stream.specs.declared.parts.TroveParts.{TroveParts}
-use Rattle.trove_rel.specs.declared.rel.RelParts.{RelParts}
+use Rattle.trove_stream.specs.declared.rel.RelParts.{RelParts}
 use Rattle.change_rel.specs.Leads.{Leads, LeadsNowhere}
 use Rattle.change_rel.proofs.applying.apply.Goals as goal
 

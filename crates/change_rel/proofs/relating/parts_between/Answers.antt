@@ -1,9 +1,9 @@
 use Rattle.std.proofs.Common.{subst, sym, ◌∙◌}
 use Rattle.std.specs.List.Sorted.{IsStrictlySortedBy}
 use Rattle.cny_dep.specs.Order.{dep_cmp}
-use Rattle.trove_id.specs.Order.{id_cmp}
-use Rattle.trove_items.specs.Files.{path_of, file_cmp}
-use Rattle.trove_items.specs.Paths.{path_cmp}
+use Rattle.trove_stream.specs.trove-parts.Order.{id_cmp}
+use Rattle.trove_stream.specs.trove-parts.Files.{path_of, file_cmp}
+use Rattle.trove_stream.specs.trove-parts.Paths.{path_cmp}
 use Rattle.change_rel.specs.Leads.{id_key, dep_key}
 use Rattle.change_rel.proofs.Leading.{moved, leads_of}
 use Rattle.change_rel.proofs.relating.parts_between.Goals as goal

@@ -1,5 +1,5 @@
 use Rattle.std.proofs.Common.{sym, subst}
-use Rattle.trove_rel.specs.declared.rel.RelParts.{RelParts}
+use Rattle.trove_stream.specs.declared.rel.RelParts.{RelParts}
 use Rattle.change_rel.specs.Leads.{Leads}
 use Rattle.change_rel.proofs.relating.relative.Goals as goal
 

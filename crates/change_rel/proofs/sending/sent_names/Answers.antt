@@ -1,6 +1,6 @@
 use Rattle.std.proofs.Common.{ℕ, List, Contains, arith, subst}
 use Rattle.std.specs.Prelude.{◌↔◌}
-use Rattle.trove_items.specs.declared.files.FileAt.{FileAt}
+use Rattle.trove_stream.specs.trove-parts.declared.files.FileAt.{FileAt}
 use Rattle.change_rel.specs.Sending.{SendsName}
 use Rattle.change_rel.proofs.Members.{take_all}
 use Rattle.change_rel.proofs.Sent.{turn}

@@ -1,4 +1,4 @@
-use Rattle.trove_items.specs.Files.{file_cmp}
+use Rattle.trove_stream.specs.trove-parts.Files.{file_cmp}
 use Rattle.change_rel.proofs.Members.{rising_nil}
 use Rattle.change_rel.proofs.sending.to_send.Goals as goal
 

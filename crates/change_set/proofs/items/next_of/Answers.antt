@@ -3,7 +3,7 @@ use Rattle.std.proofs.lemmas.List.{take_rest}
 use Rattle.change_set.specs.FirstFault.{is_oversized}
 use Rattle.change_set.proofs.Faults.{none_fault}
 use Rattle.change_set.proofs.items.next_of.Goals as goal
-use Rattle.cny_base.specs.declared.refusal.Refusal.TheVariants.{Malformed}
+use Rattle.trove_stream.specs.cny-base.declared.refusal.Refusal.TheVariants.{Malformed}
 
 pub returns-in-Err-clause-refused : goal.returns-in-Err-clause-refused
 returns-in-Err-clause-refused c =

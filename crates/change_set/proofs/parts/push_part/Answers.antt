@@ -1,6 +1,6 @@
 use Rattle.std.proofs.Common.{List, Err, length, sym, ap, subst}
 use Rattle.std.specs.Prelude.{slice_range}
-use Rattle.cny_base.specs.declared.refusal.Refusal.TheVariants.{Malformed}
+use Rattle.trove_stream.specs.cny-base.declared.refusal.Refusal.TheVariants.{Malformed}
 use Rattle.change_set.specs.declared.change.Part.{Part}
 use Rattle.change_set.specs.Reading.{ArePartsTo, tags_behind}
 use Rattle.change_set.proofs.Faults.{fault_of_whole}

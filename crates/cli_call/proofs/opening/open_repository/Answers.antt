@@ -1,7 +1,7 @@
 use Rattle.std.proofs.Common.{subst, refl, arith}
-use Rattle.repo_state.specs.Files.{HoldsCatalogue}
+use Rattle.repo_load.specs.Files.{HoldsCatalogue}
 use Rattle.cli_call.specs.Opening.{no_test, Opens}
-use Rattle.root_ready.specs.Recovered.{RecoversAt}
+use Rattle.system_core.specs.Recovered.{RecoversAt}
 use Rattle.cli_call.specs.Stores.{repository_store}
 use Rattle.cli_call.proofs.OpeningDisks.{opens_stopped}
 use Rattle.cli_call.proofs.LoadingRepository.{loaded_opens}

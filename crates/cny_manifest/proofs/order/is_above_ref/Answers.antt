@@ -1,5 +1,5 @@
 use Rattle.std.proofs.Common.{sym, ◌∙◌}
-use Rattle.trove_id.specs.Order.{id_cmp}
+use Rattle.manifest_troves.specs.trove-parts.Order.{id_cmp}
 use Rattle.cny_manifest.proofs.Names.{last_above}
 use Rattle.cny_manifest.proofs.order.is_above_ref.Goals as goal
 

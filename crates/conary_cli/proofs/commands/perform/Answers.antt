@@ -3,8 +3,8 @@ use Rattle.cli_call.specs.declared.failure.Failure.{Failure}
 use Rattle.cli_call.specs.Alone.{PerformsAlone}
 use Rattle.cli_call.specs.Command.{disks, Performs}
 use Rattle.conary_cli.specs.Commands.{erasing, is_of_root, meaning, verify}
-use Rattle.job_commands.specs.Erase.{erase}
-use Rattle.job_commands.specs.UpdateSpecs.{update_specs}
+use Rattle.root_commands.specs.Erase.{erase}
+use Rattle.root_commands.specs.UpdateSpecs.{update_specs}
 use Rattle.conary_cli.specs.Records.{EndsWhole}
 use Rattle.conary_cli.proofs.Calls.{not_of_root}
 use Rattle.conary_cli.proofs.RecordEnds.{none_read}

@@ -1,5 +1,5 @@
 use Rattle.std.proofs.Common.{cond, None, Ok, ap, sym, ◌∙◌, false}
-use Rattle.tree_disk.specs.StepLaws.{tests_value}
+use Rattle.tree_scan.specs.tree-disk.StepLaws.{tests_value}
 use Rattle.tree_scan.specs.Marks.{fingerprint_at}
 use Rattle.conflict_plan.specs.Drafts.{draft_by}
 use Rattle.conflict_plan.specs.Table.{path_outcome}

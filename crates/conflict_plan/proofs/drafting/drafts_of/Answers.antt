@@ -2,7 +2,7 @@ use Rattle.std.proofs.Common.{◌+◌, ℕ, Ok, drop, length, refl, sym, ap, ◌
 use Rattle.std.proofs.lemmas.Iterator.Adapters.{YieldsList-from_vec}
 use Rattle.std.proofs.lemmas.Iterator.Consumers.{YieldsList-turn}
 use Rattle.std.proofs.lemmas.List.{length_push}
-use Rattle.tree_disk.specs.StepLaws.{tests_answer, tests_stop}
+use Rattle.tree_scan.specs.tree-disk.StepLaws.{tests_answer, tests_stop}
 use Rattle.conflict_plan.specs.Drafts.{drafts_of}
 use Rattle.conflict_plan.specs.Picked.{IsPickedDraft}
 use Rattle.conflict_plan.proofs.Ahead.{ahead_of, one_ahead, other_ahead, refused_ahead}

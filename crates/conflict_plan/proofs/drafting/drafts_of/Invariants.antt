@@ -1,5 +1,5 @@
 use Rattle.std.proofs.Common.{◌≡◌, IsTrue, Ok, length, drop}
-use Rattle.tree_disk.specs.Steps.{Tests}
+use Rattle.tree_scan.specs.tree-disk.Steps.{Tests}
 use Rattle.conflict_plan.specs.Drafts.{drafts_of}
 use Rattle.conflict_plan.proofs.Ahead.{ahead_of}
 use Rattle.conflict_plan.proofs.Picking.{PicksOn}

@@ -3,7 +3,7 @@ use Rattle.std.proofs.lemmas.List.{map-append}
 use Rattle.std.proofs.lemmas.List.Elements.{All-push}
 use Rattle.std.proofs.lemmas.Map.Iter.{rest_more, rest_so_far}
 use Rattle.std.specs.List.{All}
-use Rattle.cny_base.specs.Path.{is_path}
+use Rattle.trove_stream.specs.cny-base.Path.{is_path}
 use Rattle.conflict_plan.specs.declared.entries.Entry.{Entry}
 use Rattle.conflict_plan.specs.Entries.{entry_of, first_shared, or_later, owned_by}
 use Rattle.conflict_plan.proofs.Entered.{At, entry_turn}

@@ -1,6 +1,6 @@
 use Rattle.std.proofs.Common.{◌≡◌, IsTrue, length, map, drop}
 use Rattle.std.specs.List.{All}
-use Rattle.cny_base.specs.Path.{is_path}
+use Rattle.trove_stream.specs.cny-base.Path.{is_path}
 use Rattle.conflict_plan.specs.declared.entries.Entry.{Entry}
 use Rattle.conflict_plan.specs.Entries.{entry_of, first_shared}
 use Rattle.conflict_plan.proofs.entries.entries_of.Given as goal

@@ -2,7 +2,7 @@ use Rattle.std.proofs.Common.{◌≡◌, IsNone, IfSome, not, ap, ◌∙◌, sub
 use Rattle.std.specs.BTreeSet.{contains}
 use Rattle.std.specs.Cmp.Lexicographic.{slice_cmp}
 use Rattle.std.specs.Ordering.{nat_cmp}
-use Rattle.cny_base.specs.Path.{parent}
+use Rattle.trove_stream.specs.cny-base.Path.{parent}
 use Rattle.conflict_plan.proofs.Above.{parent_noted}
 use Rattle.conflict_plan.proofs.making.with_parent.Goals as goal
 

@@ -1,5 +1,5 @@
 use Rattle.std.proofs.Common.{refl, sym, ap, subst, ◌∙◌, arith, reverse, take}
-use Rattle.tree_disk.specs.StepLaws.{tests_answer, tests_value}
+use Rattle.tree_scan.specs.tree-disk.StepLaws.{tests_answer, tests_value}
 use Rattle.conflict_plan.specs.Orphans.{least_orphan, lesser, IsSeenPlan}
 use Rattle.tree_scan.specs.Following.{tests_next}
 use Rattle.conflict_plan.proofs.Sighted.{least_more, seen_item}

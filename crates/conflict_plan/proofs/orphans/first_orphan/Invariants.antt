@@ -1,5 +1,5 @@
 use Rattle.std.proofs.Common.{◌≡◌, IsTrue, Ok, reverse, take}
-use Rattle.tree_disk.specs.Steps.{Tests}
+use Rattle.tree_scan.specs.tree-disk.Steps.{Tests}
 use Rattle.conflict_plan.specs.Orphans.{least_orphan}
 use Rattle.conflict_plan.proofs.orphans.first_orphan.Given as goal
 

@@ -1,6 +1,6 @@
 use Rattle.std.proofs.Common.{cond, None, Ok, ap, sym, ◌∙◌}
-use Rattle.tree_disk.specs.StepLaws.{tests_as}
-use Rattle.tree_disk.specs.Tree.{children}
+use Rattle.tree_scan.specs.tree-disk.StepLaws.{tests_as}
+use Rattle.tree_scan.specs.tree-disk.Tree.{children}
 use Rattle.tree_scan.specs.Marks.{is_dir}
 use Rattle.conflict_plan.specs.Orphans.{first_remaining, wants_dir}
 use Rattle.conflict_plan.proofs.Remaining.{and_first}

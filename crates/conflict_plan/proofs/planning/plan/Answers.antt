@@ -1,7 +1,7 @@
 use Rattle.std.proofs.Common.{Ok, refl, sym, subst, ◌∙◌}
 use Rattle.std.specs.List.{All}
-use Rattle.tree_disk.specs.StepLaws.{tests_start, tests_value}
-use Rattle.tree_disk.specs.Steps.{Tests}
+use Rattle.tree_scan.specs.tree-disk.StepLaws.{tests_start, tests_value}
+use Rattle.tree_scan.specs.tree-disk.Steps.{Tests}
 use Rattle.conflict_plan.specs.Entries.{first_shared}
 use Rattle.conflict_plan.specs.Orphans.{IsSeenPlan}
 use Rattle.conflict_plan.specs.Plan.{IsFirstRefusal, IsPlanRefusal, RefusesShared}

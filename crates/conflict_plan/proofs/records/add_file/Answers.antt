@@ -2,8 +2,8 @@ use Rattle.std.proofs.Common.{cond, None, Some, ap, ◌∙◌}
 use Rattle.std.specs.BTreeMap.{get}
 use Rattle.std.specs.Cmp.Lexicographic.{slice_cmp}
 use Rattle.std.specs.Ordering.{nat_cmp}
-use Rattle.tree_disk.specs.Laws.{same_means}
-use Rattle.tree_disk.specs.Tree.{same_name}
+use Rattle.tree_scan.specs.tree-disk.Laws.{same_means}
+use Rattle.tree_scan.specs.tree-disk.Tree.{same_name}
 use Rattle.conflict_plan.specs.Records.{noted}
 use Rattle.conflict_plan.proofs.Ahead.{one_noted}
 use Rattle.conflict_plan.proofs.records.add_file.Goals as goal

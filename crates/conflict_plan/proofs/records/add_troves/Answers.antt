@@ -2,7 +2,7 @@ use Rattle.std.proofs.Common.{ap, arith, ◌∙◌}
 use Rattle.std.specs.BTreeMap.{get}
 use Rattle.std.specs.Cmp.Lexicographic.{slice_cmp}
 use Rattle.std.specs.Ordering.{nat_cmp}
-use Rattle.trove_id.specs.declared.id.TroveId.{TroveId}
+use Rattle.trove_stream.specs.trove-parts.declared.id.TroveId.{TroveId}
 use Rattle.conflict_plan.specs.Claims.{claims_in}
 use Rattle.conflict_plan.specs.Records.{noted_all}
 use Rattle.conflict_plan.proofs.Ahead.{trove_noted}

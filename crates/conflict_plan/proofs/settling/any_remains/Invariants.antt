@@ -1,6 +1,6 @@
 use Rattle.std.proofs.Common.{◌≡◌, List, ℕ, not, drop}
 use Rattle.std.specs.List.{list_any}
-use Rattle.cny_base.specs.Path.{join}
+use Rattle.trove_stream.specs.cny-base.Path.{join}
 use Rattle.conflict_plan.specs.Making.{fate_at, is_gone}
 use Rattle.conflict_plan.proofs.settling.any_remains.Given as goal
 

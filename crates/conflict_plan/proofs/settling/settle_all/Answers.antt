@@ -1,6 +1,6 @@
 use Rattle.std.proofs.Common.{Some, refl, sym, ap, ◌∙◌}
 use Rattle.std.proofs.lemmas.List.Elements.{All-pop}
-use Rattle.tree_disk.specs.StepLaws.{tests_answer, tests_value}
+use Rattle.tree_scan.specs.tree-disk.StepLaws.{tests_answer, tests_value}
 use Rattle.conflict_plan.specs.Settled.{settled_on, IsSeen}
 use Rattle.tree_scan.specs.Following.{tests_next}
 use Rattle.conflict_plan.proofs.Sighted.{settled_push}

@@ -1,6 +1,6 @@
 use Rattle.std.proofs.Common.{◌≡◌, IsTrue, Ok, length}
 use Rattle.std.specs.List.{All}
-use Rattle.tree_disk.specs.Steps.{Tests}
+use Rattle.tree_scan.specs.tree-disk.Steps.{Tests}
 use Rattle.conflict_plan.specs.Settled.{settled, settled_on, IsSeen}
 use Rattle.conflict_plan.proofs.Picking.{KeepsBehind}
 use Rattle.conflict_plan.proofs.settling.settle_all.Given as goal

@@ -1,6 +1,6 @@
 use Rattle.std.proofs.Common.{◌≡◌, ap, sym, ◌∙◌, refl, false}
 use Rattle.std.specs.Prelude.{IsTrue}
-use Rattle.cny_base.specs.Path.{parent}
+use Rattle.tree_disk.specs.cny-base.Path.{parent}
 use Rattle.tree_disk.specs.Tree.{Tree}
 use Rattle.tree_disk.specs.Rows.{can_append, is_file_at, with_append}
 use Rattle.tree_disk.specs.StepLaws.{makes_after_test, tests_value}

@@ -1,7 +1,7 @@
 use Rattle.std.proofs.Common.{ℕ, List, IsTrue, subst}
 use Rattle.std.proofs.lemmas.List.Elements.{All-cons}
 use Rattle.cny_dep.specs.Dep.{Dependency}
-use Rattle.trove_id.specs.declared.id.TroveId.{TroveId}
+use Rattle.trove_stream.specs.trove-parts.declared.id.TroveId.{TroveId}
 use Rattle.dep_closure.specs.Closed.{own_provide}
 use Rattle.dep_closure.specs.Slots.{notes, IsNoted}
 use Rattle.dep_closure.proofs.index.note_provider.Goals as goal

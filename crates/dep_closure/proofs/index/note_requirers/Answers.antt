@@ -1,7 +1,7 @@
 use Rattle.std.proofs.Common.{List, All, subst, arith}
 use Rattle.std.proofs.lemmas.List.{take_all}
 use Rattle.cny_dep.specs.Dep.{Dependency}
-use Rattle.trove_id.specs.declared.id.TroveId.{TroveId}
+use Rattle.trove_stream.specs.trove-parts.declared.id.TroveId.{TroveId}
 use Rattle.trove_stream.specs.declared.parts.TroveParts.{TroveParts}
 use Rattle.dep_closure.specs.Slots.{IsNoted}
 use Rattle.dep_closure.proofs.Noted.{all_noted_more}

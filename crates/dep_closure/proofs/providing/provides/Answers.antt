@@ -1,7 +1,7 @@
 use Rattle.std.proofs.Common.{List, refl, sym, ◌∙◌, subst, true≢false}
 use Rattle.cny_dep.specs.Dep.{Dependency}
 use Rattle.cny_dep.specs.Satisfies.{Satisfies}
-use Rattle.trove_id.specs.declared.id.TroveId.{TroveId}
+use Rattle.trove_stream.specs.trove-parts.declared.id.TroveId.{TroveId}
 use Rattle.dep_closure.specs.Closed.{own_provide, IsSatisfiedBy}
 use Rattle.dep_closure.proofs.Provided.{by_first, by_later, by_rest}
 use Rattle.dep_closure.proofs.providing.provides.Goals as goal

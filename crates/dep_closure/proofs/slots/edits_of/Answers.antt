@@ -5,7 +5,7 @@ use Rattle.std.specs.List.{list_any}
 use Rattle.std.specs.Map.{lookup}
 use Rattle.std.specs.Ordering.{nat_cmp}
 use Rattle.std.specs.Str.{bytes_eq}
-use Rattle.installed_list.specs.Installed.{trove_of}
+use Rattle.trove_stream.specs.Installed.{trove_of}
 use Rattle.trove_stream.specs.declared.parts.TroveParts.{TroveParts}
 use Rattle.dep_closure.specs.Slots.{put_slot}
 use Rattle.dep_closure.proofs.slots.edits_of.Goals as goal

@@ -1,9 +1,9 @@
 use Rattle.std.proofs.Common.{List, All, subst, ap, ◌∙◌, arith}
 use Rattle.std.proofs.lemmas.List.{take_all}
 use Rattle.std.proofs.lemmas.List.Elements.{All-more}
-use Rattle.cny_base.specs.declared.refusal.Refusal.TheVariants.{Unmet}
+use Rattle.trove_stream.specs.cny-base.declared.refusal.Refusal.TheVariants.{Unmet}
 use Rattle.cny_dep.specs.Dep.{Dependency, dep_text}
-use Rattle.trove_id.specs.declared.id.TroveId.{TroveId}
+use Rattle.trove_stream.specs.trove-parts.declared.id.TroveId.{TroveId}
 use Rattle.dep_closure.specs.Closed.{IsMet, HasAllMet, IsFirstOf}
 use Rattle.dep_closure.proofs.Meeting.{stands_at}
 use Rattle.dep_closure.proofs.whole.closed.Goals as goal

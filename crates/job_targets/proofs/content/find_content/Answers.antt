@@ -1,5 +1,5 @@
 use Rattle.std.proofs.Common.{subst, sym}
-use Rattle.saved_contents.specs.Old.{IsContent}
+use Rattle.job_targets.specs.Old.{IsContent}
 use Rattle.job_targets.proofs.Carrying.{carried_content_is}
 use Rattle.job_targets.proofs.content.find_content.Goals as goal
 

@@ -1,5 +1,5 @@
 use Rattle.std.proofs.Common.{refl}
-use Rattle.tree_disk.specs.StepLaws.{tests_answer, tests_memory, tests_stop, tests_value}
+use Rattle.local_db.specs.tree-disk.StepLaws.{tests_answer, tests_memory, tests_stop, tests_value}
 use Rattle.tree_scan.specs.Following.{tests_next}
 use Rattle.job_targets.proofs.Listed.{at_next, entries_next, small_at}
 use Rattle.job_targets.proofs.entries.entries_of.Goals as goal

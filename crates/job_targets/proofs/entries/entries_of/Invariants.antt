@@ -1,5 +1,5 @@
 use Rattle.std.proofs.Common.{◌≡◌, IsTrue, Ok, take}
-use Rattle.tree_disk.specs.Steps.{Tests}
+use Rattle.local_db.specs.tree-disk.Steps.{Tests}
 use Rattle.job_targets.specs.Targets.{entries_at, HaveEntries}
 use Rattle.job_targets.proofs.entries.entries_of.Given as goal
 

@@ -1,9 +1,9 @@
 use Rattle.std.proofs.Common.{◌≤◌, IsTrue, length, All, subst, arith}
 use Rattle.std.proofs.lemmas.List.{take_all}
 use Rattle.std.proofs.lemmas.List.Elements.{All-more}
-use Rattle.journal_log.specs.declared.put.Put.{Put}
-use Rattle.journal_log.specs.Targets.{node_of}
-use Rattle.tree_disk.specs.Tree.{may_stand}
+use Rattle.local_db.specs.journal-log.declared.put.Put.{Put}
+use Rattle.local_db.specs.journal-log.Targets.{node_of}
+use Rattle.local_db.specs.tree-disk.Tree.{may_stand}
 use Rattle.job_targets.proofs.puts.put_ranges.Goals as goal
 
 abbrev Held : Put → Type 0

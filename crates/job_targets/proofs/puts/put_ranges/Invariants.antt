@@ -1,7 +1,7 @@
 use Rattle.std.proofs.Common.{IsTrue, take, All}
-use Rattle.journal_log.specs.declared.put.Put.{Put}
-use Rattle.journal_log.specs.Targets.{node_of}
-use Rattle.tree_disk.specs.Tree.{may_stand}
+use Rattle.local_db.specs.journal-log.declared.put.Put.{Put}
+use Rattle.local_db.specs.journal-log.Targets.{node_of}
+use Rattle.local_db.specs.tree-disk.Tree.{may_stand}
 use Rattle.job_targets.proofs.puts.put_ranges.Given as goal
 
 abbrev pub invariant-loop-put : goal.invariant-loop-put

@@ -1,10 +1,10 @@
 use Rattle.std.proofs.Common.{[], refl, ap, sym, ◌∙◌, arith}
 use Rattle.std.specs.List.{list_all}
-use Rattle.cny_base.specs.Target.{is_target}
-use Rattle.journal_log.specs.declared.put.Want.{Want}
-use Rattle.journal_log.specs.Targets.{node_of}
-use Rattle.tree_disk.specs.Tree.{is_byte, may_stand}
-use Rattle.tree_disk.specs.Nodes.{is_node-Dir, is_node-File, is_node-Link}
+use Rattle.local_db.specs.cny-base.Target.{is_target}
+use Rattle.local_db.specs.journal-log.declared.put.Want.{Want}
+use Rattle.local_db.specs.journal-log.Targets.{node_of}
+use Rattle.local_db.specs.tree-disk.Tree.{is_byte, may_stand}
+use Rattle.local_db.specs.tree-disk.Nodes.{is_node-Dir, is_node-File, is_node-Link}
 use Rattle.job_targets.proofs.puts.want_ranges.Goals as goal
 
 pub returns-in-Nothing : goal.returns-in-Nothing

@@ -1,7 +1,7 @@
 use Rattle.std.proofs.Common.{◌≡◌, ℕ, List, length, arith, Result, Err, Vec, Global, ap, sym, subst}
 use Rattle.std.proofs.lemmas.Result.{err_from_is_err_and}
-use Rattle.cny_base.specs.declared.text.TextFault.{TextFault}
-use Rattle.cny_base.specs.declared.text.TextFault.TheVariants.{Bad}
+use Rattle.tree_disk.specs.cny-base.declared.text.TextFault.{TextFault}
+use Rattle.tree_disk.specs.cny-base.declared.text.TextFault.TheVariants.{Bad}
 use Rattle.journal_log.specs.declared.put.Put.{Put}
 use Rattle.cny_stream.specs.Item.{IsItemAt}
 use Rattle.journal_log.specs.PutItem.{IsEnd}

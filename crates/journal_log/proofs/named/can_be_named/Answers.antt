@@ -1,6 +1,6 @@
 use Rattle.std.proofs.Common.{ap, ◌∙◌, List, ℕ, ◌≡◌, Bool}
 use Rattle.std.specs.Str.{bytes_eq}
-use Rattle.cny_base.specs.Path.{root}
+use Rattle.tree_disk.specs.cny-base.Path.{root}
 use Rattle.journal_log.specs.Own.{is_own_file}
 use Rattle.journal_log.proofs.Naming.{refused_name, named_answer}
 use Rattle.journal_log.proofs.named.can_be_named.Goals as goal

@@ -1,5 +1,5 @@
 use Rattle.std.proofs.Common.{◌≡◌, ◌∷◌, [], false}
-use Rattle.cny_base.specs.Below.{begins_with}
+use Rattle.tree_disk.specs.cny-base.Below.{begins_with}
 use Rattle.journal_log.specs.Joined.{front_of}
 use Rattle.journal_log.proofs.Naming.{if_none, no_front, no_slash, then_none}
 use Rattle.journal_log.proofs.named.inside.Goals as goal

@@ -1,7 +1,7 @@
 use Rattle.std.proofs.Common.{◌≡◌, Result, Err, ap}
 use Rattle.std.proofs.lemmas.Result.{err_from_is_err_and}
-use Rattle.cny_base.specs.declared.text.TextFault.{TextFault}
-use Rattle.cny_base.specs.declared.text.TextFault.TheVariants.{Bad}
+use Rattle.tree_disk.specs.cny-base.declared.text.TextFault.{TextFault}
+use Rattle.tree_disk.specs.cny-base.declared.text.TextFault.TheVariants.{Bad}
 use Rattle.journal_log.specs.declared.put.Put.{Put}
 use Rattle.journal_log.proofs.Links.{link_parts}
 use Rattle.journal_log.proofs.read_put.read_link.Goals as goal

@@ -1,7 +1,7 @@
 use Rattle.std.proofs.Common.{◌≡◌, ◌≢◌, ◌<◌, Bool, true, false, not, length, refl, sym, ap, ◌∙◌, subst}
 use Rattle.std.specs.Str.{bytes_eq}
 use Rattle.std.proofs.lemmas.Map.Text.{is_eq-slice_cmp}
-use Rattle.cny_base.specs.Path.{is_path, parent, root}
+use Rattle.tree_disk.specs.cny-base.Path.{is_path, parent, root}
 use Rattle.tree_disk.specs.Tree.{Name}
 use Rattle.tree_disk.specs.Laws.{same_means, same_itself}
 use Rattle.journal_log.proofs.Walking.{WalksUp, walk_begins, walk_goes_on, walk_ends, walk_shortens}

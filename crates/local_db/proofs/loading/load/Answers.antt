@@ -1,10 +1,10 @@
 use Rattle.std.proofs.Common.{◌≡◌, ◌∙◌, ap, subst, sym}
 use Rattle.std.specs.FinMap.{get}
-use Rattle.tree_disk.specs.StepLaws.{tests_value}
-use Rattle.cny_base.specs.Count.{Rose}
-use Rattle.tree_disk.specs.Tree.{Name}
-use Rattle.system_state.specs.Names.{database}
-use Rattle.system_state.specs.Stores.{HoldsFile}
+use Rattle.tree_journal.specs.tree-disk.StepLaws.{tests_value}
+use Rattle.change_rel.specs.cny-base.Count.{Rose}
+use Rattle.tree_journal.specs.tree-disk.Tree.{Name}
+use Rattle.local_db.specs.Names.{database}
+use Rattle.local_db.specs.Stores.{HoldsFile}
 use Rattle.local_db.specs.declared.db.Db.{Db}
 use Rattle.local_db.specs.Database.{IsDatabaseFile}
 use Rattle.local_db.specs.Loading.{HoldsDb, IsLoadStop, IsTextStop, found_of}

@@ -1,5 +1,5 @@
 use Rattle.std.proofs.Common.{[], subst, sym}
-use Rattle.installed_list.specs.Installed.{IsRising}
+use Rattle.change_rel.specs.trove-stream.Installed.{IsRising}
 use Rattle.std.specs.List.Sorted.{IsStrictlySortedBy}
 use Rattle.local_db.proofs.loading.no_database.Goals as goal
 

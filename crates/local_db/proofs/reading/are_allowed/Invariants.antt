@@ -1,5 +1,5 @@
 use Rattle.std.proofs.Common.{◌≡◌, All, None, take}
-use Rattle.trove_stream.specs.Forbidden.{first_forbidden}
+use Rattle.change_rel.specs.trove-stream.Forbidden.{first_forbidden}
 use Rattle.local_db.proofs.reading.are_allowed.Given as goal
 
 abbrev pub invariant-loop-trove : goal.invariant-loop-trove

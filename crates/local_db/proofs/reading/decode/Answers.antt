@@ -1,6 +1,6 @@
 use Rattle.std.proofs.Common.{◌≡◌, ◌∙◌, Err, ap}
 use Rattle.std.proofs.lemmas.Result.{err_from_is_err_and}
-use Rattle.cny_base.specs.declared.text.TextFault.TheVariants.{Bad}
+use Rattle.change_rel.specs.cny-base.declared.text.TextFault.TheVariants.{Bad}
 use Rattle.local_db.specs.declared.db.Db.{Db}
 use Rattle.local_db.specs.Database.{IsDatabaseFile}
 use Rattle.local_db.proofs.Handing.{handed_on}

@@ -1,9 +1,9 @@
 use Rattle.std.proofs.Common.{[], Err, ap, refl, arith, ◌++◌}
 use Rattle.std.specs.Int.{w32, to_be_bytes}
 use Rattle.std.proofs.lemmas.Result.{err_from_is_err_and}
-use Rattle.cny_base.specs.declared.text.TextFault.TheVariants.{Bad}
+use Rattle.change_rel.specs.cny-base.declared.text.TextFault.TheVariants.{Bad}
 use Rattle.cny_stream.specs.Item.{item_bytes}
-use Rattle.system_state.specs.Formats.{trove_text}
+use Rattle.local_db.specs.Formats.{trove_text}
 use Rattle.local_db.proofs.Handing.{handed_on}
 use Rattle.local_db.proofs.Found.{no_trove_here}
 use Rattle.local_db.proofs.reading.next_trove.Goals as goal

@@ -1,7 +1,7 @@
 use Rattle.std.proofs.Common.{Err, List, ap, subst, sym}
 use Rattle.std.proofs.lemmas.Result.{err_from_is_err_and}
-use Rattle.cny_base.specs.declared.text.TextFault.TheVariants.{Bad}
-use Rattle.trove_stream.specs.declared.parts.TroveParts.{TroveParts}
+use Rattle.change_rel.specs.cny-base.declared.text.TextFault.TheVariants.{Bad}
+use Rattle.change_rel.specs.trove-stream.declared.parts.TroveParts.{TroveParts}
 use Rattle.local_db.specs.Reading.{AreTrovesTo}
 use Rattle.local_db.proofs.Handing.{handed_on}
 use Rattle.local_db.proofs.Texts.{last_of, no_troves, one_more}

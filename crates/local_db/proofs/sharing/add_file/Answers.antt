@@ -1,7 +1,7 @@
 use Rattle.std.proofs.Common.{◌≡◌, cond, inl, inr, true, false, Some, ap, sym, ◌∙◌}
 use Rattle.std.proofs.lemmas.Bool.{false≢true}
 use Rattle.local_db.specs.Sharing.{kind_at}
-use Rattle.tree_disk.specs.Tree.{same_name}
+use Rattle.tree_journal.specs.tree-disk.Tree.{same_name}
 use Rattle.local_db.proofs.Apart.{add_noted, apart_dirs, dirs_of_apart}
 use Rattle.local_db.proofs.sharing.add_file.Goals as goal
 

@@ -1,6 +1,6 @@
 use Rattle.std.proofs.Common.{List, take, sym, subst, ◌++◌, ◌∙◌}
 use Rattle.std.proofs.lemmas.Bool.{false≢true}
-use Rattle.trove_items.specs.declared.files.FileAt.{FileAt}
+use Rattle.change_rel.specs.trove-parts.declared.files.FileAt.{FileAt}
 use Rattle.local_db.specs.Sharing.{AreApart, AreNoted, files_of}
 use Rattle.local_db.proofs.Apart.{apart_all, next_trove}
 use Rattle.local_db.proofs.sharing.share_dirs_alone.Goals as goal

@@ -3,8 +3,8 @@ use Rattle.std.specs.Prelude.{All}
 use Rattle.std.specs.BTreeMap.{BTreeMap}
 use Rattle.std.proofs.lemmas.List.Elements.{All-cons}
 use Rattle.std.proofs.lemmas.Result.{err_from_is_err_and}
-use Rattle.trove_stream.specs.declared.parts.TroveParts.{TroveParts}
-use Rattle.trove_stream.specs.Trove.{IsTrove}
+use Rattle.change_set.specs.trove-stream.declared.parts.TroveParts.{TroveParts}
+use Rattle.change_set.specs.trove-stream.Trove.{IsTrove}
 use Rattle.manifest_troves.specs.declared.lines.TroveLines.{TroveLines}
 use Rattle.manifest_troves.specs.Shares.{Shared, named_trove}
 use Rattle.manifest_troves.specs.Troves.{with_name, component_names}

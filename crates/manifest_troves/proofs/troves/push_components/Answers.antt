@@ -1,8 +1,8 @@
 use Rattle.std.proofs.Common.{◌≡◌, ℕ, List, length, sym, ap, ◌∙◌, subst}
 use Rattle.std.proofs.lemmas.Map.Iter.{iter_turn}
 use Rattle.std.proofs.lemmas.Result.{err_from_is_err_and}
-use Rattle.trove_id.specs.declared.id.TroveId.{TroveId}
-use Rattle.trove_stream.specs.Trove.{IsTrove}
+use Rattle.change_set.specs.trove-parts.declared.id.TroveId.{TroveId}
+use Rattle.change_set.specs.trove-stream.Trove.{IsTrove}
 use Rattle.manifest_troves.specs.Shares.{Shared, trove_of, named_trove}
 use Rattle.manifest_troves.proofs.Components.{handed_bad, mapped_at, push_behind, all_behind}
 use Rattle.manifest_troves.proofs.troves.push_components.Goals as goal

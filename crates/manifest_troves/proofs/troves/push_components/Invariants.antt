@@ -1,6 +1,6 @@
 use Rattle.std.proofs.Common.{◌≡◌, ◌++◌, map}
 use Rattle.std.specs.Prelude.{All}
-use Rattle.trove_stream.specs.Trove.{IsTrove}
+use Rattle.change_set.specs.trove-stream.Trove.{IsTrove}
 use Rattle.manifest_troves.specs.Shares.{named_trove}
 use Rattle.manifest_troves.proofs.troves.push_components.Given as goal
 

@@ -1,10 +1,10 @@
 use Rattle.std.proofs.Common.{◌≡◌, List, map, Result, Ok, sym, ap, subst, ◌∙◌}
 use Rattle.std.specs.Prelude.{IfErr}
-use Rattle.change_set.specs.declared.change.ChangeSet.{ChangeSet}
-use Rattle.change_set.specs.declared.change.Part.{Part}
-use Rattle.change_set.specs.ChangeSet.{HasContents}
-use Rattle.cny_base.specs.declared.refusal.Fault.{Fault}
-use Rattle.repo_next.specs.Steps.{IsErrOrMemory}
+use Rattle.cli_call.specs.change-set.declared.change.ChangeSet.{ChangeSet}
+use Rattle.cli_call.specs.change-set.declared.change.Part.{Part}
+use Rattle.cli_call.specs.change-set.ChangeSet.{HasContents}
+use Rattle.cli_call.specs.cny-base.declared.refusal.Fault.{Fault}
+use Rattle.repo_index.specs.Steps.{IsErrOrMemory}
 use Rattle.repo_commands.specs.Cook.{cooked_set, cooked_troves, set_of_result}
 use Rattle.repo_commands.proofs.KeptContents.{cooked_contents, set_refused}
 use Rattle.repo_commands.proofs.Passing.{err_is}

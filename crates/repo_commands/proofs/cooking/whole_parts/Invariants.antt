@@ -1,5 +1,5 @@
 use Rattle.std.proofs.Common.{◌≡◌, map}
-use Rattle.change_set.specs.declared.change.Part.TheVariants.{Whole}
+use Rattle.cli_call.specs.change-set.declared.change.Part.TheVariants.{Whole}
 use Rattle.repo_commands.proofs.cooking.whole_parts.Given as goal
 
 abbrev pub invariant-loop-trove : goal.invariant-loop-trove

@@ -1,5 +1,5 @@
 use Rattle.std.proofs.Common.{Bool, ◌||◌, sym, ap, ◌∙◌}
-use Rattle.file_stream.specs.Record.{has_name_and_size}
+use Rattle.trove_stream.specs.file-stream.Record.{has_name_and_size}
 use Rattle.repo_index.specs.Keys.{knows_sized}
 use Rattle.repo_index.proofs.Indexing.{knows_sized-insert}
 use Rattle.repo_index.proofs.index.add_size.Goals as goal

@@ -1,7 +1,7 @@
 use Rattle.std.proofs.Common.{◌≡◌, ℕ, ◌+◌, ◌<◌, true, false, List, ◌∷◌, length, drop, get_or, find, sym, ap, ◌∙◌, arith}
 use Rattle.std.proofs.lemmas.List.{at_drop_more}
-use Rattle.trove_id.specs.declared.id.TroveId.{TroveId}
-use Rattle.trove_id.specs.Order.{id_eq}
+use Rattle.trove_stream.specs.trove-parts.declared.id.TroveId.{TroveId}
+use Rattle.trove_stream.specs.trove-parts.Order.{id_eq}
 use Rattle.repo_index.specs.Catalogue.{has_id}
 use Rattle.repo_index.specs.Places.{troves_at}
 use Rattle.repo_index.specs.PlacesLaws.{find_at-none, find_at-other, find_at-found}

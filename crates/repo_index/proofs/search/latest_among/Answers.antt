@@ -1,6 +1,6 @@
 use Rattle.std.proofs.Common.{◌≡◌, ℕ, true, false, List, filter, None, option_copied, sym, ap, ◌∙◌}
 use Rattle.std.specs.List.{last_or}
-use Rattle.trove_id.specs.declared.id.TroveId.{TroveId}
+use Rattle.trove_stream.specs.trove-parts.declared.id.TroveId.{TroveId}
 use Rattle.repo_index.specs.Catalogue.{is_of, is_revision_of}
 use Rattle.repo_index.specs.Places.{troves_at}
 use Rattle.repo_index.specs.PlacesLaws.{last_at-none, last_at-other, last_at-found}

@@ -1,10 +1,10 @@
 use Rattle.std.proofs.Common.{◌≡◌, ◌+◌, ◌<◌, List, [], ◌∷◌, ◌++◌, length, take, map, All, sym, ap, subst, ◌∙◌, arith}
 use Rattle.std.proofs.lemmas.List.{take_more}
 use Rattle.std.proofs.lemmas.List.Elements.{All-push}
-use Rattle.cny_base.specs.declared.refusal.Fault.{Fault}
-use Rattle.cny_base.specs.declared.refusal.Fault.TheVariants.{Memory}
-use Rattle.trove_id.specs.declared.id.TroveId.{TroveId}
-use Rattle.trove_id.specs.Id.{IsTroveId}
+use Rattle.repo_index.specs.cny-base.declared.refusal.Fault.{Fault}
+use Rattle.repo_index.specs.cny-base.declared.refusal.Fault.TheVariants.{Memory}
+use Rattle.repo_index.specs.trove-parts.declared.id.TroveId.{TroveId}
+use Rattle.repo_index.specs.trove-parts.Id.{IsTroveId}
 use Rattle.repo_shadow.specs.Moved.{moved_id}
 use Rattle.repo_shadow.specs.Steps.{Fits}
 use Rattle.repo_shadow.proofs.Lists.{map-push}

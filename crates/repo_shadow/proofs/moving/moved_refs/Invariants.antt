@@ -1,5 +1,5 @@
 use Rattle.std.proofs.Common.{◌≡◌, All, map, take}
-use Rattle.trove_id.specs.Id.{IsTroveId}
+use Rattle.repo_index.specs.trove-parts.Id.{IsTroveId}
 use Rattle.repo_shadow.specs.Moved.{moved_id}
 use Rattle.repo_shadow.proofs.moving.moved_refs.Given as goal
 

@@ -1,7 +1,7 @@
 use Rattle.std.proofs.Common.{◌≡◌, map, All, sym, ap, subst, ◌∙◌}
-use Rattle.trove_id.specs.Id.{IsTroveId}
-use Rattle.trove_stream.specs.declared.parts.TroveParts.{TroveParts}
-use Rattle.trove_stream.specs.Trove.{IsTrove}
+use Rattle.repo_index.specs.trove-parts.Id.{IsTroveId}
+use Rattle.repo_index.specs.trove-stream.declared.parts.TroveParts.{TroveParts}
+use Rattle.repo_index.specs.trove-stream.Trove.{IsTrove}
 use Rattle.repo_shadow.specs.Moved.{moved_id}
 use Rattle.repo_shadow.specs.Steps.{Fits, CanMove, wholly_moved}
 use Rattle.repo_shadow.proofs.Troves.{moved_is_trove}

@@ -1,7 +1,7 @@
 use Rattle.std.proofs.Common.{◌<◌, List, length, get_or, sym, ap, subst, ◌∙◌}
 use Rattle.std.proofs.lemmas.Iterator.Adapters.{YieldsList-from_vec}
 use Rattle.std.proofs.lemmas.Iterator.Consumers.{YieldsList-turn}
-use Rattle.trove_stream.specs.declared.parts.TroveParts.{TroveParts}
+use Rattle.repo_index.specs.trove-stream.declared.parts.TroveParts.{TroveParts}
 use Rattle.repo_shadow.specs.Steps.{CanMove}
 use Rattle.repo_shadow.proofs.moving.moved_troves.Goals as goal
 

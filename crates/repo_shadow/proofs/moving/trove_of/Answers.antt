@@ -1,7 +1,7 @@
 use Rattle.std.proofs.Common.{◌≡◌, Err, ap, ◌∙◌}
 use Rattle.std.proofs.lemmas.Result.{IfErr-at_err}
-use Rattle.cny_base.specs.declared.text.TextFault.{TextFault}
-use Rattle.cny_base.specs.declared.text.TextFault.TheVariants.{Bad}
+use Rattle.repo_index.specs.cny-base.declared.text.TextFault.{TextFault}
+use Rattle.repo_index.specs.cny-base.declared.text.TextFault.TheVariants.{Bad}
 use Rattle.repo_shadow.proofs.moving.trove_of.Goals as goal
 
 pub unreachable-requires : goal.unreachable-requires

@@ -1,8 +1,8 @@
 use Rattle.std.proofs.Common.{◌≡◌, ◌+◌, ◌<◌, List, [], ◌∷◌, ◌++◌, length, take, drop, Option, sym, ap, subst, ◌∙◌, arith}
 use Rattle.std.proofs.lemmas.List.{take_more, at_drop_more}
-use Rattle.cny_base.specs.declared.refusal.Refusal.{Refusal}
-use Rattle.trove_id.specs.declared.id.TroveId.{TroveId}
-use Rattle.trove_stream.specs.declared.parts.TroveParts.{TroveParts}
+use Rattle.repo_index.specs.cny-base.declared.refusal.Refusal.{Refusal}
+use Rattle.repo_index.specs.trove-parts.declared.id.TroveId.{TroveId}
+use Rattle.repo_index.specs.trove-stream.declared.parts.TroveParts.{TroveParts}
 use Rattle.repo_shadow.specs.Moved.{moved_version, moved_id, moved_ids, too_large}
 use Rattle.repo_shadow.specs.Steps.{Fits, IsRefusalOrMemory, IsTooLongOrMemory}
 use Rattle.repo_shadow.proofs.Lists.{map-push}

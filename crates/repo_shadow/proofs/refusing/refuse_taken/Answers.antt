@@ -1,7 +1,7 @@
 use Rattle.std.proofs.Common.{◌≡◌, ℕ, ◌+◌, ◌<◌, true, false, List, ◌∷◌, length, drop, Some, sym, ap, ◌∙◌, arith}
 use Rattle.std.proofs.lemmas.List.{at_drop_more}
-use Rattle.cny_base.specs.declared.refusal.Refusal.TheVariants as refusal
-use Rattle.trove_id.specs.declared.id.TroveId.{TroveId}
+use Rattle.repo_index.specs.cny-base.declared.refusal.Refusal.TheVariants as refusal
+use Rattle.repo_index.specs.trove-parts.declared.id.TroveId.{TroveId}
 use Rattle.repo_shadow.specs.Moved.{is_taken, taken}
 use Rattle.repo_shadow.proofs.Refusals.{next_free, next_taken}
 use Rattle.repo_shadow.proofs.refusing.refuse_taken.Goals as goal

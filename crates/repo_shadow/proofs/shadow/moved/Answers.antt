@@ -1,7 +1,7 @@
 use Rattle.std.proofs.Common.{◌≡◌, List, All, None, sym, subst, ◌∙◌}
 use Rattle.cny_version.specs.Version.{last_label}
-use Rattle.trove_id.specs.declared.id.TroveId.{TroveId}
-use Rattle.trove_stream.specs.declared.parts.TroveParts.{TroveParts}
+use Rattle.repo_index.specs.trove-parts.declared.id.TroveId.{TroveId}
+use Rattle.repo_index.specs.trove-stream.declared.parts.TroveParts.{TroveParts}
 use Rattle.repo_index.specs.Catalogue.{found}
 use Rattle.trove_spec.specs.Expansion.{IsExpansion, IsUnexpanded, HasRisingNames}
 use Rattle.repo_shadow.specs.Moved.{moved_troves, first_refusal, IsUnmoved}

@@ -1,8 +1,8 @@
 use Rattle.std.proofs.Common.{◌≡◌, ◌<◌, ◌≤◌, true, List, length, All, refl, subst, arith}
 use Rattle.std.proofs.lemmas.List.{take_all}
 use Rattle.std.proofs.lemmas.List.Elements.{All-more}
-use Rattle.trove_id.specs.declared.id.TroveId.{TroveId}
-use Rattle.trove_stream.specs.declared.parts.TroveParts.{TroveParts}
+use Rattle.repo_index.specs.trove-parts.declared.id.TroveId.{TroveId}
+use Rattle.repo_index.specs.trove-stream.declared.parts.TroveParts.{TroveParts}
 use Rattle.repo_shadow.specs.Within.{HasId, RefersWithin}
 use Rattle.repo_shadow.proofs.within.refer_within.Goals as goal
 

@@ -1,6 +1,6 @@
 use Rattle.std.proofs.Common.{List, Contains, subst, ⊎_elim}
 use Rattle.std.proofs.lemmas.List.Elements.{Contains-push_cases}
-use Rattle.trove_stream.specs.declared.parts.TroveParts.{TroveParts}
+use Rattle.repository.specs.trove-stream.declared.parts.TroveParts.{TroveParts}
 use Rattle.repository_vectors.proofs.troves.troves_of.Goals as goal
 
 pub loop-word-preserved : goal.loop-word-preserved

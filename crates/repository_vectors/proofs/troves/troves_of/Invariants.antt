@@ -1,4 +1,4 @@
-use Rattle.repo_between.specs.Between.{AreCommitted}
+use Rattle.repository.specs.Between.{AreCommitted}
 use Rattle.repository_vectors.proofs.troves.troves_of.Given as goal
 
 abbrev pub invariant-loop-word : goal.invariant-loop-word

@@ -7,11 +7,11 @@ use Rattle.std.specs.Ordering.{nat_cmp}
 use Rattle.std.proofs.lemmas.List.{map_push}
 use Rattle.std.proofs.lemmas.Map.Iter.{iter_end}
 use Rattle.std.proofs.lemmas.Map.Views.{All-turn}
-use Rattle.cny_base.specs.Count.{Rose}
-use Rattle.saved_contents.specs.Old.{IsDamagedOld, IsOldStop}
-use Rattle.tree_disk.specs.Moments.{rose_before}
-use Rattle.tree_disk.specs.Tree.{Name, Tree}
-use Rattle.undo_check.specs.declared.found.FoundMark.{FoundMark}
+use Rattle.job_targets.specs.cny-base.Count.{Rose}
+use Rattle.job_targets.specs.Old.{IsDamagedOld, IsOldStop}
+use Rattle.job_targets.specs.tree-disk.Moments.{rose_before}
+use Rattle.job_targets.specs.tree-disk.Tree.{Name, Tree}
+use Rattle.rollback_stack.specs.declared.found.FoundMark.{FoundMark}
 use Rattle.rollback_stack.specs.Wanting.{HasWanted, IsDamagedFound}
 use Rattle.rollback_stack.proofs.Finding.{all_wanted, none_wanted, one_wanted}
 use Rattle.rollback_stack.proofs.Later.{old_stop_then, read_as, read_start, read_then}

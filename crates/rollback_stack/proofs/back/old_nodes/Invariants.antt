@@ -3,7 +3,7 @@ use Rattle.std.specs.BTreeMap.{IsOrdered}
 use Rattle.std.specs.Cmp.Lexicographic.{slice_cmp}
 use Rattle.std.specs.Map.Iter.{deref_pair}
 use Rattle.std.specs.Ordering.{nat_cmp}
-use Rattle.tree_disk.specs.Disk.{HasRead}
+use Rattle.job_targets.specs.tree-disk.Disk.{HasRead}
 use Rattle.rollback_stack.proofs.Finding.{AreWantedTo}
 use Rattle.rollback_stack.proofs.back.old_nodes.Given as goal
 

@@ -1,10 +1,10 @@
 use Rattle.std.proofs.Common.{◌≡◌, ◌+◌, ◌-◌, List, sym, subst, arith}
-use Rattle.cny_base.specs.Count.{Rose}
-use Rattle.system_state.specs.Formats.{Fits}
-use Rattle.system_state.specs.Installed.{IsInstalled}
-use Rattle.system_state.specs.declared.format.Format.TheVariants.{Two}
-use Rattle.tree_disk.specs.Moments.{rose_before}
-use Rattle.tree_disk.specs.Tree.{Tree}
+use Rattle.job_targets.specs.cny-base.Count.{Rose}
+use Rattle.local_db.specs.Formats.{Fits}
+use Rattle.local_db.specs.Installed.{IsInstalled}
+use Rattle.local_db.specs.declared.format.Format.TheVariants.{Two}
+use Rattle.job_targets.specs.tree-disk.Moments.{rose_before}
+use Rattle.job_targets.specs.tree-disk.Tree.{Tree}
 use Rattle.rollback_stack.specs.Taking.{AreTaken, HasTakenJob, IsJobsStop}
 use Rattle.rollback_stack.proofs.Later.{read_as, read_start, read_then}
 use Rattle.rollback_stack.proofs.NewestJob.{if_err_from, no_ok}

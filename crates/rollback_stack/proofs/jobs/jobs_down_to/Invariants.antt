@@ -1,8 +1,8 @@
 use Rattle.std.proofs.Common.{◌≡◌, ◌≤◌, IsTrue}
-use Rattle.system_state.specs.Formats.{Fits}
-use Rattle.system_state.specs.Installed.{IsInstalled}
-use Rattle.system_state.specs.declared.format.Format.TheVariants.{Two}
-use Rattle.tree_disk.specs.Disk.{HasRead}
+use Rattle.local_db.specs.Formats.{Fits}
+use Rattle.local_db.specs.Installed.{IsInstalled}
+use Rattle.local_db.specs.declared.format.Format.TheVariants.{Two}
+use Rattle.job_targets.specs.tree-disk.Disk.{HasRead}
 use Rattle.rollback_stack.specs.Taking.{AreTaken}
 use Rattle.rollback_stack.proofs.jobs.jobs_down_to.Given as goal
 

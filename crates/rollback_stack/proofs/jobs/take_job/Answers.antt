@@ -1,14 +1,14 @@
 use Rattle.std.proofs.Common.{◌≡◌, List, [], ◌∷◌, ◌++◌, sym, ◌∙◌, subst}
 use Rattle.std.specs.List.Sorted.{IsStrictlySortedBy}
-use Rattle.cny_base.specs.Count.{Rose}
-use Rattle.job_records.specs.Entries.{entries_of}
-use Rattle.job_records.specs.Reading.{HoldsRecord}
-use Rattle.system_state.specs.Record as state
-use Rattle.system_state.specs.declared.format.Format.TheVariants.{Two}
-use Rattle.tree_disk.specs.Moments.{rose_before}
-use Rattle.tree_disk.specs.Tree.{Tree}
-use Rattle.undo_check.specs.Jobs.{AreFound}
-use Rattle.undo_check.specs.Outcome.{CanUndoNext}
+use Rattle.job_targets.specs.cny-base.Count.{Rose}
+use Rattle.job_record.specs.Entries.{entries_of}
+use Rattle.job_record.specs.JobReading.{HoldsRecord}
+use Rattle.local_db.specs.Record as state
+use Rattle.local_db.specs.declared.format.Format.TheVariants.{Two}
+use Rattle.job_targets.specs.tree-disk.Moments.{rose_before}
+use Rattle.job_targets.specs.tree-disk.Tree.{Tree}
+use Rattle.rollback_stack.specs.Jobs.{AreFound}
+use Rattle.rollback_stack.specs.Outcome.{CanUndoNext}
 use Rattle.rollback_stack.specs.Taking.{FindsNext, IsTakeStop}
 use Rattle.rollback_stack.proofs.Later.{read_as, read_then}
 use Rattle.rollback_stack.proofs.NewestJob.{if_err_from, no_ok}

@@ -1,4 +1,4 @@
-use Rattle.system_state.proofs.Spellings.{Distinct}
+use Rattle.local_db.proofs.Spellings.{Distinct}
 use Rattle.rollback_stack.proofs.OneRecord as proof
 use Rattle.rollback_stack.proofs.laws.one_record.Goals as goal
 

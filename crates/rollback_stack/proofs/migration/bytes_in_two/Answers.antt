@@ -1,5 +1,5 @@
 use Rattle.std.proofs.Common.{arith}
-use Rattle.system_state.specs.declared.format.Format.TheVariants.{Two}
+use Rattle.local_db.specs.declared.format.Format.TheVariants.{Two}
 use Rattle.rollback_stack.proofs.Doubling.{fits_two}
 use Rattle.rollback_stack.proofs.migration.bytes_in_two.Goals as goal
 

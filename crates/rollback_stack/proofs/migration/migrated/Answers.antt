@@ -1,7 +1,7 @@
 use Rattle.std.proofs.Common.{◌≡◌, Some, None, sym, ◌∙◌, ap, subst}
-use Rattle.cny_base.specs.Count.{Rose}
-use Rattle.tree_disk.specs.Moments.{rose_before}
-use Rattle.tree_disk.specs.Tree.{Tree}
+use Rattle.job_targets.specs.cny-base.Count.{Rose}
+use Rattle.job_targets.specs.tree-disk.Moments.{rose_before}
+use Rattle.job_targets.specs.tree-disk.Tree.{Tree}
 use Rattle.rollback_stack.specs.Migrated.{AreWritesOf, IsMigratedStop, IsOldDatabase}
 use Rattle.rollback_stack.proofs.Later.{read_as, read_then}
 use Rattle.rollback_stack.proofs.Migrating.{migration_is, no_database_stop, records_stop}

@@ -1,9 +1,9 @@
 use Rattle.std.proofs.Common.{◌≡◌, Some, List, ℕ, sym, ◌∙◌, ap, subst}
 use Rattle.std.specs.FinMap.{get}
-use Rattle.cny_base.specs.Count.{Rose}
-use Rattle.content_store.specs.Store.{file_bytes}
-use Rattle.job_records.specs.Reading.{IsReadStop}
-use Rattle.tree_disk.specs.Tree.{Name}
+use Rattle.job_targets.specs.cny-base.Count.{Rose}
+use Rattle.job_targets.specs.content-store.Store.{file_bytes}
+use Rattle.job_record.specs.JobReading.{IsReadStop}
+use Rattle.job_targets.specs.tree-disk.Tree.{Name}
 use Rattle.rollback_stack.specs.Migrated.{IsFileStop, IsFoundFile, IsNoDatabase}
 use Rattle.rollback_stack.proofs.Migrating.{file_stop, if_err_map}
 use Rattle.rollback_stack.proofs.migration.old_database.Goals as goal

@@ -1,10 +1,10 @@
 use Rattle.std.proofs.Common.{◌≡◌, ℕ, ◌-◌, [], List, sym, subst, arith}
-use Rattle.cny_base.specs.Count.{Rose}
-use Rattle.job_records.specs.Reading.{IsDamagedJob, IsDamagedRecord, IsReadStop}
-use Rattle.system_state.specs.Installed.{IsInstalled}
-use Rattle.system_state.specs.declared.format.Format.TheVariants.{One}
-use Rattle.tree_disk.specs.Moments.{rose_before}
-use Rattle.tree_disk.specs.Tree.{Tree}
+use Rattle.job_targets.specs.cny-base.Count.{Rose}
+use Rattle.job_record.specs.JobReading.{IsDamagedJob, IsDamagedRecord, IsReadStop}
+use Rattle.local_db.specs.Installed.{IsInstalled}
+use Rattle.local_db.specs.declared.format.Format.TheVariants.{One}
+use Rattle.job_targets.specs.tree-disk.Moments.{rose_before}
+use Rattle.job_targets.specs.tree-disk.Tree.{Tree}
 use Rattle.rollback_stack.specs.Migrated.{AreRewritten, HasRewritten}
 use Rattle.rollback_stack.specs.Numbers.{job_count}
 use Rattle.rollback_stack.proofs.Later.{read_as, read_start, read_then}

@@ -1,7 +1,7 @@
 use Rattle.std.proofs.Common.{◌≡◌, List, ℕ, ap, sym, ◌∙◌, subst}
-use Rattle.system_state.specs.Formats.{database_bytes}
-use Rattle.system_state.specs.declared.format.Format.TheVariants.{Two}
-use Rattle.tree_disk.specs.Tree.{Name}
+use Rattle.local_db.specs.Formats.{database_bytes}
+use Rattle.local_db.specs.declared.format.Format.TheVariants.{Two}
+use Rattle.job_targets.specs.tree-disk.Tree.{Name}
 use Rattle.rollback_stack.specs.Migrated.{HasFile}
 use Rattle.rollback_stack.proofs.Later.{read_as}
 use Rattle.rollback_stack.proofs.Rewriting.{writes_are}

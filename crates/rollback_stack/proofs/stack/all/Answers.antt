@@ -1,12 +1,12 @@
 use Rattle.std.proofs.Common.{◌≡◌, ◌-◌, [], List, length, ap, sym, ◌∙◌, subst, arith}
-use Rattle.cny_base.specs.Count.{Rose}
-use Rattle.past_list.specs.Past.{AreChangedIds}
-use Rattle.job_records.specs.Entries as records
-use Rattle.job_records.specs.Reading.{HoldsRecord, IsDamagedJob, IsDamagedRecord}
-use Rattle.job_undo.specs.declared.undo.Note.{Note}
-use Rattle.system_state.specs.declared.format.Format.TheVariants.{Two}
-use Rattle.tree_disk.specs.Moments.{rose_before}
-use Rattle.tree_disk.specs.Tree.{Name, Tree}
+use Rattle.job_targets.specs.cny-base.Count.{Rose}
+use Rattle.job_record.specs.Past.{AreChangedIds}
+use Rattle.job_record.specs.Entries as records
+use Rattle.job_record.specs.JobReading.{HoldsRecord, IsDamagedJob, IsDamagedRecord}
+use Rattle.rollback_stack.specs.declared.undo.Note.{Note}
+use Rattle.local_db.specs.declared.format.Format.TheVariants.{Two}
+use Rattle.job_targets.specs.tree-disk.Moments.{rose_before}
+use Rattle.job_targets.specs.tree-disk.Tree.{Name, Tree}
 use Rattle.rollback_stack.specs.Numbers.{job_count}
 use Rattle.rollback_stack.specs.Reading.{AreNotes, IsAllStop}
 use Rattle.rollback_stack.proofs.Later.{read_as, read_start, read_then}

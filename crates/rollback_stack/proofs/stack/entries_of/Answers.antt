@@ -3,17 +3,17 @@ use Rattle.std.proofs.lemmas.Iterator.Adapters.{YieldsList-from_vec}
 use Rattle.std.proofs.lemmas.Iterator.Consumers.{YieldsList-so_far, YieldsList-turn}
 use Rattle.std.proofs.lemmas.List.{map_push}
 use Rattle.std.proofs.lemmas.List.Elements.{All-nil, All-push}
-use Rattle.cny_base.specs.Count.{Rose}
-use Rattle.job_records.specs.Entries as records
-use Rattle.saved_contents.specs.declared.entry.Entry.{Entry}
-use Rattle.saved_contents.specs.Old.{IsDamagedOld, IsOldStop, IsSaved, is_staged}
-use Rattle.tree_disk.specs.Moments.{rose_before}
-use Rattle.tree_disk.specs.Tree.{Name, Tree}
-use Rattle.job_undo.specs.Undo as spec
+use Rattle.job_targets.specs.cny-base.Count.{Rose}
+use Rattle.job_record.specs.Entries as records
+use Rattle.job_targets.specs.declared.entry.Entry.{Entry}
+use Rattle.job_targets.specs.Old.{IsDamagedOld, IsOldStop, IsSaved, is_staged}
+use Rattle.job_targets.specs.tree-disk.Moments.{rose_before}
+use Rattle.job_targets.specs.tree-disk.Tree.{Name, Tree}
+use Rattle.rollback_stack.specs.Undo as spec
 use Rattle.rollback_stack.specs.Reading.{IsFirstDamaged}
 use Rattle.rollback_stack.proofs.Later.{old_stop_then, read_as, read_start, read_then}
 use Rattle.rollback_stack.proofs.NewestJob.{if_err_from}
-use Rattle.rollback_stack.proofs.Saving.{first_damaged}
+use Rattle.rollback_stack.proofs.SavedByJobs.{first_damaged}
 use Rattle.rollback_stack.proofs.stack.entries_of.Goals as goal
 
 pub loop-change-init : goal.loop-change-init

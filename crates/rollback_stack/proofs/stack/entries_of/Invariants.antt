@@ -1,9 +1,9 @@
 use Rattle.std.proofs.Common.{◌≡◌, ◌≤◌, false, IsTrue, All}
-use Rattle.job_records.specs.Entries as records
-use Rattle.saved_contents.specs.declared.entry.Entry.{Entry}
-use Rattle.saved_contents.specs.Old.{IsSaved, is_staged}
-use Rattle.tree_disk.specs.Disk.{HasRead}
-use Rattle.job_undo.specs.Undo as spec
+use Rattle.job_record.specs.Entries as records
+use Rattle.job_targets.specs.declared.entry.Entry.{Entry}
+use Rattle.job_targets.specs.Old.{IsSaved, is_staged}
+use Rattle.job_targets.specs.tree-disk.Disk.{HasRead}
+use Rattle.rollback_stack.specs.Undo as spec
 use Rattle.rollback_stack.proofs.stack.entries_of.Given as goal
 
 abbrev pub invariant-loop-change : goal.invariant-loop-change

@@ -1,13 +1,13 @@
 use Rattle.std.proofs.Common.{◌≡◌, false, List, All, ap, sym, refl, ◌∙◌, subst}
-use Rattle.cny_base.specs.Count.{Rose}
-use Rattle.job_records.specs.Entries as records
-use Rattle.job_records.specs.Reading.{HoldsRecord, IsDamagedJob, IsJob}
-use Rattle.job_undo.specs.Undo as spec
-use Rattle.saved_contents.specs.declared.entry.Entry.{Entry}
-use Rattle.saved_contents.specs.Old.{IsSaved, is_staged}
-use Rattle.system_state.specs.declared.format.Format.TheVariants.{Two}
-use Rattle.tree_disk.specs.Tree.{Name, Tree}
-use Rattle.trove_stream.specs.declared.parts.TroveParts.{TroveParts}
+use Rattle.job_targets.specs.cny-base.Count.{Rose}
+use Rattle.job_record.specs.Entries as records
+use Rattle.job_record.specs.JobReading.{HoldsRecord, IsDamagedJob, IsJob}
+use Rattle.rollback_stack.specs.Undo as spec
+use Rattle.job_targets.specs.declared.entry.Entry.{Entry}
+use Rattle.job_targets.specs.Old.{IsSaved, is_staged}
+use Rattle.local_db.specs.declared.format.Format.TheVariants.{Two}
+use Rattle.job_targets.specs.tree-disk.Tree.{Name, Tree}
+use Rattle.job_targets.specs.trove-stream.declared.parts.TroveParts.{TroveParts}
 use Rattle.rollback_stack.specs.Reading.{IsNewestStop}
 use Rattle.rollback_stack.proofs.Later.{read_as, read_then}
 use Rattle.rollback_stack.proofs.NewestJob.{if_err_from, newest_is, newest_leads, newest_read, record_damaged}

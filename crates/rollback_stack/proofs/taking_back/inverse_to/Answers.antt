@@ -1,12 +1,12 @@
 use Rattle.std.proofs.Common.{◌≡◌, ◌∙◌, List, ap, sym, subst}
-use Rattle.cny_base.specs.Count.{Rose}
-use Rattle.job_inverse.specs.Writes.{db_below}
+use Rattle.job_targets.specs.cny-base.Count.{Rose}
+use Rattle.rollback_stack.specs.Writes.{db_below}
 use Rattle.local_db.specs.declared.db.Db.{Db}
-use Rattle.system_state.specs.Formats.{Fits}
-use Rattle.system_state.specs.declared.format.Format.TheVariants.{Two}
-use Rattle.tree_disk.specs.Moments.{rose_before}
-use Rattle.tree_disk.specs.Tree.{Tree}
-use Rattle.trove_stream.specs.declared.parts.TroveParts.{TroveParts}
+use Rattle.local_db.specs.Formats.{Fits}
+use Rattle.local_db.specs.declared.format.Format.TheVariants.{Two}
+use Rattle.job_targets.specs.tree-disk.Moments.{rose_before}
+use Rattle.job_targets.specs.tree-disk.Tree.{Tree}
+use Rattle.job_targets.specs.trove-stream.declared.parts.TroveParts.{TroveParts}
 use Rattle.rollback_stack.specs.Inverse.{IsBackStop}
 use Rattle.rollback_stack.specs.Wanting.{AreWanted}
 use Rattle.rollback_stack.proofs.Later.{read_as, read_then}

@@ -1,13 +1,13 @@
 use Rattle.std.proofs.Common.{◌≡◌, false, List, [], ◌∷◌, map, All, ap, sym, ◌∙◌, subst}
 use Rattle.std.specs.List.Sorted.{IsStrictlySortedBy}
-use Rattle.cny_base.specs.Count.{Rose}
-use Rattle.cny_base.specs.Reserved.{is_reserved}
-use Rattle.saved_contents.specs.declared.entry.Entry.{Entry}
-use Rattle.system_state.specs.Record as state
-use Rattle.system_state.specs.Steps.{IsUnion, no_record_put}
-use Rattle.trove_stream.specs.declared.parts.TroveParts.{TroveParts}
-use Rattle.job_inverse.specs.Writes.{by_path, db_below, put_of}
-use Rattle.job_undo.specs.Undo.{entries_of}
+use Rattle.job_targets.specs.cny-base.Count.{Rose}
+use Rattle.job_targets.specs.cny-base.Reserved.{is_reserved}
+use Rattle.job_targets.specs.declared.entry.Entry.{Entry}
+use Rattle.local_db.specs.Record as state
+use Rattle.local_db.specs.Steps.{IsUnion, no_record_put}
+use Rattle.job_targets.specs.trove-stream.declared.parts.TroveParts.{TroveParts}
+use Rattle.rollback_stack.specs.Writes.{by_path, db_below, put_of}
+use Rattle.rollback_stack.specs.Undo.{entries_of}
 use Rattle.rollback_stack.specs.Inverse.{IsInverseStop}
 use Rattle.rollback_stack.proofs.Later.{read_as}
 use Rattle.rollback_stack.proofs.NewestJob.{if_err_from}

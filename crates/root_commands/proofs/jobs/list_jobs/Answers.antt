@@ -1,7 +1,7 @@
 use Rattle.std.proofs.Common.{ℕ, List, Result, Ok, Err, IfOk, sym, ◌∙◌, subst}
-use Rattle.cny_base.specs.Count.{Rose}
-use Rattle.cny_base.specs.declared.stop.Stop.{Stop}
-use Rattle.job_undo.specs.declared.undo.Note.{Note as Undone}
+use Rattle.repo_commands.specs.cny-base.Count.{Rose}
+use Rattle.repo_commands.specs.cny-base.declared.stop.Stop.{Stop}
+use Rattle.rollback_stack.specs.declared.undo.Note.{Note as Undone}
 use Rattle.rollback_stack.specs.Numbers.{job_count}
 use Rattle.rollback_stack.specs.Reading.{AreNotes}
 use Rattle.cli_call.specs.Alone.{PerformsAlone}

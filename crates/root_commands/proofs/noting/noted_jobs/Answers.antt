@@ -1,6 +1,6 @@
 use Rattle.std.proofs.Common.{List, subst, arith}
 use Rattle.std.proofs.lemmas.List.{take_all}
-use Rattle.job_undo.specs.declared.undo.Note.{Note as Undone}
+use Rattle.rollback_stack.specs.declared.undo.Note.{Note as Undone}
 use Rattle.root_commands.specs.Noting.{AreNoted}
 use Rattle.root_commands.proofs.Turning.{noted_next}
 use Rattle.root_commands.proofs.noting.noted_jobs.Goals as goal

@@ -4,8 +4,8 @@ use Rattle.cli_call.specs.Command.{disks, Performs}
 use Rattle.cli_call.specs.declared.failure.Failure.TheVariants as failure
 use Rattle.cli_call.specs.declared.opened.Opened.{Opened}
 use Rattle.cny_report.specs.Jobs.{rolled_back_text}
-use Rattle.system_state.specs.SystemState.{newest}
-use Rattle.system_rollback.specs.Several.{IsRefusalTo, jobs_to, paths_of_jobs, rolled_back_to}
+use Rattle.local_db.specs.SystemState.{newest}
+use Rattle.system_core.specs.Several.{IsRefusalTo, jobs_to, paths_of_jobs, rolled_back_to}
 use Rattle.root_commands.specs.Records.{TakesBackWhole}
 use Rattle.root_commands.specs.RollingBack as spec
 use Rattle.root_commands.specs.RollingBack.{TakesBackTo}

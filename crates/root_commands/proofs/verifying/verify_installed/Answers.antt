@@ -1,7 +1,7 @@
 use Rattle.std.proofs.Common.{◌≡◌, Result, Ok, Err, IfOk, OnOk, sym, ◌∙◌, subst}
-use Rattle.cny_base.specs.declared.stop.Stop.{Stop}
-use Rattle.tree_scan.specs.declared.verification.Verified.{Verified}
-use Rattle.tree_verify.specs.Verify.{asked, verified}
+use Rattle.repo_commands.specs.cny-base.declared.stop.Stop.{Stop}
+use Rattle.repo_commands.specs.tree-scan.declared.verification.Verified.{Verified}
+use Rattle.root_edits.specs.Verify.{asked, verified}
 use Rattle.update_job.specs.Lists.{AreInstalled}
 use Rattle.cli_call.specs.Alone.{PerformsAlone}
 use Rattle.cli_call.specs.Command.{disks, Performs}

@@ -2,8 +2,8 @@ use Rattle.std.proofs.Common.{rules}
 use Rattle.std.specs.Cmp.Lexicographic.{nat_list_cmp_total}
 use Rattle.std.proofs.lemmas.Cmp.{on_total}
 use Rattle.std.proofs.lemmas.List.Sorted.{answers_always}
-use Rattle.change_set.specs.declared.change.Carried.{Carried}
-use Rattle.change_set.specs.ChangeSet.{content_cmp}
+use Rattle.system_core.specs.change-set.declared.change.Carried.{Carried}
+use Rattle.system_core.specs.change-set.ChangeSet.{content_cmp}
 use Rattle.root_words.proofs.Adjacent.{is_less, rising_answer}
 use Rattle.root_words.proofs.carried.are_in_order.Goals as goal
 

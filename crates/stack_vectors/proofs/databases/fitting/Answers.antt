@@ -1,6 +1,6 @@
 use Rattle.std.proofs.Common.{ℕ, ◌≤◌, subst}
-use Rattle.cny_base.specs.declared.limits.TheConstants.{DATABASE_LIMIT}
-use Rattle.system_state.specs.declared.format.Format.TheVariants.{Two}
+use Rattle.system_core.specs.cny-base.declared.limits.TheConstants.{DATABASE_LIMIT}
+use Rattle.local_db.specs.declared.format.Format.TheVariants.{Two}
 use Rattle.stack_vectors.proofs.databases.fitting.Goals as goal
 
 pub returns-in-Ok : goal.returns-in-Ok

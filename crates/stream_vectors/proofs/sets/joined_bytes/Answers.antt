@@ -1,7 +1,7 @@
 use Rattle.std.proofs.Common.{[], All, sym, subst}
 use Rattle.std.specs.List.Sorted.{IsStrictlySortedBy}
 use Rattle.std.proofs.lemmas.List.Elements.{All-nil}
-use Rattle.change_set.specs.ChangeSet.{IsContentOf, content_cmp}
+use Rattle.cny_report.specs.change-set.ChangeSet.{IsContentOf, content_cmp}
 use Rattle.stream_vectors.proofs.sets.joined_bytes.Goals as goal
 
 none_rise : IsStrictlySortedBy content_cmp []

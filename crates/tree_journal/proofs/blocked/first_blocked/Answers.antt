@@ -1,7 +1,7 @@
 use Rattle.std.proofs.Common.{◌+◌, take}
 use Rattle.std.specs.Prelude.{IsTrue, Option, Some, ◌≢◌}
-use Rattle.cny_base.specs.Path.{is_path, root}
-use Rattle.tree_disk.specs.Tree.{Name}
+use Rattle.journal_log.specs.cny-base.Path.{is_path, root}
+use Rattle.journal_log.specs.tree-disk.Tree.{Name}
 use Rattle.std.specs.List.{All}
 use Rattle.std.proofs.lemmas.List.Elements.{All-nil}
 use Rattle.journal_log.specs.declared.put.Put.{Put}

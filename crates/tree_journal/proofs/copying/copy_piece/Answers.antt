@@ -1,7 +1,7 @@
 use Rattle.std.proofs.Common.{List, ℕ, ap}
-use Rattle.tree_disk.specs.Disk.{one_name}
-use Rattle.tree_disk.specs.Rows.{with_append}
-use Rattle.tree_disk.specs.StepLaws.{makes_after_test, makes_test_stop, makes_test_then_stop, tests_value}
+use Rattle.journal_log.specs.tree-disk.Disk.{one_name}
+use Rattle.journal_log.specs.tree-disk.Rows.{with_append}
+use Rattle.journal_log.specs.tree-disk.StepLaws.{makes_after_test, makes_test_stop, makes_test_then_stop, tests_value}
 use Rattle.tree_journal.proofs.Copies.{piece_read}
 use Rattle.tree_journal.proofs.Seen.{makes_answer}
 use Rattle.tree_journal.proofs.copying.copy_piece.Goals as goal

@@ -1,8 +1,8 @@
 use Rattle.std.proofs.Common.{◌≡◌, ◌-◌, length, take, Ok}
-use Rattle.cny_base.specs.declared.node.Node.TheVariants as node
-use Rattle.tree_disk.specs.Disk.{one_name}
-use Rattle.tree_disk.specs.Rows.{bytes_at, with_node}
-use Rattle.tree_disk.specs.Steps.{Makes}
+use Rattle.journal_log.specs.cny-base.declared.node.Node.TheVariants as node
+use Rattle.journal_log.specs.tree-disk.Disk.{one_name}
+use Rattle.journal_log.specs.tree-disk.Rows.{bytes_at, with_node}
+use Rattle.journal_log.specs.tree-disk.Steps.{Makes}
 use Rattle.tree_journal.proofs.copying.copy_pieces.Given as goal
 
 abbrev pub invariant-pieces : goal.invariant-pieces

@@ -1,5 +1,5 @@
 use Rattle.std.proofs.Common.{refl}
-use Rattle.tree_disk.specs.StepLaws.{makes_then}
+use Rattle.journal_log.specs.tree-disk.StepLaws.{makes_then}
 use Rattle.tree_journal.proofs.flag.clear_flag.Goals as goal
 
 pub returns-clause-makes : goal.returns-clause-makes

@@ -1,8 +1,8 @@
 use Rattle.std.proofs.Common.{ap, sym, ◌∙◌}
-use Rattle.tree_disk.specs.StepLaws.{tests_value, makes_after_test, makes_from_test}
-use Rattle.tree_disk.specs.Looks.{sees_nothing}
-use Rattle.tree_disk.specs.Disk.{one_name}
-use Rattle.tree_disk.specs.Looks.{sees_dir}
+use Rattle.journal_log.specs.tree-disk.StepLaws.{tests_value, makes_after_test, makes_from_test}
+use Rattle.journal_log.specs.tree-disk.Looks.{sees_nothing}
+use Rattle.journal_log.specs.tree-disk.Disk.{one_name}
+use Rattle.journal_log.specs.tree-disk.Looks.{sees_dir}
 use Rattle.tree_journal.proofs.MakePass.{dir_seen}
 use Rattle.tree_journal.proofs.OwnFiles.{base_kept, base_made, may_make_base, nothing_seen, other_seen}
 use Rattle.tree_journal.proofs.flag.make_base.Goals as goal

@@ -1,6 +1,6 @@
-use Rattle.tree_disk.specs.StepLaws.{makes_then}
+use Rattle.journal_log.specs.tree-disk.StepLaws.{makes_then}
 use Rattle.tree_journal.proofs.OwnFiles.{may_remove_other, may_make_removed, node_replaced}
-use Rattle.cny_base.specs.declared.node.Node.TheVariants as node
+use Rattle.journal_log.specs.cny-base.declared.node.Node.TheVariants as node
 use Rattle.tree_journal.proofs.flag.replace_base.Goals as goal
 
 pub remove-requires : goal.remove-requires

@@ -1,7 +1,7 @@
 use Rattle.std.proofs.Common.{refl}
-use Rattle.tree_disk.specs.StepLaws.{makes_then, makes_then_stop}
-use Rattle.tree_disk.specs.ClearLaws.{itself_within}
-use Rattle.tree_disk.specs.Rows.{with_append}
+use Rattle.journal_log.specs.tree-disk.StepLaws.{makes_then, makes_then_stop}
+use Rattle.journal_log.specs.tree-disk.ClearLaws.{itself_within}
+use Rattle.journal_log.specs.tree-disk.Rows.{with_append}
 use Rattle.tree_journal.proofs.OwnFiles.{may_write, written}
 use Rattle.tree_journal.proofs.flag.write_own_file.Goals as goal
 

@@ -1,10 +1,10 @@
 use Rattle.std.proofs.Common.{ap, ◌∙◌}
-use Rattle.cny_base.specs.declared.node.Node.TheVariants as node
-use Rattle.tree_disk.specs.Rows.{bytes_at, with_node}
-use Rattle.tree_disk.specs.StepLaws.{makes_then}
-use Rattle.tree_disk.specs.Tree.{Name}
+use Rattle.journal_log.specs.cny-base.declared.node.Node.TheVariants as node
+use Rattle.journal_log.specs.tree-disk.Rows.{bytes_at, with_node}
+use Rattle.journal_log.specs.tree-disk.StepLaws.{makes_then}
+use Rattle.journal_log.specs.tree-disk.Tree.{Name}
 use Rattle.std.specs.Fmt.{decimal}
-use Rattle.cny_base.specs.Path.{is_path, join}
+use Rattle.journal_log.specs.cny-base.Path.{is_path, join}
 use Rattle.tree_journal.proofs.Copies.{may_work, may_set_file_mode, with_file_mode}
 use Rattle.tree_journal.proofs.moving.make_file_at.Goals as goal
 

@@ -1,7 +1,7 @@
-use Rattle.tree_disk.specs.ClearLaws.{or_right}
-use Rattle.tree_disk.specs.StepLaws.{makes_then, makes_stop, makes_wider}
-use Rattle.tree_disk.specs.Tree.{Name}
-use Rattle.tree_disk.specs.Unfailed.{unfailed_then, unfailed_weaker}
+use Rattle.journal_log.specs.tree-disk.ClearLaws.{or_right}
+use Rattle.journal_log.specs.tree-disk.StepLaws.{makes_then, makes_stop, makes_wider}
+use Rattle.journal_log.specs.tree-disk.Tree.{Name}
+use Rattle.journal_log.specs.tree-disk.Unfailed.{unfailed_then, unfailed_weaker}
 use Rattle.std.specs.Prelude.{IsTrue, List}
 use Rattle.journal_log.specs.declared.put.Put.{Put}
 use Rattle.journal_log.specs.Targets.{is_target}

@@ -1,8 +1,8 @@
 use Rattle.std.proofs.Common.{inl, ap, sym, ◌∙◌}
-use Rattle.tree_disk.specs.Rows.{without}
-use Rattle.tree_disk.specs.StepLaws.{tests_value, makes_after_test, makes_from_test}
-use Rattle.tree_disk.specs.Disk.{one_name}
-use Rattle.tree_disk.specs.Tree.{Tree}
+use Rattle.journal_log.specs.tree-disk.Rows.{without}
+use Rattle.journal_log.specs.tree-disk.StepLaws.{tests_value, makes_after_test, makes_from_test}
+use Rattle.journal_log.specs.tree-disk.Disk.{one_name}
+use Rattle.journal_log.specs.tree-disk.Tree.{Tree}
 use Rattle.tree_journal.specs.Passes.{is_obstructed}
 use Rattle.tree_journal.proofs.ClearPass.{obstructed_at, cleared_away, cleared_kept}
 use Rattle.tree_journal.proofs.Seen.{read_shows, step_shows}

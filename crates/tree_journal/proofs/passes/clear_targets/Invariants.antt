@@ -1,6 +1,6 @@
 use Rattle.std.proofs.Common.{◌≤◌, IsTrue, drop, length, Ok}
-use Rattle.tree_disk.specs.Steps.{Makes}
-use Rattle.tree_disk.specs.Unfailed.{UnlessFailed}
+use Rattle.journal_log.specs.tree-disk.Steps.{Makes}
+use Rattle.journal_log.specs.tree-disk.Unfailed.{UnlessFailed}
 use Rattle.journal_log.specs.Targets.{is_target}
 use Rattle.tree_journal.specs.Passes.{all_cleared}
 use Rattle.tree_journal.specs.Visible.{IsPartCleared}

@@ -1,9 +1,9 @@
 use Rattle.std.proofs.Common.{inl, ap, refl, sym, ◌∙◌, Some}
-use Rattle.cny_base.specs.declared.node.Node.TheVariants as node
-use Rattle.tree_disk.specs.Rows.{with_mode}
-use Rattle.tree_disk.specs.StepLaws.{tests_value, makes_after_test}
-use Rattle.tree_disk.specs.Looks.{sees_dir}
-use Rattle.tree_disk.specs.Tree.{Tree, put}
+use Rattle.journal_log.specs.cny-base.declared.node.Node.TheVariants as node
+use Rattle.journal_log.specs.tree-disk.Rows.{with_mode}
+use Rattle.journal_log.specs.tree-disk.StepLaws.{tests_value, makes_after_test}
+use Rattle.journal_log.specs.tree-disk.Looks.{sees_dir}
+use Rattle.journal_log.specs.tree-disk.Tree.{Tree, put}
 use Rattle.tree_journal.proofs.MakePass.{dir_seen, may_set_dir_mode, with_dir_mode, may_make_missing_dir}
 use Rattle.tree_journal.proofs.Seen.{read_shows, step_shows}
 use Rattle.tree_journal.proofs.passes.make_dir_at.Goals as goal

@@ -1,9 +1,9 @@
 use Rattle.std.proofs.Common.{◌≡◌, true, IsTrue, Some, sym, ap, subst}
-use Rattle.cny_base.specs.declared.node.Node.TheVariants as node
-use Rattle.tree_disk.specs.ClearLaws.{or_right}
-use Rattle.tree_disk.specs.Tree.{Name, same_name, put}
-use Rattle.tree_disk.specs.StepLaws.{makes_as, makes_start, makes_wider}
-use Rattle.tree_disk.specs.Unfailed.{UnlessFailed, unfailed_start, unfailed_weaker}
+use Rattle.journal_log.specs.cny-base.declared.node.Node.TheVariants as node
+use Rattle.journal_log.specs.tree-disk.ClearLaws.{or_right}
+use Rattle.journal_log.specs.tree-disk.Tree.{Name, same_name, put}
+use Rattle.journal_log.specs.tree-disk.StepLaws.{makes_as, makes_start, makes_wider}
+use Rattle.journal_log.specs.tree-disk.Unfailed.{UnlessFailed, unfailed_start, unfailed_weaker}
 use Rattle.journal_log.specs.declared.put.Want.{Want}
 use Rattle.journal_log.specs.Targets.{is_dir_want, node_of}
 use Rattle.journal_log.specs.WriteSet.{CanBeLogged}

@@ -2,11 +2,11 @@ use Rattle.std.proofs.Common.{◌≡◌, true, IsTrue, List, map, ap, refl, ◌�
 use Rattle.std.proofs.lemmas.List.{take_all}
 use Rattle.std.proofs.lemmas.List.Elements.{All-contains}
 use Rattle.std.proofs.Common.{⊎_elim}
-use Rattle.tree_disk.specs.Clear.{is_within}
-use Rattle.tree_disk.specs.ClearLaws.{or_left, or_right, or_cases}
-use Rattle.tree_disk.specs.StepLaws.{makes_start, makes_then, makes_then_stop, makes_as}
-use Rattle.tree_disk.specs.Tree.{Name, same_name}
-use Rattle.tree_disk.specs.Unfailed.{unfailed_start, unfailed_then}
+use Rattle.journal_log.specs.tree-disk.Clear.{is_within}
+use Rattle.journal_log.specs.tree-disk.ClearLaws.{or_left, or_right, or_cases}
+use Rattle.journal_log.specs.tree-disk.StepLaws.{makes_start, makes_then, makes_then_stop, makes_as}
+use Rattle.journal_log.specs.tree-disk.Tree.{Name, same_name}
+use Rattle.journal_log.specs.tree-disk.Unfailed.{unfailed_start, unfailed_then}
 use Rattle.journal_log.specs.declared.put.Put.{Put}
 use Rattle.journal_log.specs.Own.{work}
 use Rattle.journal_log.specs.WriteSet.{CanBeLogged}

@@ -1,6 +1,6 @@
 use Rattle.std.proofs.Common.{IsTrue, map, take, drop, Ok}
-use Rattle.tree_disk.specs.Steps.{Makes}
-use Rattle.tree_disk.specs.Unfailed.{UnlessFailed}
+use Rattle.journal_log.specs.tree-disk.Steps.{Makes}
+use Rattle.journal_log.specs.tree-disk.Unfailed.{UnlessFailed}
 use Rattle.journal_log.specs.Targets.{with_targets}
 use Rattle.tree_journal.specs.Passes.{is_work_or_target, CanMakeAll}
 use Rattle.tree_journal.specs.Staging.{resolve, outcome}

@@ -1,10 +1,10 @@
-use Rattle.tree_disk.specs.Steps.{no_name}
+use Rattle.journal_log.specs.tree-disk.Steps.{no_name}
 use Rattle.std.proofs.Common.{◌≡◌, true, arith, refl, sym, ap, subst, ◌∙◌, IsTrue, List}
 use Rattle.std.specs.FinMap.{get}
-use Rattle.tree_disk.specs.Clear.{is_within, without_tree}
-use Rattle.tree_disk.specs.ClearLaws.{or_left}
-use Rattle.tree_disk.specs.StepLaws.{makes_then, makes_then_stop, makes_stop, makes_wider}
-use Rattle.tree_disk.specs.Tree.{Name, Tree}
+use Rattle.journal_log.specs.tree-disk.Clear.{is_within, without_tree}
+use Rattle.journal_log.specs.tree-disk.ClearLaws.{or_left}
+use Rattle.journal_log.specs.tree-disk.StepLaws.{makes_then, makes_then_stop, makes_stop, makes_wider}
+use Rattle.journal_log.specs.tree-disk.Tree.{Name, Tree}
 use Rattle.journal_log.specs.declared.put.Put.{Put}
 use Rattle.journal_log.specs.Own.{work}
 use Rattle.journal_log.specs.Targets.{is_target}

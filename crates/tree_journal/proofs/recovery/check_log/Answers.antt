@@ -1,6 +1,6 @@
 use Rattle.std.proofs.Common.{◌≢◌}
 use Rattle.std.proofs.lemmas.List.Elements.{All-weaker}
-use Rattle.cny_base.specs.Path.{root}
+use Rattle.journal_log.specs.cny-base.Path.{root}
 use Rattle.journal_log.specs.declared.put.Put.{Put}
 use Rattle.journal_log.specs.WriteSet.{CanBeNamed}
 use Rattle.tree_journal.specs.Recovery.{staged_damaged}

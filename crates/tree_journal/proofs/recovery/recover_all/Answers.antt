@@ -1,7 +1,7 @@
 use Rattle.std.proofs.Common.{arith}
-use Rattle.tree_disk.specs.Confined.{Among}
-use Rattle.tree_disk.specs.ConfinedLaws.{confined_read, confined_then}
-use Rattle.tree_disk.specs.Steps.{no_name}
+use Rattle.journal_log.specs.tree-disk.Confined.{Among}
+use Rattle.journal_log.specs.tree-disk.ConfinedLaws.{confined_read, confined_then}
+use Rattle.journal_log.specs.tree-disk.Steps.{no_name}
 use Rattle.tree_journal.proofs.Recovering.{fault_stops, made_stop, recovers_on, recovers_stopped}
 use Rattle.tree_journal.proofs.recovery.recover_all.Goals as goal
 

@@ -1,7 +1,7 @@
 use Rattle.std.proofs.Common.{List, subst, sym}
-use Rattle.tree_disk.specs.Confined.{Among}
-use Rattle.tree_disk.specs.ConfinedLaws.{confined_read}
-use Rattle.tree_disk.specs.Steps.{no_name}
+use Rattle.journal_log.specs.tree-disk.Confined.{Among}
+use Rattle.journal_log.specs.tree-disk.ConfinedLaws.{confined_read}
+use Rattle.journal_log.specs.tree-disk.Steps.{no_name}
 use Rattle.journal_log.specs.declared.put.Put.{Put}
 use Rattle.journal_log.specs.Rules.{AreLogged}
 use Rattle.tree_journal.specs.Steps.{IsCommitted}

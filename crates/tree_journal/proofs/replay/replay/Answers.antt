@@ -1,6 +1,6 @@
 use Rattle.std.proofs.Common.{Ok, refl}
-use Rattle.tree_disk.specs.StepLaws.{makes_start, makes_memory}
-use Rattle.tree_disk.specs.Unfailed.{unfailed_start}
+use Rattle.journal_log.specs.tree-disk.StepLaws.{makes_start, makes_memory}
+use Rattle.journal_log.specs.tree-disk.Unfailed.{unfailed_start}
 use Rattle.tree_journal.specs.Steps.{is_replay_name}
 use Rattle.tree_journal.proofs.Finding.{passed_memory}
 use Rattle.tree_journal.proofs.OwnNames.{log_shorter, staged_part, staged_shorter, work_part, work_shorter}

@@ -1,12 +1,12 @@
 use Rattle.std.proofs.Common.{◌≡◌, true, IsTrue, List, ap, subst, sym, ◌∙◌}
 use Rattle.std.specs.FinMap.{get}
-use Rattle.tree_disk.specs.Confined.{Among, Confined}
-use Rattle.tree_disk.specs.ConfinedLaws.{leaves_then}
-use Rattle.tree_disk.specs.Clear.{is_within}
-use Rattle.tree_disk.specs.ClearLaws.{itself_within, or_left, or_right}
-use Rattle.tree_disk.specs.Rows.{is_file_at, without}
-use Rattle.tree_disk.specs.StepLaws.{makes_then, makes_stop, makes_wider}
-use Rattle.tree_disk.specs.Tree.{Name, Tree, same_name}
+use Rattle.journal_log.specs.tree-disk.Confined.{Among, Confined}
+use Rattle.journal_log.specs.tree-disk.ConfinedLaws.{leaves_then}
+use Rattle.journal_log.specs.tree-disk.Clear.{is_within}
+use Rattle.journal_log.specs.tree-disk.ClearLaws.{itself_within, or_left, or_right}
+use Rattle.journal_log.specs.tree-disk.Rows.{is_file_at, without}
+use Rattle.journal_log.specs.tree-disk.StepLaws.{makes_then, makes_stop, makes_wider}
+use Rattle.journal_log.specs.tree-disk.Tree.{Name, Tree, same_name}
 use Rattle.journal_log.specs.declared.put.Put.{Put}
 use Rattle.journal_log.specs.Own.{gate}
 use Rattle.tree_journal.specs.Passes.{is_work_or_target, all_put}

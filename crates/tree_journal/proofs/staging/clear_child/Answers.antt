@@ -1,7 +1,7 @@
 use Rattle.std.proofs.Common.{Ok, refl, ap}
-use Rattle.tree_disk.specs.Clear.{is_within, without_tree}
-use Rattle.tree_disk.specs.ClearLaws.{below_within, within_join_below}
-use Rattle.tree_disk.specs.StepLaws.{makes_as, makes_memory, makes_start, makes_wider}
+use Rattle.journal_log.specs.tree-disk.Clear.{is_within, without_tree}
+use Rattle.journal_log.specs.tree-disk.ClearLaws.{below_within, within_join_below}
+use Rattle.journal_log.specs.tree-disk.StepLaws.{makes_as, makes_memory, makes_start, makes_wider}
 use Rattle.tree_journal.proofs.Finding.{passed_memory}
 use Rattle.tree_journal.proofs.staging.clear_child.Goals as goal
 

@@ -1,9 +1,9 @@
 use Rattle.std.proofs.Common.{refl, ap, sym, subst, ◌∙◌}
 use Rattle.std.specs.Prelude.{List, ℕ}
-use Rattle.tree_disk.specs.Clear.{is_within}
-use Rattle.tree_disk.specs.ClearLaws.{itself_within}
-use Rattle.tree_disk.specs.Tree.{children, WellFormed}
-use Rattle.tree_disk.specs.StepLaws.{makes_stop, makes_then, makes_after_test, makes_test_stop, makes_wider, tests_value}
+use Rattle.journal_log.specs.tree-disk.Clear.{is_within}
+use Rattle.journal_log.specs.tree-disk.ClearLaws.{itself_within}
+use Rattle.journal_log.specs.tree-disk.Tree.{children, WellFormed}
+use Rattle.journal_log.specs.tree-disk.StepLaws.{makes_stop, makes_then, makes_after_test, makes_test_stop, makes_wider, tests_value}
 use Rattle.tree_journal.specs.Apply.{with_base}
 use Rattle.tree_journal.specs.Steps.{without_strays, with_stage, HasNoStrays}
 use Rattle.tree_journal.proofs.OwnFiles.{base_stands, ends_so}

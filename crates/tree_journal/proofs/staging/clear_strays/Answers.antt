@@ -1,8 +1,8 @@
 use Rattle.std.proofs.Common.{List, Ok, refl, ap, sym, ◌∙◌}
 use Rattle.std.proofs.lemmas.List.{get_or_default, take_all}
-use Rattle.tree_disk.specs.Clear.{is_within}
-use Rattle.tree_disk.specs.StepLaws.{makes_as, makes_memory, makes_start, makes_then, makes_then_stop}
-use Rattle.tree_disk.specs.Tree.{Name}
+use Rattle.journal_log.specs.tree-disk.Clear.{is_within}
+use Rattle.journal_log.specs.tree-disk.StepLaws.{makes_as, makes_memory, makes_start, makes_then, makes_then_stop}
+use Rattle.journal_log.specs.tree-disk.Tree.{Name}
 use Rattle.journal_log.specs.Staged.{names_staged_at}
 use Rattle.tree_journal.specs.Steps.{without_strays}
 use Rattle.tree_journal.proofs.StagedBytes.{stray_cleared, stray_kept}

@@ -1,6 +1,6 @@
 use Rattle.std.proofs.Common.{take, Ok}
-use Rattle.tree_disk.specs.Clear.{is_within}
-use Rattle.tree_disk.specs.Steps.{Makes}
+use Rattle.journal_log.specs.tree-disk.Clear.{is_within}
+use Rattle.journal_log.specs.tree-disk.Steps.{Makes}
 use Rattle.tree_journal.specs.Steps.{without_strays}
 use Rattle.tree_journal.proofs.staging.clear_strays.Given as goal
 

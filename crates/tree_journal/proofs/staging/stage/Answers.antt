@@ -1,10 +1,10 @@
 use Rattle.std.proofs.Common.{◌≡◌, true, IsTrue, List, length, Ok, refl, ap, sym, subst, arith, ◌∙◌}
 use Rattle.std.specs.Prelude.{codes}
-use Rattle.cny_base.specs.Path.{parent}
-use Rattle.tree_disk.specs.Clear.{is_within}
-use Rattle.tree_disk.specs.Rows.{is_dir_at}
-use Rattle.tree_disk.specs.StepLaws.{makes_memory, makes_start, makes_stop, makes_then, makes_wider}
-use Rattle.tree_disk.specs.Tree.{Name, Tree}
+use Rattle.journal_log.specs.cny-base.Path.{parent}
+use Rattle.journal_log.specs.tree-disk.Clear.{is_within}
+use Rattle.journal_log.specs.tree-disk.Rows.{is_dir_at}
+use Rattle.journal_log.specs.tree-disk.StepLaws.{makes_memory, makes_start, makes_stop, makes_then, makes_wider}
+use Rattle.journal_log.specs.tree-disk.Tree.{Name, Tree}
 use Rattle.journal_log.specs.declared.put.Put.{Put}
 use Rattle.journal_log.specs.Own.{staged}
 use Rattle.tree_journal.specs.Staging.{HoldsNoOthers}

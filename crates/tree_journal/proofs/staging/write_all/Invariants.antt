@@ -1,6 +1,6 @@
 use Rattle.std.proofs.Common.{◌-◌, take, length, Ok}
-use Rattle.tree_disk.specs.Clear.{is_within}
-use Rattle.tree_disk.specs.Steps.{Makes}
+use Rattle.journal_log.specs.tree-disk.Clear.{is_within}
+use Rattle.journal_log.specs.tree-disk.Steps.{Makes}
 use Rattle.journal_log.specs.Own.{staged}
 use Rattle.tree_journal.specs.Steps.{with_all_bytes}
 use Rattle.tree_journal.proofs.staging.write_all.Given as goal

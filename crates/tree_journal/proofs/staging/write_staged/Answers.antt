@@ -1,12 +1,12 @@
 use Rattle.std.proofs.Common.{Ok, refl, ap, ◌∙◌}
 use Rattle.std.specs.FinMap.{get}
 use Rattle.std.specs.Fmt.{decimal}
-use Rattle.cny_base.specs.Path.{is_path, join, parent}
-use Rattle.tree_disk.specs.Clear.{is_within}
-use Rattle.tree_disk.specs.ClearLaws.{itself_within}
-use Rattle.tree_disk.specs.Rows.{is_dir_at}
-use Rattle.tree_disk.specs.StepLaws.{makes_as, makes_memory, makes_start, makes_wider}
-use Rattle.tree_disk.specs.Tree.{Name}
+use Rattle.journal_log.specs.cny-base.Path.{is_path, join, parent}
+use Rattle.journal_log.specs.tree-disk.Clear.{is_within}
+use Rattle.journal_log.specs.tree-disk.ClearLaws.{itself_within}
+use Rattle.journal_log.specs.tree-disk.Rows.{is_dir_at}
+use Rattle.journal_log.specs.tree-disk.StepLaws.{makes_as, makes_memory, makes_start, makes_wider}
+use Rattle.journal_log.specs.tree-disk.Tree.{Name}
 use Rattle.journal_log.specs.Own.{staged}
 use Rattle.tree_journal.specs.Steps.{with_own_file}
 use Rattle.tree_journal.proofs.Finding.{passed_memory}

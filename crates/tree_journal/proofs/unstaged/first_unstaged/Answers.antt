@@ -2,7 +2,7 @@ use Rattle.std.proofs.Common.{◌+◌, IsTrue, Some, take, subst}
 use Rattle.std.specs.Prelude.{Option}
 use Rattle.std.specs.List.{All}
 use Rattle.std.proofs.lemmas.List.Elements.{All-nil}
-use Rattle.tree_disk.specs.Tree.{Name}
+use Rattle.journal_log.specs.tree-disk.Tree.{Name}
 use Rattle.journal_log.specs.declared.put.Put.{Put}
 use Rattle.journal_log.specs.WriteSet.{CanBeLogged}
 use Rattle.tree_journal.specs.Found.{FindsContent, FindsUnstaged}

@@ -1,8 +1,8 @@
 use Rattle.std.proofs.Common.{◌+◌, ◌∙◌, length, take, refl, ap, subst, arith}
 use Rattle.sha1.specs.Sha1.{Holds}
-use Rattle.tree_disk.specs.Rows.{bytes_at}
-use Rattle.tree_disk.specs.StepLaws.{tests_value}
-use Rattle.tree_disk.specs.Tree.{Tree}
+use Rattle.journal_log.specs.tree-disk.Rows.{bytes_at}
+use Rattle.journal_log.specs.tree-disk.StepLaws.{tests_value}
+use Rattle.journal_log.specs.tree-disk.Tree.{Tree}
 use Rattle.tree_journal.proofs.Finding.{finds_start, finds_then, finds_answer, finds_test_stop, finds_test_answer}
 use Rattle.tree_journal.proofs.FirstUnstaged.{hashed_more, hashed_all, piece_is_last}
 use Rattle.tree_journal.proofs.unstaged.hash_pieces.Goals as goal

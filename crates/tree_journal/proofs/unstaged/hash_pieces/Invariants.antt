@@ -1,6 +1,6 @@
 use Rattle.std.proofs.Common.{◌≡◌, ◌-◌, length, take, Ok}
 use Rattle.sha1.specs.Sha1.{Holds}
-use Rattle.tree_disk.specs.Rows.{bytes_at}
+use Rattle.journal_log.specs.tree-disk.Rows.{bytes_at}
 use Rattle.tree_journal.specs.Found.{Finds}
 use Rattle.tree_journal.proofs.unstaged.hash_pieces.Given as goal
 

@@ -1,10 +1,10 @@
 use Rattle.std.proofs.Common.{◌≡◌, true, List, ℕ, ap, sym, ◌∙◌}
 use Rattle.std.specs.FinMap.{get}
 use Rattle.std.specs.Str.{bytes_eq}
-use Rattle.tree_disk.specs.Rows.{look_of}
+use Rattle.journal_log.specs.tree-disk.Rows.{look_of}
 use Rattle.tree_journal.specs.Staging.{is_content}
-use Rattle.tree_disk.specs.declared.disk.Look.{Look}
-use Rattle.tree_disk.specs.StepLaws.{tests_value}
+use Rattle.journal_log.specs.tree-disk.declared.disk.Look.{Look}
+use Rattle.journal_log.specs.tree-disk.StepLaws.{tests_value}
 use Rattle.tree_journal.specs.Found.{sees_size}
 use Rattle.tree_journal.proofs.Finding.{finds_test_stop, finds_test_answer, finds_after_test, finds_answer, finds_stop}
 use Rattle.tree_journal.proofs.FirstUnstaged.{other_size, of_size, same_size, size_equal}

@@ -5,7 +5,7 @@ use Rattle.journal_log.specs.LogBytes.{IsSpelled}
 use Rattle.journal_log.specs.NumberLaws.{numbered_no_bytes, numbered_targets}
 use Rattle.journal_log.specs.Rules.{AreLogged}
 use Rattle.journal_log.specs.WriteSet.{Rises}
-use Rattle.tree_disk.specs.StepLaws.{makes_stop}
+use Rattle.journal_log.specs.tree-disk.StepLaws.{makes_stop}
 use Rattle.tree_journal.specs.Steps.{with_log, IsPrepared}
 use Rattle.tree_journal.proofs.Finding.{passed_memory}
 use Rattle.tree_journal.proofs.OwnNames.{gate_part, log_part, short_own, staged_is_path}

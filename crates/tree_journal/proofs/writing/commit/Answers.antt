@@ -1,14 +1,14 @@
 use Rattle.std.proofs.Common.{◌≡◌, IsTrue, List, true, ap, sym, subst, refl, ◌∙◌}
 use Rattle.std.specs.Prelude.{codes}
-use Rattle.cny_base.specs.Path.{parent}
-use Rattle.tree_disk.specs.Clear.{is_within}
-use Rattle.tree_disk.specs.ClearLaws.{or_left}
-use Rattle.tree_disk.specs.Confined.{Among, Confined}
-use Rattle.tree_disk.specs.ConfinedLaws.{leaves_then}
-use Rattle.tree_disk.specs.Rows.{is_dir_at}
-use Rattle.tree_disk.specs.StepLaws.{makes_then, makes_stop, makes_wider}
-use Rattle.tree_disk.specs.Tree.{Name}
-use Rattle.tree_disk.specs.Unfailed.{unfailed_then}
+use Rattle.journal_log.specs.cny-base.Path.{parent}
+use Rattle.journal_log.specs.tree-disk.Clear.{is_within}
+use Rattle.journal_log.specs.tree-disk.ClearLaws.{or_left}
+use Rattle.journal_log.specs.tree-disk.Confined.{Among, Confined}
+use Rattle.journal_log.specs.tree-disk.ConfinedLaws.{leaves_then}
+use Rattle.journal_log.specs.tree-disk.Rows.{is_dir_at}
+use Rattle.journal_log.specs.tree-disk.StepLaws.{makes_then, makes_stop, makes_wider}
+use Rattle.journal_log.specs.tree-disk.Tree.{Name}
+use Rattle.journal_log.specs.tree-disk.Unfailed.{unfailed_then}
 use Rattle.journal_log.specs.declared.put.Put.{Put}
 use Rattle.journal_log.specs.Own.{gate}
 use Rattle.tree_journal.specs.Steps.{is_replay_name, with_own_file, replayed}

@@ -1,6 +1,6 @@
 use Rattle.std.proofs.Common.{refl}
-use Rattle.tree_disk.specs.ConfinedLaws.{leaves_then}
-use Rattle.tree_disk.specs.StepLaws.{makes_then, makes_stop, makes_wider}
+use Rattle.journal_log.specs.tree-disk.ConfinedLaws.{leaves_then}
+use Rattle.journal_log.specs.tree-disk.StepLaws.{makes_then, makes_stop, makes_wider}
 use Rattle.tree_journal.specs.Steps.{is_log_or_staged, with_log}
 use Rattle.tree_journal.proofs.Applying.{before_sync, after_sync}
 use Rattle.tree_journal.proofs.writing.prepare.Goals as goal

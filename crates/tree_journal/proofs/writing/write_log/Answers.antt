@@ -1,11 +1,11 @@
 use Rattle.std.proofs.Common.{◌≡◌, true, IsTrue, ap, sym, subst, ◌∙◌}
 use Rattle.std.specs.Prelude.{codes, refl}
-use Rattle.cny_base.specs.Path.{parent}
-use Rattle.tree_disk.specs.Clear.{is_within}
-use Rattle.tree_disk.specs.ClearLaws.{or_left, or_right}
-use Rattle.tree_disk.specs.Rows.{is_dir_at}
-use Rattle.tree_disk.specs.StepLaws.{makes_then, makes_then_stop, makes_stop, makes_wider}
-use Rattle.tree_disk.specs.Tree.{Name, same_name, is_dir}
+use Rattle.journal_log.specs.cny-base.Path.{parent}
+use Rattle.journal_log.specs.tree-disk.Clear.{is_within}
+use Rattle.journal_log.specs.tree-disk.ClearLaws.{or_left, or_right}
+use Rattle.journal_log.specs.tree-disk.Rows.{is_dir_at}
+use Rattle.journal_log.specs.tree-disk.StepLaws.{makes_then, makes_then_stop, makes_stop, makes_wider}
+use Rattle.journal_log.specs.tree-disk.Tree.{Name, same_name, is_dir}
 use Rattle.journal_log.specs.Own.{log, staged}
 use Rattle.tree_journal.specs.Apply.{with_base}
 use Rattle.tree_journal.specs.Staging.{HoldsNoOthers}

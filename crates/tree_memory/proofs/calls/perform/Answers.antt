@@ -1,6 +1,6 @@
 use Rattle.std.proofs.Common.{◌∙◌, ℕ, ◌≤◌, ◌&&◌, not, ap, sym, subst}
-use Rattle.tree_disk.specs.Tree.{Tree}
-use Rattle.cny_base.specs.Count.{next}
+use Rattle.tree_nodes.specs.tree-disk.Tree.{Tree}
+use Rattle.tree_nodes.specs.cny-base.Count.{next}
 use Rattle.tree_memory.specs.State.{allows, failed_change}
 use Rattle.tree_memory.specs.Memory.{state}
 use Rattle.tree_memory.specs.Calls.{IsCall}

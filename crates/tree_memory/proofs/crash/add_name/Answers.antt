@@ -1,5 +1,5 @@
 use Rattle.std.proofs.Common.{◌∙◌, sym, ap}
-use Rattle.cny_base.specs.Path.{is_path}
+use Rattle.tree_nodes.specs.cny-base.Path.{is_path}
 use Rattle.tree_memory.proofs.Changed.{one_more, one_path}
 use Rattle.tree_memory.proofs.crash.add_name.Goals as goal
 

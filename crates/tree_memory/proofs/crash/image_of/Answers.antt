@@ -1,5 +1,5 @@
 use Rattle.std.proofs.Common.{◌∙◌, ap, subst, IfOk}
-use Rattle.tree_disk.specs.Disk.{IsCrashImage}
+use Rattle.tree_nodes.specs.tree-disk.Disk.{IsCrashImage}
 use Rattle.tree_nodes.specs.Crash.{IsPicked}
 use Rattle.tree_memory.specs.State.{State, state_of}
 use Rattle.tree_memory.specs.Since.{any_names}

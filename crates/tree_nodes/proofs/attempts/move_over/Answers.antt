@@ -1,6 +1,6 @@
 use Rattle.std.proofs.Common.{◌∙◌, ap, Some, is_some}
 use Rattle.std.specs.FinMap.{get}
-use Rattle.cny_base.specs.declared.node.Node.TheVariants.{Dir}
+use Rattle.tree_disk.specs.cny-base.declared.node.Node.TheVariants.{Dir}
 use Rattle.tree_disk.specs.Laws.{get_put_here}
 use Rattle.tree_nodes.specs.Stored.{tree_of}
 use Rattle.tree_nodes.proofs.StoredTree.{removed}

@@ -1,6 +1,6 @@
 use Rattle.std.proofs.Common.{◌∙◌, sym, ap}
 use Rattle.std.specs.Map.Iter.{deref_pair}
-use Rattle.cny_base.specs.Path.{is_path}
+use Rattle.tree_disk.specs.cny-base.Path.{is_path}
 use Rattle.tree_disk.specs.Tree.{Name}
 use Rattle.tree_nodes.specs.Below.{entries_with_prefix}
 use Rattle.tree_nodes.proofs.Children.{childless_stored, none_first, some_first}

@@ -1,6 +1,6 @@
 use Rattle.std.proofs.Common.{◌∙◌, sym, subst, true, ◌≡◌}
 use Rattle.std.specs.List.{AllByRecursion}
-use Rattle.cny_base.specs.Path.{is_path}
+use Rattle.tree_disk.specs.cny-base.Path.{is_path}
 use Rattle.tree_nodes.proofs.Children.{texts, stored_paths}
 use Rattle.tree_nodes.proofs.copies.list_of.Goals as goal
 

@@ -2,8 +2,8 @@ use Rattle.std.proofs.Common.{◌≡◌, true, List, map, String}
 use Rattle.std.specs.declared.alloc.Global.{Global}
 use Rattle.std.specs.List.{AllByRecursion}
 use Rattle.std.specs.Map.Iter.{deref_pair}
-use Rattle.cny_base.specs.Path.{is_path}
-use Rattle.cny_base.specs.declared.node.Node.{Node}
+use Rattle.tree_disk.specs.cny-base.Path.{is_path}
+use Rattle.tree_disk.specs.cny-base.declared.node.Node.{Node}
 use Rattle.tree_disk.specs.Tree.{Name}
 use Rattle.tree_nodes.specs.Stored.{by_bytes}
 use Rattle.tree_nodes.proofs.Children.{texts}

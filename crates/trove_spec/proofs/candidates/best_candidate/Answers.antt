@@ -1,6 +1,6 @@
 use Rattle.std.proofs.Common.{◌≡◌, ℕ, ◌<◌, true, false, List, length, take, get_or, filter, Option, Some, option_copied, sym, ap, ◌∙◌, arith}
 use Rattle.std.proofs.lemmas.List.{take_more}
-use Rattle.trove_stream.specs.declared.parts.TroveParts.{TroveParts}
+use Rattle.repo_index.specs.trove-stream.declared.parts.TroveParts.{TroveParts}
 use Rattle.repo_index.specs.Places.{troves_at}
 use Rattle.trove_spec.specs.Resolve.{best, is_wanted, kept}
 use Rattle.trove_spec.proofs.Choosing.{best_at-none, best_at-other, best_at-found}

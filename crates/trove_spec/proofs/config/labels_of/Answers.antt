@@ -3,7 +3,7 @@ use Rattle.std.specs.List.{AllZip}
 use Rattle.std.specs.declared.alloc.Global.{Global}
 use Rattle.std.proofs.lemmas.List.{take_more}
 use Rattle.std.proofs.lemmas.List.Elements.{filter-append}
-use Rattle.cny_base.specs.declared.text.TextFault.TheVariants.{Bad}
+use Rattle.repo_index.specs.cny-base.declared.text.TextFault.TheVariants.{Bad}
 use Rattle.cny_version.specs.Label.{LabelParts}
 use Rattle.trove_spec.specs.Config.{is_word_there, IsTextOf}
 use Rattle.trove_spec.proofs.ConfigLines.{map-push, paired-push, split_at, too_many, paired_at, same_fault}

@@ -1,4 +1,4 @@
-use Rattle.cny_base.specs.declared.text.TextFault.TheVariants.{Bad}
+use Rattle.repo_index.specs.cny-base.declared.text.TextFault.TheVariants.{Bad}
 use Rattle.trove_spec.proofs.ConfigLines.{same_fault, flavor_bad}
 use Rattle.trove_spec.proofs.OneConfig.{one_flavor}
 use Rattle.trove_spec.proofs.config.relaxed_setting.Goals as goal

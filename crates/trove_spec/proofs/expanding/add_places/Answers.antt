@@ -1,6 +1,6 @@
 use Rattle.std.proofs.Common.{◌≡◌, ℕ, ◌+◌, ◌<◌, List, [], ◌∷◌, ◌++◌, length, take, sym, ap, subst, ◌∙◌, arith}
 use Rattle.std.proofs.lemmas.List.{take_more}
-use Rattle.trove_id.specs.declared.id.TroveId.{TroveId}
+use Rattle.repo_index.specs.trove-parts.declared.id.TroveId.{TroveId}
 use Rattle.trove_spec.specs.Reached.{HasAddedPlaces}
 use Rattle.trove_spec.proofs.Adding.{adds_nothing, adds_place}
 use Rattle.trove_spec.proofs.expanding.add_places.Goals.{in-Some+in_ok-insert, in_default}

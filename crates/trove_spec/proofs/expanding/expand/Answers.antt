@@ -1,5 +1,5 @@
 use Rattle.std.proofs.Common.{◌≡◌, List, map, Bor, None, sym, ap, subst, ◌∙◌}
-use Rattle.trove_stream.specs.declared.parts.TroveParts.{TroveParts}
+use Rattle.repo_index.specs.trove-stream.declared.parts.TroveParts.{TroveParts}
 use Rattle.trove_spec.specs.Expansion.{IsClosedIn, HasRisingNames, first_of_same_name}
 use Rattle.trove_spec.proofs.InOrder.{now_of, rising_names}
 use Rattle.trove_spec.proofs.expanding.expand.Goals as goal

@@ -1,7 +1,7 @@
 use Rattle.std.proofs.Common.{◌≡◌, ℕ, List, map, Bor, ap, subst, ◌∙◌, rules}
 use Rattle.std.specs.Prelude.{IsPermutation}
 use Rattle.std.proofs.lemmas.List.Sorted.{IsPermutation-map, answers_always}
-use Rattle.trove_stream.specs.declared.parts.TroveParts.{TroveParts}
+use Rattle.repo_index.specs.trove-stream.declared.parts.TroveParts.{TroveParts}
 use Rattle.repo_index.specs.Places.{troves_at}
 use Rattle.trove_spec.proofs.InOrder.{now_of, is_before, before_order, sorted_troves, expansion_of, closed_in}
 use Rattle.trove_spec.proofs.expanding.troves_reached.Goals as goal

@@ -1,7 +1,7 @@
 use Rattle.std.proofs.Common.{◌≡◌, List, filter, Some, None, option_copied, sym, ap, ◌∙◌}
 use Rattle.std.specs.List.{last_or}
-use Rattle.trove_id.specs.declared.id.TroveId.{TroveId}
-use Rattle.trove_stream.specs.declared.parts.TroveParts.{TroveParts}
+use Rattle.repo_index.specs.trove-parts.declared.id.TroveId.{TroveId}
+use Rattle.repo_index.specs.trove-stream.declared.parts.TroveParts.{TroveParts}
 use Rattle.repo_index.specs.Catalogue.{named}
 use Rattle.trove_spec.specs.Resolve.{best, is_wanted, candidates_of}
 use Rattle.trove_spec.proofs.Choosing.{wanted_are, chosen_is}

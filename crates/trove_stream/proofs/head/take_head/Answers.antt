@@ -1,6 +1,6 @@
 use Rattle.std.proofs.Common.{Err, ap}
 use Rattle.std.proofs.lemmas.Result.{err_from_is_err_and}
-use Rattle.cny_base.specs.declared.text.TextFault.TheVariants.{Bad}
+use Rattle.trove_parts.specs.cny-base.declared.text.TextFault.TheVariants.{Bad}
 use Rattle.trove_stream.proofs.Handing.{handed_on}
 use Rattle.trove_stream.proofs.Heads.{there}
 use Rattle.trove_stream.proofs.head.take_head.Goals as goal

@@ -1,7 +1,7 @@
 use Rattle.std.proofs.Common.{◌≡◌, [], length, drop, Err, ap, arith}
 use Rattle.std.proofs.lemmas.Result.{err_from_is_err_and}
-use Rattle.cny_base.specs.declared.text.TextFault.TheVariants.{Bad}
-use Rattle.trove_items.specs.Deps.{deps_bytes}
+use Rattle.trove_parts.specs.cny-base.declared.text.TextFault.TheVariants.{Bad}
+use Rattle.trove_parts.specs.Deps.{deps_bytes}
 use Rattle.trove_stream.specs.declared.parts.TroveParts.{TroveParts}
 use Rattle.trove_stream.specs.Stream.{lists_bytes}
 use Rattle.trove_stream.proofs.Handing.{handed_on}

@@ -1,9 +1,9 @@
 use Rattle.std.proofs.Common.{◌≡◌, List, Result, Err, sym, subst, arith}
 use Rattle.std.specs.Result.{IfErr}
 use Rattle.std.proofs.lemmas.Result.{err_from_is_err_and}
-use Rattle.cny_base.specs.declared.refusal.Fault.{Fault}
+use Rattle.change_set.specs.cny-base.declared.refusal.Fault.{Fault}
 use Rattle.std.proofs.lemmas.List.{take_all}
-use Rattle.trove_stream.specs.declared.parts.TroveParts.{TroveParts}
+use Rattle.change_set.specs.trove-stream.declared.parts.TroveParts.{TroveParts}
 use Rattle.update_job.specs.Lists.{IsUnupdated}
 use Rattle.update_job.specs.ByName.{AreByName}
 use Rattle.update_job.proofs.Mapped.{admitted_more, not_admitted, once_of}

@@ -1,5 +1,5 @@
 use Rattle.std.proofs.Common.{sym, subst}
-use Rattle.installed_list.specs.Installed.{IsRising}
+use Rattle.change_set.specs.trove-stream.Installed.{IsRising}
 use Rattle.update_job.proofs.Mapped.{values_rise}
 use Rattle.update_job.proofs.by_name.in_order.Goals as goal
 

@@ -1,5 +1,5 @@
 use Rattle.std.proofs.Common.{List, ℕ, Contains, sym, subst}
-use Rattle.trove_stream.specs.declared.parts.TroveParts.{TroveParts}
+use Rattle.change_set.specs.trove-stream.declared.parts.TroveParts.{TroveParts}
 use Rattle.update_job.specs.Lists.{IsErased}
 use Rattle.update_job.specs.ByName.{HasPutAll}
 use Rattle.update_job.proofs.Lists.{places_stand, left_stand, erased_named, erased_of}

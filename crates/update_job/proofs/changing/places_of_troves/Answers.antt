@@ -1,6 +1,6 @@
 use Rattle.std.proofs.Common.{◌≡◌, ◌+◌, ◌<◌, ℕ, List, length, take, sym, ap, subst, ◌∙◌, arith}
-use Rattle.installed_list.specs.Installed.{IsPlaceOf}
-use Rattle.trove_id.specs.declared.id.TroveId.{TroveId}
+use Rattle.change_set.specs.trove-stream.Installed.{IsPlaceOf}
+use Rattle.change_set.specs.trove-parts.declared.id.TroveId.{TroveId}
 use Rattle.update_job.specs.Lists.{HasTroveOf}
 use Rattle.update_job.specs.Places.{ArePlacesOf}
 use Rattle.update_job.proofs.Lists.{roots_same, roots_more, name_before, name_last, name_either}

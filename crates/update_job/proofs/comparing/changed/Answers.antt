@@ -1,5 +1,5 @@
 use Rattle.std.proofs.Common.{◌≡◌, List, sym, subst, ◌∙◌}
-use Rattle.trove_stream.specs.declared.parts.TroveParts.{TroveParts}
+use Rattle.change_set.specs.trove-stream.declared.parts.TroveParts.{TroveParts}
 use Rattle.update_job.specs.Changes.{IsLost, IsFresh, NotesAll, AreChanges}
 use Rattle.update_job.proofs.Noting.{changes_of}
 use Rattle.update_job.proofs.comparing.changed.Goals as goal

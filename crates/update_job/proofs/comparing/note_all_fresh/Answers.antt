@@ -1,6 +1,6 @@
 use Rattle.std.proofs.Common.{List, subst, arith}
 use Rattle.std.proofs.lemmas.List.{take_all}
-use Rattle.trove_stream.specs.declared.parts.TroveParts.{TroveParts}
+use Rattle.change_set.specs.trove-stream.declared.parts.TroveParts.{TroveParts}
 use Rattle.update_job.specs.Changes.{IsFresh, NotesAll}
 use Rattle.update_job.proofs.Noting.{notes_none, note_next, one_fresh}
 use Rattle.update_job.proofs.comparing.note_all_fresh.Goals as goal

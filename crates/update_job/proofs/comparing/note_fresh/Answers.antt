@@ -1,7 +1,7 @@
 use Rattle.std.proofs.Common.{◌≡◌, ℕ, List, Bool, true, false, true≢false, Some, None, inl, inr, refl, sym, ap, subst, ◌∙◌}
-use Rattle.installed_list.specs.Installed.{IsNameless, IsRising, trove_of}
-use Rattle.trove_id.specs.declared.id.TroveId.{TroveId}
-use Rattle.trove_stream.specs.declared.parts.TroveParts.{TroveParts}
+use Rattle.change_set.specs.trove-stream.Installed.{IsNameless, IsRising, trove_of}
+use Rattle.change_set.specs.trove-parts.declared.id.TroveId.{TroveId}
+use Rattle.change_set.specs.trove-stream.declared.parts.TroveParts.{TroveParts}
 use Rattle.update_job.specs.declared.comparing.Change.TheVariants.{Installed, Updated}
 use Rattle.update_job.specs.Changes.{HasNoted}
 use Rattle.update_job.proofs.Noting.{nameless_from, found_in, never_fresh}

@@ -1,6 +1,6 @@
 use Rattle.std.proofs.Common.{◌≡◌, ℕ, List, inl, inr, refl, ap, subst, ◌∙◌}
-use Rattle.installed_list.specs.Installed.{IsPlaceOf, IsNameless}
-use Rattle.trove_id.specs.declared.id.TroveId.{TroveId}
+use Rattle.change_set.specs.trove-stream.Installed.{IsPlaceOf, IsNameless}
+use Rattle.change_set.specs.trove-parts.declared.id.TroveId.{TroveId}
 use Rattle.update_job.specs.declared.comparing.Change.TheVariants.{Erased}
 use Rattle.update_job.specs.Changes.{HasNoted}
 use Rattle.update_job.proofs.Noting.{never_lost}

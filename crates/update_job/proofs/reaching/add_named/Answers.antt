@@ -1,6 +1,6 @@
 use Rattle.std.proofs.Common.{◌≡◌, ℕ, ◌+◌, ◌<◌, List, [], ◌∷◌, ◌++◌, length, take, sym, ap, subst, ◌∙◌, arith}
 use Rattle.std.proofs.lemmas.List.{take_more}
-use Rattle.trove_id.specs.declared.id.TroveId.{TroveId}
+use Rattle.change_set.specs.trove-parts.declared.id.TroveId.{TroveId}
 use Rattle.update_job.specs.Places.{HasAddedPlaces, name_of_id}
 use Rattle.update_job.proofs.Adding.{adds_none, adds_nothing, adds_place}
 use Rattle.update_job.proofs.reaching.add_named.Goals.{in-Some+in_ok-insert, in_default}

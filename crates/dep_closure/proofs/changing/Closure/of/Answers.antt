@@ -3,7 +3,7 @@ use Rattle.std.specs.BTreeMap.{is_at}
 use Rattle.std.specs.Cmp.Lexicographic.{slice_cmp}
 use Rattle.std.specs.Map.{lookup}
 use Rattle.std.specs.Ordering.{nat_cmp}
-use Rattle.installed_list.specs.Installed.{trove_of}
+use Rattle.trove_stream.specs.Installed.{trove_of}
 use Rattle.trove_stream.specs.declared.parts.TroveParts.{TroveParts}
 use Rattle.dep_closure.specs.Slots.{slot, slot_or, held}
 use Rattle.dep_closure.proofs.Edited.{held_of, kept_of, same_held}

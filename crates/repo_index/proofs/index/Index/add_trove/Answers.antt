@@ -1,8 +1,8 @@
 use Rattle.std.proofs.Common.{◌≡◌, ℕ, ◌||◌, cond, List, [], ◌∷◌, ◌++◌, ap, ◌∙◌}
 use Rattle.std.specs.List.{list_any}
 use Rattle.std.specs.Str.{bytes_eq}
-use Rattle.trove_id.specs.declared.id.TroveId.{TroveId}
-use Rattle.trove_items.specs.declared.files.FileAt.{FileAt}
+use Rattle.trove_stream.specs.trove-parts.declared.id.TroveId.{TroveId}
+use Rattle.trove_stream.specs.trove-parts.declared.files.FileAt.{FileAt}
 use Rattle.repo_index.specs.Catalogue.{is_file_of, is_file_sized}
 use Rattle.repo_index.specs.Keys.{places_in, knows, knows_sized}
 use Rattle.repo_index.proofs.Indexing.{one_more}

@@ -1,4 +1,4 @@
-use Rattle.tree_disk.specs.Rows.{can_append}
+use Rattle.tree_nodes.specs.tree-disk.Rows.{can_append}
 use Rattle.tree_memory.specs.declared.change.Change.TheVariants.{Append}
 use Rattle.tree_memory.specs.Memory.{state, does_part}
 use Rattle.tree_memory.proofs.Done.{append_left}

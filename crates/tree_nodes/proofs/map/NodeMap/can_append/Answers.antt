@@ -1,5 +1,5 @@
 use Rattle.std.proofs.Common.{◌∙◌, sym, ap}
-use Rattle.cny_base.specs.Path.{is_path}
+use Rattle.tree_disk.specs.cny-base.Path.{is_path}
 use Rattle.tree_disk.specs.Rows.{can_append}
 use Rattle.tree_disk.specs.Allowed.{append_well_formed}
 use Rattle.tree_nodes.proofs.map.NodeMap.can_append.Goals as goal

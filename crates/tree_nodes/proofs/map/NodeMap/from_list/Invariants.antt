@@ -1,6 +1,6 @@
 use Rattle.std.proofs.Common.{◌≡◌, ◌≤◌, ℕ, List, length, drop}
 use Rattle.std.specs.FinMap.{from_entries}
-use Rattle.cny_base.specs.declared.node.Node.{Node}
+use Rattle.tree_disk.specs.cny-base.declared.node.Node.{Node}
 use Rattle.tree_disk.specs.Tree.{Name, Tree}
 use Rattle.tree_nodes.proofs.map.NodeMap.from_list.Given as goal
 

@@ -1,7 +1,0 @@
-use Rattle.std.proofs.Common.{List, ℕ, subst}
-use Rattle.cny_base.specs.declared.options.Options.{Options}
-use Rattle.cli_words.specs.Words.{IsUpdateWith, ReadsOnly}
-use Rattle.cli_words.proofs.words.read_update.Goals as goal
-
-pub returns : goal.returns
-returns c = subst (λ (read : Options × List (List ℕ)). ReadsOnly (IsUpdateWith read.0 read.1) c.read_updates.result) c.options_at.ensures c.read_updates.ensures

@@ -1,6 +1,0 @@
-use Rattle.std.proofs.Common.{take}
-use Rattle.coming_troves.specs.Made.{AreMade}
-use Rattle.coming_troves.proofs.applying.applied.Given as goal
-
-abbrev pub invariant-loop-part : goal.invariant-loop-part
-invariant-loop-part l = AreMade l.installed (take l.part-index l.parts) l.troves.items

@@ -1,5 +1,0 @@
-pub mod JobOutcome
-pub mod Erase
-pub mod Install
-pub mod Update
-pub mod UpdateSpecs

@@ -1,0 +1,112 @@
+//! What a job found at a path.
+ghost use Rattle.std.specs.Prelude.{◌≡◌, ◌↔◌, ◌≤◌, IfErr, IfOk, IsTrue, length};
+ghost use Rattle.local_db.specs.cny-base.Count.{Rose};
+ghost use Rattle.local_db.specs.cny-base.declared.stop.Stop.TheVariants as stops;
+ghost use Rattle.content_store.specs.Store.{content_path};
+ghost use Rattle.local_db.specs.Names.{saved};
+ghost use Rattle.local_db.specs.tree-disk.Disk.{Reads};
+ghost use Rattle.tree_scan.specs.declared.mark.Mark.TheVariants as mark;
+ghost use Rattle.job_targets.specs.Old.{HasMark, HoldsContent, IsContent, IsDamagedContent, IsDamagedOld, IsOldStop, IsSaved};
+
+use content_store::get;
+use local_db::cny_base::{Bytes, Copies, Mode, Path, Stop, TextFault};
+use local_db::journal_log::Want;
+use local_db::saved_path;
+use local_db::tree_disk::TreeDisk;
+use sha1::Sha1;
+use std::alloc::Global;
+use tree_scan::Mark;
+
+// Whether the bytes have this size and this SHA-1.
+fn is_content(bytes: &[u8], size: u64, name: &[u8; 20]) -> bool
+    ensures { IsTrue result ↔ IsContent size name.now bytes.now }
+{
+    let digest = Sha1::digest(bytes);
+    let is_size = bytes.len() as u64 == size;
+    let is_name = digest.as_slice() == name.as_slice();
+    is_size && is_name
+}
+
+// The path of a content.
+fn path_of(alloc: Global, dir: &Path, name: &[u8; 20]) -> Result<Path, Stop>
+    requires { length dir.now ≤ 983 }
+    ensures value { IfOk result (λ path. path ≡ content_path dir.now name.now) }
+    ensures memory { IfErr result (λ stop. stop ≡ stops.Memory) }
+{
+    let _text = dir.text();
+    let digits = hex::encode(alloc, name.as_slice())?;
+    match dir.join(alloc, digits.as_str()) {
+        Ok(path) => Ok(path),
+        Err(TextFault::Memory) => Err(Stop::Memory),
+        Err(TextFault::Bad) => unreachable!(),
+    }
+}
+
+// The content of this name and size that the directory holds.
+fn content_in<D: TreeDisk>(
+    alloc: Global,
+    disk: &mut D,
+    dir: &Path,
+    size: u64,
+    name: &[u8; 20],
+) -> Result<Bytes, Stop>
+    requires { length dir.now ≤ 983 }
+    ensures value { Reads D.disk disk.old disk.new (IfOk result (HoldsContent (D.disk.reads disk.old) dir.now size name.now)) }
+    ensures content { IfOk result (IsContent size name.now) }
+    ensures stops { IfErr result (IsOldStop D.disk.tells (IsDamagedContent (D.disk.reads disk.old) dir.now size name.now)
+        (Rose (D.disk.faults disk.old) (D.disk.faults disk.new))) }
+    ensures later { D.disk.faults disk.old ≤ D.disk.faults disk.new }
+{
+    if let Some(bytes) = get(alloc, disk, dir, name)? {
+        if is_content(bytes.get(), size, name) {
+            return Ok(bytes);
+        }
+    }
+    Err(Stop::Damaged {
+        path: path_of(alloc, dir, name)?,
+    })
+}
+
+fn old_file<D: TreeDisk>(
+    alloc: Global,
+    disk: &mut D,
+    number: u32,
+    mode: Mode,
+    size: u64,
+    name: &[u8; 20],
+) -> Result<Want, Stop>
+    ensures value { Reads D.disk disk.old disk.new (IfOk result (IsSaved (D.disk.reads disk.old) number)) }
+    ensures marked { IfOk result (HasMark (mark.File mode size name.now)) }
+    ensures stops { IfErr result (IsOldStop D.disk.tells (IsDamagedOld (D.disk.reads disk.old) number (mark.File mode size name.now))
+        (Rose (D.disk.faults disk.old) (D.disk.faults disk.new))) }
+    ensures later { D.disk.faults disk.old ≤ D.disk.faults disk.new }
+{
+    let dir = saved_path(alloc, number)?;
+    let bytes = content_in(alloc, disk, &dir, size, name)?;
+    Ok(Want::File { mode, bytes })
+}
+
+/// What the job of this number found at a path, of which this is the fingerprint: the bytes of a file are those that it saved.
+/// `Damaged` exactly where no file of this size and SHA-1 is saved, with its path. It only reads.
+pub fn old_node<D: TreeDisk>(
+    alloc: Global,
+    disk: &mut D,
+    number: u32,
+    mark: &Mark,
+) -> Result<Want, Stop>
+    ensures value { Reads D.disk disk.old disk.new (IfOk result (IsSaved (D.disk.reads disk.old) number)) }
+    // On every disk, also where it tells nothing.
+    ensures marked { IfOk result (HasMark mark.now) }
+    ensures stops { IfErr result (IsOldStop D.disk.tells (IsDamagedOld (D.disk.reads disk.old) number mark.now)
+        (Rose (D.disk.faults disk.old) (D.disk.faults disk.new))) }
+    ensures later { D.disk.faults disk.old ≤ D.disk.faults disk.new }
+{
+    match mark {
+        Mark::Nothing => Ok(Want::Nothing),
+        Mark::Dir { mode } => Ok(Want::Dir { mode: *mode }),
+        Mark::File { mode, size, name } => old_file(alloc, disk, number, *mode, *size, name),
+        Mark::Link { target } => Ok(Want::Link {
+            target: target.copy()?,
+        }),
+    }
+}

@@ -1,9 +1,0 @@
-mod FindsLaws
-mod Members
-mod Adding
-mod Gathering
-mod Choosing
-mod MovedIds
-mod Troves
-mod Seeing
-mod Setting

@@ -1,6 +1,0 @@
-use Rattle.std.proofs.Common.{◌≡◌, take}
-use Rattle.local_changes.specs.Steps.{chosen}
-use Rattle.local_changes.proofs.reaching.chosen.Given as goal
-
-abbrev pub invariant-loop-place : goal.invariant-loop-place
-invariant-loop-place l = l.troves.items ≡ chosen l.places.keys 0 (take l.place-counter l.trove-items)

@@ -1,2 +1,0 @@
-pub mod CommittedTroves
-pub mod MovingEnds

@@ -1,6 +1,0 @@
-use Rattle.std.proofs.Common.{◌≡◌, map}
-use Rattle.change_set.specs.declared.change.Part.TheVariants.{Whole}
-use Rattle.move_commands.proofs.moving.whole_set.Given as goal
-
-abbrev pub invariant-loop-trove : goal.invariant-loop-trove
-invariant-loop-trove l = l.parts.items ≡ map Whole l.yielded

@@ -1,9 +1,0 @@
-use Rattle.std.proofs.Common.{◌≡◌, ◌-◌, ◌&&◌, None, cond, is_some, length, drop}
-use Rattle.tree_disk.specs.Tree.{Name}
-use Rattle.system_state.specs.Installed.{record_at}
-use Rattle.past_list.specs.Table.{same, mark_at}
-use Rattle.past_list.proofs.marks.remove_files.Given as goal
-
-abbrev pub invariant-loop-behind : goal.invariant-loop-behind
-invariant-loop-behind l =
-    (p n : Name) → mark_at l.marks p n ≡ cond (same l.name n && is_some (record_at (drop (length l.files - l.behind) l.files) p)) None (mark_at l.fn.marks p n)

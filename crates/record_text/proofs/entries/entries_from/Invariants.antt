@@ -1,9 +1,0 @@
-use Rattle.std.proofs.Common.{◌-◌, length}
-use Rattle.record_text.specs.Reading.{AreEntriesTo}
-use Rattle.record_text.proofs.entries.entries_from.Given as goal
-
-abbrev pub invariant-items : goal.invariant-items
-invariant-items l = AreEntriesTo l.bytes l.from l.entries.items l.at
-
-abbrev pub decreases-items : goal.decreases-items
-decreases-items l = length l.bytes - l.at

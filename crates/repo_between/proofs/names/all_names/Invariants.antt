@@ -1,7 +1,0 @@
-use Rattle.std.proofs.Common.{ℕ, List, take, Contains}
-use Rattle.std.specs.Prelude.{◌↔◌}
-use Rattle.repo_between.specs.Between.{Sends}
-use Rattle.repo_between.proofs.names.all_names.Given as goal
-
-abbrev pub invariant-loop-trove : goal.invariant-loop-trove
-invariant-loop-trove l = (name : List ℕ) → Contains l.names.items name ↔ Sends l.old (take l.trove-index l.fresh) name

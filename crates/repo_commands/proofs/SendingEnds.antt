@@ -1,0 +1,149 @@
+-- How `changeset` ends.
+use Rattle.std.proofs.Common.{◌≡◌, ℕ, List, All, Option, Some, Result, Ok, Err, refl, sym, ap, ◌∙◌, inl, inr, subst}
+use Rattle.std.specs.Prelude.{IsTrue}
+use Rattle.cli_call.specs.cny-base.declared.refusal.Fault.{Fault}
+use Rattle.cli_call.specs.cny-base.declared.refusal.Refusal.{Refusal}
+use Rattle.cli_call.specs.cny-base.declared.stop.Stop.{Stop}
+use Rattle.cli_call.specs.cny-base.declared.stop.Stop.TheVariants as stop
+use Rattle.cli_call.specs.tree-disk.Tree.{Name, Tree}
+use Rattle.cli_call.specs.tree-disk.Disk.{DiskModel, IsDisk}
+use Rattle.cli_call.specs.tree-journal.Recovery.{is_committed}
+use Rattle.cli_call.specs.trove-stream.declared.parts.TroveParts.{TroveParts}
+use Rattle.trove_spec.specs.declared.config.Config.{Config}
+use Rattle.cli_call.specs.change-set.declared.change.Carried.{Carried}
+use Rattle.cli_call.specs.change-set.declared.change.ChangeSet.{ChangeSet}
+use Rattle.repo_index.specs.Catalogue.{CatalogueParts}
+use Rattle.repo_load.specs.Files.{HoldsCatalogue, StoresRepository}
+use Rattle.repo_load.specs.State.{troves_of, RepositoryState}
+use Rattle.repository.specs.Between.{AreCommitted, HasStored, IsBetween}
+use Rattle.repository.specs.Damage.{IsDamagedBetween}
+use Rattle.trove_spec.specs.RootConfig.{HasConfig, ReadsConfig}
+use Rattle.cli_call.specs.declared.failure.Failure.TheVariants as failure
+use Rattle.cli_call.specs.declared.opened.Opened.{Opened}
+use Rattle.cli_call.specs.Command.{disks, AreReady, Performs, StandsFor}
+use Rattle.cli_call.specs.CommandLaws.{AreRead, performs_reading}
+use Rattle.cli_call.specs.Failures.{failure_of_fault}
+use Rattle.cli_call.specs.RootLaws.{root_laws}
+use Rattle.cli_call.specs.State.{nothing, tree_of, Effect, State}
+use Rattle.cli_call.specs.Stops.{repository_result}
+use Rattle.cli_call.specs.Store.{HasDamagedFile, IsStore}
+use Rattle.cli_call.specs.Stores.{HasUnsoundContent, repository_store}
+use Rattle.repo_commands.specs.declared.given.GivenSpec.{GivenSpec}
+use Rattle.repo_commands.specs.AndThen.{AndThen, EndsAs}
+use Rattle.repo_commands.specs.Meant.{Expands, ExpandsFrom}
+use Rattle.repo_commands.specs.Sending.{changeset, IsSent, IsSentFrom, IsWritten, IsAnswered, Sends, SendsFrom}
+use Rattle.repo_commands.proofs.ReadingEnds.{CatalogueIs, config_of, fault_ends, root_read, troves_are}
+use Rattle.repo_commands.proofs.Recorded.{records_sized}
+
+-- the laws that are called upon
+pub record SendingLaws : Type 0 where
+  pub catalogue : CatalogueIs
+  pub undamaged : (x : Tree) (r : RepositoryState) (old fresh : List TroveParts) (path : Name) → StoresRepository x r → AreCommitted (troves_of r.commits) fresh → IsDamagedBetween old fresh x path → ⊥
+  pub contents : (x : Tree) (r : RepositoryState) (old fresh : List TroveParts) (set : ChangeSet) → StoresRepository x r → AreCommitted (troves_of r.commits) fresh → IsBetween old fresh set → HasStored x set
+      → All (λ (content : Carried). r.contents content.name ≡ Some content.bytes) set.contents
+  pub store : IsStore repository_store
+
+-- a content that can't be sent is damaged
+pub unsound : (tree : Tree) (catalogue : CatalogueParts) (old fresh : List TroveParts) (path : Name) → HoldsCatalogue tree catalogue → AreCommitted catalogue.troves fresh → IsDamagedBetween old fresh tree path → HasUnsoundContent tree path
+unsound tree catalogue old fresh path holds committed d = record {
+  catalogue = catalogue;
+  holds = holds;
+  name = d.name;
+  size = d.sent.sends.2.size;
+  recorded = records_sized catalogue.troves fresh committed d.name d.sent.sends.2.size
+      (record { trove = d.sent.trove; there = d.sent.there; file = d.sent.sends.0; among = d.sent.sends.1; content = d.sent.sends.2.content });
+  here = d.here;
+  none = λ bytes stands named sized. d.none bytes stands (record { named = named; sized = λ size records. sized size (records_sized catalogue.troves fresh committed d.name size records) });
+}
+
+-- a configuration that is refused is refused of the command
+pub refused_config : (from : Option GivenSpec) (to : GivenSpec) (s : State) (refused : Refusal) → HasConfig (tree_of s.root) (Err refused) → Sends s from to (Err refused)
+refused_config from to s refused has = inr (record { refusal = refused; refused = has; is = refl })
+
+answered : (set : ChangeSet) (bytes : List ℕ) → IsWritten set (Ok bytes) → IsAnswered set (Ok (record { change = nothing; out = bytes }))
+answered set bytes written = (refl, written)
+
+module _ {T P : Type 0} {root_disk : DiskModel T} {repo_disk : DiskModel P} (root_disk_laws : IsDisk root_disk) (repo_disk_laws : IsDisk repo_disk) (laws : SendingLaws) (from : Option GivenSpec) (to : GivenSpec) (input : List ℕ)
+    (root root' : T) (repo : P) (opened : Opened) (ready : AreReady root_disk repo_disk (disks root repo opened)) (config : Config) (configured : ReadsConfig root_disk root root' (Ok config)) where
+  same_troves : IsTrue repo_disk.tells → (s : State) → StandsFor root_disk repo_disk (disks root repo opened) s → opened.catalogue.troves ≡ troves_of s.repository.commits
+  same_troves told s stands = troves_are laws.catalogue (disks root repo opened) ready told s stands
+
+  with_config : IsTrue root_disk.tells → (s : State) → StandsFor root_disk repo_disk (disks root repo opened) s → (outcome : Result Effect Refusal)
+      → AndThen (ExpandsFrom (troves_of s.repository.commits) config from) (λ (old : List TroveParts). AndThen (Expands (troves_of s.repository.commits) config to) (λ (fresh : List TroveParts). IsSent s.repository old fresh)) outcome
+      → Sends s from to outcome
+  with_config told s stands outcome rest = inl (record { value = config; found = config_of (disks root repo opened) (Ok config) (configured.ends told) s stands; rest = rest })
+
+  only_read : AreRead root_disk repo_disk (disks root repo opened) (disks root' repo opened)
+  only_read = root_read root_disk_laws repo_disk_laws root root' repo opened configured.later configured.same
+
+  -- the first specification
+  pub old_fails : (f : Fault) → EndsAs (ExpandsFrom opened.catalogue.troves config from) (Err f) → Performs root_disk repo_disk (changeset from to) input (disks root repo opened) (disks root' repo opened) (Err (failure_of_fault f))
+  old_fails f ends = fault_ends root_disk_laws repo_disk_laws laws.store (changeset from to) input (disks root repo opened) (disks root' repo opened) ready only_read f
+      (λ refused is told repo_told s stands.
+      let fails : ExpandsFrom opened.catalogue.troves config from (Err refused) = subst (λ (g : Fault). EndsAs (ExpandsFrom opened.catalogue.troves config from) (Err g)) is ends in
+      let refuses : ExpandsFrom (troves_of s.repository.commits) config from (Err refused) = subst (λ (l : List TroveParts). ExpandsFrom l config from (Err refused)) (same_troves repo_told s stands) fails in
+      with_config told s stands (Err refused) (inr (record { refusal = refused; refused = refuses; is = refl })))
+
+  module _ (old : List TroveParts) (expanded : ExpandsFrom opened.catalogue.troves config from (Ok old)) where
+    with_old : IsTrue root_disk.tells → IsTrue repo_disk.tells → (s : State) → StandsFor root_disk repo_disk (disks root repo opened) s → (outcome : Result Effect Refusal)
+        → AndThen (Expands (troves_of s.repository.commits) config to) (λ (fresh : List TroveParts). IsSent s.repository old fresh) outcome → Sends s from to outcome
+    with_old told repo_told s stands outcome rest = with_config told s stands outcome (inl (record {
+      value = old;
+      found = subst (λ (l : List TroveParts). ExpandsFrom l config from (Ok old)) (same_troves repo_told s stands) expanded;
+      rest = rest;
+    }))
+
+    -- the second one
+    pub fresh_fails : (f : Fault) → EndsAs (Expands opened.catalogue.troves config to) (Err f) → Performs root_disk repo_disk (changeset from to) input (disks root repo opened) (disks root' repo opened) (Err (failure_of_fault f))
+    fresh_fails f ends = fault_ends root_disk_laws repo_disk_laws laws.store (changeset from to) input (disks root repo opened) (disks root' repo opened) ready only_read f
+        (λ refused is told repo_told s stands.
+        let fails : Expands opened.catalogue.troves config to (Err refused) = subst (λ (g : Fault). EndsAs (Expands opened.catalogue.troves config to) (Err g)) is ends in
+        let refuses : Expands (troves_of s.repository.commits) config to (Err refused) = subst (λ (l : List TroveParts). Expands l config to (Err refused)) (same_troves repo_told s stands) fails in
+        with_old told repo_told s stands (Err refused) (inr (record { refusal = refused; refused = refuses; is = refl })))
+
+    -- ---- the set
+
+    module _ (fresh : List TroveParts) (reached : Expands opened.catalogue.troves config to (Ok fresh)) (committed : AreCommitted opened.catalogue.troves fresh) (repo' : P) where
+      are_read : (r : Result (List ℕ) Stop) → SendsFrom repo_disk old fresh repo repo' r → AreRead root_disk repo_disk (disks root repo opened) (disks root' repo' opened)
+      are_read r sent = record { root_later = configured.later; repo_later = sent.later; root = configured.same; repo = sent.same }
+
+      committed_of : IsTrue repo_disk.tells → (s : State) → StandsFor root_disk repo_disk (disks root repo opened) s → AreCommitted (troves_of s.repository.commits) fresh
+      committed_of told s stands = subst (λ (l : List TroveParts). AreCommitted l fresh) (same_troves told s stands) committed
+
+      sent_so : IsTrue root_disk.tells → IsTrue repo_disk.tells → (s : State) → StandsFor root_disk repo_disk (disks root repo opened) s → (outcome : Result Effect Refusal) → IsSent s.repository old fresh outcome → Sends s from to outcome
+      sent_so told repo_told s stands outcome sent = with_old told repo_told s stands outcome (inl (record {
+        value = fresh;
+        found = subst (λ (l : List TroveParts). Expands l config to (Ok fresh)) (same_troves repo_told s stands) reached;
+        rest = sent;
+      }))
+
+      of_state : IsTrue repo_disk.tells → (s : State) → StandsFor root_disk repo_disk (disks root repo opened) s → (result : Result (List ℕ) Refusal) → IsSentFrom (repo_disk.reads repo) old fresh result
+          → (outcome : Result Effect Refusal) → ((set : ChangeSet) → IsWritten set result → IsAnswered set outcome) → IsSent s.repository old fresh outcome
+      of_state told s stands result from_tree outcome by_bytes = record {
+        set = from_tree.set;
+        between = from_tree.between;
+        held = laws.contents (repo_disk.reads repo) s.repository old fresh from_tree.set stands.repo.stored (committed_of told s stands) from_tree.between from_tree.stored;
+        answered = by_bytes from_tree.set from_tree.written;
+      }
+
+      damaged_file : (path : Name) → SendsFrom repo_disk old fresh repo repo' (Err (stop.Damaged path)) → IsTrue repo_disk.tells → HasDamagedFile repository_store (repo_disk.reads repo') path
+      damaged_file path sent told =
+          let same : repo_disk.reads repo' ≡ repo_disk.reads repo = (sent.same told).same.reads in
+          let file : HasUnsoundContent (repo_disk.reads repo) path = unsound (repo_disk.reads repo) opened.catalogue old fresh path (ready.repo told).catalogue committed (sent.ends told) in record {
+            flag_clear = ap (is_committed repository_store.base) same ∙ (ready.repo told).settled.flag_clear;
+            damaged = inr (inr (subst (λ (t : Tree). HasUnsoundContent t path) (sym same) file));
+          }
+
+      pub sent_ends : (r : Result (List ℕ) Stop) → SendsFrom repo_disk old fresh repo repo' r → Performs root_disk repo_disk (changeset from to) input (disks root repo opened) (disks root' repo' opened) (repository_result r)
+      sent_ends (Ok bytes) sent = performs_reading root_disk_laws repo_disk_laws root_laws laws.store (changeset from to) input (disks root repo opened) (disks root' repo' opened) ready (are_read (Ok bytes) sent) (Ok bytes) tt
+          (λ told repo_told s stands. sent_so told repo_told s stands (Ok (record { change = nothing; out = bytes }))
+          (of_state repo_told s stands (Ok bytes) (sent.ends repo_told) (Ok (record { change = nothing; out = bytes })) (λ set written. answered set bytes written)))
+      sent_ends (Err (stop.Refused refused)) sent = performs_reading root_disk_laws repo_disk_laws root_laws laws.store (changeset from to) input (disks root repo opened) (disks root' repo' opened) ready (are_read (Err (stop.Refused refused)) sent) (Err (failure.Refused refused)) tt
+          (λ told repo_told s stands. sent_so told repo_told s stands (Err refused) (of_state repo_told s stands (Err refused) (sent.ends repo_told) (Err refused) (λ set written. written)))
+      sent_ends (Err (stop.Damaged path)) sent = performs_reading root_disk_laws repo_disk_laws root_laws laws.store (changeset from to) input (disks root repo opened) (disks root' repo' opened) ready (are_read (Err (stop.Damaged path)) sent) (Err (failure.Damaged path))
+          (inr (damaged_file path sent))
+          (λ told repo_told s stands. laws.undamaged (repo_disk.reads repo) s.repository old fresh path stands.repo.stored (committed_of repo_told s stands) (sent.ends repo_told))
+      sent_ends (Err stop.Failed) sent = performs_reading root_disk_laws repo_disk_laws root_laws laws.store (changeset from to) input (disks root repo opened) (disks root' repo' opened) ready (are_read (Err stop.Failed) sent) (Err failure.RepositoryFault) sent.ends tt
+      sent_ends (Err stop.Memory) sent = performs_reading root_disk_laws repo_disk_laws root_laws laws.store (changeset from to) input (disks root repo opened) (disks root' repo' opened) ready (are_read (Err stop.Memory) sent) (Err failure.Memory) tt tt
+      sent_ends (Err stop.FarFailed) sent = absurd sent.ends
+      sent_ends (Err (stop.FarDamaged path)) sent = absurd sent.ends

@@ -1,0 +1,70 @@
+use Rattle.std.proofs.Common.{sym, subst, ◌∙◌}
+use Rattle.cli_call.specs.change-set.ChangeSet.{HasContents}
+use Rattle.cli_call.specs.change-set.declared.change.ChangeSet.{ChangeSet}
+use Rattle.cli_call.specs.Command.{disks, Performs}
+use Rattle.cli_call.specs.Failures.{failure_of_fault}
+use Rattle.repo_commands.specs.Commit.{commit_of}
+use Rattle.repo_commands.specs.Moving.{move, set_of}
+use Rattle.repo_commands.proofs.CommittedTroves.{refer_within}
+use Rattle.repo_commands.proofs.Passing.{err_is}
+use Rattle.repo_commands.proofs.ReadingEnds.{config_made, config_stopped, ready_on}
+use Rattle.repo_commands.proofs.MovingEnds.{meant_fails, memory_ends, moved_ends, moved_fails, no_contents, refused_config, set_is, unmoved}
+use Rattle.repo_commands.proofs.moving.commit_moved.Goals as goal
+
+pub returns-in_err-config : goal.returns-in_err-config
+returns-in_err-config g c input =
+    let means = move c.args.way c.args.label.now c.args.given.now in
+    let old = disks c.args.root.now c.args.repo.now c.args.opened.now in
+    let new = disks c.read_config.new.root c.args.repo.now c.args.opened.now in
+    err_is (Performs g.T.TreeDisk.disk g.P.TreeDisk.disk means input old new) c.from_residual.result c.in_err-config.field-0.0 c.from_residual.ensures.1
+    (config_stopped g.met.T.TreeDisk.laws g.met.P.TreeDisk.laws c.store_laws.ensures means input c.args.root.now c.read_config.new.root c.args.repo.now c.args.opened.now c.requires (refused_config c.args.way c.args.label.now c.args.given.now)
+    c.read_config.result c.read_config.ensures c.in_err-config.field-0.0 (sym c.on_root.ensures ∙ c.in_err-config.was))
+
+pub returns-in_err-id : goal.returns-in_err-id
+returns-in_err-id g c input =
+    let means = move c.args.way c.args.label.now c.args.given.now in
+    let old = disks c.args.root.now c.args.repo.now c.args.opened.now in
+    let new = disks c.read_config.new.root c.args.repo.now c.args.opened.now in
+    let configured = config_made g.T.TreeDisk.disk c.args.root.now c.read_config.new.root c.read_config.result c.read_config.ensures c.in_ok-config.config (sym c.on_root.ensures ∙ c.in_ok-config.was) in
+    err_is (Performs g.T.TreeDisk.disk g.P.TreeDisk.disk means input old new) c.from_residual-in_err-id.result (failure_of_fault c.in_err-id.field-0.0) c.from_residual-in_err-id.ensures.1
+    (meant_fails g.met.T.TreeDisk.laws g.met.P.TreeDisk.laws c.stored_state.ensures.catalogue c.store_laws.ensures c.args.way c.args.label.now c.args.given.now input c.args.root.now c.read_config.new.root c.args.repo.now c.args.opened.now c.requires
+    c.in_ok-config.config configured c.in_err-id.field-0.0 c.in_err-id.ensures)
+
+pub moved-requires : goal.moved-requires
+moved-requires g c = refer_within c.refs_found.ensures c.args.opened.now.catalogue c.requires.rules
+
+pub returns-in_err-troves : goal.returns-in_err-troves
+returns-in_err-troves g c input =
+    let means = move c.args.way c.args.label.now c.args.given.now in
+    let old = disks c.args.root.now c.args.repo.now c.args.opened.now in
+    let new = disks c.read_config.new.root c.args.repo.now c.args.opened.now in
+    let configured = config_made g.T.TreeDisk.disk c.args.root.now c.read_config.new.root c.read_config.result c.read_config.ensures c.in_ok-config.config (sym c.on_root.ensures ∙ c.in_ok-config.was) in
+    let f = c.in_err-troves.field-0.0 in
+    err_is (Performs g.T.TreeDisk.disk g.P.TreeDisk.disk means input old new) c.from_residual-in_err-troves.result (failure_of_fault f) c.from_residual-in_err-troves.ensures.1
+    (moved_fails g.met.T.TreeDisk.laws g.met.P.TreeDisk.laws c.stored_state.ensures.catalogue c.store_laws.ensures c.args.way c.args.label.now c.args.given.now input c.args.root.now c.read_config.new.root c.args.repo.now c.args.opened.now c.requires
+    c.in_ok-config.config configured c.in_ok-id.id c.in_ok-id.ensures f (unmoved c.args.way c.args.label.now c.args.opened.now.catalogue.troves c.in_ok-id.id f c.in_err-troves.ensures.fault))
+
+pub returns-in_err-set : goal.returns-in_err-set
+returns-in_err-set g c input =
+    let means = move c.args.way c.args.label.now c.args.given.now in
+    let old = disks c.args.root.now c.args.repo.now c.args.opened.now in
+    let new = disks c.read_config.new.root c.args.repo.now c.args.opened.now in
+    let configured = config_made g.T.TreeDisk.disk c.args.root.now c.read_config.new.root c.read_config.result c.read_config.ensures c.in_ok-config.config (sym c.on_root.ensures ∙ c.in_ok-config.was) in
+    err_is (Performs g.T.TreeDisk.disk g.P.TreeDisk.disk means input old new) c.from_residual-in_err-set.result _ c.from_residual-in_err-set.ensures.1
+    (memory_ends g.met.T.TreeDisk.laws g.met.P.TreeDisk.laws c.stored_state.ensures.catalogue c.store_laws.ensures c.args.way c.args.label.now c.args.given.now input c.args.root.now c.read_config.new.root c.args.repo.now c.args.opened.now c.requires
+    c.in_ok-config.config configured c.in_ok-id.id c.in_ok-id.ensures)
+
+pub commit_set-requires-clause-contents : goal.commit_set-requires-clause-contents
+commit_set-requires-clause-contents g c = subst (λ (set : ChangeSet). HasContents set) (sym (set_is c.in_ok-set.set c.in_ok-troves.troves c.in_ok-set.ensures.parts c.in_ok-set.ensures.contents)) (no_contents c.in_ok-troves.troves)
+
+pub commit_set-requires-clause-ready : goal.commit_set-requires-clause-ready
+commit_set-requires-clause-ready g c = ready_on c.args.root.now c.read_config.new.root c.args.repo.now c.args.opened.now c.read_config.ensures.same c.requires
+
+pub returns : goal.returns
+returns g c input =
+    let configured = config_made g.T.TreeDisk.disk c.args.root.now c.read_config.new.root c.read_config.result c.read_config.ensures c.in_ok-config.config (sym c.on_root.ensures ∙ c.in_ok-config.was) in
+    let mid = disks c.read_config.new.root c.args.repo.now c.args.opened.now in
+    let new = disks c.read_config.new.root c.commit_set.new.repo c.commit_set.new.opened in
+    moved_ends g.met.T.TreeDisk.laws g.met.P.TreeDisk.laws c.stored_state.ensures.catalogue c.store_laws.ensures c.args.way c.args.label.now c.args.given.now input c.args.root.now c.read_config.new.root c.args.repo.now c.args.opened.now c.requires
+    c.in_ok-config.config configured c.in_ok-id.id c.in_ok-id.ensures c.in_ok-troves.troves c.in_ok-troves.ensures.value new c.commit_set.result
+    (subst (λ (set : ChangeSet). Performs g.T.TreeDisk.disk g.P.TreeDisk.disk (commit_of set) input mid new c.commit_set.result) (set_is c.in_ok-set.set c.in_ok-troves.troves c.in_ok-set.ensures.parts c.in_ok-set.ensures.contents) (c.commit_set.ensures input))

@@ -1,0 +1,65 @@
+use Rattle.std.proofs.Common.{List, sym, subst, ◌∙◌}
+use Rattle.cli_call.specs.trove-stream.Installed.{IsRising}
+use Rattle.cli_call.specs.trove-stream.declared.parts.TroveParts.{TroveParts}
+use Rattle.repository.specs.Between.{AreCommitted}
+use Rattle.cli_call.specs.Command.{disks, Performs}
+use Rattle.cli_call.specs.Failures.{failure_of_fault}
+use Rattle.repo_commands.specs.Sending.{changeset, SendsFrom}
+use Rattle.repo_commands.proofs.Passing.{err_is}
+use Rattle.repo_commands.proofs.ReadingEnds.{config_made, config_stopped}
+use Rattle.repo_commands.proofs.SendingEnds.{fresh_fails, old_fails, refused_config, sent_ends, SendingLaws}
+use Rattle.repo_commands.proofs.sending.send_changes.Goals as goal
+
+pub returns-in_err-config : goal.returns-in_err-config
+returns-in_err-config g c input =
+    let from = c.args.from.now in
+    let to = c.args.to.now in
+    let old = disks c.args.root.now c.args.repo.now c.args.opened.now in
+    let new = disks c.read_config.new.root c.args.repo.now c.args.opened.now in
+    err_is (Performs g.T.TreeDisk.disk g.P.TreeDisk.disk (changeset from to) input old new) c.from_residual.result c.in_err-config.field-0.0 c.from_residual.ensures.1
+    (config_stopped g.met.T.TreeDisk.laws g.met.P.TreeDisk.laws c.store_laws.ensures (changeset from to) input c.args.root.now c.read_config.new.root c.args.repo.now c.args.opened.now c.requires (refused_config from to)
+    c.read_config.result c.read_config.ensures c.in_err-config.field-0.0 (sym c.on_root.ensures ∙ c.in_err-config.was))
+
+pub returns-in_err-old : goal.returns-in_err-old
+returns-in_err-old g c input =
+    let from = c.args.from.now in
+    let to = c.args.to.now in
+    let old = disks c.args.root.now c.args.repo.now c.args.opened.now in
+    let new = disks c.read_config.new.root c.args.repo.now c.args.opened.now in
+    let laws : SendingLaws = record { catalogue = c.stored_state.ensures.catalogue; undamaged = c.stored_between.ensures.undamaged; contents = c.stored_between.ensures.contents; store = c.store_laws.ensures } in
+    let configured = config_made g.T.TreeDisk.disk c.args.root.now c.read_config.new.root c.read_config.result c.read_config.ensures c.in_ok-config.config (sym c.on_root.ensures ∙ c.in_ok-config.was) in
+    err_is (Performs g.T.TreeDisk.disk g.P.TreeDisk.disk (changeset from to) input old new) c.from_residual-in_err-old.result (failure_of_fault c.in_err-old.field-0.0) c.from_residual-in_err-old.ensures.1
+    (old_fails g.met.T.TreeDisk.laws g.met.P.TreeDisk.laws laws from to input c.args.root.now c.read_config.new.root c.args.repo.now c.args.opened.now c.requires c.in_ok-config.config configured c.in_err-old.field-0.0 c.in_err-old.ensures.ends)
+
+pub returns-in_err-fresh : goal.returns-in_err-fresh
+returns-in_err-fresh g c input =
+    let from = c.args.from.now in
+    let to = c.args.to.now in
+    let old = disks c.args.root.now c.args.repo.now c.args.opened.now in
+    let new = disks c.read_config.new.root c.args.repo.now c.args.opened.now in
+    let laws : SendingLaws = record { catalogue = c.stored_state.ensures.catalogue; undamaged = c.stored_between.ensures.undamaged; contents = c.stored_between.ensures.contents; store = c.store_laws.ensures } in
+    let configured = config_made g.T.TreeDisk.disk c.args.root.now c.read_config.new.root c.read_config.result c.read_config.ensures c.in_ok-config.config (sym c.on_root.ensures ∙ c.in_ok-config.was) in
+    err_is (Performs g.T.TreeDisk.disk g.P.TreeDisk.disk (changeset from to) input old new) c.from_residual-in_err-fresh.result (failure_of_fault c.in_err-fresh.field-0.0) c.from_residual-in_err-fresh.ensures.1
+    (fresh_fails g.met.T.TreeDisk.laws g.met.P.TreeDisk.laws laws from to input c.args.root.now c.read_config.new.root c.args.repo.now c.args.opened.now c.requires c.in_ok-config.config configured
+    c.in_ok-old.old c.in_ok-old.ensures.ends c.in_err-fresh.field-0.0 c.in_err-fresh.ensures.ends)
+
+pub send-requires : goal.send-requires
+send-requires g c = record {
+  old_committed = subst (AreCommitted c.args.opened.now.catalogue.troves) (sym c.get.ensures) c.in_ok-old.ensures.committed;
+  fresh_committed = subst (AreCommitted c.args.opened.now.catalogue.troves) (sym c.get-2.ensures) c.in_ok-fresh.ensures.committed;
+  old_rises = subst (λ (l : List TroveParts). IsRising l) (sym c.get.ensures) c.in_ok-old.ensures.rises;
+}
+
+pub returns : goal.returns
+returns g c input =
+    let from = c.args.from.now in
+    let to = c.args.to.now in
+    let old = disks c.args.root.now c.args.repo.now c.args.opened.now in
+    let new = disks c.read_config.new.root c.send.new.repo c.args.opened.now in
+    let laws : SendingLaws = record { catalogue = c.stored_state.ensures.catalogue; undamaged = c.stored_between.ensures.undamaged; contents = c.stored_between.ensures.contents; store = c.store_laws.ensures } in
+    let configured = config_made g.T.TreeDisk.disk c.args.root.now c.read_config.new.root c.read_config.result c.read_config.ensures c.in_ok-config.config (sym c.on_root.ensures ∙ c.in_ok-config.was) in
+    let sent = subst (λ (l : List TroveParts). SendsFrom g.P.TreeDisk.disk l c.in_ok-fresh.fresh c.args.repo.now c.send.new.repo c.send.result) c.get.ensures
+    (subst (λ (l : List TroveParts). SendsFrom g.P.TreeDisk.disk c.get.result.now l c.args.repo.now c.send.new.repo c.send.result) c.get-2.ensures c.send.ensures) in
+    subst (Performs g.T.TreeDisk.disk g.P.TreeDisk.disk (changeset from to) input old new) (sym c.on_repository.ensures)
+    (sent_ends g.met.T.TreeDisk.laws g.met.P.TreeDisk.laws laws from to input c.args.root.now c.read_config.new.root c.args.repo.now c.args.opened.now c.requires c.in_ok-config.config configured
+    c.in_ok-old.old c.in_ok-old.ensures.ends c.in_ok-fresh.fresh c.in_ok-fresh.ensures.ends c.in_ok-fresh.ensures.committed c.send.new.repo c.send.result sent)

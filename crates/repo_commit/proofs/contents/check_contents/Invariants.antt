@@ -1,6 +1,0 @@
-use Rattle.std.proofs.Common.{◌≡◌, drop}
-use Rattle.repo_commit.specs.Tests.{files_of, missing_content}
-use Rattle.repo_commit.proofs.contents.check_contents.Given as goal
-
-abbrev pub invariant-loop-trove : goal.invariant-loop-trove
-invariant-loop-trove l = missing_content l.committed.troves l.contents (files_of (drop l.trove-index l.troves)) ≡ missing_content l.committed.troves l.contents (files_of l.troves)

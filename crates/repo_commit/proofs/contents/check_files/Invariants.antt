@@ -1,6 +1,0 @@
-use Rattle.std.proofs.Common.{◌≡◌, drop}
-use Rattle.repo_commit.specs.Tests.{missing_content}
-use Rattle.repo_commit.proofs.contents.check_files.Given as goal
-
-abbrev pub invariant-loop-file : goal.invariant-loop-file
-invariant-loop-file l = missing_content l.committed.troves l.contents (drop l.file-index l.files) ≡ missing_content l.committed.troves l.contents l.files

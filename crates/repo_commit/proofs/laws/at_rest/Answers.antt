@@ -1,8 +1,0 @@
-use Rattle.repo_commit.proofs.Resting as resting
-use Rattle.repo_commit.proofs.laws.at_rest.Goals as goal
-
-pub returns-clause-reads : goal.returns-clause-reads
-returns-clause-reads g c = resting.reads_alone c.one_repository.ensures.determined
-
-pub returns-clause-crash : goal.returns-clause-crash
-returns-clause-crash g c = resting.image_alone c.one_repository.ensures.determined

@@ -1,6 +1,0 @@
-use Rattle.std.proofs.Common.{◌≡◌, ◌++◌, drop}
-use Rattle.repo_commit.specs.Tests.{missing_ref}
-use Rattle.repo_commit.proofs.refs.check_ids.Given as goal
-
-abbrev pub invariant-loop-id : goal.invariant-loop-id
-invariant-loop-id l = missing_ref (l.committed.troves ++ l.added.troves) (drop l.id-index l.ids) ≡ missing_ref (l.committed.troves ++ l.added.troves) l.ids

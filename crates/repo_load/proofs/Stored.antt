@@ -1,0 +1,26 @@
+-- What a tree that stores a state gives.
+use Rattle.std.proofs.Common.{◌≡◌, ℕ, List, ◌∙◌, ap}
+use Rattle.journal_log.specs.tree-disk.Tree.{Name, Tree}
+use Rattle.repo_index.specs.Catalogue.{CatalogueParts}
+use Rattle.repo_load.specs.State.{Commit, catalogue_of, troves_of, AreCommits, RepositoryState}
+use Rattle.repo_load.specs.Files.{HoldsCatalogue, HoldsCommits, StoresRepository}
+use Rattle.repo_load.specs.Damage.{IsDamagedCommit}
+use Rattle.repo_load.specs.Contents.{IsDamagedContent}
+use Rattle.repo_load.specs.ContentsLaws.{named_is_recorded}
+
+pub same_catalogue : ((x : Tree) (one other : List Commit) → HoldsCommits x one → HoldsCommits x other → one ≡ other)
+    → (x : Tree) (r : RepositoryState) (c : CatalogueParts) → StoresRepository x r → HoldsCatalogue x c → c ≡ catalogue_of r.commits
+same_catalogue one x r c stores holds = holds.is ∙ ap catalogue_of (one x holds.commits r.commits holds.holds stores.commits)
+
+pub no_damaged_commit : ((x : Tree) (path : Name) (commits : List Commit) → IsDamagedCommit x path → HoldsCommits x commits → AreCommits commits → ⊥)
+    → (x : Tree) (r : RepositoryState) (path : Name) → StoresRepository x r → IsDamagedCommit x path → ⊥
+no_damaged_commit damaged x r path stores damage = damaged x path r.commits damage stores.commits stores.repository.commits_are
+
+-- ---- contents
+
+pub no_damaged_content : (x : Tree) (r : RepositoryState) (name : List ℕ) (path : Name) → StoresRepository x r → IsDamagedContent (troves_of r.commits) name x path → ⊥
+no_damaged_content x r name path stores damage =
+    let size = named_is_recorded name (troves_of r.commits) damage.recorded in
+    let held = stores.repository.there name size.0 size.1 in
+    let named = stores.repository.named name held.0 held.1 in
+    damage.none held.0 (stores.contents name held.0 held.1) (record { named = named.0; recorded = named.1 })

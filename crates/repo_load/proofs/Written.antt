@@ -1,0 +1,28 @@
+-- The items of troves that were written so far.
+use Rattle.std.proofs.Common.{◌≡◌, ℕ, ◌+◌, ◌<◌, ◌≤◌, List, [], ◌∷◌, ◌++◌, length, take, get_or, All, sym, ◌∙◌, ap, subst}
+use Rattle.std.proofs.lemmas.List.{flat_map_more, take_all, take_more}
+use Rattle.std.proofs.lemmas.List.Elements.{All-more}
+use Rattle.repo_index.specs.trove-parts.Items.{items_bytes}
+use Rattle.repo_index.specs.trove-stream.declared.parts.TroveParts.{TroveParts}
+use Rattle.repo_index.specs.trove-stream.Stream.{trove_bytes}
+use Rattle.repo_index.specs.trove-stream.Trove.{IsTrove}
+use Rattle.repo_load.specs.Files.{FitsTrove}
+use Rattle.repo_load.specs.State.{Commit}
+use Rattle.repo_load.proofs.Streams.{item_of}
+
+pub record AreWritten (before : List ℕ) (troves : Commit) (count : ℕ) (out : List ℕ) : Type 0 where
+  pub troves_are : All IsTrove (take count troves)
+  pub fits : All FitsTrove (take count troves)
+  pub text : out ≡ before ++ items_bytes trove_bytes 0x40 (take count troves)
+
+pub one_written : (before : List ℕ) (troves : Commit) (k : ℕ) (trove : TroveParts) (out more : List ℕ) → k < length troves → trove ≡ get_or troves k trove → AreWritten before troves k out → IsTrove trove → FitsTrove trove
+    → more ≡ out ++ item_of trove → AreWritten before troves (k + 1) more
+one_written before troves k trove out more lt is so_far valid fits next = record {
+  troves_are = All-more IsTrove troves k trove lt so_far.troves_are (subst IsTrove is valid);
+  fits = All-more FitsTrove troves k trove lt so_far.fits (subst FitsTrove is fits);
+  text = next ∙ ap (λ (l : List ℕ). l ++ item_of trove) so_far.text ∙ flat_map_more item_of before (take k troves) trove
+      ∙ ap (λ (l : Commit). before ++ items_bytes trove_bytes 0x40 l) (ap (λ (x : TroveParts). take k troves ++ x ∷ []) is ∙ sym (take_more troves k trove lt));
+}
+
+pub all_written : (P : TroveParts → Type 0) (troves : Commit) (k : ℕ) → length troves ≤ k → All P (take k troves) → All P troves
+all_written P troves k end all = subst (All P) (take_all k troves end) all

@@ -1,5 +1,0 @@
-use Rattle.repo_state.proofs.Streams.{one_stream}
-use Rattle.repo_state.proofs.laws.one_commit.Goals as goal
-
-pub returns : goal.returns
-returns c = one_stream c.distinct_troves.ensures.unique

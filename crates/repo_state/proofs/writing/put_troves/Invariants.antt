@@ -1,5 +1,0 @@
-use Rattle.repo_state.proofs.Written.{AreWritten}
-use Rattle.repo_state.proofs.writing.put_troves.Given as goal
-
-abbrev pub invariant-loop-trove : goal.invariant-loop-trove
-invariant-loop-trove l = AreWritten l.fn.out l.troves l.trove-index l.out

@@ -1,0 +1,35 @@
+-- Contents that are read one after another, and their sizes.
+use Rattle.std.proofs.Common.{◌≡◌, ℕ, ◌+◌, ◌<◌, ⊎_elim, List, [], ◌∷◌, ◌++◌, length, get_or, take, map, All, Contains, refl, sym, ap, ◌∙◌, subst}
+use Rattle.std.proofs.lemmas.List.{take_more}
+use Rattle.std.proofs.lemmas.List.Elements.{All-push, Contains-push_cases}
+use Rattle.change_set.specs.declared.change.Carried.{Carried}
+use Rattle.repo_load.specs.tree-disk.Tree.{Tree}
+use Rattle.repository.specs.Between.{name_of, AreStored}
+use Rattle.repository.specs.BetweenSteps.{IsHashed, IsStoredAs}
+
+-- ---- one content more
+
+map_push : {A B : Type 0} (f : A → B) (xs : List A) (x : A) → map f (xs ++ x ∷ []) ≡ map f xs ++ f x ∷ []
+map_push f [] x = refl
+map_push {B = B} f (y ∷ xs) x = ap (λ (l : List B). f y ∷ l) (map_push f xs x)
+
+pub stored_push : (tree : Tree) (contents new : List Carried) (c : Carried) → new ≡ contents ++ c ∷ [] → AreStored tree contents → IsStoredAs tree c → AreStored tree new
+stored_push tree contents new c is all own = subst (AreStored tree) (sym is) (All-push (IsStoredAs tree) contents c all own)
+
+pub hashed_push : (contents new : List Carried) (c : Carried) → new ≡ contents ++ c ∷ [] → All IsHashed contents → IsHashed c → All IsHashed new
+hashed_push contents new c is all own = subst (λ (l : List Carried). All IsHashed l) (sym is) (All-push IsHashed contents c all own)
+
+pub names_push : (contents new : List Carried) (c : Carried) (names : List (List ℕ)) (i : ℕ) → i < length names → new ≡ contents ++ c ∷ [] → map name_of contents ≡ take i names → c.name ≡ get_or names i []
+    → map name_of new ≡ take (i + 1) names
+names_push contents new c names i within is so_far own =
+    ap (map name_of) is ∙ map_push name_of contents c
+    ∙ ap (λ (l : List (List ℕ)). l ++ c.name ∷ []) so_far ∙ ap (λ (name : List ℕ). take i names ++ name ∷ []) own
+    ∙ sym (take_more names i [] within)
+
+-- ---- sizes
+
+-- what holds of the elements so far holds of those of one more
+pub each_more : {A : Type 0} (P : A → Type 0) (xs : List A) (i : ℕ) (x : A) → i < length xs → x ≡ get_or xs i x → ((y : A) → Contains (take i xs) y → P y) → P x → (y : A) → Contains (take (i + 1) xs) y → P y
+each_more {A} P xs i x within is so_far here y h =
+    let front : take (i + 1) xs ≡ take i xs ++ x ∷ [] = take_more xs i x within ∙ ap (λ (u : A). take i xs ++ u ∷ []) (sym is) in
+    ⊎_elim (λ there. so_far y there) (λ e. subst P e here) (Contains-push_cases (take i xs) x y (subst (λ (l : List A). Contains l y) front h))

@@ -1,0 +1,94 @@
+-- How calls that prepare a disk follow one another.
+use Rattle.std.proofs.Common.{◌≡◌, ℕ, ◌≤◌, Bool, IsTrue, Result, Ok, Err, IsErrAnd, sym, subst, arith}
+use Rattle.repo_load.specs.cny-base.declared.stop.Stop.{Stop}
+use Rattle.repo_load.specs.cny-base.declared.stop.Stop.TheVariants.{Refused, Memory, Failed, Damaged, FarFailed, FarDamaged}
+use Rattle.repo_load.specs.tree-disk.Tree.{Name, Tree}
+use Rattle.repo_load.specs.tree-disk.Disk.{DiskModel}
+use Rattle.repo_load.specs.tree-disk.Confined.{Among, Confined}
+use Rattle.repo_load.specs.tree-disk.ConfinedLaws.{confined_on, confined_then, confined_wider}
+use Rattle.repo_load.specs.tree-disk.Moments.{rose_before}
+use Rattle.repo_load.specs.tree-disk.Steps.{Ended, Makes}
+use Rattle.repository.specs.Preparing.{EndsWith, Prepares, StopsBefore}
+
+-- a stop of an earlier count
+stops_earlier : (told : Bool) (a b c : ℕ) (e : Stop) → a ≤ b → StopsBefore told b c e → StopsBefore told a c e
+stops_earlier told a b c Failed le stops = rose_before a b c le stops
+stops_earlier told a b c Memory le stops = tt
+stops_earlier told a b c (Refused refusal) le stops = stops
+stops_earlier told a b c (Damaged path) le stops = stops
+stops_earlier told a b c FarFailed le stops = stops
+stops_earlier told a b c (FarDamaged path) le stops = stops
+
+ends_stop : (told : Bool) (P : Type 0) (a b c : ℕ) (e : Stop) (r : Result (Unit {0}) Stop) → a ≤ b → IsErrAnd r (λ s. s ≡ e) → StopsBefore told b c e → EndsWith told P r a c
+ends_stop told P a b c e (Ok x) le is stops = absurd is
+ends_stop told P a b c e (Err s) le is stops = subst (λ x. EndsWith told P (Err x) a c) (sym is) (stops_earlier told a b c e le stops)
+
+-- the same of one count
+pub stopped_ends : (told : Bool) (P : Type 0) (a c : ℕ) (e : Stop) (r : Result (Unit {0}) Stop) → IsErrAnd r (λ s. s ≡ e) → StopsBefore told a c e → EndsWith told P r a c
+stopped_ends told P a c e r is stops = ends_stop told P a a c e r (omega arith) is stops
+
+-- the stop of a change
+abbrev stopped : {X : Type 0} → Stop → Result X Stop
+stopped e = Err e
+
+pub made_stops : (X : Type 0) (told : Bool) (after new : Tree) (e : Stop) (a c : ℕ) → Ended told after new (stopped {X = X} e) a c → StopsBefore told a c e
+made_stops X told after new Failed a c ended = ended
+made_stops X told after new Memory a c ended = tt
+made_stops X told after new (Refused refusal) a c ended = absurd ended
+made_stops X told after new (Damaged path) a c ended = ended
+made_stops X told after new FarFailed a c ended = ended
+made_stops X told after new (FarDamaged path) a c ended = ended
+
+module _ {D : Type 0} {disk : DiskModel D} {names : Name → Type 0} {P : Tree → Type 0} where
+  -- a stop passed on by `?`, behind what was done
+  pub prepares_stop : {old mid new : D} (e : Stop) {r : Result (Unit {0}) Stop} → disk.faults old ≤ disk.faults mid → (IsTrue disk.tells → Confined disk names old mid) → disk.faults mid ≤ disk.faults new
+      → (IsTrue disk.tells → Confined disk names mid new) → StopsBefore disk.tells (disk.faults mid) (disk.faults new) e → IsErrAnd r (λ s. s ≡ e) → Prepares disk names P old new r
+  prepares_stop {old = old} {mid = mid} {new = new} e {r = r} early first late next stops is = record {
+    later = omega (arith, early, late);
+    ends = ends_stop disk.tells (P (disk.reads new)) (disk.faults old) (disk.faults mid) (disk.faults new) e r early is stops;
+    confined = λ tells. confined_then (first tells) (next tells);
+  }
+
+  -- what was done, and a last change
+  pub prepares_makes : {own : Name → Bool} {change : Tree → Tree} {old mid new : D} {r : Result (Unit {0}) Stop} → disk.faults old ≤ disk.faults mid → (IsTrue disk.tells → Confined disk names old mid) → ((q : Name) → Among own q → names q)
+      → Makes disk own change mid new r → (IsTrue disk.tells → disk.reads new ≡ change (disk.reads mid) → P (disk.reads new)) → Prepares disk names P old new r
+  prepares_makes {change = change} {old = old} {mid = mid} {new = new} {r = r} early first within makes so = record {
+    later = omega (arith, early, makes.later);
+    ends = by r makes.ended;
+    confined = λ tells. confined_on (first tells) within (makes.confined tells);
+  }
+    where
+      by : (r : Result (Unit {0}) Stop) → Ended disk.tells (change (disk.reads mid)) (disk.reads new) r (disk.faults mid) (disk.faults new) → EndsWith disk.tells (P (disk.reads new)) r (disk.faults old) (disk.faults new)
+      by (Ok x) ended = λ tells. so tells (ended tells)
+      by (Err e) ended = stops_earlier disk.tells (disk.faults old) (disk.faults mid) (disk.faults new) e early (made_stops (Unit {0}) disk.tells (change (disk.reads mid)) (disk.reads new) e (disk.faults mid) (disk.faults new) ended)
+
+  -- what was done, and one run more
+  pub prepares_then : {old mid new : D} → disk.faults old ≤ disk.faults mid → (IsTrue disk.tells → Confined disk names old mid) → disk.faults mid ≤ disk.faults new
+      → (IsTrue disk.tells → Confined disk names mid new) → (IsTrue disk.tells → P (disk.reads new)) → Prepares disk names P old new (Ok tt)
+  prepares_then early first late next is = record {
+    later = omega (arith, early, late);
+    ends = is;
+    confined = λ tells. confined_then (first tells) (next tells);
+  }
+
+module _ {D : Type 0} {disk : DiskModel D} where
+  -- a first change that stopped, passed on by `?`
+  pub makes_stopped : {X : Type 0} {names : Name → Type 0} {P : Tree → Type 0} {own : Name → Bool} {change : Tree → Tree} {old new : D} (e : Stop) {r : Result (Unit {0}) Stop} → ((q : Name) → Among own q → names q)
+      → Makes {X = X} disk own change old new (Err e) → IsErrAnd r (λ s. s ≡ e) → Prepares disk names P old new r
+  makes_stopped {X = X} {P = P} {change = change} {old = old} {new = new} e {r = r} within makes is = record {
+    later = makes.later;
+    ends = ends_stop disk.tells (P (disk.reads new)) (disk.faults old) (disk.faults old) (disk.faults new) e r (omega arith) is (made_stops X disk.tells (change (disk.reads old)) (disk.reads new) e (disk.faults old) (disk.faults new) makes.ended);
+    confined = λ tells. confined_wider within (makes.confined tells);
+  }
+
+  -- more names, and less of the tree
+  pub prepares_weaker : {few many : Name → Type 0} {P Q : Tree → Type 0} {old new : D} {r : Result (Unit {0}) Stop} → ((q : Name) → few q → many q) → ((t : Tree) → P t → Q t) → Prepares disk few P old new r → Prepares disk many Q old new r
+  prepares_weaker {P = P} {Q = Q} {old = old} {new = new} {r = r} within so run = record {
+    later = run.later;
+    ends = by r run.ends;
+    confined = λ tells. confined_wider within (run.confined tells);
+  }
+    where
+      by : (r : Result (Unit {0}) Stop) → EndsWith disk.tells (P (disk.reads new)) r (disk.faults old) (disk.faults new) → EndsWith disk.tells (Q (disk.reads new)) r (disk.faults old) (disk.faults new)
+      by (Ok x) ends = λ tells. so (disk.reads new) (ends tells)
+      by (Err e) ends = ends

@@ -1,0 +1,41 @@
+use Rattle.std.proofs.Common.{◌≡◌, Some, sym, ◌∙◌, ap}
+use Rattle.std.specs.FinMap.{get}
+use Rattle.sha1.specs.Sha1.{sha1}
+use Rattle.repo_load.specs.tree-disk.Tree.{Name}
+use Rattle.repo_load.specs.content-store.Store.{content_path, stored}
+use Rattle.repo_load.specs.Files.{contents_dir}
+use Rattle.repository.proofs.Placing.{can_put, dir_stays, none_at, put_confined, put_stops}
+use Rattle.repository.proofs.Preparations.{makes_stopped, prepares_stop, prepares_then}
+use Rattle.repository.proofs.preparing.put_content.Goals as goal
+
+pub returns-in_err-clear : goal.returns-in_err-clear
+returns-in_err-clear g c = makes_stopped _ (λ q h. h) (rw c.requires.dir at c.in_err-clear.ensures.makes) c.from_residual.ensures.1
+
+pub put-requires-clause-can : goal.put-requires-clause-can
+put-requires-clause-can g c tells =
+    let named : sha1 c.get.result.now ≡ c.args.content.now.name = ap sha1 c.get.ensures ∙ sym c.requires.hash in
+    let made = rw c.requires.dir at c.in_ok-clear.ensures.makes in
+    let bare = rw c.requires.dir at (c.in_ok-clear.ensures.cleared tells) in
+    rw c.requires.dir (rw named (can_put (g.D.TreeDisk.disk.reads c.clear.new.disk) contents_dir (content_path contents_dir c.args.content.now.name)
+    (dir_stays (g.D.TreeDisk.disk.reads c.args.disk.now) (g.D.TreeDisk.disk.reads c.clear.new.disk) c.args.content.now.name (made.outside tells) (c.requires.stands tells))
+    (none_at (g.D.TreeDisk.disk.reads c.clear.new.disk) (content_path contents_dir c.args.content.now.name) bare)))
+
+pub returns-in_err-put : goal.returns-in_err-put
+returns-in_err-put g c =
+    let named : sha1 c.get.result.now ≡ c.args.content.now.name = ap sha1 c.get.ensures ∙ sym c.requires.hash in
+    let path_is : content_path c.args.dir.now (sha1 c.get.result.now) ≡ content_path contents_dir c.args.content.now.name = (λ i. content_path (c.requires.dir i) (named i)) in
+    let made = rw c.requires.dir at c.in_ok-clear.ensures.makes in
+    prepares_stop _ made.later made.confined c.in_err-put.ensures.decides.later
+    (put_confined (content_path contents_dir c.args.content.now.name) (content_path c.args.dir.now (sha1 c.get.result.now)) _ path_is c.in_err-put.ensures.decides)
+    (put_stops (content_path c.args.dir.now (sha1 c.get.result.now)) (sha1 c.get.result.now) c.get.result.now _
+    (λ tells. ap (λ (n : Name). get (g.D.TreeDisk.disk.reads c.clear.new.disk) n) path_is ∙ none_at (g.D.TreeDisk.disk.reads c.clear.new.disk) (content_path contents_dir c.args.content.now.name) (rw c.requires.dir at (c.in_ok-clear.ensures.cleared tells)))
+    c.in_err-put.ensures.decides c.in_err-put.ensures.stops) c.from_residual-in_err-put.ensures.1
+
+pub returns : goal.returns
+returns g c =
+    let named : sha1 c.get.result.now ≡ c.args.content.now.name = ap sha1 c.get.ensures ∙ sym c.requires.hash in
+    let path_is : content_path c.args.dir.now (sha1 c.get.result.now) ≡ content_path contents_dir c.args.content.now.name = (λ i. content_path (c.requires.dir i) (named i)) in
+    let made = rw c.requires.dir at c.in_ok-clear.ensures.makes in
+    prepares_then made.later made.confined c.in_ok-put.ensures.decides.later
+    (put_confined (content_path contents_dir c.args.content.now.name) (content_path c.args.dir.now (sha1 c.get.result.now)) _ path_is c.in_ok-put.ensures.decides)
+    (λ tells. (λ i. stored (g.D.TreeDisk.disk.reads c.put.new.disk) (sym c.requires.dir i) (sym named i)) ∙ c.in_ok-put.ensures.stored tells ∙ ap Some c.get.ensures)

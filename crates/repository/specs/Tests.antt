@@ -1,0 +1,105 @@
+-- The tests of a commit behind those of its parts, and the first one that fails.
+use Rattle.std.specs.Prelude.{◌≡◌, ◌⊎◌, ℕ, Bool, ◌&&◌, ◌||◌, ◌==◌, nat_lt, if◌then◌else◌, List, [], ◌∷◌, ◌++◌, length, flat_map, Option, Some, None, is_some}
+use Rattle.std.specs.List.{list_any}
+use Rattle.std.specs.Str.{bytes_eq}
+use Rattle.repo_load.specs.cny-base.declared.limits.TheConstants.{COMMITS_LIMIT}
+use Rattle.repo_load.specs.cny-base.declared.refusal.Refusal.{Refusal}
+use Rattle.repo_load.specs.cny-base.declared.refusal.Refusal.TheVariants.{Collision, MissingContent, MissingRef, TooLarge}
+use Rattle.repo_load.specs.cny-base.declared.refusal.What.TheVariants.{Commits}
+use Rattle.repo_load.specs.file-stream.declared.record.FileRec.{FileRec}
+use Rattle.repo_load.specs.file-stream.declared.record.FileRec.TheVariants.{Dir, File, Link}
+use Rattle.repo_load.specs.trove-parts.declared.id.TroveId.{TroveId}
+use Rattle.repo_load.specs.trove-parts.Id.{id_text_of}
+use Rattle.repo_load.specs.trove-parts.declared.files.FileAt.{FileAt}
+use Rattle.repo_load.specs.trove-stream.declared.parts.TroveParts.{TroveParts}
+use Rattle.change_set.specs.declared.change.Carried.{Carried}
+use Rattle.change_set.specs.declared.change.ChangeSet.{ChangeSet}
+use Rattle.repo_load.specs.content-store.Contents.{ContentMap}
+use Rattle.repo_load.specs.content-store.Difference.{first_difference}
+use Rattle.repo_index.specs.Catalogue.{CatalogueParts, found}
+use Rattle.repo_load.specs.State.{records_content}
+use Rattle.repository.specs.Parts.{AreMade, IsFirstRefused}
+
+-- this refusal, and where there is none the other
+abbrev pub or_then : Option Refusal → Option Refusal → Option Refusal
+or_then None next = next
+or_then (Some refusal) next = Some refusal
+
+-- ---- references
+
+-- the first of these ids that no trove has
+abbrev pub missing_ref : List TroveParts → List TroveId → Option Refusal
+missing_ref troves [] = None
+missing_ref troves (id ∷ ids) = if is_some (found id troves) then missing_ref troves ids else Some (MissingRef (id_text_of id))
+
+-- the references of troves, trove by trove
+abbrev pub refs_of : List TroveParts → List TroveId
+refs_of troves = flat_map (λ (t : TroveParts). t.refs) troves
+
+-- ---- contents
+
+abbrev pub is_carried : List ℕ → ℕ → Carried → Bool
+is_carried name size content = bytes_eq content.name name && (length content.bytes == size)
+
+-- a content of this name and this size is carried, or a committed trove records one
+abbrev pub has_source : List TroveParts → List Carried → List ℕ → ℕ → Bool
+has_source committed contents name size = list_any (is_carried name size) contents || records_content name size committed
+
+-- a record of a content that is neither carried nor committed
+abbrev pub lacks_content : List TroveParts → List Carried → FileRec → Option Refusal
+lacks_content committed contents (Dir mode owner) = None
+lacks_content committed contents (File mode owner flags size name) = if has_source committed contents name size then None else Some (MissingContent name)
+lacks_content committed contents (Link target) = None
+
+-- the first such record
+abbrev pub missing_content : List TroveParts → List Carried → List FileAt → Option Refusal
+missing_content committed contents [] = None
+missing_content committed contents (file ∷ files) = or_then (lacks_content committed contents file.rec) (missing_content committed contents files)
+
+-- the files of troves, trove by trove, in path order
+abbrev pub files_of : List TroveParts → List FileAt
+files_of troves = flat_map (λ (t : TroveParts). t.files) troves
+
+abbrev pub collision_at : List ℕ → Option ℕ → Option Refusal
+collision_at name None = None
+collision_at name (Some at) = Some (Collision name at)
+
+-- a content that differs from the committed one of its name
+abbrev pub collides : Option (List ℕ) → Carried → Option Refusal
+collides None content = None
+collides (Some bytes) content = collision_at content.name (first_difference bytes content.bytes)
+
+-- the first one
+abbrev pub collision : ContentMap → List Carried → Option Refusal
+collision held [] = None
+collision held (content ∷ contents) = or_then (collides (held content.name) content) (collision held contents)
+
+-- ---- all tests
+
+-- one commit too many
+abbrev pub too_many : ℕ → Option Refusal
+too_many commits = if nat_lt commits COMMITS_LIMIT then None else Some (TooLarge Commits COMMITS_LIMIT)
+
+-- The first of these tests that fails: of references, of contents that are missing, of contents that collide with committed
+-- ones, and of the number of commits. With no troves nothing is tested.
+abbrev pub later_refusal : CatalogueParts → ContentMap → List Carried → List TroveParts → Option Refusal
+later_refusal c held contents [] = None
+later_refusal c held contents (trove ∷ troves) =
+    or_then (missing_ref (c.troves ++ trove ∷ troves) (refs_of (trove ∷ troves)))
+    (or_then (missing_content c.troves contents (files_of (trove ∷ troves)))
+    (or_then (collision held contents) (too_many c.commits)))
+
+-- The change set makes these troves of a catalogue and its contents, and no test fails.
+pub record Passes (c : CatalogueParts) (held : ContentMap) (change : ChangeSet) (troves : List TroveParts) : Type 0 where
+  pub made : AreMade c.troves change.parts troves
+  pub passed : later_refusal c held change.contents troves ≡ None
+
+-- the parts make troves, and this is the first of the later tests that fails
+pub record IsLaterRefused (c : CatalogueParts) (held : ContentMap) (change : ChangeSet) (refusal : Refusal) : Type 0 where
+  pub troves : List TroveParts
+  pub made : AreMade c.troves change.parts troves
+  pub fails : later_refusal c held change.contents troves ≡ Some refusal
+
+-- The first test of a commit that fails: part by part those of its base, its id and its paths, and then the others.
+abbrev pub IsRefused : CatalogueParts → ContentMap → ChangeSet → Refusal → Type 0
+IsRefused c held change refusal = IsFirstRefused c.troves change.parts refusal ⊎ IsLaterRefused c held change refusal

@@ -1,0 +1,46 @@
+-- What is written before the write set of a job, and the write of its record.
+use Rattle.std.specs.Prelude.{◌≡◌, ℕ, Bool, IsTrue, List, [], ◌∷◌}
+use Rattle.job_targets.specs.cny-base.declared.stop.Stop.{Stop}
+use Rattle.job_targets.specs.cny-base.declared.stop.Stop.TheVariants as stop
+use Rattle.job_targets.specs.journal-log.declared.put.Put.{Put}
+use Rattle.job_targets.specs.trove-stream.declared.parts.TroveParts.{TroveParts}
+use Rattle.job_targets.specs.tree-disk.Tree.{Name, Tree}
+use Rattle.local_db.specs.Record.{IsRecord}
+use Rattle.local_db.specs.Steps.{record_put}
+use Rattle.local_db.specs.declared.format.Format.TheVariants.{Two}
+use Rattle.local_db.specs.declared.db.Db.{Db}
+use Rattle.rollback_stack.specs.declared.undo.Undo.{Undo}
+use Rattle.rollback_stack.specs.Undo.{entries_of, LeadsTo}
+use Rattle.rollback_stack.specs.Saving.{dropped_below, is_saving_name, IsSavedJob}
+
+-- the names at which it is written before the write set of the job whose database this is
+abbrev pub is_written : Db → Name → Bool
+is_written db = is_saving_name db.newest (dropped_below db.oldest)
+
+-- the one write of some record
+pub record IsRecordWrite (puts : List Put) : Type 0 where
+  pub number : ℕ
+  pub mode : ℕ
+  pub bytes : List ℕ
+  pub puts_are : puts ≡ record_put number mode bytes ∷ []
+
+-- The one write is that of the record in format 2. The tree is ready for it: it has the old contents that the record refers to,
+-- and nothing stands at the record's name.
+pub record IsPushed (x : Tree) (undo : Undo) (db : Db) (puts : List Put) : Type 0 where
+  pub before : List TroveParts
+  pub leads : LeadsTo undo db before
+  pub mode : ℕ
+  pub bytes : List ℕ
+  pub text : IsRecord Two undo.number before db.installed (entries_of undo.entries) bytes
+  pub puts_are : puts ≡ record_put undo.number mode bytes ∷ []
+  pub ready : IsSavedJob undo.number (dropped_below db.oldest) undo.entries x
+
+-- Why the record isn't pushed: the disk failed, or no memory was left. (Where the disk tells nothing, a file may stand in a
+-- directory that was just made.)
+abbrev pub IsPushStop : Bool → Type 0 → Stop → Type 0
+IsPushStop told rose stop.Failed = rose
+IsPushStop told rose stop.Memory = Unit {0}
+IsPushStop told rose (stop.Refused why) = IsTrue told → ⊥
+IsPushStop told rose (stop.Damaged path) = ⊥
+IsPushStop told rose stop.FarFailed = ⊥
+IsPushStop told rose (stop.FarDamaged path) = ⊥

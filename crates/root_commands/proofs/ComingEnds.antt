@@ -1,0 +1,33 @@
+-- How an update by a change set follows from the job of the troves that it makes.
+use Rattle.std.proofs.Common.{◌≡◌, List, Result, Err, refl, subst, inl, inr}
+use Rattle.std.specs.Prelude.{IsTrue}
+use Rattle.repo_commands.specs.cny-base.declared.options.Options.{Options}
+use Rattle.repo_commands.specs.cny-base.declared.refusal.Fault.{Fault}
+use Rattle.repo_commands.specs.cny-base.declared.refusal.Fault.TheVariants as fault
+use Rattle.repo_commands.specs.cny-base.declared.refusal.Refusal.{Refusal}
+use Rattle.repo_commands.specs.tree-disk.Disk.{DiskModel}
+use Rattle.repo_commands.specs.trove-stream.declared.parts.TroveParts.{TroveParts}
+use Rattle.repo_commands.specs.change-set.Contents.{IfRefused}
+use Rattle.repo_commands.specs.change-set.declared.change.ChangeSet.{ChangeSet}
+use Rattle.update_job.specs.Made.{AreMade, IsFirstRefused}
+use Rattle.cli_call.specs.Command.{Disks, AreReady, StandsFor}
+use Rattle.cli_call.specs.RootDatabase.{OneDatabase, held_database}
+use Rattle.cli_call.specs.State.{Effect, State}
+use Rattle.root_commands.specs.Update.{UpdatesBy, UpdatesTo}
+
+module _ {T P : Type 0} {root_disk : DiskModel T} {repo_disk : DiskModel P} (law : OneDatabase) (old : Disks T P) (ready : AreReady root_disk repo_disk old) (told : IsTrue root_disk.tells) (s : State) (stands : StandsFor root_disk repo_disk old s) where
+  -- the list at hand is that of the system
+  same_installed : old.opened.db.installed ≡ s.root.installed
+  same_installed = let held = held_database law (root_disk.reads old.root) old.opened.db s.root (ready.root told).holds stands.root.stored in held.list
+
+  module _ (options : Options) (set : ChangeSet) where
+    refused_by : (f : Fault) → IfRefused (IsFirstRefused old.opened.db.installed set.parts) f → (refused : Refusal) → f ≡ fault.Refused refused → IsFirstRefused s.root.installed set.parts refused
+    refused_by f is refused same =
+        subst (λ (list : List TroveParts). IsFirstRefused list set.parts refused) same_installed
+        (subst (IfRefused (IsFirstRefused old.opened.db.installed set.parts)) same is)
+
+    pub set_refused : (f : Fault) → IfRefused (IsFirstRefused old.opened.db.installed set.parts) f → (refused : Refusal) → f ≡ fault.Refused refused → UpdatesBy options set s (Err refused)
+    set_refused f is refused same = inr (record { refusal = refused; refused = refused_by f is refused same; is = refl })
+
+    pub set_made : (troves : List TroveParts) → AreMade old.opened.db.installed set.parts troves → (outcome : Result Effect Refusal) → UpdatesTo options set.contents troves s outcome → UpdatesBy options set s outcome
+    set_made troves are outcome is = inl (record { value = troves; found = subst (λ (list : List TroveParts). AreMade list set.parts troves) same_installed are; rest = is })

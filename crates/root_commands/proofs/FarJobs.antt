@@ -1,0 +1,237 @@
+-- How a command ends that is a job with the contents of the repository behind it.
+use Rattle.std.proofs.Common.{◌≡◌, ◌≤◌, ℕ, List, Result, Ok, Err, OnOk, IfErr, refl, sym, ap, ◌∙◌, subst, inl, inr, arith}
+use Rattle.std.specs.Prelude.{IsTrue, Option}
+use Rattle.repo_commands.specs.cny-base.Count.{Rose}
+use Rattle.repo_commands.specs.cny-base.declared.options.Options.{Options}
+use Rattle.repo_commands.specs.cny-base.declared.stop.Stop.{Stop}
+use Rattle.repo_commands.specs.cny-base.declared.stop.Stop.TheVariants as stop
+use Rattle.repo_commands.specs.tree-disk.Tree.{Name, Tree}
+use Rattle.repo_commands.specs.tree-disk.Disk.{DiskModel, IsDisk, HasRead}
+use Rattle.repo_commands.specs.tree-disk.Clear.{is_within}
+use Rattle.repo_commands.specs.tree-disk.Confined.{Among}
+use Rattle.repo_commands.specs.tree-disk.ConfinedLaws.{confined_read}
+use Rattle.repo_commands.specs.tree-journal.Recovery.{is_committed}
+use Rattle.repo_commands.specs.change-set.declared.change.Carried.{Carried}
+use Rattle.repo_commands.specs.trove-stream.declared.parts.TroveParts.{TroveParts}
+use Rattle.repo_index.specs.Catalogue.{CatalogueParts}
+use Rattle.repo_load.specs.Files.{repository_base, HoldsCatalogue, StoresRepository}
+use Rattle.repo_load.specs.State.{catalogue_of, troves_of, RepositoryState}
+use Rattle.repo_load.specs.Contents.{FindsContent, IsDamagedContent}
+use Rattle.repo_load.specs.RepoContents.{repo_contents, HasSearched}
+use Rattle.repo_load.specs.declared.repo_contents.RepoContents.{RepoContents}
+use Rattle.local_db.specs.declared.db.Db.{Db}
+use Rattle.local_db.specs.declared.format.Format.TheVariants.{Two}
+use Rattle.local_db.specs.Stores.{StoresIn}
+use Rattle.system_core.specs.JobWriting as settling
+use Rattle.system_core.specs.declared.done.Done.{Done}
+use Rattle.system_core.specs.Job.{Sources, sources_of}
+use Rattle.system_core.specs.Lists.{ListStep, to_updated}
+use Rattle.system_core.specs.Steps as steps
+use Rattle.system_core.specs.Steps.{Ends}
+use Rattle.cny_report.specs.Jobs.{changes_text}
+use Rattle.cli_call.specs.declared.failure.Failure.{Failure}
+use Rattle.cli_call.specs.declared.failure.Failure.TheVariants as failure
+use Rattle.cli_call.specs.declared.opened.Opened.{Opened}
+use Rattle.cli_call.specs.ChangingRoot.{ChangesRoot}
+use Rattle.cli_call.specs.Command.{disks, AreReady, ChangesNothing, HasCause, Performs, StandsFor, end_of}
+use Rattle.cli_call.specs.CommandLaws.{goes_read}
+use Rattle.cli_call.specs.Report.{status_of}
+use Rattle.cli_call.specs.RootDatabase.{OneDatabase, one_format}
+use Rattle.cli_call.specs.State.{Meaning, RootState, State}
+use Rattle.cli_call.specs.Stops.{root_failure, root_result}
+use Rattle.cli_call.specs.Store.{HasDamagedFile, IsSettled, IsStore}
+use Rattle.cli_call.specs.Stores.{repository_store, root_store}
+use Rattle.root_commands.specs.Update.{answers_of, update_to, UpdatesTo}
+use Rattle.root_commands.proofs.SpecifiedEnds.{ReadsAtRefusal, ok_by, same_failure}
+use Rattle.root_commands.proofs.JobStates as states
+use Rattle.root_commands.proofs.JobStates.{IsUndamaged}
+use Rattle.root_commands.proofs.MoreAnswers.{ends_more}
+
+-- the laws of repositories that are called upon
+pub record RepositoryLaws : Type 0 where
+  pub catalogue : (x : Tree) (r : RepositoryState) (c : CatalogueParts) → StoresRepository x r → HoldsCatalogue x c → c ≡ catalogue_of r.commits
+  pub content : (x : Tree) (r : RepositoryState) (name : List ℕ) (found : Option (List ℕ)) → StoresRepository x r → FindsContent (troves_of r.commits) name x found → found ≡ r.contents name
+  pub contents : (x : Tree) (r : RepositoryState) (name : List ℕ) (path : Name) → StoresRepository x r → IsDamagedContent (troves_of r.commits) name x path → ⊥
+  pub store : IsStore repository_store
+
+-- a job of these troves ran: by each system that the root stores, and on each root
+pub record RanFar {T P : Type 0} (root_disk : DiskModel T) (repo_disk : DiskModel P) (options : Options) (carried : List Carried) (troves : List TroveParts) (root root' : T) (far far' : RepoContents P) (now : Db) (r : Result Done Stop) : Type 0 where
+  pub ends : IsTrue root_disk.tells → (s : RootState) → StoresIn Two (root_disk.reads root) s
+      → Ends root_disk (sources_of carried (let contents = repo_contents repo_disk in contents.answers far) options) (to_updated s.installed troves) s root root' now r
+  pub rests : IsTrue root_disk.tells → OnOk r (settling.IsSettled root_disk root')
+  pub refused : IsTrue root_disk.tells → IfErr r (ReadsAtRefusal root_disk root root')
+  pub causes : IfErr r (steps.HasCause (repo_contents repo_disk) far far' (Rose (root_disk.faults root) (root_disk.faults root')))
+  pub later : root_disk.faults root ≤ root_disk.faults root'
+  pub searched : HasSearched repo_disk far far'
+
+module _ {T P : Type 0} {root_disk : DiskModel T} {repo_disk : DiskModel P} (root_disk_laws : IsDisk root_disk) (repo_disk_laws : IsDisk repo_disk) (law : OneDatabase) (laws : RepositoryLaws) (root root' : T) (far far' : RepoContents P) (opened opened' : Opened)
+    (known : far.catalogue.now ≡ opened.catalogue) (ready : AreReady root_disk repo_disk (disks root far.disk.now opened)) (options : Options) (carried : List Carried) (troves : List TroveParts) (input : List ℕ) where
+  abbrev Runs : Result Done Stop → Type 0
+  Runs r = RanFar root_disk repo_disk options carried troves root root' far far' opened'.db r
+
+  abbrev repo : P
+  repo = far.disk.now
+
+  abbrev repo' : P
+  repo' = far'.disk.now
+
+  abbrev Performed : Result (List ℕ) Failure → Type 0
+  Performed f = Performs root_disk repo_disk (update_to options carried troves) input (disks root repo opened) (disks root' repo' opened') f
+
+  -- what is searched is the repository's
+  holds : IsTrue repo_disk.tells → HoldsCatalogue (repo_disk.reads repo) far.catalogue.now
+  holds told = subst (HoldsCatalogue (repo_disk.reads repo)) (sym known) (ready.repo told).catalogue
+
+  -- ---- by a state that both disks store
+
+  module _ (root_told : IsTrue root_disk.tells) (told : IsTrue repo_disk.tells) (s : State) (stands : StandsFor root_disk repo_disk (disks root repo opened) s) where
+    stores : StoresIn Two (root_disk.reads root) s.root
+    stores = one_format law (root_disk.reads root) opened.db.installed opened.db.oldest opened.db.newest s.root (ready.root root_told).holds stands.root.stored
+
+    same_troves : far.catalogue.now.troves ≡ troves_of s.repository.commits
+    same_troves = ap (λ (c : CatalogueParts). c.troves) (laws.catalogue (repo_disk.reads repo) s.repository far.catalogue.now stands.repo.stored (holds told))
+
+    answered : (name : List ℕ) (found : Option (List ℕ)) → (let contents = repo_contents repo_disk in contents.answers far name found) → answers_of s.repository.contents name found
+    answered name found is = laws.content (repo_disk.reads repo) s.repository name found stands.repo.stored
+        (subst (λ (t : List TroveParts). FindsContent t name (repo_disk.reads repo) found) same_troves (is.stands told))
+
+    ends : (r : Result Done Stop) → Runs r → Ends root_disk (sources_of carried (answers_of s.repository.contents) options) (to_updated s.root.installed troves) s.root root root' opened'.db r
+    ends r ran = ends_more carried options (let contents = repo_contents repo_disk in contents.answers far) (answers_of s.repository.contents) answered s.root root_disk (to_updated s.root.installed troves) root root' opened'.db r (ran.ends root_told s.root stores)
+
+    whole : (e : Stop) → Runs (Err e) → IsUndamaged e
+    whole (stop.Refused why) ran = tt
+    whole stop.Failed ran = tt
+    whole stop.Memory ran = tt
+    whole (stop.Damaged path) ran = tt
+    whole stop.FarFailed ran = tt
+    whole (stop.FarDamaged path) ran =
+        let found = ran.causes told in
+        let at = found.1.damaged in
+        laws.contents (repo_disk.reads repo) s.repository at.name path stands.repo.stored
+        (subst (λ (t : List TroveParts). IsDamagedContent t at.name (repo_disk.reads repo) path) same_troves at.damaged)
+
+    abbrev Changes : Result (List ℕ) Failure → Type 0
+    Changes f = ChangesRoot root_disk (UpdatesTo options carried troves s) s root root' f
+
+    abbrev from : Sources
+    from = sources_of carried (answers_of s.repository.contents) options
+
+    abbrev step : ListStep
+    step = to_updated s.root.installed troves
+
+    stopped : (e : Stop) → Runs (Err e) → Changes (Err (root_failure e))
+    stopped e ran = states.stopped root_disk_laws root root' opened'.db from step s stands.root e (ends (Err e) ran) (whole e ran)
+
+    told_text : (made : Done) (text : List ℕ) → text ≡ changes_text made.changes → Runs (Ok made) → Changes (Ok text)
+    told_text made text is ran = states.told_text root_disk_laws root root' opened'.db from step s stands.root made text is (ends (Ok made) ran)
+
+    untold_text : (made : Done) → Runs (Ok made) → Changes (Err failure.Memory)
+    untold_text made ran = states.untold_text root_disk_laws root root' opened'.db from step s stands.root made (ends (Ok made) ran)
+
+  -- ---- on each pair of disks
+
+  damaged_file : (path : Name) → Runs (Err (stop.FarDamaged path)) → IsTrue repo_disk.tells → HasDamagedFile repository_store (repo_disk.reads repo') path
+  damaged_file path ran told =
+      let found = ran.causes told in
+      let at = found.1.damaged in
+      let read = ran.searched.same told in
+      let back : repo_disk.reads repo ≡ repo_disk.reads repo' = sym read.same.reads in record {
+        flag_clear = ap (is_committed repository_store.base) read.same.reads ∙ (ready.repo told).settled.flag_clear;
+        damaged = inr (inl (record {
+          catalogue = far.catalogue.now;
+          holds = subst (λ (t : Tree). HoldsCatalogue t far.catalogue.now) back (holds told);
+          name = at.name;
+          damaged = subst (λ (t : Tree). IsDamagedContent far.catalogue.now.troves at.name t path) back at.damaged;
+        }));
+      }
+
+  caused : (e : Stop) → Runs (Err e) → HasCause root_disk repo_disk (disks root repo opened) (disks root' repo' opened') (Err (root_failure e))
+  caused (stop.Refused why) ran = tt
+  caused stop.Failed ran = ran.causes
+  caused stop.Memory ran = tt
+  caused (stop.Damaged path) ran = absurd ran.causes
+  caused stop.FarFailed ran = ran.causes
+  caused (stop.FarDamaged path) ran = inr (damaged_file path ran)
+
+  settled_read : HasRead root_disk root root' (Unit {0}) → IsTrue root_disk.tells → IsSettled root_disk root_store.base root'
+  settled_read read told = record {
+    flag_clear = ap (is_committed root_store.base) read.same.reads ∙ (ready.root told).flag_clear;
+    synced = λ p. read.same.unsynced p ∙ (ready.root told).synced p;
+  }
+
+  settles : (e : Stop) → Runs (Err e) → status_of (Err (root_failure e)) ≤ 4 → IsTrue root_disk.tells → IsSettled root_disk root_store.base root'
+  settles (stop.Refused why) ran le told = settled_read (ran.refused told) told
+  settles stop.Failed ran le told = absurd (omega (arith, le))
+  settles stop.Memory ran le told = absurd (omega (arith, le))
+  settles (stop.Damaged path) ran le told = absurd (omega (arith, le))
+  settles stop.FarFailed ran le told = absurd (omega (arith, le))
+  settles (stop.FarDamaged path) ran le told = absurd (omega (arith, le))
+
+  keeps : (e : Stop) → Runs (Err e) → ChangesNothing (Err (root_failure e)) → IsTrue root_disk.tells → root_disk.reads root' ≡ root_disk.reads root
+  keeps (stop.Refused why) ran none told = let read = ran.refused told in read.same.reads
+  keeps (stop.Damaged path) ran none told = absurd ran.causes
+  keeps stop.Failed ran none told = absurd none
+  keeps stop.Memory ran none told = absurd none
+  keeps stop.FarFailed ran none told = absurd none
+  keeps (stop.FarDamaged path) ran none told = let read = ran.refused told in read.same.reads
+
+  settled_done : (made : Done) → Runs (Ok made) → IsTrue root_disk.tells → IsSettled root_disk root_store.base root'
+  settled_done made ran told = let rests = ran.rests told in record { flag_clear = rests.flag_clear; synced = rests.synced }
+
+  -- ---- the clause
+
+  performed_by : (f : Result (List ℕ) Failure) → HasSearched repo_disk far far' → root_disk.faults root ≤ root_disk.faults root' → HasCause root_disk repo_disk (disks root repo opened) (disks root' repo' opened') f
+      → (status_of (end_of f) ≤ 4 → IsTrue root_disk.tells → IsSettled root_disk root_store.base root')
+      → (ChangesNothing (end_of f) → IsTrue root_disk.tells → root_disk.reads root' ≡ root_disk.reads root)
+      → (IsTrue root_disk.tells → IsTrue repo_disk.tells → (s : State) → StandsFor root_disk repo_disk (disks root repo opened) s → ChangesRoot root_disk (UpdatesTo options carried troves s) s root root' f)
+      → Performed f
+  performed_by f searched later cause rest keep changes = record {
+    root_later = later;
+    repo_later = searched.later;
+    cause = cause;
+    rest = λ le. record {
+      root = rest le;
+      repo = λ told. record {
+        flag_clear = ap (is_committed repository_store.base) (searched.same told).same.reads ∙ (ready.repo told).settled.flag_clear;
+        synced = λ p. (searched.same told).same.unsynced p ∙ (ready.repo told).settled.synced p;
+      };
+    };
+    same = λ none. record { root = keep none; repo = λ told. (searched.same told).same.reads };
+    within = λ told. confined_read repo_disk_laws (Among (is_within repository_base)) (searched.same told);
+    told = λ root_told told s stands. let c = changes root_told told s stands in record {
+      next = record { root = c.next; repository = s.repository };
+      answers = c.answers;
+      apart = inr refl;
+      root = c.goes;
+      repo = goes_read laws.store repo_disk_laws repo repo' s.repository (end_of f) (searched.same told) stands.repo;
+      outside = c.outside;
+      seen = c.seen;
+    };
+  }
+
+  pub failed_performs : (r : Result Done Stop) (f : Failure) → root_result r ≡ Err f → Runs r → Performed (Err f)
+  failed_performs (Ok made) f is ran = absurd (cc is)
+  failed_performs (Err e) f is ran = subst (λ (x : Failure). Performed (Err x)) (same_failure (root_failure e) f is)
+      (performed_by (Err (root_failure e)) ran.searched ran.later (caused e ran) (settles e ran) (keeps e ran) (λ root_told told s stands. stopped root_told told s stands e ran))
+
+  pub memory_performs : (r : Result Done Stop) (made : Done) → root_result r ≡ Ok made → Runs r → Performed (Err failure.Memory)
+  memory_performs r made is ran =
+      let now : Runs (Ok made) = subst Runs (ok_by r made is) ran in
+      performed_by (Err failure.Memory) now.searched now.later tt (λ le told. absurd (omega (arith, le))) (λ none told. absurd none) (λ root_told told s stands. untold_text root_told told s stands made now)
+
+  pub told_performs : (r : Result Done Stop) (made : Done) (text : List ℕ) → root_result r ≡ Ok made → Runs r → text ≡ changes_text made.changes → Performed (Ok text)
+  told_performs r made text is ran text_is =
+      let now : Runs (Ok made) = subst Runs (ok_by r made is) ran in
+      performed_by (Ok text) now.searched now.later tt (λ le told. settled_done made now told) (λ none told. absurd none) (λ root_told told s stands. told_text root_told told s stands made text text_is now)
+
+-- ---- the same disks under other names
+
+module _ {T P : Type 0} {root_disk : DiskModel T} {repo_disk : DiskModel P} (root root' : T) (opened opened' : Opened) where
+  pub ready_at : (a b : P) → a ≡ b → AreReady root_disk repo_disk (disks root b opened) → AreReady root_disk repo_disk (disks root a opened)
+  ready_at a b same ready = subst (λ (d : P). AreReady root_disk repo_disk (disks root d opened)) (sym same) ready
+
+  pub performed_at : (m : Meaning) (input : List ℕ) (result : Result (List ℕ) Failure) (a b c d : P) → a ≡ b → c ≡ d → Performs root_disk repo_disk m input (disks root a opened) (disks root' c opened') result
+      → Performs root_disk repo_disk m input (disks root b opened) (disks root' d opened') result
+  performed_at m input result a b c d before after done =
+      subst (λ (x : P). Performs root_disk repo_disk m input (disks root x opened) (disks root' d opened') result) before
+      (subst (λ (x : P). Performs root_disk repo_disk m input (disks root a opened) (disks root' x opened') result) after done)

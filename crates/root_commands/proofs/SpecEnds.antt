@@ -1,0 +1,105 @@
+-- How an update by specifications follows from the job of the troves that they reach.
+use Rattle.std.proofs.Common.{◌≡◌, ℕ, ◌+◌, ◌<◌, List, [], ◌∷◌, ◌++◌, length, take, drop, get_or, Result, Ok, Err, refl, sym, ◌∙◌, ap, subst, inl, inr, ⊎_elim, arith}
+use Rattle.std.specs.Prelude.{IsTrue, Contains}
+use Rattle.std.proofs.lemmas.List.{take_more}
+use Rattle.std.proofs.lemmas.List.Elements.{All-contains, All-contains_itself, All-weaker, Contains-append_cases}
+use Rattle.repo_commands.specs.cny-base.declared.options.Options.{Options}
+use Rattle.repo_commands.specs.cny-base.declared.refusal.Fault.{Fault}
+use Rattle.repo_commands.specs.cny-base.declared.refusal.Fault.TheVariants as fault
+use Rattle.repo_commands.specs.cny-base.declared.refusal.Refusal.{Refusal}
+use Rattle.repo_commands.specs.tree-disk.Disk.{DiskModel}
+use Rattle.repo_commands.specs.trove-parts.declared.id.TroveId.{TroveId}
+use Rattle.repo_commands.specs.trove-stream.declared.parts.TroveParts.{TroveParts}
+use Rattle.trove_spec.specs.declared.config.Config.{Config}
+use Rattle.trove_spec.specs.Expansion.{IsExpansion, IsUnexpanded}
+use Rattle.trove_spec.specs.RootConfig.{HasConfig}
+use Rattle.repo_index.specs.Catalogue.{CatalogueParts}
+use Rattle.repo_load.specs.State.{troves_of, AreFollowing, Commit, IsAllowed}
+use Rattle.repo_load.specs.Loading.{IsCatalogue}
+use Rattle.cli_call.specs.Command.{Disks, AreReady, StandsFor}
+use Rattle.cli_call.specs.State.{tree_of, Effect, State}
+use Rattle.update_job.proofs.Firsts.{split_at}
+use Rattle.system_core.specs.Lists.{AreAllowed}
+use Rattle.repo_commands.specs.declared.given.GivenSpec.{GivenSpec}
+use Rattle.repo_commands.specs.AndThen.{AndThen, EndsAs}
+use Rattle.repo_commands.specs.Meant.{Means}
+use Rattle.repo_commands.proofs.ReadingEnds.{CatalogueIs, config_of, troves_are}
+use Rattle.root_commands.specs.Update.{UpdatesTo}
+use Rattle.root_commands.specs.UpdateSpecs.{AreMeant, MeanAll, ReachAll, UpdatesFrom}
+
+-- ---- one specification after another
+
+module _ (troves : List TroveParts) (config : Config) where
+  meant_push : (givens : List GivenSpec) (ids : List TroveId) (given : GivenSpec) (id : TroveId) → AreMeant troves config givens ids → Means troves config given (Ok id) → AreMeant troves config (givens ++ given ∷ []) (ids ++ id ∷ [])
+  meant_push [] [] given id are one = (one, tt)
+  meant_push [] (x ∷ ids) given id are one = absurd are
+  meant_push (g ∷ givens) [] given id are one = absurd are
+  meant_push (g ∷ givens) (x ∷ ids) given id are one = (are.0, meant_push givens ids given id are.1 one)
+
+  pub meant_more : (givens : List GivenSpec) (i : ℕ) (given : GivenSpec) (ids : List TroveId) (id : TroveId) → i < length givens → given ≡ get_or givens i given
+      → AreMeant troves config (take i givens) ids → Means troves config given (Ok id) → AreMeant troves config (take (i + 1) givens) (ids ++ id ∷ [])
+  meant_more givens i given ids id within is are one =
+      subst (λ (l : List GivenSpec). AreMeant troves config l (ids ++ id ∷ [])) (sym (take_more givens i given within ∙ ap (λ (g : GivenSpec). take i givens ++ g ∷ []) (sym is)))
+      (meant_push (take i givens) ids given id are one)
+
+  pub first_unmeant : (givens : List GivenSpec) (i : ℕ) (given : GivenSpec) (ids : List TroveId) (e : Fault) → i < length givens → given ≡ get_or givens i given
+      → AreMeant troves config (take i givens) ids → EndsAs (Means troves config given) (Err e) → EndsAs (MeanAll troves config givens) (Err e)
+  first_unmeant givens i given ids (fault.Refused refused) within is are refuses =
+      record { front = take i givens; ids = ids; given = given; behind = drop (i + 1) givens; is = split_at i givens given within is; meant = are; refuses = refuses }
+  first_unmeant givens i given ids fault.Memory within is are refuses = tt
+
+-- ---- what they reach
+
+pub unreached : (troves : List TroveParts) (ids : List TroveId) (f : Fault) → IsUnexpanded troves ids f → EndsAs (ReachAll troves ids) (Err f)
+unreached troves ids (fault.Refused refused) is = is
+unreached troves ids fault.Memory is = tt
+
+-- a test's refusal
+pub refused_as : {A : Type 0} (Test : Result A Refusal → Type 0) (f : Fault) → EndsAs Test (Err f) → (refused : Refusal) → f ≡ fault.Refused refused → Test (Err refused)
+refused_as Test f ends refused is = subst (λ (e : Fault). EndsAs Test (Err e)) is ends
+
+-- ---- by a state that the disks store
+
+module _ {T P : Type 0} {root_disk : DiskModel T} {repo_disk : DiskModel P} (law : CatalogueIs) (options : Options) (givens : List GivenSpec) (old : Disks T P) (ready : AreReady root_disk repo_disk old)
+    (config : Config) (has : IsTrue root_disk.tells → HasConfig (root_disk.reads old.root) (Ok config)) (root_told : IsTrue root_disk.tells) (told : IsTrue repo_disk.tells) (s : State) (stands : StandsFor root_disk repo_disk old s) where
+  troves_is : old.opened.catalogue.troves ≡ troves_of s.repository.commits
+  troves_is = troves_are law old ready told s stands
+
+  configured : HasConfig (tree_of s.root) (Ok config)
+  configured = config_of old (Ok config) (has root_told) s stands
+
+  pub none_meant : (refused : Refusal) → MeanAll old.opened.catalogue.troves config givens (Err refused) → UpdatesFrom options givens s (Err refused)
+  none_meant refused is = inl (record {
+    value = config;
+    found = configured;
+    rest = inr (record { refusal = refused; refused = subst (λ (t : List TroveParts). MeanAll t config givens (Err refused)) troves_is is; is = refl });
+  })
+
+  module _ (ids : List TroveId) (meant : MeanAll old.opened.catalogue.troves config givens (Ok ids)) where
+    then : (outcome : Result Effect Refusal) → AndThen (ReachAll (troves_of s.repository.commits) ids) (λ (troves : List TroveParts). UpdatesTo options [] troves s) outcome → UpdatesFrom options givens s outcome
+    then outcome is = inl (record {
+      value = config;
+      found = configured;
+      rest = inl (record { value = ids; found = subst (λ (t : List TroveParts). MeanAll t config givens (Ok ids)) troves_is meant; rest = is });
+    })
+
+    pub none_reached : (refused : Refusal) → ReachAll old.opened.catalogue.troves ids (Err refused) → UpdatesFrom options givens s (Err refused)
+    none_reached refused is = then (Err refused) (inr (record { refusal = refused; refused = subst (λ (t : List TroveParts). ReachAll t ids (Err refused)) troves_is is; is = refl }))
+
+    pub all_updated : (troves : List TroveParts) → ReachAll old.opened.catalogue.troves ids (Ok troves) → (outcome : Result Effect Refusal) → UpdatesTo options [] troves s outcome → UpdatesFrom options givens s outcome
+    all_updated troves is outcome updates = then outcome (inl (record { value = troves; found = subst (λ (t : List TroveParts). ReachAll t ids (Ok troves)) troves_is is; rest = updates }))
+
+-- ---- committed troves record no forbidden path
+
+committed_allowed : (before : List TroveParts) (commits : List Commit) → AreFollowing before commits → (t : TroveParts) → Contains (troves_of commits) t → IsAllowed t
+committed_allowed before [] following t among = let within = among.1 in absurd (omega (arith, within))
+committed_allowed before (troves ∷ commits) following t among = ⊎_elim
+    (λ (first : Contains troves t). All-contains IsAllowed troves t following.0.allowed first)
+    (λ (later : Contains (troves_of commits) t). committed_allowed (before ++ troves) commits following.1 t later)
+    (Contains-append_cases troves (troves_of commits) t among)
+
+pub reached_allowed : (catalogue : CatalogueParts) → IsCatalogue catalogue → (ids : List TroveId) (found : List TroveParts) → IsExpansion catalogue.troves ids found → AreAllowed found
+reached_allowed catalogue rules ids found is = All-weaker (Contains found) IsAllowed
+    (λ (t : TroveParts) (among : Contains found t). committed_allowed [] rules.commits rules.rules.following t
+    (subst (λ (c : CatalogueParts). Contains c.troves t) rules.is (is.there t among)))
+    found (All-contains_itself found)

@@ -1,0 +1,22 @@
+use Rattle.std.proofs.Common.{inl, inr, refl}
+use Rattle.cli_call.specs.Command.{disks, Performs}
+use Rattle.cli_call.specs.CommandLaws.{performs_more}
+use Rattle.cli_call.specs.Failures.{failure_of_fault}
+use Rattle.repo_commands.proofs.SetFaults.{no_set}
+use Rattle.root_commands.specs.Update as spec
+use Rattle.root_commands.proofs.Passing.{err_is}
+use Rattle.root_commands.proofs.updating.update_input.Goals as goal
+
+pub returns-in_err-set : goal.returns-in_err-set
+returns-in_err-set g c =
+    let m = disks c.args.root.now c.args.repo.now c.args.opened.now in
+    err_is (Performs g.T.TreeDisk.disk g.P.TreeDisk.disk (spec.update_input c.args.options.now) c.args.input.now m m) c.from_residual.result (failure_of_fault c.in_err-set.field-0.0) c.from_residual.ensures.1
+    (no_set g.met.T.TreeDisk.laws g.met.P.TreeDisk.laws c.store_laws.ensures (spec.update_input c.args.options.now) c.args.input.now m c.requires (λ s refusal none first. inr (record { none = none; fault = refusal; first = first; is = refl }))
+    c.in_err-set.field-0.0 c.in_err-set.ensures.refused c.in_err-set.ensures.only)
+
+pub returns : goal.returns
+returns g c =
+    let old = disks c.args.root.now c.args.repo.now c.args.opened.now in
+    let new = disks c.update_by.new.root c.update_by.new.repo c.update_by.new.opened in
+    performs_more (spec.update_by c.args.options.now c.in_ok-set.set) (spec.update_input c.args.options.now) c.args.input.now c.args.input.now (λ s outcome is. inl (record { set = c.in_ok-set.set; spelled = c.in_ok-set.ensures.value; is = is }))
+    old new c.update_by.result (c.update_by.ensures c.args.input.now)

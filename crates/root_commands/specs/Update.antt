@@ -1,0 +1,47 @@
+-- What `update` means.
+use Rattle.std.specs.Prelude.{◌≡◌, true, false, List, Result, Ok, Err}
+use Rattle.repo_commands.specs.cny-base.declared.options.Options.{Options}
+use Rattle.repo_commands.specs.cny-base.declared.refusal.Refusal.{Refusal}
+use Rattle.repo_commands.specs.trove-stream.declared.parts.TroveParts.{TroveParts}
+use Rattle.repo_commands.specs.change-set.declared.change.Carried.{Carried}
+use Rattle.repo_commands.specs.change-set.declared.change.ChangeSet.{ChangeSet}
+use Rattle.repo_commands.specs.change-set.declared.change.Part.{Part}
+use Rattle.update_job.specs.Made.{AreMade, IsFirstRefused}
+use Rattle.repo_commands.specs.content-store.Contents.{Answers, ContentMap}
+use Rattle.system_core.specs.Job.{sources_of}
+use Rattle.system_core.specs.Lists.{to_updated}
+use Rattle.cli_call.specs.State.{Effect, Meaning, State}
+use Rattle.repo_commands.specs.SetInput.{OfChangeSet}
+use Rattle.repo_commands.specs.AndThen.{AndThen}
+use Rattle.root_commands.specs.JobOutcome.{JobOutcome}
+
+-- what a search of these contents answers
+abbrev pub answers_of : ContentMap → Answers
+answers_of contents name found = found ≡ contents name
+
+-- The job of these troves, each in place of what its name reached, with the contents that come along and those of the repository.
+abbrev pub UpdatesTo : Options → List Carried → List TroveParts → State → Result Effect Refusal → Type 0
+UpdatesTo options carried troves s = JobOutcome (sources_of carried (answers_of s.repository.contents) options) (to_updated s.root.installed troves) s.root
+
+-- the same, as a meaning that takes no input
+abbrev pub update_to : Options → List Carried → List TroveParts → Meaning
+update_to options carried troves = record { takes_input = false; IsOutcome = λ s input. UpdatesTo options carried troves s }
+
+-- ---- a change set
+
+-- the troves that the parts make of installed ones; or the refusal of the first part that is refused
+abbrev pub Comes : List TroveParts → List Part → Result (List TroveParts) Refusal → Type 0
+Comes installed parts (Ok troves) = AreMade installed parts troves
+Comes installed parts (Err refused) = IsFirstRefused installed parts refused
+
+-- what a change set makes of the installed troves is put in, with its contents and those of the repository
+abbrev pub UpdatesBy : Options → ChangeSet → State → Result Effect Refusal → Type 0
+UpdatesBy options set s = AndThen (Comes s.root.installed set.parts) (λ (troves : List TroveParts). UpdatesTo options set.contents troves s)
+
+-- the same, as a meaning that takes no input
+abbrev pub update_by : Options → ChangeSet → Meaning
+update_by options set = record { takes_input = false; IsOutcome = λ s input. UpdatesBy options set s }
+
+-- the update by the change set that the input is
+abbrev pub update_input : Options → Meaning
+update_input options = record { takes_input = true; IsOutcome = λ s input. OfChangeSet input (λ (set : ChangeSet). UpdatesBy options set s) }

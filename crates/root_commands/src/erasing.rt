@@ -1,0 +1,35 @@
+//! The command that takes troves away.
+ghost use Rattle.std.specs.Prelude.{List, ℕ};
+ghost use Rattle.cli_call.specs.Alone.{PerformsAlone};
+ghost use Rattle.cli_call.specs.Command.{disks, AreReady, Performs};
+ghost use Rattle.root_commands.specs.Erase as spec;
+
+use cli_call::{Failure, Opened, on_root, store_laws};
+use cny_report::changes_text;
+use local_db::distinct_databases;
+use repo_commands::cny_base::{Name, Options, Text};
+use repo_commands::tree_disk::TreeDisk;
+use std::alloc::Global;
+use system_core::erase;
+
+/// Takes the troves of these names away, with what they reach by references and no other installed trove keeps: a line `erased T` for
+/// each, in the order of their names, or `nothing changes`. It takes effect as a whole or not at all, whenever the machine stops.
+pub fn erase_troves<T: TreeDisk, P: TreeDisk>(
+    alloc: Global,
+    names: &[Name],
+    options: &Options,
+    opened: &mut Opened,
+    repo: &P,
+    root: &mut T,
+) -> Result<Text, Failure>
+    requires { AreReady T.disk P.disk (disks root.old repo.now opened.old) }
+    ensures performs { (input : List ℕ) → Performs T.disk P.disk (spec.erase names.now options.now) input (disks root.old repo.now opened.old)
+        (disks root.new repo.now opened.new) result }
+    ensures alone { (input : List ℕ) → PerformsAlone T.disk P.disk (spec.erase names.now options.now) input (disks root.old repo.now opened.old)
+        (disks root.new repo.now opened.new) result }
+{
+    store_laws();
+    distinct_databases();
+    let done = on_root(erase(alloc, root, &mut opened.db, names, options))?;
+    Ok(changes_text(alloc, done.changes.get())?)
+}

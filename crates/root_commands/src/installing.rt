@@ -1,0 +1,85 @@
+//! The command that installs what a manifest makes.
+ghost use Rattle.std.specs.Prelude.{◌≡◌, IfErr, List, None, OnOk, ℕ};
+ghost use Rattle.cny_manifest.specs.Makes.{HasOwnContents};
+ghost use Rattle.cli_call.specs.Alone.{PerformsAlone};
+ghost use Rattle.cli_call.specs.Command.{disks, AreReady, Performs};
+ghost use Rattle.system_core.specs.Lists.{AreAllowed};
+ghost use Rattle.root_commands.specs.Install as spec;
+ghost use Rattle.root_commands.specs.Install.{first_reserved, IsReservedFault};
+
+use cli_call::{Failure, Opened, on_root, store_laws};
+use cny_manifest::{Made, read};
+use cny_report::changes_text;
+use local_db::distinct_databases;
+use repo_commands::cny_base::{Fault, Options, Text};
+use repo_commands::content_store::NoContents;
+use repo_commands::tree_disk::TreeDisk;
+use repo_commands::trove_stream::{Trove, check};
+use std::alloc::Global;
+use system_core::update;
+
+// Refuses the first path that no trove may record, trove by trove.
+fn check_troves(alloc: Global, troves: &[Trove]) -> Result<(), Fault>
+    ensures none { OnOk result (first_reserved troves.now ≡ None) }
+    ensures refused { IfErr result (IsReservedFault troves.now) }
+{
+    let mut rest = troves;
+    while let [trove, after @ ..] = rest {
+        check(alloc, trove)?;
+        rest = after;
+    }
+    Ok(())
+}
+
+// The job of the troves that a manifest makes, with its contents, and nothing else.
+fn install_made<T: TreeDisk, P: TreeDisk>(
+    alloc: Global,
+    options: &Options,
+    made: &Made,
+    opened: &mut Opened,
+    repo: &P,
+    root: &mut T,
+) -> Result<Text, Failure>
+    requires allowed { AreAllowed made.now.troves }
+    requires own { HasOwnContents made.now }
+    requires ready { AreReady T.disk P.disk (disks root.old repo.now opened.old) }
+    ensures performs { (input : List ℕ) → Performs T.disk P.disk (spec.install_made options.now made.now) input (disks root.old repo.now opened.old)
+        (disks root.new repo.now opened.new) result }
+    ensures alone { (input : List ℕ) → PerformsAlone T.disk P.disk (spec.install_made options.now made.now) input (disks root.old repo.now opened.old)
+        (disks root.new repo.now opened.new) result }
+{
+    store_laws();
+    distinct_databases();
+    let mut far = NoContents;
+    let done = on_root(update(
+        alloc,
+        root,
+        &mut opened.db,
+        made.troves.get(),
+        made.contents.get(),
+        &mut far,
+        options,
+    ))?;
+    Ok(changes_text(alloc, done.changes.get())?)
+}
+
+/// Installs the troves that the manifest makes which the input is, each in place of what its name reached by references: a line
+/// `installed T`, `updated T` or `erased T` for each change of the installed list, or `nothing changes`. It takes effect as a whole or
+/// not at all, whenever the machine stops.
+pub fn install_manifest<T: TreeDisk, P: TreeDisk>(
+    alloc: Global,
+    options: &Options,
+    input: &[u8],
+    opened: &mut Opened,
+    repo: &P,
+    root: &mut T,
+) -> Result<Text, Failure>
+    requires { AreReady T.disk P.disk (disks root.old repo.now opened.old) }
+    ensures performs { Performs T.disk P.disk (spec.install options.now) input.now (disks root.old repo.now opened.old) (disks root.new repo.now opened.new) result }
+    ensures alone { PerformsAlone T.disk P.disk (spec.install options.now) input.now (disks root.old repo.now opened.old) (disks root.new repo.now opened.new) result }
+{
+    store_laws();
+    let made = read(alloc, input)?;
+    check_troves(alloc, made.troves.get())?;
+    install_made(alloc, options, &made, opened, repo, root)
+}

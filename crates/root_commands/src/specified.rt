@@ -1,0 +1,70 @@
+//! The command that installs what specifications mean.
+ghost use Rattle.std.specs.Prelude.{IfOk, List, ℕ};
+ghost use Rattle.repo_load.specs.Loading.{IsCatalogue};
+ghost use Rattle.cli_call.specs.Command.{disks, AreReady, Performs};
+ghost use Rattle.repo_commands.specs.AndThen.{EndsAs};
+ghost use Rattle.system_core.specs.Lists.{AreAllowed};
+ghost use Rattle.root_commands.specs.UpdateSpecs as spec;
+ghost use Rattle.root_commands.specs.UpdateSpecs.{MeanAll, ReachAll};
+
+use crate::updating::update_to;
+use cli_call::{Failure, Opened, on_root, store_laws};
+use repo_commands::cny_base::{Fault, ListOf, Options, Text};
+use repo_commands::tree_disk::TreeDisk;
+use repo_commands::trove_parts::TroveId;
+use repo_commands::{GivenSpec, meant};
+use repo_index::Catalogue;
+use repo_load::stored_state;
+use std::alloc::Global;
+use trove_spec::{Config, Troves, expand, read_config};
+
+type TroveIds = ListOf<TroveId>;
+
+// The ids of the troves that the specifications mean, in their order.
+fn all_meant(
+    alloc: Global,
+    catalogue: &Catalogue,
+    givens: &[GivenSpec],
+    config: &Config,
+) -> Result<TroveIds, Fault>
+    ensures { EndsAs (MeanAll catalogue.now.troves config.now givens.now) result }
+{
+    let mut ids = Vec::new(alloc);
+    for given in givens {
+        ids.push(meant(alloc, catalogue, given, config)?)?;
+    }
+    Ok(TroveIds::new(ids))
+}
+
+// The troves that all of these ids reach together.
+fn all_reached(alloc: Global, catalogue: &Catalogue, ids: &[TroveId]) -> Result<Troves, Fault>
+    requires { IsCatalogue catalogue.now }
+    ensures ends { EndsAs (ReachAll catalogue.now.troves ids.now) result }
+    ensures allowed { IfOk result AreAllowed }
+{
+    let troves = expand(alloc, catalogue, ids)?;
+    Ok(troves)
+}
+
+/// Installs what the specifications mean, with all that it reaches, each trove in place of what its name reached by references: a
+/// line `installed T`, `updated T` or `erased T` for each change of the installed list, or `nothing changes`. The contents come from
+/// the repository, which is only read. It takes effect as a whole or not at all, whenever the machine stops.
+pub fn update_specs<T: TreeDisk, P: TreeDisk>(
+    alloc: Global,
+    options: &Options,
+    givens: &[GivenSpec],
+    opened: &mut Opened,
+    repo: &mut P,
+    root: &mut T,
+) -> Result<Text, Failure>
+    requires { AreReady T.disk P.disk (disks root.old repo.old opened.old) }
+    ensures { (input : List ℕ) → Performs T.disk P.disk (spec.update_specs options.now givens.now) input (disks root.old repo.old opened.old)
+        (disks root.new repo.new opened.new) result }
+{
+    store_laws();
+    stored_state();
+    let config = on_root(read_config(alloc, root))?;
+    let ids = all_meant(alloc, &opened.catalogue, givens, &config)?;
+    let troves = all_reached(alloc, &opened.catalogue, ids.get())?;
+    update_to(alloc, options, troves.get(), &[], opened, repo, root)
+}

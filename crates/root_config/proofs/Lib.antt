@@ -1,2 +1,0 @@
-pub mod PathText
-pub mod Sizes

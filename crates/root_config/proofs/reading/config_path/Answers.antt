@@ -1,6 +1,0 @@
-use Rattle.std.proofs.Common.{Err, ap}
-use Rattle.root_config.proofs.PathText.{path_text}
-use Rattle.root_config.proofs.reading.config_path.Goals as goal
-
-pub unreachable-requires : goal.unreachable-requires
-unreachable-requires c = absurd (cc (c.in-Err-Bad.ensures.bad.0 (ap Err c.in-Err-Bad.field-0-is), path_text))

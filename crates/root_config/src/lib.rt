@@ -1,6 +1,0 @@
-//! The configuration file of a root.
-#![tactic(auto)]
-
-mod reading;
-
-pub use reading::read_config;

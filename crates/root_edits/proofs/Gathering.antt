@@ -1,0 +1,154 @@
+-- The places that a search from one of them gathers, one after the other.
+use Rattle.std.proofs.Common.{◌≡◌, ℕ, zero, suc, ◌+◌, ◌-◌, ◌<◌, ◌≤◌, ⊎_elim, inl, inr, true, List, [], ◌∷◌, length, get_or, Contains, eqb, refl, sym, ap, subst, ◌∙◌, arith, length-append}
+use Rattle.std.specs.List.{IsDistinct, list_any}
+use Rattle.std.proofs.lemmas.Bool.{cases_lt, eqb-true}
+use Rattle.std.proofs.lemmas.List.{get_or_append_left, get_or-append_right}
+use Rattle.std.proofs.lemmas.List.Elements.{Contains-append_left, Contains-get_or}
+use Rattle.std.proofs.lemmas.Map.Steps.{length-le_from_distinct_below}
+use Rattle.std.proofs.lemmas.Map.Views.{Contains-from_any}
+use Rattle.std.proofs.lemmas.Option.{slice_get-get_or, slice_get_within, same_Some}
+use Rattle.update_job.specs.trove-parts.declared.id.TroveId.{TroveId}
+use Rattle.update_job.specs.trove-stream.declared.parts.TroveParts.{TroveParts}
+use Rattle.update_job.specs.Reach.{IsReachedIn}
+use Rattle.update_job.specs.Gone.{IsPlace, Leads}
+use Rattle.root_edits.specs.Steps.{ArePlacesReached, HasAdded, HasAddedRefs, IsPlaceOfId}
+use Rattle.root_edits.proofs.Members.{place_in}
+
+-- in more steps more is reached
+module _ {A : Type 0} (Follows : A → A → Type 0) (IsRoot : A → Type 0) where
+  pub reached_later : (n m : ℕ) (x : A) → n ≤ m → IsReachedIn Follows IsRoot n x → IsReachedIn Follows IsRoot m x
+  reached_later n zero x most h =
+      let same : n ≡ 0 = omega arith in
+      subst (λ (k : ℕ). IsReachedIn Follows IsRoot k x) same h
+  reached_later n (suc m) x most h = elim (cases_lt m n) [
+    | inl past ↦ (let same : n ≡ suc m = omega (arith, past, most) in subst (λ (k : ℕ). IsReachedIn Follows IsRoot k x) same h)
+    | inr before ↦ inl (reached_later n m x before h)
+  ]
+
+-- with other roots that the first ones are
+pub other_roots : {A : Type 0} (F : A → A → Type 0) (R S : A → Type 0) → ((x : A) → R x → S x) → (n : ℕ) (x : A) → IsReachedIn F R n x → IsReachedIn F S n x
+other_roots F R S roots zero x h = roots x h
+other_roots F R S roots (suc n) x h = ⊎_elim
+    (λ sooner. inl (other_roots F R S roots n x sooner))
+    (λ last. inr (last.0, other_roots F R S roots n last.0 last.1, last.2))
+    h
+
+number_at : (keys : List ℕ) (n : ℕ) → Contains keys n → (i : ℕ) × (i < length keys) × (get_or keys i 0 ≡ n)
+number_at keys n among =
+    let at = place_in keys n among in
+    (at.0, at.1, same_Some (get_or keys at.0 0) n (sym (slice_get-get_or keys at.0 0 at.1) ∙ at.2))
+
+-- Places that are reached, each in at most as many steps as there are places before it; the first one is among them, and those to which
+-- the first `done` of them lead.
+pub record IsGathered (list : List TroveParts) (start : ℕ) (keys : List ℕ) (done : ℕ) : Type 0 where
+  pub within : done ≤ length keys
+  pub stand : (i : ℕ) → i < length keys → IsPlace list (get_or keys i 0)
+  pub steps : (i : ℕ) → i < length keys → IsReachedIn (Leads list) (λ (p : ℕ). p ≡ start) i (get_or keys i 0)
+  pub start_in : Contains keys start
+  pub next_in : (i : ℕ) → i < done → (next : ℕ) → Leads list (get_or keys i 0) next → Contains keys next
+
+module _ (list : List TroveParts) (start : ℕ) where
+  -- a place behind those that were there is one of those that were added
+  added_at : (ids : List TroveId) (old new : List ℕ) (i : ℕ) → HasAdded list ids old new → length old ≤ i → i < length new → IsPlaceOfId list ids (get_or new i 0)
+  added_at ids old new i added past within =
+      let long : length new ≡ length old + length added.more = ap length added.new_is ∙ length-append old added.more in
+      let behind : i - length old < length added.more = omega (arith, long, past, within) in
+      let read : get_or new i 0 ≡ get_or added.more (i - length old) 0 =
+      ap (λ (l : List ℕ). get_or l i 0) added.new_is ∙ get_or-append_right old added.more (length old) i 0 refl past in
+      subst (λ (place : ℕ). IsPlaceOfId list ids place) (sym read) (added.each (get_or added.more (i - length old) 0) (Contains-get_or added.more (i - length old) 0 behind))
+
+  -- the places that were there stay
+  kept_at : (ids : List TroveId) (old new : List ℕ) (i : ℕ) → HasAdded list ids old new → i < length old → get_or new i 0 ≡ get_or old i 0
+  kept_at ids old new i added within = ap (λ (l : List ℕ). get_or l i 0) added.new_is ∙ get_or_append_left old added.more 0 i within
+
+  still_in : (ids : List TroveId) (old new : List ℕ) (place : ℕ) → HasAdded list ids old new → Contains old place → Contains new place
+  still_in ids old new place added among = subst (λ (l : List ℕ). Contains l place) (sym added.new_is) (Contains-append_left old added.more place among)
+
+  only_start : (keys : List ℕ) (i : ℕ) → keys ≡ start ∷ [] → i < length keys → get_or keys i 0 ≡ start
+  only_start keys i is within =
+      let long : length keys ≡ 1 = ap length is in
+      let first : i ≡ 0 = omega (arith, long, within) in
+      ap (λ (k : ℕ). get_or keys k 0) first ∙ ap (λ (l : List ℕ). get_or l 0 0) is
+
+  -- the first one alone
+  pub gathered_first : (keys : List ℕ) → IsPlace list start → keys ≡ start ∷ [] → IsGathered list start keys 0
+  gathered_first keys stands is = record {
+    within = omega arith;
+    stand = λ i within. subst (IsPlace list) (sym (only_start keys i is within)) stands;
+    steps = λ i within. reached_later (Leads list) (λ (p : ℕ). p ≡ start) 0 i (get_or keys i 0) (omega arith) (only_start keys i is within);
+    start_in = subst (λ (l : List ℕ). Contains l start) (sym is) (0, omega arith, refl);
+    next_in = λ i none. absurd (omega (arith, none));
+  }
+
+  -- and the references of one trove more
+  pub gathered_more : (old new : List ℕ) (done : ℕ) → done < length old → IsGathered list start old done → HasAddedRefs list (get_or old done 0) old new → IsGathered list start new (done + 1)
+  gathered_more old new done within so_far adds =
+      let here = so_far.stand done within in
+      let t = here.0 in
+      let added = adds t here.1 in
+      let long : length new ≡ length old + length added.more = ap length added.new_is ∙ length-append old added.more in
+      let leads_to : (place : ℕ) → IsPlaceOfId list t.refs place → Leads list (get_or old done 0) place =
+      λ place one. record { trove = t; there = here.1; id = one.id; refers = one.among; named = one.named } in
+      let one_more : (i : ℕ) → done < i → (place : ℕ) → IsPlaceOfId list t.refs place → IsReachedIn (Leads list) (λ (p : ℕ). p ≡ start) i place =
+      λ i past place one.
+      reached_later (Leads list) (λ (p : ℕ). p ≡ start) (suc done) i place (omega (arith, past)) (inr (get_or old done 0, so_far.steps done within, leads_to place one)) in record {
+        within = omega (arith, long, within);
+        stand = λ i inside. elim (cases_lt i (length old)) [
+          | inl before ↦ subst (IsPlace list) (sym (kept_at t.refs old new i added before)) (so_far.stand i before)
+          | inr behind ↦ (
+              let one = added_at t.refs old new i added behind inside in
+              (one.named.trove, one.named.there))
+        ];
+        steps = λ i inside. elim (cases_lt i (length old)) [
+          | inl before ↦ subst (IsReachedIn (Leads list) (λ (p : ℕ). p ≡ start) i) (sym (kept_at t.refs old new i added before)) (so_far.steps i before)
+          | inr behind ↦ one_more i (omega (arith, within, behind)) (get_or new i 0) (added_at t.refs old new i added behind inside)
+        ];
+        start_in = still_in t.refs old new start added so_far.start_in;
+        next_in = λ i below next step. elim (cases_lt i done) [
+          | inl before ↦
+              still_in t.refs old new next added
+              (so_far.next_in i before next (subst (λ (p : ℕ). Leads list p next) (kept_at t.refs old new i added (omega (arith, before, within))) step))
+          | inr behind ↦ (
+              let last : i ≡ done = omega (arith, below, behind) in
+              let read : get_or new i 0 ≡ get_or old done 0 = ap (λ (k : ℕ). get_or new k 0) last ∙ kept_at t.refs old new done added within in
+              let leads : Leads list (get_or old done 0) next = subst (λ (p : ℕ). Leads list p next) read step in
+              let one : leads.trove ≡ t = same_Some leads.trove t (sym leads.there ∙ here.1) in
+              added.all leads.id next (subst (λ (v : TroveParts). Contains v.refs leads.id) one leads.refers) leads.named)
+        ];
+      }
+
+  -- ---- the end of the search
+
+  -- places of the list, no two of them equal, are at most as many as its troves
+  pub places_fit : (keys : List ℕ) → IsDistinct eqb keys → ((i : ℕ) → i < length keys → IsPlace list (get_or keys i 0)) → length keys ≤ length list
+  places_fit keys distinct stand = length-le_from_distinct_below keys (length list) distinct below
+    where
+      below : (q : ℕ) → list_any (eqb q) keys ≡ true → q < length list
+      below q is =
+          let at = number_at keys q (Contains-from_any eqb-true q keys is) in
+          let here = stand at.0 at.1 in
+          subst (λ (n : ℕ). n < length list) at.2 (slice_get_within list (get_or keys at.0 0) here.0 here.1)
+
+  -- what is reached is among places that hold the first one and with each place those to which it leads
+  all_steps : (keys : List ℕ) → Contains keys start → ((place next : ℕ) → Contains keys place → Leads list place next → Contains keys next)
+      → (n place : ℕ) → IsReachedIn (Leads list) (λ (p : ℕ). p ≡ start) n place → Contains keys place
+  all_steps keys start_in closed zero place is = subst (λ (p : ℕ). Contains keys p) (sym is) start_in
+  all_steps keys start_in closed (suc n) place is = ⊎_elim
+      (λ sooner. all_steps keys start_in closed n place sooner)
+      (λ step. closed step.0 place (all_steps keys start_in closed n step.0 step.1) step.2)
+      is
+
+  pub gathered_all : (keys : List ℕ) (done : ℕ) → length keys ≤ done → IsDistinct eqb keys → IsGathered list start keys done → ArePlacesReached list start keys
+  gathered_all keys done ended distinct gathered = record {
+    reached = λ place among. (
+        let i = number_at keys place among in
+        let few = places_fit keys distinct gathered.stand in
+        subst (IsReachedIn (Leads list) (λ (p : ℕ). p ≡ start) (length list)) i.2
+        (reached_later (Leads list) (λ (p : ℕ). p ≡ start) i.0 (length list) (get_or keys i.0 0) (omega (arith, i.1, few)) (gathered.steps i.0 i.1)));
+    all = λ place is. all_steps keys gathered.start_in closed (length list) place is;
+  }
+    where
+      closed : (place next : ℕ) → Contains keys place → Leads list place next → Contains keys next
+      closed place next among step =
+          let i = number_at keys place among in
+          gathered.next_in i.0 (omega (arith, i.1, ended)) next (subst (λ (p : ℕ). Leads list p next) (sym i.2) step)

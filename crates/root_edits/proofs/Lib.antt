@@ -1,0 +1,13 @@
+mod Added
+mod Answered
+mod Listed
+mod SearchLaws
+mod FindsLaws
+mod Members
+mod Adding
+mod Gathering
+mod Choosing
+mod MovedIds
+mod Troves
+mod Seeing
+mod Setting

@@ -1,0 +1,105 @@
+//! The installed troves that one of them reaches.
+ghost use Rattle.std.specs.Prelude.{◌≡◌, IfOk, IfErr, OnOk};
+ghost use Rattle.update_job.specs.cny-base.declared.refusal.Refusal.TheVariants as refusal;
+ghost use Rattle.update_job.specs.trove-stream.Installed.{IsNameless};
+ghost use Rattle.update_job.specs.Gone.{IsPlace};
+ghost use Rattle.root_edits.specs.Reached.{AreReached};
+ghost use Rattle.root_edits.specs.Steps as spec;
+ghost use Rattle.root_edits.specs.Steps.{ArePlacesReached, HasAdded, HasAddedRefs, IsUninstalled};
+
+use indexmap::IndexSet;
+use std::alloc::Global;
+use update_job::cny_base::{Copies, Fault, Name, OutOfMemory, Refusal, Text};
+use update_job::trove_parts::TroveId;
+use update_job::trove_stream::Installed;
+
+// Adds the places of the installed troves with the names of these ids, each once.
+fn add_named(
+    installed: &Installed,
+    ids: &[TroveId],
+    places: &mut IndexSet<usize>,
+) -> Result<(), OutOfMemory>
+    ensures { OnOk result (HasAdded installed.now ids.now places.old.keys places.new.keys) }
+{
+    for id in ids {
+        if let Some(place) = installed.place_of(&id.name) {
+            places.insert(place)?;
+        }
+    }
+    Ok(())
+}
+
+// Adds the places to which the trove at this place refers.
+fn add_refs(
+    installed: &Installed,
+    place: usize,
+    places: &mut IndexSet<usize>,
+) -> Result<(), OutOfMemory>
+    ensures { OnOk result (HasAddedRefs installed.now place places.old.keys places.new.keys) }
+{
+    if let Some(trove) = installed.troves().get(place) {
+        add_named(installed, trove.refs(), places)?;
+    }
+    Ok(())
+}
+
+// The places that this one reaches by references, itself included, each once.
+fn places_reached(
+    alloc: Global,
+    installed: &Installed,
+    start: usize,
+) -> Result<IndexSet<usize>, OutOfMemory>
+    requires { IsPlace installed.now start }
+    ensures { IfOk result (λ places. ArePlacesReached installed.now start places.keys) }
+{
+    let mut places = IndexSet::new(alloc);
+    places.insert(start)?;
+    let mut done = 0;
+    while done < places.len() {
+        let place = places.as_slice()[done];
+        add_refs(installed, place, &mut places)?;
+        done += 1;
+    }
+    Ok(places)
+}
+
+// The troves at these places, in the order of the list.
+fn chosen(
+    alloc: Global,
+    installed: &Installed,
+    places: &IndexSet<usize>,
+) -> Result<Installed, OutOfMemory>
+    ensures { IfOk result (λ troves. troves ≡ spec.chosen places.now.keys 0 installed.now) }
+{
+    let mut troves = Vec::new(alloc);
+    for (place, trove) in installed.troves().iter().enumerate() {
+        if places.contains(&place) {
+            troves.push(trove.copy()?)?;
+        }
+    }
+    Ok(Installed::of_rising(troves))
+}
+
+// The refusal of a name of which no trove is installed.
+fn not_installed(alloc: Global, name: &Name) -> Result<Refusal, OutOfMemory>
+    ensures { IfOk result (λ made. made ≡ refusal.NotInstalled name.now) }
+{
+    Ok(Refusal::NotInstalled {
+        name: Text::new(alloc, name.text())?,
+    })
+}
+
+/// The installed troves that the one of this name reaches by references, whatever their versions, in the order of their names.
+/// `NotInstalled` exactly where there is none of this name.
+pub(crate) fn reached(alloc: Global, installed: &Installed, name: &Name) -> Result<Installed, Fault>
+    ensures value { IfOk result (AreReached installed.now name.now) }
+    ensures installed { OnOk result (¬ (IsNameless name.now installed.now)) }
+    ensures fault { IfErr result (IsUninstalled installed.now name.now) }
+{
+    let Some(start) = installed.place_of(name) else {
+        let refusal = not_installed(alloc, name)?;
+        return Err(Fault::Refused(refusal));
+    };
+    let places = places_reached(alloc, installed, start)?;
+    Ok(chosen(alloc, installed, &places)?)
+}

@@ -1,9 +1,0 @@
-pub mod Loaded
-pub mod MadeReady
-pub mod Migration
-pub mod Opened
-pub mod Passing
-pub mod Recovering
-pub mod Rewritten
-pub mod Sameness
-pub mod Systems

@@ -1,4 +1,0 @@
-mod Differences
-mod Digits
-mod Paths
-mod Noting

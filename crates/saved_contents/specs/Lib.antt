@@ -1,3 +1,0 @@
-pub mod Old
-pub mod Agree
-pub mod Wanted

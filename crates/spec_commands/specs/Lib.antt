@@ -1,3 +1,0 @@
-pub mod AndThen
-pub mod Meant
-pub mod Sending

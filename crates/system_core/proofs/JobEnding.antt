@@ -1,0 +1,254 @@
+-- How a job ends.
+use Rattle.std.proofs.Common.{◌≡◌, inl, inr, ℕ, ◌+◌, ◌≤◌, Bool, false, IsTrue, List, Option, Some, None, Result, Ok, Err, IfErr, IsErrAnd, All, refl, sym, ◌∙◌, ap, subst, arith}
+use Rattle.std.specs.Prelude.{◌≢◌, IsErrOf}
+use Rattle.std.proofs.lemmas.List.Elements.{All-map}
+use Rattle.std.specs.FinMap.{get}
+use Rattle.rollback_stack.specs.content-store.Store.{file_bytes}
+use Rattle.rollback_stack.specs.cny-base.Count.{Rose}
+use Rattle.rollback_stack.specs.cny-base.Stop.{stop_of_fault}
+use Rattle.rollback_stack.specs.cny-base.declared.limits.TheConstants.{DATABASE_LIMIT, JOBS_LIMIT}
+use Rattle.rollback_stack.specs.cny-base.declared.node.Node.{Node}
+use Rattle.rollback_stack.specs.cny-base.declared.node.Node.TheVariants as node
+use Rattle.rollback_stack.specs.cny-base.declared.refusal.Fault.{Fault}
+use Rattle.rollback_stack.specs.cny-base.declared.refusal.Fault.TheVariants as fault
+use Rattle.rollback_stack.specs.cny-base.declared.stop.Stop.{Stop}
+use Rattle.rollback_stack.specs.cny-base.declared.stop.Stop.TheVariants.{Refused, Memory, Failed, Damaged, FarFailed, FarDamaged}
+use Rattle.rollback_stack.specs.trove-stream.declared.parts.TroveParts.{TroveParts}
+use Rattle.rollback_stack.specs.tree-disk.Tree.{Tree, is_dir}
+use Rattle.rollback_stack.specs.tree-disk.Disk.{DiskModel, IsDisk}
+use Rattle.rollback_stack.specs.tree-disk.Confined.{Among}
+use Rattle.rollback_stack.specs.tree-disk.ConfinedLaws.{confined_start}
+use Rattle.rollback_stack.specs.tree-disk.Moments.{rose_before}
+use Rattle.rollback_stack.specs.tree-disk.Steps.{IsDiskStop}
+use Rattle.rollback_stack.specs.journal-log.declared.put.Put.{Put}
+use Rattle.job_targets.specs.declared.entry.Entry.{Entry}
+use Rattle.local_db.specs.declared.format.Format.{Format}
+use Rattle.local_db.specs.declared.format.Format.TheVariants.{Two}
+use Rattle.local_db.specs.Formats.{database_bytes, AreEnds, Fits}
+use Rattle.local_db.specs.Installed.{IsInstalled}
+use Rattle.local_db.specs.Names.{database}
+use Rattle.local_db.specs.Record as state
+use Rattle.local_db.specs.Record.{PassesChecks}
+use Rattle.local_db.specs.Stores.{absent, written, HoldsDatabase, IsDatabase, SameDatabase, StoresIn}
+use Rattle.local_db.specs.SystemState.{SystemState, newest, oldest, IsFree}
+use Rattle.local_db.specs.Steps.{after_job, old_of}
+use Rattle.local_db.specs.declared.db.Db.{Db}
+use Rattle.rollback_stack.proofs.job-record.Mapping.{unmapped}
+use Rattle.rollback_stack.specs.Pushing.{IsPushStop}
+use Rattle.rollback_stack.proofs.Pushed.{keeps_start}
+use Rattle.rollback_stack.specs.Saving.{is_saving_name}
+use Rattle.rollback_stack.specs.declared.undo.Undo.{Undo}
+use Rattle.rollback_stack.specs.Undo.{entries_of, entry_of, AreEntries, FitsDb, GivesBack, LeadsTo}
+use Rattle.system_core.specs.RootWriting.{Goes}
+use Rattle.system_core.specs.Last.{db_after, number_after, oldest_after, too_large, too_many, ChangesNothing, IsLastOrMemory, IsRefusedLast, IsRefusedOrMemory, PassesLast}
+use Rattle.system_core.specs.Last as last
+use Rattle.system_core.specs.JobWriting.{AnswersJob, AreTargets, AreTargetsOf, CanPutJob, CanWriteJob, IsJobFrom, IsJobOf, IsJobStop, JobEnds, done}
+use Rattle.system_core.proofs.JobNumbers.{below_limit, ends_after, number_is, oldest_pushed}
+use Rattle.system_core.proofs.JobRunning.{stopped_before}
+
+-- ---- one database
+
+abbrev pub Unique : Type 0
+Unique = (f g : Format) (list other : List TroveParts) (low high lower higher : ℕ) → IsDatabase f list low high → IsDatabase g other lower higher
+    → database_bytes f list low high ≡ database_bytes g other lower higher → SameDatabase f g list other low high lower higher
+
+no_file : {A : Type 0} (n : Option Node) (bytes : List ℕ) → n ≡ None → file_bytes n ≡ Some bytes → A
+no_file n bytes none some = absurd (cc (some, ap file_bytes none))
+
+some_same : {A : Type 0} (x y : A) → Some x ≡ Some y → x ≡ y
+some_same x y e = cc e
+
+one_database : Unique → (x : Tree) (list other : List TroveParts) (low high lower higher : ℕ) → HoldsDatabase Two x list low high → HoldsDatabase Two x other lower higher
+    → SameDatabase Two Two list other low high lower higher
+one_database unique x list other low high lower higher (absent none list_is low_is high_is) (absent gone other_is lower_is higher_is) =
+    record { formats = refl; lists = list_is ∙ sym other_is; oldest = low_is ∙ sym lower_is; newest = high_is ∙ sym higher_is }
+one_database unique x list other low high lower higher (absent none list_is low_is high_is) (written is file) = no_file (get x database) _ none file
+one_database unique x list other low high lower higher (written is file) (absent gone other_is lower_is higher_is) = no_file (get x database) _ gone file
+one_database unique x list other low high lower higher (written is file) (written are file') =
+    unique Two Two list other low high lower higher is are (some_same _ _ (sym file ∙ file'))
+
+is_file_or_none : (n : Option Node) (bytes : List ℕ) → file_bytes n ≡ Some bytes → is_dir n ≡ false
+is_file_or_none None bytes is = refl
+is_file_or_none (Some (node.Dir mode)) bytes is = absurd (cc is)
+is_file_or_none (Some (node.File mode got)) bytes is = refl
+is_file_or_none (Some (node.Link target)) bytes is = refl
+
+no_dir_at : (x : Tree) (list : List TroveParts) (low high : ℕ) → HoldsDatabase Two x list low high → is_dir (get x database) ≡ false
+no_dir_at x list low high (absent none list_is low_is high_is) = ap is_dir none
+no_dir_at x list low high (written is file) = is_file_or_none (get x database) _ file
+
+-- ---- the job, by the values
+
+module _ (before : Db) (list : List TroveParts) (puts : List Put) (es : List Entry) (undo : Undo) (db : Db) (bytes : List ℕ)
+    (is : IsJobOf before list es undo db bytes) (room : before.newest ≢ JOBS_LIMIT) (was : IsDatabase Two before.installed before.oldest before.newest) (installed : IsInstalled list) where
+  list_is : db.installed ≡ list
+  list_is = ap (λ (d : Db). d.installed) is.db_is
+
+  newest_is : db.newest ≡ number_after before.newest
+  newest_is = ap (λ (d : Db). d.newest) is.db_is
+
+  oldest_is : db.oldest ≡ oldest_after before.oldest (number_after before.newest)
+  oldest_is = ap (λ (d : Db). d.oldest) is.db_is
+
+  pub next_is : db.newest ≡ before.newest + 1
+  next_is = newest_is ∙ number_is before.newest (below_limit before.oldest before.newest was.ends) room
+
+  pub is_database : IsDatabase Two db.installed db.oldest db.newest
+  is_database = record {
+    installed = subst IsInstalled (sym list_is) installed;
+    ends = subst (AreEnds db.oldest) (sym newest_is) (subst (λ (low : ℕ). AreEnds low (number_after before.newest)) (sym oldest_is) (ends_after before.oldest before.newest was.ends room));
+    fits = subst (Fits Two) (sym list_is) is.fits;
+  }
+
+  gives_db : GivesBack undo.back undo.after db.installed before.installed
+  gives_db = subst (λ (l : List TroveParts). GivesBack undo.back undo.after l before.installed) (sym list_is) is.gives
+
+  free_paths : AreTargets puts es → All (λ (e : state.Entry). IsFree e.path) (entries_of es)
+  free_paths targets = All-map (λ (e : state.Entry). IsFree e.path) entry_of es
+      (unmapped IsFree (λ (e : Entry). e.path) es (subst (All IsFree) (sym targets.paths) (All-map IsFree (λ (p : Put). p.path) puts targets.free)))
+
+  leads : AreTargets puts es → LeadsTo undo db before.installed
+  leads targets = record {
+    is_job = let next = is.number ∙ next_is in omega (arith, next);
+    newest = is.number;
+    gives = gives_db;
+    entries_are = subst AreEntries (sym is.entries) targets.entries;
+    checks = subst (λ (l : List Entry). PassesChecks Two before.installed (entries_of l)) (sym is.entries) (record {
+      list = was.installed;
+      fits = was.fits;
+      free = free_paths targets;
+      something = targets.something;
+    });
+  }
+
+  pub fits_db : AreTargets puts es → FitsDb undo db
+  fits_db targets = record { before = before.installed; leads = leads targets }
+
+  -- from a system that the root stores
+  pub job_from : Unique → (x : Tree) (s : SystemState) → HoldsDatabase Two x before.installed before.oldest before.newest → StoresIn Two x s → IsJobFrom s puts undo db
+  job_from unique x s holds stores =
+      let same = one_database unique x before.installed s.installed before.oldest before.newest (oldest s.stack) (newest s.stack) holds stores.list in
+      record {
+        newest_is = next_is ∙ ap (λ (n : ℕ). n + 1) same.newest;
+        oldest_is = oldest_is ∙ (λ i. oldest_after (same.oldest i) (number_after (same.newest i)))
+            ∙ sym (oldest_pushed (old_of puts s) s.stack stores.system.numbered stores.system.few refl stores.system.number (λ full. room (same.newest ∙ full)));
+        gives = subst (GivesBack undo.back undo.after db.installed) same.lists gives_db;
+      }
+
+  -- ---- what the root holds
+
+  module _ {D : Type 0} {disk : DiskModel D} (laws : IsDisk disk) (old : D) (can : CanWriteJob disk before puts es old) where
+    pub can_put : CanPutJob disk puts undo.entries old
+    can_put = record {
+      flag_clear = can.flag_clear;
+      synced = can.synced;
+      pinned = can.pinned;
+      no_dir = no_dir_at (disk.reads old) before.installed before.oldest before.newest can.holds;
+      targets = subst (AreTargetsOf (disk.reads old) puts) (sym is.entries) can.targets;
+    }
+
+    module _ (unique : Unique) (new : D) (s : SystemState) (stores : StoresIn Two (disk.reads old) s) where
+      from : IsJobFrom s puts undo db
+      from = job_from unique (disk.reads old) s can.holds stores
+
+      as_list : (result : Result (Unit {0}) Stop) → Goes disk Two s (after_job puts db.installed s) puts old new result → Goes disk Two s (after_job puts list s) puts old new result
+      as_list result goes = subst (λ (l : List TroveParts). Goes disk Two s (after_job puts l s) puts old new result) list_is goes
+
+      pub written_job : (number : ℕ) → number ≡ db.newest → Goes disk Two s (after_job puts db.installed s) puts old new done → JobEnds disk puts list s old new (Ok (Some number))
+      written_job number number_is goes = (number_is ∙ from.newest_is, as_list done goes)
+
+      pub holds_after : Goes disk Two s (after_job puts db.installed s) puts old new done → HoldsDatabase Two (disk.reads new) db.installed db.oldest db.newest
+      holds_after goes =
+          subst (HoldsDatabase Two (disk.reads new) db.installed db.oldest) (sym from.newest_is)
+          (subst (λ (low : ℕ). HoldsDatabase Two (disk.reads new) db.installed low (newest s.stack + 1)) (sym from.oldest_is) goes.rests.stores.list)
+
+      at_stop : (rose : Type 0) (e : Stop) → IsTrue disk.tells → IsPushStop disk.tells rose e → Goes disk Two s (after_job puts list s) puts old new (Err e) → JobEnds disk puts list s old new (Err e)
+      at_stop rose Failed tells stops goes = goes
+      at_stop rose Memory tells stops goes = goes
+      at_stop rose (Refused why) tells stops goes = absurd (stops tells)
+      at_stop rose (Damaged path) tells stops goes = absurd stops
+      at_stop rose FarFailed tells stops goes = absurd stops
+      at_stop rose (FarDamaged path) tells stops goes = absurd stops
+
+      pub stopped_job : (rose : Type 0) (e : Stop) (r : Result (Option ℕ) Stop) → IsErrAnd r (λ x. x ≡ e) → IsTrue disk.tells → IsPushStop disk.tells rose e
+          → Goes disk Two s (after_job puts db.installed s) puts old new (Err e) → JobEnds disk puts list s old new r
+      stopped_job rose e (Ok x) same tells stops goes = absurd same
+      stopped_job rose e (Err x) same tells stops goes =
+          subst (λ (y : Stop). JobEnds disk puts list s old new (Err y)) (sym same) (at_stop rose e tells stops (as_list (Err e) goes))
+
+-- ---- no call was made
+
+module _ {D : Type 0} {disk : DiskModel D} (laws : IsDisk disk) (before : Db) (list : List TroveParts) (puts : List Put) (es : List Entry) (d : D) (can : CanWriteJob disk before puts es d)
+    (s : SystemState) (stores : StoresIn Two (disk.reads d) s) where
+  no_call : (Why : Stop → Type 0) (result : Result (Unit {0}) Stop) → IsErrAnd result Why → Goes disk Two s (after_job puts list s) puts d d result
+  no_call Why result is = stopped_before 0 None puts d d can.flag_clear can.synced (confined_start laws (Among (is_saving_name 0 None)) d) s (after_job puts list s)
+      (keeps_start laws Two s d (λ q counted. can.synced q) stores) Why result is
+
+  at_fault : (e : Fault) → JobEnds disk puts list s d d (Err (stop_of_fault e))
+  at_fault (fault.Refused why) = refl
+  at_fault fault.Memory = no_call (λ x. Unit {0}) (Err Memory) tt
+
+  pub refused_job : (e : Fault) (r : Result (Option ℕ) Stop) → IsErrAnd r (λ x. x ≡ stop_of_fault e) → JobEnds disk puts list s d d r
+  refused_job e (Ok x) is = absurd is
+  refused_job e (Err x) is = subst (λ (y : Stop). JobEnds disk puts list s d d (Err y)) (sym is) (at_fault e)
+
+-- ---- stops
+
+last_refusal : (db : Db) (list : List TroveParts) (puts : List Put) (e : Fault) → (ChangesNothing db list puts → ⊥) → IsLastOrMemory db.newest list e → IsRefusedOrMemory db list puts e
+last_refusal db list puts (fault.Refused why) changes (inl large) = too_large large.0 large.1
+last_refusal db list puts (fault.Refused why) changes (inr many) = too_many many.0 changes many.1 many.2
+last_refusal db list puts fault.Memory changes is = tt
+
+-- a last test failed, where something changes
+pub last_fault : {T : Type 0} (db : Db) (list other : List TroveParts) (puts : List Put) (e : Fault) (r : Result T Fault) → IsErrAnd r (λ x. x ≡ e) → (ChangesNothing db list puts → ⊥)
+    → other ≡ list → IsLastOrMemory db.newest other e → IfErr r (IsRefusedOrMemory db list puts)
+last_fault db list other puts e (Ok x) same changes lists is = tt
+last_fault db list other puts e (Err x) same changes lists is =
+    subst (IsRefusedOrMemory db list puts) (sym same) (last_refusal db list puts e changes (subst (λ (l : List TroveParts). IsLastOrMemory db.newest l e) lists is))
+
+pub passes_size : (list : List TroveParts) → Fits Two list → last.database_size list ≤ DATABASE_LIMIT
+passes_size list fits = fits.short
+
+fault_stop : (told : Bool) (rose : Type 0) (db : Db) (list : List TroveParts) (puts : List Put) (e : Fault) → IsRefusedOrMemory db list puts e → IsJobStop told rose db list puts (stop_of_fault e)
+fault_stop told rose db list puts (fault.Refused why) is = λ tells. is
+fault_stop told rose db list puts fault.Memory is = tt
+
+pub refused_stops : {T : Type 0} (told : Bool) (rose : Type 0) (db : Db) (list : List TroveParts) (puts : List Put) (e : Fault) (r : Result T Stop) → IsErrAnd r (λ x. x ≡ stop_of_fault e)
+    → IsRefusedOrMemory db list puts e → IfErr r (IsJobStop told rose db list puts)
+refused_stops told rose db list puts e (Ok x) same is = tt
+refused_stops told rose db list puts e (Err x) same is = subst (IsJobStop told rose db list puts) (sym same) (fault_stop told rose db list puts e is)
+
+push_stop : (told : Bool) (rose : Type 0) (db : Db) (list : List TroveParts) (puts : List Put) (e : Stop) → PassesLast db list puts → IsPushStop told rose e → IsJobStop told rose db list puts e
+push_stop told rose db list puts Failed passes is = (is, passes)
+push_stop told rose db list puts Memory passes is = tt
+push_stop told rose db list puts (Refused why) passes is = λ tells. absurd (is tells)
+push_stop told rose db list puts (Damaged path) passes is = is
+push_stop told rose db list puts FarFailed passes is = is
+push_stop told rose db list puts (FarDamaged path) passes is = is
+
+pub pushed_stops : {T : Type 0} (told : Bool) (rose : Type 0) (db : Db) (list : List TroveParts) (puts : List Put) (e : Stop) (r : Result T Stop) → IsErrAnd r (λ x. x ≡ e) → PassesLast db list puts
+    → IsPushStop told rose e → IfErr r (IsJobStop told rose db list puts)
+pushed_stops told rose db list puts e (Ok x) same passes is = tt
+pushed_stops told rose db list puts e (Err x) same passes is = subst (IsJobStop told rose db list puts) (sym same) (push_stop told rose db list puts e passes is)
+
+disk_stop : (told : Bool) (rose : Type 0) (e : Stop) → (e ≡ Failed → rose) → IsDiskStop e → IsPushStop told rose e
+disk_stop told rose Failed failed is = failed refl
+disk_stop told rose Memory failed is = tt
+disk_stop told rose (Refused why) failed is = absurd is
+disk_stop told rose (Damaged path) failed is = absurd is
+disk_stop told rose FarFailed failed is = absurd is
+disk_stop told rose (FarDamaged path) failed is = absurd is
+
+-- the write set, after other calls
+pub last_stops : {T : Type 0} (told : Bool) (a b c : ℕ) (r : Result T Stop) → a ≤ b → (IsErrOf r Failed → Rose b c) → IfErr r IsDiskStop → IfErr r (IsPushStop told (Rose a c))
+last_stops told a b c (Ok x) early failed is = tt
+last_stops told a b c (Err e) early failed is = disk_stop told (Rose a c) e (λ same. rose_before a b c early (failed (ap Err same))) is
+
+-- ---- answers
+
+same_answer : (db : Db) (list : List TroveParts) (puts : List Put) (r : Result (Option ℕ) Stop) → (Why : Stop → Type 0) → IsErrAnd r Why → AnswersJob db list puts db r
+same_answer db list puts (Ok x) Why is = absurd is
+same_answer db list puts (Err e) Why is = refl
+
+pub stopped_answer : (db new : Db) (list : List TroveParts) (puts : List Put) (r : Result (Option ℕ) Stop) (Why : Stop → Type 0) → new ≡ db → IsErrAnd r Why → AnswersJob db list puts new r
+stopped_answer db new list puts r Why same is = subst (λ (d : Db). AnswersJob db list puts d r) (sym same) (same_answer db list puts r Why is)

@@ -1,0 +1,198 @@
+-- The newest job of a system, by the record that a root holds of it.
+use Rattle.std.proofs.Common.{◌≡◌, ◌≢◌, ℕ, false, List, [], ◌∷◌, ◌++◌, map, Option, Some, None, All, Contains, refl, sym, ◌∙◌, ap, subst, arith}
+use Rattle.std.proofs.lemmas.List.Elements.{All-cons, All-head, All-nil, All-tail}
+use Rattle.std.specs.FinMap.{get}
+use Rattle.sha1.specs.Sha1.{sha1}
+use Rattle.rollback_stack.specs.cny-base.declared.node.Node.{Node}
+use Rattle.rollback_stack.specs.cny-base.declared.node.Node.TheVariants as node
+use Rattle.rollback_stack.specs.content-store.Store.{file_bytes, stored}
+use Rattle.rollback_stack.specs.journal-log.declared.put.Want.{Want}
+use Rattle.rollback_stack.specs.journal-log.declared.put.Want.TheVariants as want
+use Rattle.rollback_stack.specs.journal-log.Targets.{node_of}
+use Rattle.rollback_stack.specs.tree-disk.Tree.{Name, Tree}
+use Rattle.rollback_stack.specs.tree-scan.declared.mark.Mark.{Mark}
+use Rattle.rollback_stack.specs.tree-scan.declared.mark.Mark.TheVariants as mark
+use Rattle.rollback_stack.specs.tree-scan.Marks.{fingerprint}
+use Rattle.rollback_stack.specs.trove-stream.declared.parts.TroveParts.{TroveParts}
+use Rattle.job_targets.specs.declared.entry.Entry.{Entry}
+use Rattle.job_targets.specs.Old.{IsDamagedOld, IsSaved, is_staged}
+use Rattle.local_db.specs.Formats.{database_bytes}
+use Rattle.local_db.specs.Names.{database, saved}
+use Rattle.local_db.specs.Record as state
+use Rattle.local_db.specs.Stores.{HoldsDatabase, HoldsFile, HoldsItem, HoldsSaved, HoldsStack, IsDatabase, SameDatabase, StoresIn, absent, written}
+use Rattle.local_db.specs.SystemState.{IsStackItem, StackItem, SystemState, newest}
+use Rattle.local_db.specs.Steps.{want_of}
+use Rattle.local_db.specs.declared.format.Format.{Format}
+use Rattle.local_db.specs.declared.format.Format.TheVariants.{Two}
+use Rattle.local_db.proofs.Other.{checks_law}
+use Rattle.local_db.proofs.Writes.{contains_rest}
+use Rattle.rollback_stack.specs.job-record.JobReading.{HoldsRecord}
+use Rattle.rollback_stack.specs.Undo.{entries_of, entry_of}
+use Rattle.rollback_stack.specs.Writes.{put_of}
+use Rattle.system_core.proofs.UndoneEntries.{back_at, told_at}
+
+-- ---- the database
+
+abbrev pub OneDatabase : Type 0
+OneDatabase = (f g : Format) (list other : List TroveParts) (low high lower higher : ℕ) → IsDatabase f list low high → IsDatabase g other lower higher
+    → database_bytes f list low high ≡ database_bytes g other lower higher → SameDatabase f g list other low high lower higher
+
+pub record SameParts (list other : List TroveParts) (low high lower higher : ℕ) : Type 0 where
+  pub lists : list ≡ other
+  pub lows : low ≡ lower
+  pub highs : high ≡ higher
+
+same_some : {A : Type 0} (x y : A) → Some x ≡ Some y → x ≡ y
+same_some x y e = cc e
+
+no_file : (x : Tree) (bytes : List ℕ) → get x database ≡ None → HoldsFile x database bytes → ⊥
+no_file x bytes none file = absurd (cc (ap file_bytes none, file))
+
+-- a tree holds one database
+pub one_held : OneDatabase → (x : Tree) (list other : List TroveParts) (low high lower higher : ℕ) → HoldsDatabase Two x list low high → HoldsDatabase Two x other lower higher
+    → SameParts list other low high lower higher
+one_held one x list other low high lower higher (absent n l a b) (absent m k c d) = record { lists = l ∙ sym k; lows = a ∙ sym c; highs = b ∙ sym d }
+one_held one x list other low high lower higher (absent n l a b) (written is file) = absurd (no_file x _ n file)
+one_held one x list other low high lower higher (written is file) (absent n l a b) = absurd (no_file x _ n file)
+one_held one x list other low high lower higher (written is file) (written its too) =
+    let same = one Two Two list other low high lower higher is its (same_some _ _ (sym file ∙ too)) in
+    record { lists = same.lists; lows = same.oldest; highs = same.newest }
+
+-- ---- the newest job
+
+pub record Newest (stack : List StackItem) : Type 0 where
+  pub job : StackItem
+  pub others : List StackItem
+  pub stack_is : stack ≡ job ∷ others
+
+-- there is one where its number isn't 0
+pub some_newest : (stack : List StackItem) → newest stack ≢ 0 → Newest stack
+some_newest [] some = absurd (some refl)
+some_newest (o ∷ olds) some = record { job = o; others = olds; stack_is = refl }
+
+abbrev pub OneRecord : Type 0
+OneRecord = (f : Format) (x : Tree) (n : ℕ) (after before other : List TroveParts) (es ds : List state.Entry)
+    → HoldsRecord f x n after before es → HoldsRecord f x n after other ds → (before ≡ other) × (es ≡ ds)
+
+-- ---- nodes by their fingerprints
+
+mode_in : Mark → ℕ
+mode_in mark.Nothing = 0
+mode_in (mark.Dir mode) = mode
+mode_in (mark.File mode size name) = mode
+mode_in (mark.Link target) = 0
+
+bytes_in : Mark → List ℕ
+bytes_in mark.Nothing = []
+bytes_in (mark.Dir mode) = []
+bytes_in (mark.File mode size name) = name
+bytes_in (mark.Link target) = target
+
+-- a write with the fingerprint of a node is that of the node, where the contents of a SHA-1 are one
+pub same_want : (w : Want) (n : Option Node) → is_staged w ≡ false → fingerprint (node_of w) ≡ fingerprint n
+    → ((a : ℕ) (d : List ℕ) (b : ℕ) (c : List ℕ) → w ≡ want.File a d → n ≡ Some (node.File b c) → sha1 d ≡ sha1 c → d ≡ c) → w ≡ want_of n
+unfolding mode_in bytes_in
+same_want want.Nothing None given e files = refl
+same_want want.Nothing (Some (node.Dir b)) given e files = absurd (cc e)
+same_want want.Nothing (Some (node.File b c)) given e files = absurd (cc e)
+same_want want.Nothing (Some (node.Link c)) given e files = absurd (cc e)
+same_want (want.Dir a) None given e files = absurd (cc e)
+same_want (want.Dir a) (Some (node.Dir b)) given e files = ap want.Dir (ap mode_in e)
+same_want (want.Dir a) (Some (node.File b c)) given e files = absurd (cc e)
+same_want (want.Dir a) (Some (node.Link c)) given e files = absurd (cc e)
+same_want (want.File a d) None given e files = absurd (cc e)
+same_want (want.File a d) (Some (node.Dir b)) given e files = absurd (cc e)
+same_want (want.File a d) (Some (node.File b c)) given e files =
+    let modes : a ≡ b = ap mode_in e in
+    let bytes : d ≡ c = files a d b c refl refl (ap bytes_in e) in
+    λ i. want.File (modes i) (bytes i)
+same_want (want.File a d) (Some (node.Link c)) given e files = absurd (cc e)
+same_want (want.Link a) None given e files = absurd (cc e)
+same_want (want.Link a) (Some (node.Dir b)) given e files = absurd (cc e)
+same_want (want.Link a) (Some (node.File b c)) given e files = absurd (cc e)
+same_want (want.Link a) (Some (node.Link c)) given e files = ap want.Link (ap bytes_in e)
+same_want (want.Staged mode id size name) n given e files = absurd (cc given)
+
+-- ---- parts of lists
+
+pub record SplitMap {A B : Type 0} (f : A → B) (xs : List A) (front : List B) (b : B) (rest : List B) : Type 0 where
+  pub before : List A
+  pub one : A
+  pub behind : List A
+  pub split : xs ≡ before ++ one ∷ behind
+  pub front_is : front ≡ map f before
+  pub one_is : b ≡ f one
+
+pub split_map : {A B : Type 0} (f : A → B) (xs : List A) (front : List B) (b : B) (rest : List B) → map f xs ≡ front ++ b ∷ rest → SplitMap f xs front b rest
+split_map f [] [] b rest e = absurd (cc e)
+split_map f [] (c ∷ front) b rest e = absurd (cc e)
+split_map f (x ∷ xs) [] b rest e = record { before = []; one = x; behind = xs; split = refl; front_is = refl; one_is = cc e }
+split_map f (x ∷ xs) (c ∷ front) b rest e =
+    let tail : map f xs ≡ front ++ b ∷ rest = cc e in
+    let head : c ≡ f x = cc e in
+    let more = split_map f xs front b rest tail in
+    let split = more.split in
+    let fronts = more.front_is in
+    record { before = x ∷ more.before; one = more.one; behind = more.behind; split = ap (λ l. x ∷ l) split; front_is = λ i. head i ∷ fronts i; one_is = more.one_is }
+
+pub all_front : {A : Type 0} (P : A → Type 0) (front rest : List A) → All P (front ++ rest) → All P front
+all_front P [] rest all = All-nil P
+all_front P (x ∷ front) rest all = All-cons P x front (All-head P x (front ++ rest) all) (all_front P front rest (All-tail P x (front ++ rest) all))
+
+pub all_middle : {A : Type 0} (P : A → Type 0) (front : List A) (x : A) (rest : List A) → All P (front ++ x ∷ rest) → P x
+all_middle P [] x rest all = All-head P x rest all
+all_middle P (y ∷ front) x rest all = all_middle P front x rest (All-tail P y (front ++ x ∷ rest) all)
+
+-- ---- saved contents
+
+-- what a job saved of a file that stood there has one SHA-1
+pub one_content : (x : Tree) (o : StackItem) (p : Name) → HoldsSaved x o → Contains o.paths p → (w : Want) (a : ℕ) (d : List ℕ) (b : ℕ) (c : List ℕ) → w ≡ want.File a d → get o.before p ≡ Some (node.File b c) → sha1 d ≡ sha1 c
+    → IsSaved x o.number w → d ≡ c
+one_content x o p held among w a d b c is there hash saved_ =
+    let mine : stored x (saved o.number) (sha1 d) ≡ Some d = subst (IsSaved x o.number) is saved_ in
+    let its : stored x (saved o.number) (sha1 c) ≡ Some c = held p b c among there in
+    same_some d c (sym mine ∙ ap (stored x (saved o.number)) hash ∙ its)
+
+-- a saved content that the job's record refers to isn't damaged
+pub not_damaged : (x : Tree) (o : StackItem) → HoldsSaved x o → (n : ℕ) → n ≡ o.number → (p path : Name) → Contains o.paths p → IsDamagedOld x n (fingerprint (get o.before p)) path → ⊥
+not_damaged x o held n number_is p path among damaged = at (get o.before p) refl (subst (λ (k : ℕ). IsDamagedOld x k (fingerprint (get o.before p)) path) number_is damaged)
+  where
+    at : (m : Option Node) → get o.before p ≡ m → IsDamagedOld x o.number (fingerprint m) path → ⊥
+    at None is h = h
+    at (Some (node.Dir mode)) is h = h
+    at (Some (node.File mode bytes)) is h = h.1 bytes (record { there = held p mode bytes among is; content = record { long = refl; named = refl } })
+    at (Some (node.Link target)) is h = h
+
+-- the record of a job, of this number and against the list after it
+pub job_record : (x : Tree) (n : ℕ) (list : List TroveParts) (o : StackItem) → HoldsItem Two x list o → IsStackItem o → o.number ≡ n → HoldsRecord Two x n list o.list (state.entries_of o)
+job_record x n list o held item number_is = subst (λ (k : ℕ). HoldsRecord Two x k list o.list (state.entries_of o)) number_is
+    (record { bytes = held.bytes; file = held.file; text = held.text; checks = checks_law Two x list o item held })
+
+-- ---- by one job
+
+module _ (x : Tree) (s : SystemState) (stores : StoresIn Two x s) (o : StackItem) (olds : List StackItem) (stack : s.stack ≡ o ∷ olds) where
+  pub held : HoldsItem Two x s.installed o
+  held = (subst (HoldsStack Two x s.installed) stack stores.olds).0
+
+  pub item : IsStackItem o
+  item = All-head IsStackItem o olds (subst (All IsStackItem) stack stores.system.olds)
+
+  -- its record, of this number and against this list
+  pub record_of : (n : ℕ) (list : List TroveParts) → n ≡ o.number → list ≡ s.installed → HoldsRecord Two x n list o.list (state.entries_of o)
+  record_of n list number_is list_is =
+      subst (λ (l : List TroveParts). HoldsRecord Two x n l o.list (state.entries_of o)) (sym list_is) (job_record x n s.installed o held item (sym number_is))
+
+  -- the writes of the entries that were read are those of the nodes before the job
+  pub same_writes : (es : List Entry) (paths : List Name) → ((p : Name) → Contains paths p → Contains o.paths p) → entries_of es ≡ map (told_at o) paths
+      → All (λ (e : Entry). is_staged e.was ≡ false) es → All (λ (e : Entry). IsSaved x o.number e.was) es → map put_of es ≡ map (back_at o) paths
+  same_writes [] [] within same given kept = refl
+  same_writes [] (p ∷ paths) within same given kept = absurd (cc same)
+  same_writes (e ∷ es) [] within same given kept = absurd (cc same)
+  same_writes (e ∷ es) (p ∷ paths) within same given kept =
+      let first : entry_of e ≡ told_at o p = cc same in
+      let rest : entries_of es ≡ map (told_at o) paths = cc same in
+      let here : e.path ≡ p = ap (λ (d : state.Entry). d.path) first in
+      let wants : e.was ≡ want_of (get o.before p) = same_want e.was (get o.before p) (All-head (λ (e : Entry). is_staged e.was ≡ false) e es given) (ap (λ (d : state.Entry). d.was) first)
+      (λ a d b c is there hash. one_content x o p held.contents (within p (0, omega arith, refl)) e.was a d b c is there hash (All-head (λ (e : Entry). IsSaved x o.number e.was) e es kept)) in
+      let later = same_writes es paths (λ q among. within q (contains_rest p q paths among)) rest (All-tail (λ (e : Entry). is_staged e.was ≡ false) e es given) (All-tail (λ (e : Entry). IsSaved x o.number e.was) e es kept) in
+      λ i. (record { path = here i; want = wants i }) ∷ later i

@@ -1,0 +1,147 @@
+-- The tests of a job, one after the other.
+use Rattle.std.proofs.Common.{◌≡◌, IsTrue, List, All, Result, Ok, Err, IsErrAnd, sym, subst, arith}
+use Rattle.rollback_stack.specs.cny-base.Count.{Rose}
+use Rattle.rollback_stack.specs.cny-base.Stop.{stop_of_fault}
+use Rattle.rollback_stack.specs.cny-base.declared.refusal.Fault.{Fault}
+use Rattle.rollback_stack.specs.cny-base.declared.refusal.Fault.TheVariants as fault
+use Rattle.rollback_stack.specs.cny-base.declared.stop.Stop.{Stop}
+use Rattle.rollback_stack.specs.cny-base.declared.stop.Stop.TheVariants.{Refused, Memory, Failed, Damaged, FarFailed, FarDamaged}
+use Rattle.rollback_stack.specs.trove-stream.declared.parts.TroveParts.{TroveParts}
+use Rattle.rollback_stack.specs.trove-stream.Trove.{IsTrove}
+use Rattle.rollback_stack.specs.tree-disk.Tree.{Name, Tree}
+use Rattle.rollback_stack.specs.tree-disk.Disk.{DiskModel, IsDisk}
+use Rattle.rollback_stack.specs.tree-disk.Moments.{same_start, time_start}
+use Rattle.rollback_stack.specs.content-store.Contents.{ContentsModel, IsSource}
+use Rattle.job_targets.specs.declared.entry.Entry.{Entry}
+use Rattle.rollback_stack.specs.trove-stream.Installed.{IsRising}
+use Rattle.conflict_plan.specs.declared.planned.Planned.{Planned}
+use Rattle.conflict_plan.specs.Plan.{ArePlannable, EndsSo, IsFirstRefusal, IsOrphan, IsPlan, IsUnshared, Plans, mark_after}
+use Rattle.dep_closure.specs.Closed.{IsClosed, IsUnmetOrMemory}
+use Rattle.job_targets.specs.declared.targets.Targets.{Targets}
+use Rattle.job_targets.specs.Gathering.{Ends, Gathers, IsDamage}
+use Rattle.job_targets.specs.Outcome as outcome
+use Rattle.job_targets.specs.Outcome.{AreChanges, AreGiven, AreOver, AreSavable, AreTargets, FitPlan}
+use Rattle.job_targets.proofs.GatherLaws.{gathers_memory, gathers_refuse, gathers_stop, gathers_then, keeps_start}
+use Rattle.rollback_stack.specs.Undo.{entries_of}
+use Rattle.system_core.specs.JobWriting as writing
+use Rattle.system_core.specs.JobWriting.{AreTargetsOf, IsSomething}
+use Rattle.local_db.specs.Installed.{IsInstalled}
+use Rattle.system_core.specs.Job.{IsTestRefusal, IsTested, Sources, unmet, unplanned, untargeted}
+use Rattle.system_core.specs.Lists.{AreAllowed}
+use Rattle.system_core.specs.Something.{HasNothing, LacksOne}
+use Rattle.system_core.proofs.Formed.{targets_formed}
+use Rattle.system_core.proofs.Shared.{unshared_pairs}
+use Rattle.system_core.proofs.Values.{are_targets, nothing_lacks, puts_free}
+
+-- ---- as values
+
+-- what a job asks of the list after it
+pub installed_after : (list : List TroveParts) → All IsTrove list → IsRising list → AreAllowed list → IsUnshared list → IsInstalled list
+installed_after list troves rising allowed unshared = record { troves = troves; rising = rising; allowed = allowed; unshared = unshared_pairs list unshared }
+
+module _ {D C : Type 0} {disk : DiskModel D} {contents : ContentsModel C} (searches : IsSource contents) (laws : IsDisk disk) (from : Sources) (before list : List TroveParts) where
+  -- ---- the list
+
+  closed_run : (d : D) (far : C) (e : Fault) → IsUnmetOrMemory list e
+      → Gathers {X = Unit {0}} disk contents (λ tree u. Unit {0}) (IsTestRefusal from before list) d d far far (Err (stop_of_fault e))
+  closed_run d far e why = record {
+    later = omega arith;
+    same = λ tells. record { answer = tt; same = same_start disk d; time = time_start laws d };
+    keeps = keeps_start searches far;
+    ends = by e why;
+  }
+    where
+      by : (e : Fault) → IsUnmetOrMemory list e
+          → Ends {X = Unit {0}} disk.tells (λ u. Unit {0}) (IsTestRefusal from before list (disk.reads d)) (IsDamage contents far) (Rose (disk.faults d) (disk.faults d)) (Rose (contents.faults far) (contents.faults far)) (Err (stop_of_fault e))
+      by (fault.Refused refusal) why = λ tells. unmet why
+      by fault.Memory why = tt
+
+  -- the list isn't closed
+  pub closed_stop : (d : D) (far : C) (e : Fault) (r : Result Targets Stop) → IsErrAnd r (λ s. s ≡ stop_of_fault e) → IsUnmetOrMemory list e
+      → Gathers disk contents (IsTested from before list) (IsTestRefusal from before list) d d far far r
+  closed_stop d far e r is why = gathers_stop (closed_run d far e why) is (λ tells refusal h. h)
+
+  -- ---- the plan
+
+  pub plan_run : {old new : D} (far : C) (r : Result (List Planned) Stop) → Plans disk (IsPlan before list from.options) (IsFirstRefusal before list from.options) old new r
+      → Gathers disk contents (IsPlan before list from.options) (IsFirstRefusal before list from.options) old new far far r
+  plan_run {old = old} {new = new} far r run = record { later = run.later; same = run.same; keeps = keeps_start searches far; ends = by r run.ends }
+    where
+      by : (r : Result (List Planned) Stop) → EndsSo disk.tells (IsPlan before list from.options (disk.reads old)) (IsFirstRefusal before list from.options (disk.reads old)) r (disk.faults old) (disk.faults new)
+          → Ends disk.tells (IsPlan before list from.options (disk.reads old)) (IsFirstRefusal before list from.options (disk.reads old)) (IsDamage contents far) (Rose (disk.faults old) (disk.faults new)) (Rose (contents.faults far) (contents.faults far)) r
+      by (Ok planned) ends = ends
+      by (Err (Refused refusal)) ends = ends
+      by (Err Failed) ends = ends
+      by (Err Memory) ends = tt
+      by (Err (Damaged path)) ends = absurd ends
+      by (Err FarFailed) ends = absurd ends
+      by (Err (FarDamaged path)) ends = absurd ends
+
+  -- there is no plan
+  pub plan_stop : {old new : D} (far : C) (e : Stop) (r : Result Targets Stop) → IsClosed list → IsErrAnd r (λ s. s ≡ e)
+      → Plans disk (IsPlan before list from.options) (IsFirstRefusal before list from.options) old new (Err e)
+      → Gathers disk contents (IsTested from before list) (IsTestRefusal from before list) old new far far r
+  plan_stop far e r closed is run = gathers_stop (plan_run far (Err e) run) is (λ tells refusal h. unplanned closed h)
+
+  -- ---- the targets
+
+  pub targets_run : {old mid new : D} {far far' : C} (planned seen : List Planned) → seen ≡ planned → (r : Result Targets Stop) → IsClosed list
+      → Plans disk (IsPlan before list from.options) (IsFirstRefusal before list from.options) old mid (Ok planned)
+      → Gathers disk contents (AreTargets from.carried from.answers seen) (outcome.IsFirstRefusal from.carried from.answers seen) mid new far far' r
+      → Gathers disk contents (IsTested from before list) (IsTestRefusal from before list) old new far far' r
+  targets_run {mid = mid} {new = new} {far = far} {far' = far'} planned seen same r closed first then =
+      gathers_then searches laws {U = IsTested from before list} {W = IsTestRefusal from before list} (plan_run far (Ok planned) first)
+      (subst (λ (p : List Planned). Gathers disk contents (AreTargets from.carried from.answers p) (outcome.IsFirstRefusal from.carried from.answers p) mid new far far' r) same then)
+      (λ tells is made are. record { closed = closed; planned = planned; plan = is; targets = are })
+      (λ tells is refusal h. untargeted closed planned is h)
+
+  pub targets_stop : {old mid new : D} {far far' : C} (planned seen : List Planned) → seen ≡ planned → (e : Stop) (r : Result Targets Stop) → IsClosed list → IsErrAnd r (λ s. s ≡ e)
+      → Plans disk (IsPlan before list from.options) (IsFirstRefusal before list from.options) old mid (Ok planned)
+      → Gathers disk contents (AreTargets from.carried from.answers seen) (outcome.IsFirstRefusal from.carried from.answers seen) mid new far far' (Err e)
+      → Gathers disk contents (IsTested from before list) (IsTestRefusal from before list) old new far far' r
+  targets_stop planned seen same e r closed is first then = gathers_stop (targets_run planned seen same (Err e) closed first then) is (λ tells refusal h. h)
+
+  -- at a path where nothing stands nothing is to stand: no disk that tells its tree has one
+  pub lack_stop : {old new : D} {far far' : C} (made : Targets) (es : List Entry) → es ≡ made.entries → (e : Fault) (r : Result Targets Stop) → IsErrAnd r (λ s. s ≡ stop_of_fault e)
+      → Gathers disk contents (IsTested from before list) (IsTestRefusal from before list) old new far far' (Ok made)
+      → (IsTrue disk.tells → AreTargetsOf (disk.reads old) made.puts made.entries) → HasNothing es e
+      → Gathers disk contents (IsTested from before list) (IsTestRefusal from before list) old new far far' r
+  lack_stop {old = old} {new = new} {far = far} {far' = far'} made es same e r is run over lacks = by e is lacks
+    where
+      by : (e : Fault) → IsErrAnd r (λ s. s ≡ stop_of_fault e) → HasNothing es e → Gathers disk contents (IsTested from before list) (IsTestRefusal from before list) old new far far' r
+      by (fault.Refused refusal) is lacks =
+          gathers_refuse refusal run is
+          (λ tells h. let o = over tells in absurd (nothing_lacks (disk.reads old) made.puts made.entries o.changes o.entries refusal (subst (λ (l : List Entry). LacksOne l refusal) same lacks)))
+      by fault.Memory is lacks = gathers_memory run is
+
+  -- ---- what is then known of them
+
+  module _ {old mid : D} (planned seen : List Planned) (same : seen ≡ planned) (made : Targets) (run : Plans disk (IsPlan before list from.options) (IsFirstRefusal before list from.options) old mid (Ok planned))
+      (plannable : ArePlannable before list planned) (fits : FitPlan seen made) (given : AreGiven made.puts)
+      (is_before : IsInstalled before) (troves : All IsTrove list) (allowed : AreAllowed list) where
+    fits_plan : FitPlan planned made
+    fits_plan = subst (λ (p : List Planned). FitPlan p made) same fits
+
+    -- on a disk that tells its tree
+    pub over_tree : IsTrue disk.tells → AreOver (disk.reads mid) made → AreChanges (disk.reads mid) made.puts → AreTargetsOf (disk.reads old) made.puts made.entries
+    over_tree tells over changes = subst (λ (x : Tree). AreTargetsOf x made.puts made.entries) ((run.same tells).same.reads) (record {
+      changes = changes;
+      before = over.before;
+      entries = over.entries;
+      well_formed = targets_formed planned made.puts (disk.reads mid) plannable.rising fits_plan.puts (puts_free before list planned made.puts is_before.troves troves is_before.allowed allowed plannable fits_plan.puts) given.held
+          (laws.reads_well_formed mid)
+          (subst (λ (x : Tree). (q : Name) → IsOrphan (mark_after planned x) q → ⊥) (sym (run.same tells).same.reads) (run.ends tells).no_orphan);
+    })
+
+    -- on every disk
+    pub as_targets : AreSavable made.entries → (es : List Entry) → es ≡ made.entries → All IsSomething (entries_of es) → writing.AreTargets made.puts made.entries
+    as_targets savable es of_made something =
+        are_targets before list planned made is_before.troves troves is_before.allowed allowed plannable fits_plan given savable (subst (λ (l : List Entry). All IsSomething (entries_of l)) of_made something)
+
+-- the same, by equal lists
+pub gathers_lists : {D C : Type 0} {disk : DiskModel D} {contents : ContentsModel C} (from : Sources) (before before' list list' : List TroveParts) {old new : D} {far far' : C} {r : Result Targets Stop} → before' ≡ before → list' ≡ list
+    → Gathers disk contents (IsTested from before' list') (IsTestRefusal from before' list') old new far far' r
+    → Gathers disk contents (IsTested from before list) (IsTestRefusal from before list) old new far far' r
+gathers_lists {disk = disk} {contents = contents} from before before' list list' {old = old} {new = new} {far = far} {far' = far'} {r = r} same_before same_list run =
+    subst (λ (b : List TroveParts). Gathers disk contents (IsTested from b list) (IsTestRefusal from b list) old new far far' r) same_before
+    (subst (λ (l : List TroveParts). Gathers disk contents (IsTested from before' l) (IsTestRefusal from before' l) old new far far' r) same_list run)

@@ -1,0 +1,67 @@
+use Rattle.std.proofs.Common.{IsTrue, List, [], ◌∷◌, ◌++◌, All, subst}
+use Rattle.rollback_stack.specs.journal-log.declared.put.Put.{Put}
+use Rattle.rollback_stack.specs.journal-log.Targets.{node_of}
+use Rattle.rollback_stack.specs.journal-log.WriteSet.{Rises}
+use Rattle.rollback_stack.specs.tree-disk.Tree.{may_stand}
+use Rattle.local_db.specs.declared.format.Format.TheVariants.{Two}
+use Rattle.local_db.specs.Steps.{after_job, IsUnion}
+use Rattle.rollback_stack.specs.Saving.{dropped_below}
+use Rattle.system_core.specs.JobWriting.{database_write}
+use Rattle.system_core.proofs.JobRunning.{after_stored, can_write, joined, next_job, settled, stopped_before}
+use Rattle.system_core.proofs.Resting.{put_rests}
+use Rattle.system_core.proofs.JobEnding.{last_stops}
+use Rattle.system_core.proofs.job_writing.put_job.Goals as goal
+
+pub push_puts-requires-clause-dir : goal.push_puts-requires-clause-dir
+push_puts-requires-clause-dir g c tells = (c.requires.told tells).pinned
+
+pub returns-in_err-pushed-clause-goes : goal.returns-in_err-pushed-clause-goes
+returns-in_err-pushed-clause-goes g c tells s stores from =
+    let can = c.requires.told tells in
+    let db = c.args.db.now in
+    let puts = c.args.targets in
+    stopped_before db.newest (dropped_below db.oldest) puts c.args.root.now c.push_puts.new.disk can.flag_clear can.synced (c.in_err-pushed.ensures.confined tells) s (after_job puts db.installed s)
+    (c.in_err-pushed.ensures.keeps Two s (next_job puts c.args.undo.now db s from) tells (λ q counted. can.synced q) stores) _ c.from_residual.result c.from_residual.ensures.1
+
+pub returns-in_err-all-clause-goes : goal.returns-in_err-all-clause-goes
+returns-in_err-all-clause-goes g c tells s stores from =
+    let can = c.requires.told tells in
+    let db = c.args.db.now in
+    let puts = c.args.targets in
+    stopped_before db.newest (dropped_below db.oldest) puts c.args.root.now c.push_puts.new.disk can.flag_clear can.synced (c.in_ok-pushed.ensures.confined tells) s (after_job puts db.installed s)
+    (c.in_ok-pushed.ensures.keeps Two s (next_job puts c.args.undo.now db s from) tells (λ q counted. can.synced q) stores) _ c.from_residual-in_err-all.result c.from_residual-in_err-all.ensures.1
+
+pub write_all-requires : goal.write_all-requires
+write_all-requires g c = record {
+  can = λ tells.
+      let stand = subst (All (λ (p : Put). IsTrue (may_stand (node_of p.want)))) c.get.ensures.value c.put_ranges.ensures in
+      can_write g.met.T.TreeDisk.laws c.args.targets c.args.undo.now c.args.db.now (subst Rises c.get-items.ensures.value c.get-items.ensures.rises) c.requires.free c.requires.given c.requires.db c.requires.fits
+      c.args.root.now c.push_puts.new.disk (c.requires.told tells) (c.in_ok-pushed.ensures.confined tells)
+      c.in_ok-pushed.pushed c.in_ok-all.all c.args.bytes (c.in_ok-pushed.ensures.pushed tells) c.in_ok-all.ensures stand;
+}
+
+pub returns-clause-goes : goal.returns-clause-goes
+returns-clause-goes g c tells s stores from =
+    let can = c.requires.told tells in
+    let undo = c.args.undo.now in
+    let db = c.args.db.now in
+    let puts = c.args.targets in
+    let stand = subst (All (λ (p : Put). IsTrue (may_stand (node_of p.want)))) c.get.ensures.value c.put_ranges.ensures in
+    let rises = subst Rises c.get-items.ensures.value c.get-items.ensures.rises in
+    let confined = c.in_ok-pushed.ensures.confined tells in
+    let keeps = c.in_ok-pushed.ensures.keeps Two s (next_job puts undo db s from) tells (λ q counted. can.synced q) stores in
+    let pushed = c.in_ok-pushed.ensures.pushed tells in
+    let union = subst (λ (l : List Put). IsUnion c.in_ok-all.all puts (l ++ database_write c.args.bytes ∷ [])) pushed.puts_are c.in_ok-all.ensures in
+    joined db.newest (dropped_below db.oldest) puts c.args.root.now c.push_puts.new.disk can.flag_clear can.synced confined s (after_job puts db.installed s) keeps
+    c.in_ok-all.all undo.number pushed.mode pushed.bytes c.args.bytes union c.write_all.new.root c.write_all.result c.in_ok-pushed.ensures.later c.write_all.ensures.later
+    (c.write_all.ensures.goes tells Two Two s (after_job puts db.installed s) keeps.now
+    (settled g.met.T.TreeDisk.laws puts undo db rises c.requires.free c.requires.given c.requires.db c.requires.fits c.args.root.now c.push_puts.new.disk can confined
+    c.in_ok-pushed.pushed c.in_ok-all.all c.args.bytes pushed c.in_ok-all.ensures stand s stores from c.requires.text)
+    (after_stored g.met.T.TreeDisk.laws puts undo db rises c.requires.free c.requires.given c.requires.db c.requires.fits c.args.root.now c.push_puts.new.disk can confined
+    c.in_ok-pushed.pushed c.in_ok-all.all c.args.bytes pushed c.in_ok-all.ensures stand s stores from c.requires.text))
+
+pub returns-clause-stops : goal.returns-clause-stops
+returns-clause-stops g c = last_stops g.T.TreeDisk.disk.tells _ _ _ c.write_all.result c.in_ok-pushed.ensures.later c.write_all.ensures.failed c.write_all.ensures.stops
+
+pub returns-clause-rests : goal.returns-clause-rests
+returns-clause-rests g c tells = put_rests g.T.TreeDisk.disk c.in_ok-all.all c.push_puts.new.disk c.write_all.new.root c.write_all.result (c.write_all.ensures.put tells)

@@ -1,0 +1,85 @@
+use Rattle.std.proofs.Common.{refl, sym, subst}
+use Rattle.job_targets.specs.Agree.{AllAgree}
+use Rattle.system_core.proofs.JobEnding.{can_put, fits_db, holds_after, is_database, job_from, next_is, pushed_stops, refused_job, refused_stops, stopped_answer, stopped_job, written_job}
+use Rattle.system_core.proofs.job_writing.write_job.Goals as goal
+
+pub returns-in_err-job-clause-ends : goal.returns-in_err-job-clause-ends
+returns-in_err-job-clause-ends g c tells s stores =
+    refused_job g.met.T.TreeDisk.laws c.args.db.now c.args.list c.args.puts c.args.entries c.args.root.now (c.requires.told tells) s stores _ c.from_residual.result c.from_residual.ensures.1
+
+pub returns-in_err-job-clause-stops : goal.returns-in_err-job-clause-stops
+returns-in_err-job-clause-stops g c =
+    refused_stops g.T.TreeDisk.disk.tells _ c.args.db.now c.args.list c.args.puts _ c.from_residual.result c.from_residual.ensures.1 c.in_err-job.ensures.refused
+
+pub returns-in_err-job-clause-answers : goal.returns-in_err-job-clause-answers
+returns-in_err-job-clause-answers g c = stopped_answer c.args.db.now c.args.db.now c.args.list c.args.puts c.from_residual.result _ refl c.from_residual.ensures.1
+
+pub put_job-requires-clause-db : goal.put_job-requires-clause-db
+put_job-requires-clause-db g c =
+    let job = c.in-Some.job in
+    is_database c.args.db.now c.args.list c.args.puts c.args.entries job.undo job.db job.bytes (rw c.in-Some.is at c.in_ok-job.ensures.some) (let passes = rw c.in-Some.is at c.in_ok-job.ensures.passes in passes.room) c.requires.db c.requires.list
+
+pub put_job-requires-clause-fits : goal.put_job-requires-clause-fits
+put_job-requires-clause-fits g c =
+    let job = c.in-Some.job in
+    fits_db c.args.db.now c.args.list c.args.puts c.args.entries job.undo job.db job.bytes (rw c.in-Some.is at c.in_ok-job.ensures.some) (let passes = rw c.in-Some.is at c.in_ok-job.ensures.passes in passes.room) c.requires.db c.requires.list c.requires.targets
+
+pub put_job-requires-clause-agree : goal.put_job-requires-clause-agree
+put_job-requires-clause-agree g c = subst AllAgree (sym (let made = rw c.in-Some.is at c.in_ok-job.ensures.some in made.entries)) c.requires.targets.agree
+
+pub put_job-requires-clause-told : goal.put_job-requires-clause-told
+put_job-requires-clause-told g c tells =
+    let job = c.in-Some.job in
+    can_put c.args.db.now c.args.list c.args.puts c.args.entries job.undo job.db job.bytes (rw c.in-Some.is at c.in_ok-job.ensures.some) (let passes = rw c.in-Some.is at c.in_ok-job.ensures.passes in passes.room) c.requires.db c.requires.list
+    g.met.T.TreeDisk.laws c.args.root.now (c.requires.told tells)
+
+pub returns-in_err-put_job-clause-ends : goal.returns-in_err-put_job-clause-ends
+returns-in_err-put_job-clause-ends g c tells s stores =
+    let job = c.in-Some.job in
+    let is = (rw c.in-Some.is at c.in_ok-job.ensures.some) in
+    let room = (let passes = rw c.in-Some.is at c.in_ok-job.ensures.passes in passes.room) in
+    let can = c.requires.told tells in
+    let from = job_from c.args.db.now c.args.list c.args.puts c.args.entries job.undo job.db job.bytes is room c.requires.db c.requires.list
+    c.distinct_databases.ensures.unique (g.T.TreeDisk.disk.reads c.args.root.now) s can.holds stores in
+    stopped_job c.args.db.now c.args.list c.args.puts c.args.entries job.undo job.db job.bytes is room c.requires.db c.requires.list g.met.T.TreeDisk.laws c.args.root.now can
+    c.distinct_databases.ensures.unique c.put_job.new.root s stores _ _ c.from_residual-in_err-put_job.result c.from_residual-in_err-put_job.ensures.1 tells c.in_err-put_job.ensures.stops
+    (c.in_err-put_job.ensures.goes tells s stores from)
+
+pub returns-in_err-put_job-clause-stops : goal.returns-in_err-put_job-clause-stops
+returns-in_err-put_job-clause-stops g c =
+    pushed_stops g.T.TreeDisk.disk.tells _ c.args.db.now c.args.list c.args.puts _ c.from_residual-in_err-put_job.result c.from_residual-in_err-put_job.ensures.1 (rw c.in-Some.is at c.in_ok-job.ensures.passes) c.in_err-put_job.ensures.stops
+
+pub returns-in_err-put_job-clause-answers : goal.returns-in_err-put_job-clause-answers
+returns-in_err-put_job-clause-answers g c = stopped_answer c.args.db.now c.args.db.now c.args.list c.args.puts c.from_residual-in_err-put_job.result _ refl c.from_residual-in_err-put_job.ensures.1
+
+pub returns-clause-ends : goal.returns-clause-ends
+returns-clause-ends g c tells s stores =
+    let job = c.in-Some.job in
+    let is = (rw c.in-Some.is at c.in_ok-job.ensures.some) in
+    let room = (let passes = rw c.in-Some.is at c.in_ok-job.ensures.passes in passes.room) in
+    let can = c.requires.told tells in
+    let from = job_from c.args.db.now c.args.list c.args.puts c.args.entries job.undo job.db job.bytes is room c.requires.db c.requires.list
+    c.distinct_databases.ensures.unique (g.T.TreeDisk.disk.reads c.args.root.now) s can.holds stores in
+    written_job c.args.db.now c.args.list c.args.puts c.args.entries job.undo job.db job.bytes is room c.requires.db c.requires.list g.met.T.TreeDisk.laws c.args.root.now can
+    c.distinct_databases.ensures.unique c.put_job.new.root s stores job.db.newest refl (c.in_ok-put_job.ensures.goes tells s stores from)
+
+pub returns-clause-holds : goal.returns-clause-holds
+returns-clause-holds g c tells s stores =
+    let job = c.in-Some.job in
+    let is = (rw c.in-Some.is at c.in_ok-job.ensures.some) in
+    let room = (let passes = rw c.in-Some.is at c.in_ok-job.ensures.passes in passes.room) in
+    let can = c.requires.told tells in
+    let from = job_from c.args.db.now c.args.list c.args.puts c.args.entries job.undo job.db job.bytes is room c.requires.db c.requires.list
+    c.distinct_databases.ensures.unique (g.T.TreeDisk.disk.reads c.args.root.now) s can.holds stores in
+    holds_after c.args.db.now c.args.list c.args.puts c.args.entries job.undo job.db job.bytes is room c.requires.db c.requires.list g.met.T.TreeDisk.laws c.args.root.now can
+    c.distinct_databases.ensures.unique c.put_job.new.root s stores (c.in_ok-put_job.ensures.goes tells s stores from)
+
+pub returns-clause-answers : goal.returns-clause-answers
+returns-clause-answers g c =
+    let job = c.in-Some.job in
+    (next_is c.args.db.now c.args.list c.args.puts c.args.entries job.undo job.db job.bytes (rw c.in-Some.is at c.in_ok-job.ensures.some) (let passes = rw c.in-Some.is at c.in_ok-job.ensures.passes in passes.room) c.requires.db c.requires.list, (let made = rw c.in-Some.is at c.in_ok-job.ensures.some in made.db_is), (rw c.in-Some.is at c.in_ok-job.ensures.passes))
+
+pub returns-clause-rules : goal.returns-clause-rules
+returns-clause-rules g c =
+    let job = c.in-Some.job in
+    is_database c.args.db.now c.args.list c.args.puts c.args.entries job.undo job.db job.bytes (rw c.in-Some.is at c.in_ok-job.ensures.some) (let passes = rw c.in-Some.is at c.in_ok-job.ensures.passes in passes.room) c.requires.db c.requires.list

@@ -1,0 +1,77 @@
+use Rattle.std.proofs.Common.{sym, subst}
+use Rattle.rollback_stack.specs.cny-base.Count.{Rose}
+use Rattle.rollback_stack.specs.cny-base.declared.stop.Stop.TheVariants.{Memory}
+use Rattle.job_targets.proofs.GatherLaws.{keeps_start}
+use Rattle.update_job.specs.Changes.{AreChanges}
+use Rattle.system_core.specs.Job.{sources_of}
+use Rattle.system_core.specs.Lists.{to_list}
+use Rattle.system_core.proofs.AnswerLaws.{answer_stop, done_answer, tests_answer, write_answer}
+use Rattle.system_core.proofs.JobLaws.{can_write, cause_of, memory_cause, memory_stop, stored, tested_cause, tests_stop, write_done, write_stop, written_cause}
+use Rattle.system_core.proofs.running.job.Goals as goal
+
+pub returns-in_err-changes-clause-ends : goal.returns-in_err-changes-clause-ends
+returns-in_err-changes-clause-ends g c tells s stores = memory_stop g.met.T.TreeDisk.laws _ c.args.list s c.args.root.now c.args.db.now c.from_residual.result c.from_residual.ensures.1
+
+pub returns-in_err-changes-clause-answers : goal.returns-in_err-changes-clause-answers
+returns-in_err-changes-clause-answers g c =
+    answer_stop g.T.TreeDisk.disk (sources_of c.args.carried.now (g.C.Contents.contents.answers c.args.far.now) c.args.options.now) (to_list c.args.list) c.args.db.now c.args.root.now c.args.root.now c.args.db.now Memory c.from_residual.result c.from_residual.ensures.1 tt
+
+pub returns-in_err-changes-clause-causes : goal.returns-in_err-changes-clause-causes
+returns-in_err-changes-clause-causes g c = memory_cause g.C.Contents.contents c.args.far.now c.args.far.now (Rose (g.T.TreeDisk.disk.faults c.args.root.now) (g.T.TreeDisk.disk.faults c.args.root.now)) c.from_residual.result c.from_residual.ensures.1
+
+pub returns-in_err-changes-clause-searches : goal.returns-in_err-changes-clause-searches
+returns-in_err-changes-clause-searches g c = keeps_start g.met.C.Contents.laws c.args.far.now
+
+pub tested-requires-clause-changes : goal.tested-requires-clause-changes
+tested-requires-clause-changes g c = subst (AreChanges c.args.db.now.installed c.args.list) (sym c.get.ensures) c.in_ok-changes.ensures
+
+pub returns-in_err-made-clause-ends : goal.returns-in_err-made-clause-ends
+returns-in_err-made-clause-ends g c tells s stores =
+    tests_stop g.met.T.TreeDisk.laws tells _ c.args.db.now c.args.list c.requires.db.installed c.in_err-made.ensures.troves c.requires.allowed c.args.root.now (c.requires.ready tells) c.distinct_databases.ensures.unique s stores c.args.db.now
+    c.in_err-made.field-0.0 c.from_residual-in_err-made.result c.from_residual-in_err-made.ensures.1 c.in_err-made.ensures.gathers
+
+pub returns-in_err-made-clause-causes : goal.returns-in_err-made-clause-causes
+returns-in_err-made-clause-causes g c =
+    cause_of g.C.Contents.contents c.args.far.now c.tested.new.far (Rose (g.T.TreeDisk.disk.faults c.args.root.now) (g.T.TreeDisk.disk.faults c.tested.new.root)) c.in_err-made.field-0.0 c.from_residual-in_err-made.result c.from_residual-in_err-made.ensures.1 (tested_cause c.in_err-made.field-0.0 c.in_err-made.ensures.gathers)
+
+pub write_job-requires-clause-told : goal.write_job-requires-clause-told
+write_job-requires-clause-told g c tells =
+    can_write g.T.TreeDisk.disk c.args.db.now c.args.root.now c.tested.new.root (c.requires.ready tells) (c.in_ok-made.ensures.gathers.same tells) c.in_ok-made.made (c.in_ok-made.ensures.over tells)
+
+pub returns-in_err-number-clause-ends : goal.returns-in_err-number-clause-ends
+returns-in_err-number-clause-ends g c tells s stores =
+    let at = stored g.met.T.TreeDisk.laws tells _ c.args.db.now c.args.list c.requires.db.installed c.in_ok-made.ensures.troves c.requires.allowed c.args.root.now (c.requires.ready tells) c.distinct_databases.ensures.unique s stores
+    c.in_ok-made.made c.in_ok-made.ensures.gathers in
+    write_stop g.met.T.TreeDisk.laws tells _ c.args.db.now c.args.list c.requires.db.installed c.in_ok-made.ensures.troves c.requires.allowed c.args.root.now (c.requires.ready tells) c.distinct_databases.ensures.unique s stores
+    c.in_ok-made.made c.in_ok-made.ensures.gathers c.in_err-number.ensures.later c.in_ok-changes.changes c.in_ok-changes.ensures _ c.write_job.new.db c.in_err-number.field-0.0 c.from_residual-in_err-number.result c.from_residual-in_err-number.ensures.1
+    (c.in_err-number.ensures.ends tells s at) c.in_err-number.ensures.stops c.in_err-number.ensures.tested
+
+pub returns-in_err-number-clause-causes : goal.returns-in_err-number-clause-causes
+returns-in_err-number-clause-causes g c =
+    cause_of g.C.Contents.contents c.args.far.now c.tested.new.far (Rose (g.T.TreeDisk.disk.faults c.args.root.now) (g.T.TreeDisk.disk.faults c.write_job.new.root)) c.in_err-number.field-0.0 c.from_residual-in_err-number.result c.from_residual-in_err-number.ensures.1
+    (written_cause g.C.Contents.contents c.args.far.now c.tested.new.far (g.T.TreeDisk.disk.faults c.args.root.now) (g.T.TreeDisk.disk.faults c.tested.new.root) (g.T.TreeDisk.disk.faults c.write_job.new.root) g.T.TreeDisk.disk.tells c.args.db.now c.args.list c.in_ok-made.made.puts c.in_err-number.field-0.0 c.in_ok-made.ensures.gathers.later c.in_err-number.ensures.stops)
+
+pub returns-clause-ends : goal.returns-clause-ends
+returns-clause-ends g c tells s stores =
+    let at = stored g.met.T.TreeDisk.laws tells _ c.args.db.now c.args.list c.requires.db.installed c.in_ok-made.ensures.troves c.requires.allowed c.args.root.now (c.requires.ready tells) c.distinct_databases.ensures.unique s stores
+    c.in_ok-made.made c.in_ok-made.ensures.gathers in
+    write_done g.met.T.TreeDisk.laws tells _ c.args.db.now c.args.list c.requires.db.installed c.in_ok-made.ensures.troves c.requires.allowed c.args.root.now (c.requires.ready tells) c.distinct_databases.ensures.unique s stores
+    c.in_ok-made.made c.in_ok-made.ensures.gathers c.in_ok-number.ensures.later c.write_job.new.db c.in_ok-changes.changes c.in_ok-number.number c.in_ok-changes.ensures
+    (c.in_ok-number.ensures.ends tells s at) c.in_ok-number.ensures.answers (c.in_ok-number.ensures.holds tells s at)
+
+pub returns-in_err-made-clause-answers : goal.returns-in_err-made-clause-answers
+returns-in_err-made-clause-answers g c =
+    let from = (sources_of c.args.carried.now (g.C.Contents.contents.answers c.args.far.now) c.args.options.now) in
+    answer_stop g.T.TreeDisk.disk from (to_list c.args.list) c.args.db.now c.args.root.now c.tested.new.root c.args.db.now c.in_err-made.field-0.0 c.from_residual-in_err-made.result c.from_residual-in_err-made.ensures.1
+    (tests_answer from c.args.db.now c.args.list c.args.db.now c.in_err-made.field-0.0 c.in_err-made.ensures.gathers c.in_err-made.ensures.stops)
+
+pub returns-in_err-number-clause-answers : goal.returns-in_err-number-clause-answers
+returns-in_err-number-clause-answers g c =
+    let from = (sources_of c.args.carried.now (g.C.Contents.contents.answers c.args.far.now) c.args.options.now) in
+    answer_stop g.T.TreeDisk.disk from (to_list c.args.list) c.args.db.now c.args.root.now c.write_job.new.root c.write_job.new.db c.in_err-number.field-0.0 c.from_residual-in_err-number.result c.from_residual-in_err-number.ensures.1
+    (write_answer from c.args.db.now c.args.list c.in_ok-made.made c.in_ok-made.ensures.gathers c.in_ok-made.ensures.passes c.write_job.new.db _ c.in_err-number.field-0.0 c.in_err-number.ensures.stops c.in_err-number.ensures.tested)
+
+pub returns-clause-answers : goal.returns-clause-answers
+returns-clause-answers g c =
+    done_answer (sources_of c.args.carried.now (g.C.Contents.contents.answers c.args.far.now) c.args.options.now) c.args.db.now c.args.list c.in_ok-made.made c.in_ok-made.ensures.gathers c.in_ok-made.ensures.passes c.write_job.new.root c.write_job.new.db c.in_ok-changes.changes c.in_ok-number.number
+    c.in_ok-made.ensures.list c.in_ok-changes.ensures c.in_ok-number.ensures.answers

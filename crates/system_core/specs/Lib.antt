@@ -1,0 +1,40 @@
+pub mod RootReady
+pub mod RootWriting
+pub mod FixedDirs
+pub mod FixedDirsLaws
+pub mod FixedPaths
+pub mod Recovered
+pub mod Opening
+pub mod Migrating
+pub mod Ready
+pub mod JobLists
+pub mod Last
+pub mod JobWriting
+pub mod Answers
+pub mod Changing
+pub mod Job
+pub mod Lists
+pub mod Something
+pub mod Steps
+pub mod Tests
+pub mod Preparing
+pub mod Inserting
+pub mod Rollback
+pub mod Restoring
+pub mod Several
+pub mod RestoringAll
+pub use Rattle.rollback_stack.specs.change-rel
+pub use Rattle.rollback_stack.specs.change-set
+pub use Rattle.rollback_stack.specs.cny-base
+pub use Rattle.conflict_plan.specs as conflict-plan
+pub use Rattle.rollback_stack.specs.content-store
+pub use Rattle.rollback_stack.specs.file-stream
+pub use Rattle.rollback_stack.specs.job-record
+pub use Rattle.job_targets.specs as job-targets
+pub use Rattle.rollback_stack.specs.journal-log
+pub use Rattle.rollback_stack.specs as rollback-stack
+pub use Rattle.rollback_stack.specs.tree-disk
+pub use Rattle.tree_journal.specs as tree-journal
+pub use Rattle.rollback_stack.specs.tree-scan
+pub use Rattle.rollback_stack.specs.trove-parts
+pub use Rattle.rollback_stack.specs.trove-stream

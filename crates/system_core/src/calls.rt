@@ -1,0 +1,141 @@
+//! The calls that make a job.
+ghost use Rattle.std.specs.Prelude.{◌≡◌, ◌≤◌, [], All, IfErr, IsTrue, OnErr, OnOk};
+ghost use Rattle.std.specs.List.Sorted.{IsStrictlySortedBy};
+ghost use Rattle.sha1.specs.Sha1.{sha1};
+ghost use Rattle.rollback_stack.specs.cny-base.Count.{Rose};
+ghost use Rattle.rollback_stack.specs.change-set.declared.change.Carried as carried_content;
+ghost use Rattle.rollback_stack.specs.change-set.ChangeSet.{content_cmp};
+ghost use Rattle.rollback_stack.specs.content-store.Contents.{KeepsContents};
+ghost use Rattle.local_db.specs.declared.format.Format.TheVariants.{Two};
+ghost use Rattle.local_db.specs.SystemState.{SystemState};
+ghost use Rattle.local_db.specs.Stores.{IsDatabase, StoresIn};
+ghost use Rattle.system_core.specs.JobWriting.{IsSettled};
+ghost use Rattle.system_core.specs.Answers.{AnswersCall};
+ghost use Rattle.system_core.specs.Job.{no_answers, sources_of};
+ghost use Rattle.system_core.specs.Lists.{AreAllowed, to_erased, to_list, to_updated};
+ghost use Rattle.system_core.specs.RootReady.{IsReady};
+ghost use Rattle.system_core.specs.Steps.{Ends, HasCause, HasOwnCause, IsErasureStop};
+
+use crate::done::Done;
+use crate::running::job;
+use local_db::{Db, distinct_databases};
+use rollback_stack::change_set::Carried;
+use rollback_stack::cny_base::{Name, Options, Stop};
+use rollback_stack::content_store::{Contents, NoContents};
+use rollback_stack::tree_disk::TreeDisk;
+use rollback_stack::trove_stream::{Installed, Trove};
+use std::alloc::Global;
+use update_job::{erased, updated};
+
+/// Installs these troves, each in place of what its name reaches by references, and answers what changed of the installed list,
+/// with the number of the job. Where neither the tree nor the list changes, there is no job and no number.
+///
+/// The tests, in this order: `Exists` for the second trove of a name that isn't the first again. `Unmet` for the first requirement
+/// that the list after the job doesn't meet. `Owned` for the first path that two of its troves have and that isn't a directory in
+/// both; `Unowned` or `Edited` for the first path at which the conflict table refuses; `Parent` for the first path of the result
+/// whose parent isn't a directory. `MissingContent` for the first file whose content is neither carried nor found nor what stands
+/// there. `TooLarge` for the first file above the limit that is to be replaced; `Collision` where two old contents have one SHA-1.
+/// `TooLarge` where the database after the job is too large, or where there is no further number. A refused call changes nothing.
+///
+/// The database is that of the root before and, after Ok, afterwards. No trove records a path that no trove may record; the carried
+/// contents have their SHA-1 as their names, which rise. At every moment a crash leaves a tree that recovers to the system before or
+/// to the one after, and after Ok to that after alone. `Failed` comes only where the root's count of faults rose, `FarFailed` only
+/// where that of the contents did, and `FarDamaged` only where one of the contents is damaged.
+pub fn update<T: TreeDisk, C: Contents>(
+    alloc: Global,
+    root: &mut T,
+    db: &mut Db,
+    come: &[Trove],
+    carried: &[Carried],
+    far: &mut C,
+    options: &Options,
+) -> Result<Done, Stop>
+    requires db { IsDatabase Two db.old.installed db.old.oldest db.old.newest }
+    requires allowed { AreAllowed come.now }
+    requires hash { All (λ (content : carried_content.Carried). content.name ≡ sha1 content.bytes) carried.now }
+    requires rising { IsStrictlySortedBy content_cmp carried.now }
+    requires ready { IsTrue T.disk.tells → IsReady T.disk db.old root.old }
+    // By each system that the root stores.
+    ensures ends { IsTrue T.disk.tells → (s : SystemState) → StoresIn Two (T.disk.reads root.old) s
+        → Ends T.disk (sources_of carried.now (C.contents.answers far.old) options.now) (to_updated s.installed come.now) s root.old root.new db.new result }
+    // After Ok the root is at rest, also where it stores no system.
+    ensures rests { IsTrue T.disk.tells → OnOk result (IsSettled T.disk root.new) }
+    // On every disk, also where it tells nothing.
+    ensures answers { AnswersCall T.disk (sources_of carried.now (C.contents.answers far.old) options.now) (to_updated db.old.installed come.now) db.old root.old root.new db.new result }
+    ensures rules { IsDatabase Two db.new.installed db.new.oldest db.new.newest }
+    ensures kept { OnErr result (db.new ≡ db.old) }
+    ensures causes { IfErr result (HasCause C.contents far.old far.new (Rose (T.disk.faults root.old) (T.disk.faults root.new))) }
+    ensures searches { KeepsContents C.contents far.old far.new }
+    ensures later { T.disk.faults root.old ≤ T.disk.faults root.new }
+{
+    // A tree holds one database.
+    distinct_databases();
+    let list = updated(alloc, &db.installed, come)?;
+    let done = job(alloc, root, db, list, carried, far, options)?;
+    Ok(done)
+}
+
+/// Takes the troves of these names away, with what they reach by references and no other installed trove keeps.
+///
+/// `NotInstalled` for the first of the names that isn't installed. Then the tests of an update in their order, after `Exists`, but
+/// for `Owned`, `Unowned` and `MissingContent`: an erasure writes no file. All else is as for an update.
+pub fn erase<T: TreeDisk>(
+    alloc: Global,
+    root: &mut T,
+    db: &mut Db,
+    names: &[Name],
+    options: &Options,
+) -> Result<Done, Stop>
+    requires db { IsDatabase Two db.old.installed db.old.oldest db.old.newest }
+    requires ready { IsTrue T.disk.tells → IsReady T.disk db.old root.old }
+    ensures ends { IsTrue T.disk.tells → (s : SystemState) → StoresIn Two (T.disk.reads root.old) s
+        → Ends T.disk (sources_of [] no_answers options.now) (to_erased s.installed names.now) s root.old root.new db.new result }
+    // What an erasure may be refused by.
+    ensures refusals { IsTrue T.disk.tells → (s : SystemState) → StoresIn Two (T.disk.reads root.old) s → IfErr result IsErasureStop }
+    // After Ok the root is at rest, also where it stores no system.
+    ensures rests { IsTrue T.disk.tells → OnOk result (IsSettled T.disk root.new) }
+    // On every disk, also where it tells nothing.
+    ensures answers { AnswersCall T.disk (sources_of [] no_answers options.now) (to_erased db.old.installed names.now) db.old root.old root.new db.new result }
+    ensures rules { IsDatabase Two db.new.installed db.new.oldest db.new.newest }
+    ensures kept { OnErr result (db.new ≡ db.old) }
+    ensures causes { IfErr result (HasOwnCause (Rose (T.disk.faults root.old) (T.disk.faults root.new))) }
+    ensures later { T.disk.faults root.old ≤ T.disk.faults root.new }
+{
+    // A tree holds one database.
+    distinct_databases();
+    let list = erased(alloc, &db.installed, names)?;
+    let mut far = NoContents;
+    let done = job(alloc, root, db, list, &[], &mut far, options)?;
+    Ok(done)
+}
+
+/// The job with this list after it, whatever leads to it, without carried contents. No trove of the list records a path that no
+/// trove may record.
+///
+/// The tests of an update in their order, after `Exists`. All else is as for an update.
+pub fn adopt<T: TreeDisk, C: Contents>(
+    alloc: Global,
+    root: &mut T,
+    db: &mut Db,
+    list: Installed,
+    far: &mut C,
+    options: &Options,
+) -> Result<Done, Stop>
+    requires db { IsDatabase Two db.old.installed db.old.oldest db.old.newest }
+    requires allowed { AreAllowed list }
+    requires ready { IsTrue T.disk.tells → IsReady T.disk db.old root.old }
+    ensures ends { IsTrue T.disk.tells → (s : SystemState) → StoresIn Two (T.disk.reads root.old) s
+        → Ends T.disk (sources_of [] (C.contents.answers far.old) options.now) (to_list list) s root.old root.new db.new result }
+    // After Ok the root is at rest, also where it stores no system.
+    ensures rests { IsTrue T.disk.tells → OnOk result (IsSettled T.disk root.new) }
+    // On every disk, also where it tells nothing.
+    ensures answers { AnswersCall T.disk (sources_of [] (C.contents.answers far.old) options.now) (to_list list) db.old root.old root.new db.new result }
+    ensures rules { IsDatabase Two db.new.installed db.new.oldest db.new.newest }
+    ensures kept { OnErr result (db.new ≡ db.old) }
+    ensures causes { IfErr result (HasCause C.contents far.old far.new (Rose (T.disk.faults root.old) (T.disk.faults root.new))) }
+    ensures searches { KeepsContents C.contents far.old far.new }
+    ensures later { T.disk.faults root.old ≤ T.disk.faults root.new }
+{
+    let done = job(alloc, root, db, list, &[], far, options)?;
+    Ok(done)
+}

@@ -1,0 +1,75 @@
+//! A job with a given list after it.
+ghost use Rattle.std.specs.Prelude.{◌≡◌, ◌≤◌, All, IfErr, IsTrue, OnErr, OnOk};
+ghost use Rattle.std.specs.List.Sorted.{IsStrictlySortedBy};
+ghost use Rattle.sha1.specs.Sha1.{sha1};
+ghost use Rattle.rollback_stack.specs.cny-base.Count.{Rose};
+ghost use Rattle.rollback_stack.specs.change-set.declared.change.Carried as carried_content;
+ghost use Rattle.rollback_stack.specs.change-set.ChangeSet.{content_cmp};
+ghost use Rattle.rollback_stack.specs.content-store.Contents.{KeepsContents};
+ghost use Rattle.local_db.specs.declared.format.Format.TheVariants.{Two};
+ghost use Rattle.local_db.specs.SystemState.{SystemState};
+ghost use Rattle.local_db.specs.Stores.{IsDatabase, StoresIn};
+ghost use Rattle.system_core.specs.JobWriting.{IsSettled};
+ghost use Rattle.system_core.specs.Answers.{AnswersCall};
+ghost use Rattle.system_core.specs.Job.{sources_of};
+ghost use Rattle.system_core.specs.Lists.{AreAllowed, to_list};
+ghost use Rattle.system_core.specs.RootReady.{IsReady};
+ghost use Rattle.system_core.specs.Steps.{Ends, HasCause};
+
+use crate::done::Done;
+use crate::job_writing::write_job;
+use crate::testing::tested;
+use job_targets::Targets;
+use local_db::{Db, distinct_databases};
+use rollback_stack::change_set::Carried;
+use rollback_stack::cny_base::{Options, Stop};
+use rollback_stack::content_store::Contents;
+use rollback_stack::tree_disk::TreeDisk;
+use rollback_stack::trove_stream::Installed;
+use std::alloc::Global;
+use update_job::changed;
+
+/// The job with this list after it: its tests only read, and one write set takes the root to the system after it.
+pub(crate) fn job<T: TreeDisk, C: Contents>(
+    alloc: Global,
+    root: &mut T,
+    db: &mut Db,
+    list: Installed,
+    carried: &[Carried],
+    far: &mut C,
+    options: &Options,
+) -> Result<Done, Stop>
+    requires db { IsDatabase Two db.old.installed db.old.oldest db.old.newest }
+    requires allowed { AreAllowed list }
+    requires hash { All (λ (content : carried_content.Carried). content.name ≡ sha1 content.bytes) carried.now }
+    requires rising { IsStrictlySortedBy content_cmp carried.now }
+    requires ready { IsTrue T.disk.tells → IsReady T.disk db.old root.old }
+    ensures ends { IsTrue T.disk.tells → (s : SystemState) → StoresIn Two (T.disk.reads root.old) s
+        → Ends T.disk (sources_of carried.now (C.contents.answers far.old) options.now) (to_list list) s root.old root.new db.new result }
+    // After Ok the root is at rest, also where it stores no system.
+    ensures rests { IsTrue T.disk.tells → OnOk result (IsSettled T.disk root.new) }
+    // On every disk, also where it tells nothing.
+    ensures answers { AnswersCall T.disk (sources_of carried.now (C.contents.answers far.old) options.now) (to_list list) db.old root.old root.new db.new result }
+    ensures rules { IsDatabase Two db.new.installed db.new.oldest db.new.newest }
+    ensures kept { OnErr result (db.new ≡ db.old) }
+    ensures causes { IfErr result (HasCause C.contents far.old far.new (Rose (T.disk.faults root.old) (T.disk.faults root.new))) }
+    ensures searches { KeepsContents C.contents far.old far.new }
+    ensures later { T.disk.faults root.old ≤ T.disk.faults root.new }
+{
+    // A tree holds one database.
+    distinct_databases();
+    let changes = changed(alloc, &db.installed, &list)?;
+    let made = tested(
+        alloc,
+        root,
+        &db.installed,
+        &list,
+        changes.get(),
+        carried,
+        far,
+        options,
+    )?;
+    let Targets { puts, entries } = made;
+    let number = write_job(alloc, root, db, list, puts, entries)?;
+    Ok(Done { changes, number })
+}

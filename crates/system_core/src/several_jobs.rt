@@ -1,0 +1,60 @@
+//! All jobs from the newest down to one of a number, taken back at once.
+ghost use Rattle.std.specs.Prelude.{◌≡◌, ◌≤◌, IfErr, IfOk, IsTrue, OnErr};
+ghost use Rattle.rollback_stack.specs.cny-base.Count.{Rose};
+ghost use Rattle.local_db.specs.declared.format.Format.TheVariants.{Two};
+ghost use Rattle.local_db.specs.SystemState.{SystemState};
+ghost use Rattle.local_db.specs.Stores.{IsDatabase, StoresIn};
+ghost use Rattle.system_core.specs.Rollback.{HasCause, IsReadyWith};
+ghost use Rattle.system_core.specs.RestoringAll.{AreUnedited, RestoresTo};
+ghost use Rattle.system_core.specs.Several.{HasJob, HasTakenBackTo, IsRefusalKindTo, RollsBackTo, StopsTo};
+
+use crate::preparing::prepare_to;
+use crate::root_writing::write_all;
+use local_db::{Db, distinct_databases};
+use rollback_stack::cny_base::Stop;
+use rollback_stack::one_record;
+use rollback_stack::tree_disk::TreeDisk;
+use std::alloc::Global;
+
+/// Takes all jobs of the root from the newest down to the one of this number back, as if one after the other, and answers how many
+/// they are. The database is that of the root before and, after Ok, afterwards.
+///
+/// `StackEmpty` only where the database has no job; `NoJob` only where it has jobs and none of this number. Where the disk tells its
+/// tree: `Edited` and `Parent` only as `rollback` would answer them for the first job, the newest first, that it would refuse once the
+/// newer ones are taken back; `Damaged` only for the first record of the jobs that is, once the newer jobs can be taken back, or for
+/// one of the contents that are to stand again, once all can. After a refusal and a damaged file the disk is as it was: all tests come
+/// before the one write set, and where one of them fails nothing is written, whatever is answered.
+///
+/// There too, at every moment a crash leaves a tree that recovers to the system before or to the one with all these jobs taken back,
+/// and after Ok to that after alone. On every disk `Failed` comes only where the root's count of faults rose, and no refusal but
+/// these four.
+pub fn rollback_to<T: TreeDisk>(
+    alloc: Global,
+    root: &mut T,
+    db: &mut Db,
+    number: u32,
+) -> Result<u32, Stop>
+    requires db { IsDatabase Two db.old.installed db.old.oldest db.old.newest }
+    requires ready { IsTrue T.disk.tells → IsReadyWith T.disk db.old root.old }
+    // By each system that the root stores.
+    ensures rolls { IsTrue T.disk.tells → (s : SystemState) → StoresIn Two (T.disk.reads root.old) s → RollsBackTo T.disk s number db.new root.old root.new result }
+    // Where nothing at the paths of the jobs was edited since.
+    ensures restores { IsTrue T.disk.tells → (s : SystemState) → StoresIn Two (T.disk.reads root.old) s
+        → HasJob s.stack number → AreUnedited s number → RestoresTo s number db.new (T.disk.reads root.new) result }
+    // What was done, also on a root that stores no system.
+    ensures done { IsTrue T.disk.tells → IfOk result (HasTakenBackTo T.disk db.old db.new number root.old root.new) }
+    // Where a stop changes nothing, also on a root that stores no system.
+    ensures stops { IsTrue T.disk.tells → IfErr result (StopsTo T.disk db.old number root.old root.new) }
+    ensures causes { IfErr result (HasCause (IsRefusalKindTo db.old number) (Rose (T.disk.faults root.old) (T.disk.faults root.new))) }
+    ensures kept { OnErr result (db.new ≡ db.old) }
+    ensures later { T.disk.faults root.old ≤ T.disk.faults root.new }
+{
+    // A tree holds one database, and of each number one record.
+    distinct_databases();
+    one_record();
+    let step = prepare_to(alloc, root, db, number)?;
+    write_all(alloc, root, &step.puts)?;
+    let count = db.newest - number + 1;
+    *db = step.db;
+    Ok(count)
+}

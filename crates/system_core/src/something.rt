@@ -1,0 +1,46 @@
+//! Entries at whose path something stands before or after the job.
+ghost use Rattle.std.specs.Prelude.{◌≡◌, true, IfErr, OnOk, All};
+ghost use Rattle.rollback_stack.specs.cny-base.declared.refusal.Refusal.TheVariants as refusal;
+ghost use Rattle.job_targets.specs.declared.entry.Entry as declared;
+ghost use Rattle.rollback_stack.specs.Undo.{entries_of};
+ghost use Rattle.system_core.specs.JobWriting.{IsSomething};
+ghost use Rattle.system_core.specs.Something.{is_something, HasNothing, IsNothing};
+
+use job_targets::Entry;
+use rollback_stack::cny_base::{Fault, Refusal, Text};
+use rollback_stack::journal_log::Want;
+use std::alloc::Global;
+
+// Whether something stands at the path before the job or after it.
+fn is_something(entry: &Entry) -> bool
+    ensures { result ≡ is_something entry.now }
+{
+    match entry.was {
+        Want::Nothing => !entry.mark.is_nothing(),
+        _ => true,
+    }
+}
+
+// `Edited` where nothing stands at the path that is to go.
+fn check_entry(alloc: Global, entry: &Entry) -> Result<(), Fault>
+    ensures something { OnOk result (is_something entry.now ≡ true) }
+    ensures refused { IfErr result (IsNothing entry.now) }
+{
+    if is_something(entry) {
+        return Ok(());
+    }
+    let path = Text::new(alloc, entry.path.text())?;
+    Err(Fault::Refused(Refusal::Edited { path }))
+}
+
+/// `Edited` for the first path at which nothing stands that is to go. (Of a disk that tells its tree no plan has such a path; of
+/// another one it is a path that was taken away since the plan was made.)
+pub(crate) fn check_something(alloc: Global, entries: &[Entry]) -> Result<(), Fault>
+    ensures something { OnOk result (All IsSomething (entries_of entries.now)) }
+    ensures refused { IfErr result (HasNothing entries.now) }
+{
+    for entry in entries {
+        check_entry(alloc, entry)?;
+    }
+    Ok(())
+}

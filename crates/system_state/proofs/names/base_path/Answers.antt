@@ -1,5 +1,0 @@
-use Rattle.system_state.proofs.FileNames.{base_is_path}
-use Rattle.system_state.proofs.names.base_path.Goals as goal
-
-pub path_of-requires : goal.path_of-requires
-path_of-requires c = base_is_path

@@ -1,5 +1,0 @@
-use Rattle.system_state.proofs.FileNames.{database_is_path}
-use Rattle.system_state.proofs.names.database_path.Goals as goal
-
-pub path_of-requires : goal.path_of-requires
-path_of-requires c = database_is_path

@@ -1,4 +1,0 @@
-mod Added
-mod Answered
-mod Listed
-mod SearchLaws

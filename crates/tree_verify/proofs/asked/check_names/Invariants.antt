@@ -1,6 +1,0 @@
-use Rattle.std.proofs.Common.{take}
-use Rattle.tree_verify.proofs.Listed.{InstalledSoFar}
-use Rattle.tree_verify.proofs.asked.check_names.Given as goal
-
-abbrev pub invariant-loop-name : goal.invariant-loop-name
-invariant-loop-name l = InstalledSoFar l.installed (take l.name-index l.names)

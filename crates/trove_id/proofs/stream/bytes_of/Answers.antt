@@ -1,7 +1,0 @@
-use Rattle.std.proofs.Common.{subst, sym, ◌∙◌}
-use Rattle.cny_base.specs.StrField.{FitsStr}
-use Rattle.trove_id.proofs.Fields.{flavor_fits}
-use Rattle.trove_id.proofs.stream.bytes_of.Goals as goal
-
-pub put_str-requires-3 : goal.put_str-requires-3
-put_str-requires-3 c = subst FitsStr (sym (c.as_bytes-3.ensures.value ∙ c.text-3.ensures.value)) (flavor_fits c.args.id.now.flavor c.text-3.ensures.flavor)

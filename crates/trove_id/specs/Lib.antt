@@ -1,3 +1,0 @@
-pub mod Id
-pub mod Order
-pub mod Parts

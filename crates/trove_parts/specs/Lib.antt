@@ -1,0 +1,12 @@
+pub mod Id
+pub mod Order
+pub mod Parts
+pub mod Items
+pub mod ItemsLaws
+pub mod Files
+pub mod Refs
+pub mod Deps
+pub mod Paths
+pub use Rattle.cny_version.specs.cny-base
+pub use Rattle.cny_flavor.specs as cny-flavor
+pub use Rattle.file_stream.specs as file-stream

@@ -1,6 +1,0 @@
-mod Merging
-mod Equal
-mod Parts
-mod Handed
-mod Whole
-mod OneRel

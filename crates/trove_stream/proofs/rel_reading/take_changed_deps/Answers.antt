@@ -1,0 +1,36 @@
+use Rattle.std.proofs.Common.{◌≡◌, ◌+◌, ◌++◌, drop, Err, ap}
+use Rattle.std.proofs.lemmas.Result.{err_from_is_err_and}
+use Rattle.trove_parts.specs.cny-base.declared.text.TextFault.TheVariants.{Bad}
+use Rattle.cny_dep.specs.Dep.{dep_text}
+use Rattle.trove_parts.specs.Items.{items_bytes}
+use Rattle.trove_stream.proofs.Handed.{handed_on}
+use Rattle.trove_stream.proofs.RelStreamParts.{first_of_pair, second_of_pair, pair_at}
+use Rattle.trove_stream.proofs.rel_reading.take_changed_deps.Goals as goal
+
+pub returns-in_err-gone-clause-bad : goal.returns-in_err-gone-clause-bad
+returns-in_err-gone-clause-bad c h gone added rest gone_is added_is begins =
+    let bytes = c.args.bytes.now in
+    let from = drop c.args.at bytes in
+    let met : c.in_err-gone.field-0.0 ≡ Bad = handed_on c.from_residual.result c.in_err-gone.field-0.0 Bad (err_from_is_err_and c.from_residual.result c.from_residual.ensures.1) h in
+    c.in_err-gone.ensures.bad (ap Err met) gone (items_bytes dep_text (c.args.tag + 1) added ++ rest) gone_is tt (first_of_pair dep_text dep_text c.args.tag from gone added rest begins)
+
+pub returns-in_err-added-clause-bad : goal.returns-in_err-added-clause-bad
+returns-in_err-added-clause-bad c h gone added rest gone_is added_is begins =
+    let bytes = c.args.bytes.now in
+    let from = drop c.args.at bytes in
+    let met : c.in_err-added.field-0.0 ≡ Bad = handed_on c.from_residual-in_err-added.result c.in_err-added.field-0.0 Bad (err_from_is_err_and c.from_residual-in_err-added.result c.from_residual-in_err-added.ensures.1) h in
+    let first = c.in_ok-gone.ensures.only gone (items_bytes dep_text (c.args.tag + 1) added ++ rest) gone_is (first_of_pair dep_text dep_text c.args.tag from gone added rest begins) in
+    c.in_err-added.ensures.bad (ap Err met) added rest added_is tt (second_of_pair dep_text dep_text c.args.tag from (drop c.in_ok-gone.gone.to bytes) gone added rest begins first.1)
+
+pub returns-clause-found : goal.returns-clause-found
+returns-clause-found c =
+    pair_at dep_text dep_text c.args.tag c.args.bytes.now c.args.at c.in_ok-gone.gone.to c.in_ok-added.added.to c.in_ok-gone.gone.deps c.in_ok-added.added.deps
+    c.in_ok-gone.ensures.found c.in_ok-added.ensures.found
+
+pub returns-clause-only : goal.returns-clause-only
+returns-clause-only c gone added rest gone_is added_is begins =
+    let bytes = c.args.bytes.now in
+    let from = drop c.args.at bytes in
+    let first = c.in_ok-gone.ensures.only gone (items_bytes dep_text (c.args.tag + 1) added ++ rest) gone_is (first_of_pair dep_text dep_text c.args.tag from gone added rest begins) in
+    let second = c.in_ok-added.ensures.only added rest added_is (second_of_pair dep_text dep_text c.args.tag from (drop c.in_ok-gone.gone.to bytes) gone added rest begins first.1) in
+    (first.0, second.0, second.1)

@@ -1,6 +1,0 @@
-use Rattle.std.proofs.Common.{◌≡◌, map, take}
-use Rattle.undo_check.specs.Entries.{told_of}
-use Rattle.undo_check.proofs.entries.told_changes.Given as goal
-
-abbrev pub invariant-loop-entry : goal.invariant-loop-entry
-invariant-loop-entry l = l.changes.items ≡ map told_of (take l.entry-index l.entries)

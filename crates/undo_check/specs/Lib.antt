@@ -1,5 +1,0 @@
-pub mod Marks
-pub mod Jobs
-pub mod Seen
-pub mod Outcome
-pub mod Entries
