@@ -3,6 +3,9 @@
 It runs the gate in a copy of the repository, samples the prover's processes and prints the table; then it checks each crate once
 more by a single process, whose lines tell when each function is done, and prints the slow ones. What an earlier run of the gate kept isn't used for what is measured:
 with a name the crate gets one more comment line in the copy, without a name the gate proves all anew.
+
+With --here the gate runs in this very checkout, so that what passes is kept as by any other run. Then one run is the verdict and the
+measure: a crate that was kept from an earlier run shows no seconds, and no function is timed.
 """
 import os
 import re
@@ -20,7 +23,7 @@ FUNCTION, TEST, EDIT = 10, 5, 25
 MINUTES, SMALL = 6, 3
 # The limits are those of one machine. Where all crates are measured, seconds are told as of that machine, on which the proofs of these
 # crates take so many seconds.
-REFERENCE = {"cny_flavor": 59, "cny_version": 97, "cny_dep": 40, "trove_id": 33, "file_stream": 41}
+REFERENCE = {"cny_flavor": 59, "cny_version": 97, "cny_dep": 40, "file_stream": 41}
 
 
 def crates():
@@ -77,10 +80,10 @@ def kind_of(words, folder):
     return "tests" if "--test" in words else "proof"
 
 
-def run_gate(room, words):
+def run_gate(room, words, log):
     """Runs the gate and returns its last lines and, by process, what it was for."""
     found = {}
-    with open(f"{room}/gate.log", "w+", encoding="utf-8") as log:
+    with open(log, "w+", encoding="utf-8") as log:
         gate = subprocess.Popen(["rt", "ci", *words], cwd=room, stdout=log, stderr=log, start_new_session=True)
         while gate.poll() is None:
             for number, argv, folder, seconds, peak in processes(gate.pid):
@@ -191,7 +194,7 @@ def scale_of(found):
 
 
 def report(names, found):
-    scale, whole = scale_of(found), 0.0
+    scale, whole, parts = scale_of(found), 0.0, [0.0, 0.0, 0.0]
     print("| crate | lines of `src/` | of `specs/` | of `proofs/` | edits | proof, s | tests, s | edits, s | all, min | for 1,000 lines | peak, MB |")
     print("|---|---|---|---|---|---|---|---|---|---|---|")
     over = []
@@ -200,11 +203,12 @@ def report(names, found):
         peak = max([p for (_, name, _), (_, p) in found.items() if name == crate] or [0])
         minutes, lines = (proof + tests + edits) / 60, lines_of(crate, "src")
         whole += minutes
+        parts = [it + seconds / 60 for it, seconds in zip(parts, (proof, tests, edits))]
         sizes = " | ".join(f"{lines_of(crate, part):,}" for part in ("src", "specs", "proofs"))
         print(f"| `{crate}` | {sizes} | {edits_of(crate)} | {proof:.0f} | {tests:.0f} | {edits:.0f} | {minutes:.1f} | {1000 * minutes / lines:.1f} | {peak:,} |")
         if minutes > max(SMALL, MINUTES * lines / 1000):
             over.append(f"over its minutes: {crate}: {minutes:.1f} for {lines:,} lines")
-    print(f"\nall: {whole:.1f} processor minutes; a second of this machine is told as {scale:.2f}")
+    print(f"\nall: {whole:.1f} processor minutes, {parts[0]:.1f} of proofs, {parts[1]:.1f} of tests, {parts[2]:.1f} of edits; a second of this machine is told as {scale:.2f}")
     for it in over:
         print(it)
     for (_, crate, kind), (seconds, _) in sorted(found.items(), key=lambda it: -it[1][0]):
@@ -215,14 +219,20 @@ def report(names, found):
 def main():
     wanted = sys.argv[1:]
     known = crates()
+    if wanted == ["--here"]:
+        with tempfile.TemporaryDirectory(prefix="gate-cost-") as at:
+            said, found = run_gate(".", [], f"{at}/gate.log")
+        report(known, found)
+        print("\n".join(said), flush=True)
+        sys.exit(0 if " 0 failed" in said[-1] else 1)
     if len(wanted) > 1 or any(it not in known for it in wanted):
-        sys.exit("usage: tools/gate_cost.sh [CRATE]")
+        sys.exit("usage: tools/gate_cost.sh [--here | CRATE]")
     with tempfile.TemporaryDirectory(prefix="gate-cost-") as at:
         room = copy_to(f"{at}/gate")
         subprocess.run(["git", "init", "-q"], cwd=room, check=True)
         for crate in wanted:
             touch(room, crate)
-        said, found = run_gate(room, wanted or ["--anew"])
+        said, found = run_gate(room, wanted or ["--anew"], f"{at}/gate.log")
         report(wanted or known, found)
         print("\n".join(said), flush=True)
         lanes = len(os.sched_getaffinity(0)) if not wanted else 1
@@ -234,4 +244,5 @@ def main():
                     print(f"slow: {name}: {scale * seconds:.0f} s")
 
 
-main()
+if __name__ == "__main__":
+    main()
