@@ -5,14 +5,10 @@
 # Usage: bench/catalogue.sh [COUNT...]
 set -eu
 top=$(CDPATH='' cd "$(dirname "$0")/.." && pwd)
+. "$top/bench/lib.sh"
 work=$(mktemp -d)
 trap 'rm -rf "$work"' EXIT
-mkdir -p "$work/crates/catalogues/src"
-for crate in cny_base cny_stream cny_flavor cny_version cny_dep file_stream trove_id trove_items trove_stream repo_index trove_spec repo_shadow; do
-    cp -r "$top/crates/$crate" "$work/crates/"
-    grep "^$crate:" "$top/crates.txt" >>"$work/crates.txt"
-done
-echo 'catalogues may_abort=20: cny_base cny_flavor cny_version trove_id trove_stream repo_index trove_spec repo_shadow anyhow' >>"$work/crates.txt"
+copy_crates "$top" "$work" catalogues 'may_abort=20: cny_base cny_flavor cny_version trove_parts trove_stream repo_index trove_spec repo_shadow anyhow'
 cat >"$work/crates/catalogues/src/main.rt" <<'PROGRAM'
 //! Adds troves to a catalogue, resolves specifications in it, expands a group and moves it onto a label, and prints how long each
 //! took.
@@ -26,7 +22,7 @@ use std::alloc::Global;
 use std::env;
 use std::process::Abort;
 use std::time::Instant;
-use trove_id::read_id;
+use trove_parts::read_id;
 use trove_spec::{Config, Labels, Spec, expand, resolve};
 use trove_stream::{Deps, Files, Refs, Trove};
 

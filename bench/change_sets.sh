@@ -5,14 +5,10 @@
 # without words, for 125, 250, 500 and 1,000 files of 100,000 bytes each, which are 12.5, 25, 50 and 100 MB.
 set -eu
 top=$(CDPATH='' cd "$(dirname "$0")/.." && pwd)
+. "$top/bench/lib.sh"
 work=$(mktemp -d)
 trap 'rm -rf "$work"' EXIT
-mkdir -p "$work/crates/change_sets/src"
-for crate in cny_base cny_stream cny_flavor cny_version cny_dep file_stream trove_id trove_items trove_stream trove_rel change_set; do
-    cp -r "$top/crates/$crate" "$work/crates/"
-    grep "^$crate:" "$top/crates.txt" >>"$work/crates.txt"
-done
-echo 'change_sets may_abort=20: cny_base change_set sha1 anyhow' >>"$work/crates.txt"
+copy_crates "$top" "$work" change_sets 'may_abort=20: cny_base change_set sha1 anyhow'
 cat >"$work/crates/change_sets/src/main.rt" <<'PROGRAM'
 //! Reads a change set of one component with so many files of so many bytes, and writes it again, and prints how long each
 //! took.

@@ -5,14 +5,10 @@
 # Usage: bench/commits.sh [COUNT...]
 set -eu
 top=$(CDPATH='' cd "$(dirname "$0")/.." && pwd)
+. "$top/bench/lib.sh"
 work=$(mktemp -d)
 trap 'rm -rf "$work"' EXIT
-mkdir -p "$work/crates/commits/src"
-for crate in cny_base cny_lanes cny_stream cny_flavor cny_version cny_dep file_stream trove_id trove_items trove_stream trove_rel change_rel change_set tree_disk tree_nodes tree_memory disk_words content_store journal_log tree_journal repo_index repo_state repository repo_commit; do
-    cp -r "$top/crates/$crate" "$work/crates/"
-    grep "^$crate:" "$top/crates.txt" >>"$work/crates.txt"
-done
-echo 'commits may_abort=20: change_set cny_base repo_commit repo_index repository tree_disk tree_memory hex disk_words anyhow' >>"$work/crates.txt"
+copy_crates "$top" "$work" commits 'may_abort=20: cny_base change_set tree_memory disk_words repo_load repository hex anyhow'
 cat >"$work/crates/commits/src/main.rt" <<'PROGRAM'
 //! Commits the change sets on standard input, a line each, to a tree in memory, and prints what every 20 of them cost.
 #![tactic(auto)]
@@ -22,8 +18,8 @@ ghost use Rattle.change_set.specs.ChangeSet.{HasContents};
 use change_set::{ChangeSet, decode};
 use cny_base::{Fails, Mode, Node, Path};
 use disk_words::Quiet;
-use repo_commit::commit;
-use repository::load;
+use repo_load::load;
+use repository::commit;
 use std::alloc::Global;
 use std::io::{BufRead, BufReader};
 use std::process::Abort;

@@ -6,14 +6,10 @@
 # Usage: bench/contents.sh [COUNT...]
 set -eu
 top=$(CDPATH='' cd "$(dirname "$0")/.." && pwd)
+. "$top/bench/lib.sh"
 work=$(mktemp -d)
 trap 'rm -rf "$work"' EXIT
-mkdir -p "$work/crates/contents/src"
-for crate in cny_base cny_lanes tree_disk tree_nodes tree_memory disk_words content_store; do
-    cp -r "$top/crates/$crate" "$work/crates/"
-done
-grep -E '^(cny_base|cny_lanes|tree_disk|tree_nodes|tree_memory|content_store):' "$top/crates.txt" >"$work/crates.txt"
-echo 'contents may_abort=20: cny_base cny_lanes tree_disk tree_memory content_store disk_words anyhow' >>"$work/crates.txt"
+copy_crates "$top" "$work" contents 'may_abort=20: cny_base cny_lanes content_store tree_memory disk_words anyhow'
 cat >"$work/crates/contents/src/main.rt" <<'PROGRAM'
 //! Puts contents and gets them back, or compares two equal ones: `put COUNT SIZE`, `again COUNT SIZE`, `kernels COUNT SIZE`
 //! or `loop COUNT SIZE`.

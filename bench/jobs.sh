@@ -8,27 +8,10 @@
 # Usage: bench/jobs.sh [PACKAGES...]
 set -eu
 top=$(CDPATH='' cd "$(dirname "$0")/.." && pwd)
+. "$top/bench/lib.sh"
 work=$(mktemp -d)
 trap 'rm -rf "$work"' EXIT
-mkdir -p "$work/crates/jobs/src"
-cp "$top/crates.txt" "$work/all.txt"
-# The lines of crates.txt that the program stands on.
-needed='system_job system_rollback tree_verify root_words state_words tree_memory installed_list local_db'
-while :; do
-    more=$(for crate in $needed; do sed -n "s/^$crate:\(.*\)/$crate \1/p" "$work/all.txt"; done | tr ' ' '\n' | sort -u)
-    [ "$more" = "$(echo "$needed" | tr ' ' '\n' | sort -u)" ] && break
-    needed=$more
-done
-for crate in $(sed -n 's/^\([a-z_0-9]*\):.*/\1/p' "$work/all.txt"); do
-    if echo "$needed" | tr ' ' '\n' | grep -qx "$crate"; then
-        mkdir -p "$work/crates/$crate"
-        for part in src specs proofs; do
-            [ ! -d "$top/crates/$crate/$part" ] || cp -r "$top/crates/$crate/$part" "$work/crates/$crate/"
-        done
-        grep -E "^$crate:" "$work/all.txt" >>"$work/crates.txt"
-    fi
-done
-echo 'jobs may_abort=4: change_set cny_base cny_report content_store installed_list local_db root_words sha1 state_words system_job system_rollback system_state tree_disk tree_journal tree_memory tree_verify trove_id trove_stream' >>"$work/crates.txt"
+copy_crates "$top" "$work" jobs 'may_abort=4: cny_base change_set trove_stream content_store root_edits local_db system_core state_words root_words sha1'
 cp "$top/crates/system_vectors/src/troves.rt" "$work/crates/jobs/src/"
 mkdir -p "$work/crates/jobs/proofs"
 cp -r "$top/crates/system_vectors/proofs/." "$work/crates/jobs/proofs/"
@@ -42,9 +25,9 @@ ghost use Rattle.std.specs.List.Sorted.{IsStrictlySortedBy};
 ghost use Rattle.sha1.specs.Sha1.{sha1};
 ghost use Rattle.change_set.specs.declared.change.Carried as declared;
 ghost use Rattle.change_set.specs.ChangeSet.{content_cmp};
-ghost use Rattle.system_state.specs.declared.format.Format.TheVariants.{Two};
-ghost use Rattle.system_state.specs.Stores.{IsDatabase};
-ghost use Rattle.system_job.specs.Lists.{AreAllowed};
+ghost use Rattle.local_db.specs.declared.format.Format.TheVariants.{Two};
+ghost use Rattle.local_db.specs.Stores.{IsDatabase};
+ghost use Rattle.system_core.specs.Lists.{AreAllowed};
 
 mod troves;
 
@@ -53,15 +36,14 @@ use change_set::Carried;
 use cny_base::{Options, Stop as DiskEnd};
 use content_store::NoContents;
 use local_db::Db;
+use root_edits::verify;
 use root_words::{Quiet, are_in_order, carried_of, disk_of, readied};
 use state_words::{Stop, parts_of, text_at};
 use std::alloc::Global;
 use std::io::{self, BufRead, BufReader};
 use std::process::Abort;
 use std::time::Instant;
-use system_job::update;
-use system_rollback::rollback;
-use tree_verify::verify;
+use system_core::{rollback, update};
 use trove_stream::Trove;
 
 fn updated(alloc: Global, disk: &mut Quiet, db: &mut Db, come: &[Trove], carried: &[Carried]) -> Result<bool, DiskEnd>

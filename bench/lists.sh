@@ -5,25 +5,20 @@
 # Usage: bench/lists.sh [COUNT...]
 set -eu
 top=$(CDPATH='' cd "$(dirname "$0")/.." && pwd)
+. "$top/bench/lib.sh"
 work=$(mktemp -d)
 trap 'rm -rf "$work"' EXIT
-mkdir -p "$work/crates/lists/src"
-for crate in cny_base cny_stream cny_flavor cny_version cny_dep file_stream trove_id trove_items trove_stream installed_list update_job; do
-    cp -r "$top/crates/$crate" "$work/crates/"
-    grep "^$crate:" "$top/crates.txt" >>"$work/crates.txt"
-done
-echo 'lists may_abort=20: cny_base trove_id trove_stream installed_list update_job anyhow' >>"$work/crates.txt"
+copy_crates "$top" "$work" lists 'may_abort=20: cny_base trove_parts trove_stream update_job anyhow'
 cat >"$work/crates/lists/src/main.rt" <<'PROGRAM'
 //! Erases and updates a group of many components, and prints how long that took.
 #![tactic(auto)]
 use cny_base::Name;
-use installed_list::Installed;
 use std::alloc::Global;
 use std::env;
 use std::process::Abort;
 use std::time::Instant;
-use trove_id::{TroveId, read_id};
-use trove_stream::{Deps, Files, Refs, Trove};
+use trove_parts::{TroveId, read_id};
+use trove_stream::{Deps, Files, Installed, Refs, Trove};
 use update_job::{changed, erased, updated};
 
 // The id of the component of this number.

@@ -5,14 +5,10 @@
 # Usage: bench/loading.sh [COUNT...]
 set -eu
 top=$(CDPATH='' cd "$(dirname "$0")/.." && pwd)
+. "$top/bench/lib.sh"
 work=$(mktemp -d)
 trap 'rm -rf "$work"' EXIT
-mkdir -p "$work/crates/loads/src"
-for crate in cny_base cny_lanes cny_stream cny_flavor cny_version cny_dep file_stream trove_id trove_items trove_stream tree_disk tree_nodes tree_memory disk_words content_store journal_log repo_index repo_state repository; do
-    cp -r "$top/crates/$crate" "$work/crates/"
-    grep "^$crate:" "$top/crates.txt" >>"$work/crates.txt"
-done
-echo 'loads may_abort=20: cny_base file_stream trove_id trove_items trove_stream tree_disk tree_memory repo_index repo_state repository sha1 disk_words anyhow' >>"$work/crates.txt"
+copy_crates "$top" "$work" loads 'may_abort=20: cny_base file_stream trove_parts trove_stream tree_disk tree_memory disk_words repo_index repo_load sha1 anyhow'
 cat >"$work/crates/loads/src/main.rt" <<'PROGRAM'
 //! Loads repositories from trees in memory, and prints how long it took.
 #![tactic(auto)]
@@ -21,8 +17,7 @@ use cny_base::{Bytes, Fails, Mode, Node, Path};
 use disk_words::Quiet;
 use file_stream::{FileRec, Flags, Owner};
 use repo_index::Catalogue;
-use repo_state::{commit_path, content_path, encode_commit};
-use repository::{content, counts, load};
+use repo_load::{commit_path, content, content_path, counts, encode_commit, load};
 use sha1::Sha1;
 use std::alloc::Global;
 use std::env;
@@ -30,8 +25,7 @@ use std::process::Abort;
 use std::time::Instant;
 use tree_disk::TreeDisk;
 use tree_memory::{MemoryTree, Nodes};
-use trove_id::read_id;
-use trove_items::FileAt;
+use trove_parts::{FileAt, read_id};
 use trove_stream::{Deps, Files, Refs, Trove};
 
 fn path<R: Abort + Alloc<A = Global>>(rt: &R, text: &str) -> Path {

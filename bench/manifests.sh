@@ -10,14 +10,10 @@
 # 50, 100 and 200 MB in 16,384, 32,768 and 65,535 files.
 set -eu
 top=$(CDPATH='' cd "$(dirname "$0")/.." && pwd)
+. "$top/bench/lib.sh"
 work=$(mktemp -d)
 trap 'rm -rf "$work"' EXIT
-mkdir -p "$work/crates/manifests/src"
-for crate in cny_base cny_stream cny_flavor cny_version cny_dep file_stream trove_id trove_items trove_stream trove_rel change_set manifest_troves cny_manifest; do
-    cp -r "$top/crates/$crate" "$work/crates/"
-    grep "^$crate:" "$top/crates.txt" >>"$work/crates.txt"
-done
-echo 'manifests may_abort=20: cny_base cny_manifest anyhow' >>"$work/crates.txt"
+copy_crates "$top" "$work" manifests 'may_abort=20: cny_manifest anyhow'
 cat >"$work/crates/manifests/src/main.rt" <<'PROGRAM'
 //! Reads a manifest of a kind with so many files of so many bytes, and prints how many bytes it has, how many troves and
 //! contents it makes, and how long it took.

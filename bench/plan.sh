@@ -6,15 +6,10 @@
 # Usage: bench/plan.sh [COUNT...]
 set -eu
 top=$(CDPATH='' cd "$(dirname "$0")/.." && pwd)
+. "$top/bench/lib.sh"
 work=$(mktemp -d)
 trap 'rm -rf "$work"' EXIT
-mkdir -p "$work/crates/plans/src"
-crates='cny_base cny_lanes cny_stream cny_flavor cny_version cny_dep file_stream trove_id trove_items trove_stream tree_disk tree_nodes tree_memory disk_words tree_scan conflict_plan'
-for crate in $crates; do
-    cp -r "$top/crates/$crate" "$work/crates/"
-    grep -E "^$crate:" "$top/crates.txt" >>"$work/crates.txt"
-done
-echo 'plans may_abort=20: cny_base file_stream sha1 trove_id trove_stream tree_disk tree_memory conflict_plan disk_words anyhow' >>"$work/crates.txt"
+copy_crates "$top" "$work" plans 'may_abort=20: cny_base file_stream trove_parts trove_stream tree_memory conflict_plan disk_words sha1 anyhow'
 cat >"$work/crates/plans/src/main.rt" <<'PROGRAM'
 //! Plans the update of every second of COUNT troves, TIMES times.
 #![tactic(auto)]
@@ -28,7 +23,7 @@ use std::alloc::Global;
 use std::env;
 use std::process::Abort;
 use tree_memory::{MemoryTree, Nodes};
-use trove_id::read_id;
+use trove_parts::read_id;
 use trove_stream::{Deps, FileAt, Files, Refs, Trove};
 
 fn path<R: Abort + Alloc<A = Global>>(rt: &R, text: &str) -> Path {

@@ -7,15 +7,10 @@
 # Usage: bench/relative.sh [COUNT...]
 set -eu
 top=$(CDPATH='' cd "$(dirname "$0")/.." && pwd)
+. "$top/bench/lib.sh"
 work=$(mktemp -d)
 trap 'rm -rf "$work"' EXIT
-mkdir -p "$work/crates/relatives/src"
-crates='cny_base cny_stream cny_flavor cny_version cny_dep file_stream trove_id trove_items trove_stream trove_rel change_rel'
-for crate in $crates; do
-    cp -r "$top/crates/$crate" "$work/crates/"
-    grep -E "^$crate:" "$top/crates.txt" >>"$work/crates.txt"
-done
-echo 'relatives may_abort=40: cny_base trove_id trove_stream trove_rel change_rel anyhow' >>"$work/crates.txt"
+copy_crates "$top" "$work" relatives 'may_abort=40: cny_base trove_stream change_rel anyhow'
 cat >"$work/crates/relatives/src/main.rt" <<'PROGRAM'
 //! Makes the relative trove between two components of each of some numbers of files and applies it, in turns and so many times, and
 //! prints the number of files and the microseconds that each took.
@@ -27,8 +22,7 @@ use std::env;
 use std::process::Abort;
 use std::rt::Clock;
 use std::time::Instant;
-use trove_rel::RelTrove;
-use trove_stream::{Trove, decode};
+use trove_stream::{RelTrove, Trove, decode};
 
 #[derive(Drop)]
 struct Pair {

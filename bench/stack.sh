@@ -5,17 +5,10 @@
 # Usage: bench/stack.sh [TROVES JOBS]...
 set -eu
 top=$(CDPATH='' cd "$(dirname "$0")/.." && pwd)
+. "$top/bench/lib.sh"
 work=$(mktemp -d)
 trap 'rm -rf "$work"' EXIT
-mkdir -p "$work/crates/stacks/src"
-sed '/_vectors/d' "$top/crates.txt" >"$work/crates.txt"
-for crate in $(sed -n 's/^\([a-z_0-9]*\):.*/\1/p' "$work/crates.txt"); do
-    mkdir "$work/crates/$crate"
-    for part in src specs proofs; do
-        [ ! -d "$top/crates/$crate/$part" ] || cp -r "$top/crates/$crate/$part" "$work/crates/$crate/"
-    done
-done
-echo 'stacks may_abort=1: cny_base disk_words local_db rollback_stack state_words system_state tree_disk tree_memory anyhow' >>"$work/crates.txt"
+copy_crates "$top" "$work" stacks 'may_abort=1: cny_base disk_words local_db rollback_stack system_core state_words'
 cp "$top/crates/stack_vectors/src/databases.rt" "$work/crates/stacks/src/"
 cp -r "$top/crates/stack_vectors/proofs" "$work/crates/stacks/"
 # (proofs name their crate)

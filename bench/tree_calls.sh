@@ -3,19 +3,10 @@
 # program for that in a folder of its own, which proves what isn't proved yet on this machine.
 set -eu
 top=$(CDPATH='' cd "$(dirname "$0")/.." && pwd)
+. "$top/bench/lib.sh"
 work=$(mktemp -d)
 trap 'rm -rf "$work"' EXIT
-mkdir -p "$work/crates/tree_calls/src"
-for crate in cny_base tree_disk tree_nodes tree_memory; do
-    cp -r "$top/crates/$crate" "$work/crates/"
-done
-cat >"$work/crates.txt" <<'LINES'
-cny_base: itoa
-tree_disk: cny_base
-tree_nodes: cny_base tree_disk
-tree_memory: cny_base tree_disk tree_nodes
-tree_calls may_abort=20: cny_base tree_disk tree_memory anyhow
-LINES
+copy_crates "$top" "$work" tree_calls 'may_abort=20: cny_base tree_disk tree_memory anyhow'
 cat >"$work/crates/tree_calls/src/main.rt" <<'PROGRAM'
 //! Makes a tree of 20,201 nodes in memory, 50,000 changing calls on it with a sync every 100 calls, and three crash images.
 #![tactic(auto)]

@@ -4,14 +4,10 @@
 # Usage: bench/troves.sh [COUNT...]
 set -eu
 top=$(CDPATH='' cd "$(dirname "$0")/.." && pwd)
+. "$top/bench/lib.sh"
 work=$(mktemp -d)
 trap 'rm -rf "$work"' EXIT
-mkdir -p "$work/crates/troves/src"
-for crate in cny_base cny_stream cny_flavor cny_version cny_dep file_stream trove_id trove_items trove_stream; do
-    cp -r "$top/crates/$crate" "$work/crates/"
-done
-grep -E '^(cny_base|cny_stream|cny_flavor|cny_version|cny_dep|file_stream|trove_id|trove_items|trove_stream):' "$top/crates.txt" >"$work/crates.txt"
-echo 'troves may_abort=20: cny_base trove_stream anyhow' >>"$work/crates.txt"
+copy_crates "$top" "$work" troves 'may_abort=20: cny_base trove_stream anyhow'
 cat >"$work/crates/troves/src/main.rt" <<'PROGRAM'
 //! Reads the stream of a component with so many files, and writes it again, ten times.
 #![tactic(auto)]

@@ -5,23 +5,10 @@
 # of its own, which proves what isn't proved yet on this machine.
 set -eu
 top=$(CDPATH='' cd "$(dirname "$0")/.." && pwd)
+. "$top/bench/lib.sh"
 work=$(mktemp -d)
 trap 'rm -rf "$work"' EXIT
-mkdir -p "$work/crates/write_sets/src"
-for crate in cny_base cny_stream tree_disk tree_nodes tree_memory disk_words journal_log tree_journal; do
-    cp -r "$top/crates/$crate" "$work/crates/"
-done
-cat >"$work/crates.txt" <<'LINES'
-cny_base: itoa
-cny_stream: cny_base
-tree_disk: cny_base
-tree_nodes: cny_base tree_disk
-tree_memory: cny_base tree_disk tree_nodes
-disk_words: cny_base hex tree_disk tree_memory
-journal_log: cny_base cny_stream tree_disk itoa sha1
-tree_journal: cny_base tree_disk journal_log sha1
-write_sets may_abort=40: cny_base disk_words tree_disk tree_nodes tree_memory tree_journal sha1 anyhow
-LINES
+copy_crates "$top" "$work" write_sets 'may_abort=40: cny_base tree_disk tree_nodes tree_memory disk_words tree_journal sha1 anyhow'
 # a disk that holds each node once
 cat >"$work/crates/write_sets/src/nodes.rt" <<'PROGRAM'
 //! A disk in memory that keeps its nodes, and neither what it began with nor what was changed since. It tells contracts nothing
