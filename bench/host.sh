@@ -70,7 +70,7 @@ for_each() {
     awk -v waits="$1" -v count="$2" 'BEGIN { if (waits ~ /^[0-9]+$/) printf "%d, %.1f for each", waits, waits / count; else printf "%s", waits }'
 }
 
-"$top/conary" install </dev/null >/dev/null 2>&1 || true # builds the program, where it isn't built
+(. "$top/tools/program.sh" && need_proved)
 [ $# -gt 0 ] || set -- 1000 5000 20000
 for count in "$@"; do
     manifest "$count" >"$work/manifest"

@@ -21,7 +21,7 @@ manifest() {
     }'
 }
 
-"$top/conary" install </dev/null >/dev/null 2>&1 || true # builds the program, where it isn't built
+(. "$top/tools/program.sh" && need_proved)
 [ $# -gt 0 ] || set -- 1000 2000 3000 4000 5000
 for count in "$@"; do
     manifest "$count" >"$work/manifest"

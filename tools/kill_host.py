@@ -81,9 +81,6 @@ def run(program, root, repo, words, input_, kill_after=None):
 
 def main():
     program, kills = sys.argv[1], int(sys.argv[2])
-    # a first call builds the program, where it isn't built
-    subprocess.run([program, "install"], stdin=subprocess.DEVNULL, stdout=subprocess.DEVNULL, stderr=subprocess.DEVNULL)
-    program = str(pathlib.Path(program).parent / "crates/conary/out/conary")
     wanted_input = manifest()
     with tempfile.TemporaryDirectory(prefix="conary-kill-") as folder:
         room = pathlib.Path(folder) / "room"

@@ -5,5 +5,6 @@
 # run was cut off.
 set -eu
 top=$(cd "$(dirname "$0")/.." && pwd)
-python3 "$top/tools/kill_host.py" "$top/conary" "${1:-300}"
+(. "$top/tools/program.sh" && need_proved)
+python3 "$top/tools/kill_host.py" "$top/crates/conary/out/conary" "${1:-300}"
 exec python3 "$top/tools/kill_commits.py" "$top/crates/conary/out/conary" "${2:-300}"

@@ -7,5 +7,5 @@
 # or where no run was cut off.
 set -eu
 top=$(cd "$(dirname "$0")/.." && pwd)
-"$top/conary" rq >/dev/null # builds the program, where it isn't built
+(. "$top/tools/program.sh" && need_proved)
 exec python3 "$top/tools/power_host.py" "$top/crates/conary/out/conary" "${1:-300}" ${2+"$2"}
