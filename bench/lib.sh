@@ -2,24 +2,11 @@
 
 # copy_crates TOP WORK NAME LINE: makes the folder WORK a repository of the program NAME and of the crates that it stands on, copied
 # from the repository TOP without their must-fail edits. LINE is what follows the name in the program's line of crates.txt. It names
-# the crates that the program's code names; those below them are found in TOP's crates.txt, where a crate's line stands after those of
-# the crates below it. The bench writes the program's sources.
+# the crates that the program's code names; those below them are found in TOP's crates.txt. The bench writes the program's sources.
 copy_crates() {
     mkdir -p "$2/crates/$3/src"
-    sed '/^#/d; /^$/d' "$1/crates.txt" | awk -v words="$4" '
-        { line[NR] = $0 }
-        END {
-            count = split(words, word, /[: ]+/)
-            for (k = 1; k <= count; k++) needed[word[k]] = 1
-            for (at = NR; at > 0; at--) {
-                count = split(line[at], word, /[: ]+/)
-                if (word[1] in needed) for (k = 2; k <= count; k++) needed[word[k]] = 1
-            }
-            for (at = 1; at <= NR; at++) {
-                split(line[at], word, /[: ]+/)
-                if (word[1] in needed) print line[at]
-            }
-        }' >"$2/crates.txt"
+    . "$1/tools/needed_lines.sh"
+    needed_lines "$1/crates.txt" "$4" >"$2/crates.txt"
     for crate in $(cut -d: -f1 "$2/crates.txt"); do
         mkdir "$2/crates/$crate"
         for part in src specs proofs; do
