@@ -1,5 +1,5 @@
-//! What a relative trove makes of a trove, the one relative trove that leads from a trove to another, and which contents
-//! are to be sent with it.
+//! What a relative trove makes of a trove, the one relative trove that leads from a trove to another, and which contents are to be
+//! sent with it. Applied to the old trove the difference gives the new one, and any other base is refused.
 #![tactic(auto)]
 
 mod amending;

@@ -1,4 +1,5 @@
-//! Change sets: troves and relative troves with contents of their files, and their one stream.
+//! Change sets: troves and relative troves with contents of their files, and their one stream. The stream is exact both ways, and
+//! other bytes are refused with their first fault, by kind and place.
 #![tactic(auto)]
 
 mod change;

@@ -1,5 +1,6 @@
-//! A call of the program, but for its commands: the two disks are opened, the input is read, what a command answers is written,
-//! and its end is reported.
+//! A call of the program, but for its commands: the two disks are opened, the input is read, what a command answers is written, and
+//! its end is reported. Such a call keeps all its promises whatever the command means, on status, texts, both disks, crashes and
+//! readers.
 //!
 //! Begin with the definitions: `specs/Store` and `specs/Stores` (what a disk stores), `specs/State` (what a command means),
 //! `specs/Command` (the clause of each command's own function) and `specs/WholeCall` (what a whole call promises).

@@ -1,4 +1,5 @@
-//! Dependencies: what a trove requires and provides, their texts, and when a provide satisfies a requirement.
+//! Dependencies: what a trove requires and provides, their texts, and when a provide satisfies a requirement. Texts are read and
+//! written exactly both ways, and whether a requirement is satisfied equals its definition.
 #![tactic(auto)]
 
 mod class;

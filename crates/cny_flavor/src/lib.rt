@@ -1,4 +1,5 @@
-//! Flavors, which say what a build needs or prefers of a machine, with their texts and their score.
+//! Flavors, which say what a build needs or prefers of a machine, with their texts and their score. Texts are read and written
+//! exactly both ways, and the score equals the sum over its table.
 #![tactic(auto)]
 
 mod flavor;

@@ -1,4 +1,5 @@
-//! Where bytes come from and where they go to, with counted faults.
+//! Where bytes come from and where they go to, with counted faults. It is told which bytes moved, and a fault is answered only
+//! where one was counted.
 #![tactic(auto)]
 
 mod fault;

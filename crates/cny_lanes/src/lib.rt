@@ -1,4 +1,5 @@
-//! Slices of bytes compared by SIMD kernels, 64 bytes a step, and the rest byte by byte. Nothing here takes memory.
+//! Slices of bytes, compared by SIMD kernels, 64 bytes a step. What they answer equals the plain comparison for every length, and
+//! nothing here takes memory.
 #![tactic(auto)]
 
 mod compare;

@@ -1,4 +1,5 @@
-//! Manifests: what a person or a build writes of a component, a package or a group, and the troves that it makes.
+//! Manifests: what a person or a build writes of a component, a package or a group, and the troves that it makes. They are read and
+//! written exactly both ways, and of any other bytes the first fault is told, by kind and place.
 #![tactic(auto)]
 
 mod body;

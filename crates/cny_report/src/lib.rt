@@ -1,5 +1,5 @@
-//! What commands write as texts: refusals, change sets, troves and lists of them, and what jobs, rollbacks and verifications
-//! did or found.
+//! What commands write as texts: refusals, change sets, troves and lists of them, and what jobs, rollbacks and verifications did or
+//! found. Each text equals its definition.
 #![tactic(auto)]
 
 mod changes;

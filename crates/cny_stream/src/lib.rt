@@ -1,4 +1,5 @@
-//! Items of a binary stream: how they are written and read, and where a fault lies.
+//! Items of a binary stream: how they are written and read, and where a fault lies. Reading and writing are exact both ways, and of
+//! other bytes the place of the first fault is told.
 #![tactic(auto)]
 
 mod item;

@@ -1,4 +1,5 @@
-//! Labels, revisions and versions of troves, with their texts.
+//! Labels, revisions and versions of troves, with their texts. They are read and written exactly both ways, and shadows, branches
+//! and next revisions equal their definitions.
 //!
 //! Begin at `version` and `next`, which hold what other crates call. In the order in which each stands on
 //! the ones before it: `cut` (a text cut at a byte), `label`, `count`, `revision`, `part` and `branch` (the

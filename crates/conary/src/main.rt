@@ -1,4 +1,4 @@
-//! The program.
+//! The program: its `main` alone. What it does is safe, and its status is that of `run` and at most 8.
 #![tactic(auto)]
 
 use conary_cli::start;

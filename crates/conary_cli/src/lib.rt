@@ -1,4 +1,6 @@
-//! The program: the words of the command line, which command they are, and what it does over a source, two sinks and two disks.
+//! The program: the words of the command line, which command they are, and what it does over a source, two sinks and two disks. The
+//! words are read as the command that they are or as usage, and `run` does what that command means, and nothing where there is
+//! none.
 //!
 //! `specs/Words` says which lists of words are commands, and why the others are none. `entry` hands the words, the standard streams and
 //! two disks to `run`.

@@ -1,7 +1,5 @@
-//! What the program does, and then a look past it at the directory `root`: its names, its nodes outside `var`, and the bytes of the
-//! file. It ends with the program's status.
-//!
-//! Its stored run installs a component into directories of the host.
+//! The program over directories of the host, and then a look past it at the directory `root`: its names, its nodes outside `var`,
+//! and the bytes of the file. It ends with the program's status, and its stored run installs a component.
 #![tactic(auto)]
 
 use conary_cli::start;

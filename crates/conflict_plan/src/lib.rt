@@ -1,5 +1,6 @@
-//! What a job makes of each path that it may change: the conflict table, over what the old and the new list of troves record
-//! and what stands. It only reads.
+//! What a job makes of each path that it may change: the conflict table, over what the old and the new list of troves record and
+//! what stands. Just the paths that the table names change, each to its target, or the first refusal is told; there is one such
+//! answer, and planning only reads.
 #![tactic(auto)]
 
 mod drafting;

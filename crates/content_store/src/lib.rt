@@ -1,5 +1,5 @@
-//! Contents of files, each kept once in a directory, under the name that a digest gives it. The digest is never trusted:
-//! where a file of that name stands already, its bytes are compared.
+//! Contents of files, each kept once in a directory, under the name that a digest gives it. What was put is what is got, and since
+//! the digest is never trusted, a collision is answered exactly where other bytes stand.
 #![tactic(auto)]
 
 mod compare;

@@ -1,5 +1,6 @@
-//! Dependency closure: whether each requirement of the troves of a list is met by what some trove of it provides, for a whole
-//! list and for a list that changes.
+//! Dependency closure: whether each requirement of the troves of a list is met by what some trove of it provides, for a whole list
+//! and for a list that changes. The first requirement that nothing satisfies is named exactly, and a list that changes is answered
+//! for as the whole changed list is.
 //!
 //! Begin at `whole` (a whole list) and `changing` (a list that changes). Both stand on `providing` (when a trove satisfies a
 //! requirement). `changing` stands on `slots` (troves by their names, and edits of them), `index` (which troves name a

@@ -1,4 +1,5 @@
-//! File records: what a trove records of a path, as an exact string of bytes.
+//! File records: what a trove records of a path, with owners, in two encodings. Both are read and written exactly both ways, and
+//! the id of a record is the SHA-1 of its compact bytes.
 #![tactic(auto)]
 
 mod encoding;

@@ -1,5 +1,6 @@
-//! The records of jobs, as a root's tree holds them: their bytes, read in both formats and written in format 2, and the installed list,
-//! taken back job by job.
+//! The records of jobs, as a root's tree holds them: their bytes, read in both formats and written in format 2, and the installed
+//! list, taken back job by job. A record is read as just the one that its bytes spell, and leads to exactly the list before its
+//! job.
 //!
 //! What a record leaves to the lists of troves before and after its job is told by those: a record is read against the list after its
 //! job, and leads to the one before.

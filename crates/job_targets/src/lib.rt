@@ -1,5 +1,6 @@
-//! The write set of a job, and what stood at its paths, made from the job's plan: where the content of each file is found that is to
-//! stand, and whether what stands can be saved under its SHA-1. It only reads.
+//! The write set of a job, and what stood at its paths, made from the job's plan: where the content of each file is found that is
+//! to stand, and whether what stands can be saved under its SHA-1. Contents and refusals equal their definitions, in the order of
+//! the tests, and root and contents are only read.
 //!
 //! Begin with `specs/Contents`: where a content is found. `specs/Targets` has the writes and what stood, `specs/Outcome` the tests in
 //! their order, `specs/Old` what a fingerprint and the saved contents tell of what stood at a path.

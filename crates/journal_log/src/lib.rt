@@ -1,4 +1,5 @@
-//! Write sets of a tree, and the log of the journal that holds one.
+//! Write sets of a tree, and the log of the journal that holds one. A log has one spelling, exact both ways, and so have the
+//! numbers of its staged files.
 #![tactic(auto)]
 
 mod decode;

@@ -1,5 +1,6 @@
-//! Which system a root tree stores: its tree, its installed troves and its stack of jobs, and what a job, a rollback and a migration make
-//! of it; and its database, read and written: the installed troves, and the numbers of its stack.
+//! Which system a root tree stores: its tree, its installed troves and its stack of jobs, and what a job, a rollback and a
+//! migration make of it; and its database, read and written: the installed troves, and the numbers of its stack. One tree tells one
+//! system, and the database is loaded where its file is one, in format 1 or 2, and damaged exactly where it isn't.
 #![tactic(auto)]
 
 mod db;

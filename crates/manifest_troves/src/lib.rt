@@ -1,4 +1,6 @@
-//! What the lines of a manifest make: a component, a package with its components, or a group; and the contents of their files.
+//! What the lines of a manifest make: a component, a package with its components, or a group; and the contents of their files. The
+//! troves equal their definition, with no entry lost, or the first rule that one of them breaks is told, and the first two contents
+//! that collide.
 #![tactic(auto)]
 
 mod contents;

@@ -1,7 +1,6 @@
-//! The commands of the repository, those that take specifications of troves, and those that commit what a specification means on another
-//! label.
-//!
-//! Each has its meaning in a file of its own in `specs/`, and a function with one clause: that it performs this meaning.
+//! The commands of the repository, those that take specifications of troves, and those that commit what a specification means on
+//! another label. Each has its meaning in a file of its own in `specs/`, and a function with one clause: that it performs this
+//! meaning.
 #![tactic(auto)]
 
 mod committing;

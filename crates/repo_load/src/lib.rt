@@ -1,5 +1,6 @@
-//! A repository on a disk: which files store its state, the file of a commit, and the laws of a further commit. Its catalogue is loaded
-//! from the files of its commits, and its contents are read.
+//! A repository on a disk: which files store its state, the file of a commit, and the laws of a further commit; its catalogue and
+//! its contents are read. What is loaded is the catalogue of the commits that the tree holds, or the first damaged file is named,
+//! and a content that is read has its name's SHA-1 and a recorded size.
 //!
 //! Begin with the definitions: `specs/State` (commits and contents), `specs/Files` (which tree stores a state), `specs/Damage` (which
 //! file is damaged) and `specs/Steps` (what a commit makes of a state). Then `loading` and `contents`. In the order in which each

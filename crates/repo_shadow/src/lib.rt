@@ -1,4 +1,5 @@
-//! What a trove reaches by references, moved onto a label: as shadows on it or as branches onto it.
+//! What a trove reaches by references, moved onto a label: as shadows on it or as branches onto it. It equals its definition, with
+//! the references along, or is refused for the first reason, and what is moved can be committed together.
 //!
 //! Begin at `shadow`. It stands on `way` (a version and an id, moved), `refusing` (why troves aren't moved), `moving` (troves,
 //! moved) and `within` (troves that refer only to one another).

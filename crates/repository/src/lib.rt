@@ -1,5 +1,6 @@
-//! A further commit of a repository on a disk, which stands whole or not at all; and the change set that leads from some troves of a
-//! repository to others.
+//! A further commit of a repository on a disk; and the change set that leads from some troves of a repository to others. A commit
+//! stands whole or not at all whenever a crash comes, with the first refusal exactly, and a change set has just what the receiver
+//! of the old troves lacks.
 //!
 //! Begin at `committing`. In the order in which each stands on the ones before it: `parts` (the troves that the parts of a change set
 //! make), `refs`, `contents` and `colliding` (the tests of references and of contents), `testing` (all tests), `preparing` (what is

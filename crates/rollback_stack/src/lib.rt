@@ -1,5 +1,6 @@
-//! The rollback stack: for each job the record of how it is taken back, and the contents that it replaced. Jobs are pushed on it, read from
-//! the newest down, tested against the tree, and taken back in that order.
+//! The rollback stack: for each job the record of how it is taken back, and the contents that it replaced; jobs are pushed on it,
+//! read from the newest down, tested against the tree, and taken back in that order. What takes a job back puts each of its paths
+//! as it stood before, or the first edited path is told, and at every moment of a push the root stores what it stored.
 #![tactic(auto)]
 
 mod back;

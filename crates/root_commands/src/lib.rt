@@ -1,7 +1,8 @@
-//! The commands of the root: those that only read it, that which takes its jobs back, and those that are jobs.
+//! The commands of the root: those that only read it, that which takes its jobs back, and those that are jobs. Each has its meaning
+//! in a file of its own in `specs/`, and a function with two clauses: that it performs this meaning, and that it works on the root
+//! alone.
 //!
-//! Each has its meaning in a file of its own in `specs/`, and a function with two clauses: that it performs this meaning, and that it
-//! works on the root alone. `verify_fully` reads the contents of the repository too, and has the first one.
+//! `verify_fully` reads the contents of the repository too, and has the first clause alone.
 #![tactic(auto)]
 
 mod erasing;

@@ -1,5 +1,6 @@
-//! Jobs and rollbacks on a root: it is made ready for a command, which list follows, the tests in their order, and the one write set that
-//! takes the root from the system that it stores to the one after.
+//! Jobs and rollbacks on a root: it is made ready for a command, which list follows, the tests in their order, and the one write
+//! set that takes the root from the system that it stores to the one after. Whenever the machine stops, the tree recovers to the
+//! system before or to the one after, and a refusal changes nothing.
 //!
 //! Begin with `specs/Job`: the tests of a job in their order. `specs/Lists` says which list follows, `specs/Steps` how a job ends on a
 //! disk, and `specs/Answers` what is answered on every disk; `specs/Ready` what each command begins with.

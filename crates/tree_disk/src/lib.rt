@@ -1,4 +1,5 @@
-//! A disk that holds one tree of directories, files and links.
+//! A disk that holds one tree of directories, files and links. It says what each call does, what a crash may leave, and what a
+//! reader sees meanwhile; whole files, cleared directories and written files stand on it for any disk.
 #![tactic(auto)]
 
 mod clear;

@@ -1,4 +1,5 @@
-//! A directory of the host as a disk. It tells nothing of what it holds, follows no link, and counts each error as a fault.
+//! A directory of the host as a disk: it tells nothing of what it holds, follows no link, and counts each error as a fault. Each
+//! call returns, and a fault is answered only where one was counted; what a call does on the host is tested.
 //!
 //! The calls of std that are trusted stand in `host.rt`, `changes.rt` and `listing.rt` alone.
 #![tactic(auto)]

@@ -1,4 +1,6 @@
-//! The journal of a disk: a write set takes effect as a whole at the write of one byte, or not at all.
+//! The journal of a disk: a write set takes effect as a whole at the write of one byte, or not at all. Whenever a crash comes, also
+//! during a recovery, the tree recovers to the one before or the one after, and readers see at each path the node before or the
+//! node after.
 #![tactic(auto)]
 
 mod blocked;

@@ -1,4 +1,4 @@
-//! A disk in memory, which tells its tree and all that a crash may leave of it.
+//! A disk in memory, which tells its tree and all that a crash may leave of it. It has exactly the crash images of the definition.
 #![tactic(auto)]
 
 mod calls;

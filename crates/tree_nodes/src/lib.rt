@@ -1,4 +1,5 @@
-//! The nodes of a file tree in an ordered map: what stands where, which calls of a disk are allowed, and what they do.
+//! The nodes of a file tree in an ordered map: what stands where, which calls of a disk are allowed, and what they do. It is the
+//! tree of the definition, call by call.
 #![tactic(auto)]
 
 mod attempts;

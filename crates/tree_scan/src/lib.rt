@@ -1,5 +1,5 @@
-//! What stands in a tree: its fingerprints, whether it is what a record describes, and in how many bytes it differs from a
-//! content.
+//! What stands in a tree: its fingerprints, whether it is what a record describes, and in how many bytes it differs from a content.
+//! All three equal their definitions, and the disk is only read.
 #![tactic(auto)]
 
 mod counting;

@@ -1,5 +1,6 @@
-//! The parts of a trove: ids (a name, a version and a flavor) with their texts, and the lists of files, ids, dependencies and paths,
-//! each with its bytes in streams.
+//! The parts of a trove: ids (a name, a version and a flavor) with their texts, and the lists of files, ids, dependencies and
+//! paths, each with its bytes in streams. All of them are read and written exactly both ways, and their orders equal their
+//! definitions.
 #![tactic(auto)]
 
 mod deps;

@@ -1,5 +1,6 @@
 //! Specifications of troves, the configuration and the file of a root that holds it, which trove a specification means, and which
-//! troves its references reach.
+//! troves its references reach. Texts are exact both ways, the trove that is meant is the best of the newest version, and each
+//! refusal has its cause.
 //!
 //! Begin at `spec` and `resolving`. In the order in which each stands on the ones before it: `spec` (specifications and their
 //! texts), `config` (the label path and the flavor), `candidates` (the troves of a name that may be meant), `resolving`. By

@@ -1,5 +1,7 @@
-//! Troves: what a version of a component, a package or a group holds, and their streams; relative troves, which lead from one trove to
-//! another of its name, and theirs; and lists of installed troves, each with a name of its own.
+//! Troves: what a version of a component, a package or a group holds, and their streams; relative troves, which lead from one trove
+//! to another of its name, and theirs; and lists of installed troves, each with a name of its own. Each keeps its rules as an
+//! invariant of its type and has one stream in each encoding, exact both ways, and look-ups in a list equal its search and take no
+//! memory.
 #![tactic(auto)]
 
 mod disjoint;

@@ -1,5 +1,5 @@
-//! Installed lists that change: what an update puts in and takes away, what an erasure leaves, how two lists differ, and the troves that
-//! come with a manifest or a change set.
+//! Installed lists that change: what an update puts in and takes away, what an erasure leaves, how two lists differ, and the troves
+//! that come with a manifest or a change set. Each equals its definition, and each refusal comes exactly where its cause stands.
 //!
 //! Begin at `changing` (the list after an update or an erasure), then `comparing` (how two lists differ). They stand on `reaching`
 //! (which troves stay) and `by_name` (troves in a map by their names). Before them come `applying` (what each part of a change set makes
