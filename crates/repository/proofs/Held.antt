@@ -21,10 +21,10 @@ use Rattle.repository.specs.Tests.{collides, collision_at}
 
 -- ---- bytes that are recorded
 
-recorded_same : (troves : List TroveParts) (name bytes : List ℕ) → IsRecorded troves name bytes → is_recorded troves name bytes ≡ true
+pub recorded_same : (troves : List TroveParts) (name bytes : List ℕ) → IsRecorded troves name bytes → is_recorded troves name bytes ≡ true
 recorded_same troves name bytes is = and_from _ _ ((bytes_eq-Decides (sha1 bytes) name).1 is.named) is.recorded
 
-recorded_means : (troves : List TroveParts) (name bytes : List ℕ) → is_recorded troves name bytes ≡ true → IsRecorded troves name bytes
+pub recorded_means : (troves : List TroveParts) (name bytes : List ℕ) → is_recorded troves name bytes ≡ true → IsRecorded troves name bytes
 recorded_means troves name bytes is =
     let both = and_parts (bytes_eq (sha1 bytes) name) (records_content name (length bytes) troves) is in record { named = (bytes_eq-Decides (sha1 bytes) name).0 both.0; recorded = both.1 }
 

@@ -16,6 +16,7 @@ pub mod Unique
 pub mod Applied
 pub mod Within
 pub mod Written
+pub mod Readable
 pub mod Outcomes
 pub mod Ordering
 mod Members

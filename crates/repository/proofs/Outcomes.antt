@@ -26,11 +26,12 @@ use Rattle.repo_load.specs.Following.{troves_push}
 use Rattle.repo_load.proofs.HeldCatalogues.{rules_after}
 use Rattle.repo_load.specs.Loading.{IsCatalogue}
 use Rattle.repo_load.proofs.CountedNames.{counted_state, prepared_state}
-use Rattle.repository.specs.Outcome.{committed_contents, AtEveryMoment, EndsSo, HasCause, HasMoments, IsAtRest, IsDone, IsSettled, MayJoin, StopsSo, TestEnds, TestsChange}
+use Rattle.repository.specs.Outcome.{committed_contents, AreSound, AtEveryMoment, CanBeRead, EndsSo, HasCause, HasMoments, IsAtRest, IsDone, IsSettled, MayJoin, StopsSo, TestEnds, TestsChange}
 use Rattle.repository.specs.Preparing.{IsWritten, RecoversSo, StopsBefore, Writes}
 use Rattle.repository.specs.Steps.{after_commit, catalogue_after, ids_of, IsStep, RecoversToEither}
 use Rattle.repository.specs.Tests.{Passes}
 use Rattle.repository.proofs.Held.{held_is}
+use Rattle.repository.proofs.Readable.{carried_read, nothing_read}
 use Rattle.repository.proofs.States.{written_catalogue, written_state}
 use Rattle.repository.proofs.Stepping.{may_follow}
 
@@ -158,14 +159,15 @@ module _ {D : Type 0} {disk : DiskModel D} (laws : IsDisk disk) (change : Change
   catalogue_none (t ∷ troves) none = absurd (cc none)
 
   -- no troves
-  pub done_nothing : {old new : D} (added : CatalogueParts) (ids : List TroveId) → IsTrue disk.tells → IsAtRest disk c old → TestsChange disk change c old new (Ok added) → added.troves ≡ [] → ids ≡ ids_of added.troves → IsDone disk change c c ids old new
-  done_nothing {old = old} {new = new} added ids tells rests tests none ids_are =
+  pub done_nothing : {old new : D} (added : CatalogueParts) (ids : List TroveId) → IsTrue disk.tells → HasContents change → IsAtRest disk c old → TestsChange disk change c old new (Ok added) → added.troves ≡ [] → ids ≡ ids_of added.troves → IsDone disk change c c ids old new
+  done_nothing {old = old} {new = new} added ids tells has rests tests none ids_are =
       let read = tests.same tells in record {
         troves = added.troves;
         passes = tests.ends tells;
         ids_are = ids_are;
         catalogue_is = catalogue_none added.troves none;
         rests = rests_read c old new read rests;
+        contents = nothing_read c.troves change added.troves c.troves (disk.reads new) none has (tests.ends tells).made.make;
         stores = λ r h. subst (StoresRepository (disk.reads new)) (sym (after_none added.troves r none)) (subst (λ (t : Tree). StoresRepository t r) (sym read.same.reads) h);
         calm = λ q un. sym (read.same.unsynced q) ∙ un;
         settled = λ r h settled. subst (IsSettled disk new) (sym (after_none added.troves r none)) (settled_read r old new read settled);
@@ -202,9 +204,9 @@ module _ {D : Type 0} {disk : DiskModel D} (laws : IsDisk disk) (change : Change
   after_some (t ∷ troves) full = refl
 
   -- the file is written
-  pub done_write : (one : OneCatalogue) {old mid new : D} (c' added : CatalogueParts) (ids : List TroveId) → IsTrue disk.tells → HasContents change → IsAtRest disk c old → TestsChange disk change c old mid (Ok added) → added.troves ≢ [] → MayFollow c added.troves
+  pub done_write : (one : OneCatalogue) {old mid new : D} (c' added : CatalogueParts) (ids : List TroveId) → IsTrue disk.tells → HasContents change → IsAtRest disk c old → TestsChange disk change c old mid (Ok added) → added.troves ≢ [] → AreSound change.contents c.troves (disk.reads old) → MayFollow c added.troves
       → ids ≡ ids_of added.troves → Writes disk c change.contents added.troves mid new (Ok tt) → c' ≡ catalogue_with added.troves c → IsDone disk change c c' ids old new
-  done_write one {old = old} {mid = mid} {new = new} c' added ids tells has rests tests full follows ids_are writes is =
+  done_write one {old = old} {mid = mid} {new = new} c' added ids tells has rests tests full sound follows ids_are writes is =
       let read = tests.same tells in
       let written : IsWritten c change.contents added.troves (disk.reads old) (disk.reads new) = subst (λ (t : Tree). IsWritten c change.contents added.troves t (disk.reads new)) read.same.reads (writes.ends tells) in
       record {
@@ -217,6 +219,7 @@ module _ {D : Type 0} {disk : DiskModel D} (laws : IsDisk disk) (change : Change
           flag_clear = writes.flag_clear tells;
           flag_synced = writes.synced tells (gate repository_base);
         };
+        contents = subst (λ (k : CatalogueParts). CanBeRead change.contents k.troves (disk.reads new)) (sym is) (carried_read c change added.troves (disk.reads old) (disk.reads new) full has (tests.ends tells) sound written);
         stores = λ r h. stored_after one (disk.reads old) r c change added.troves h rests.holds has full (tests.ends tells) (disk.reads new) written;
         calm = λ q un. absurd (cc (un, writes.synced tells q));
         settled = λ r h settled q counts. writes.synced tells q;

@@ -22,7 +22,7 @@ use Rattle.repo_index.specs.Catalogue.{CatalogueParts}
 use Rattle.repo_load.specs.Counts.{Counts}
 use Rattle.repo_load.specs.State.{records_content, RepositoryState}
 use Rattle.repo_load.specs.Files.{contents_dir, repository_base, HoldsCatalogue, StoresRepository}
-use Rattle.repo_load.specs.Contents.{IsDamagedContent}
+use Rattle.repo_load.specs.Contents.{FindsContent, IsDamagedContent}
 use Rattle.repository.specs.Steps.{after_commit, catalogue_after, ids_of, IsOldOrNew, RecoversToEither}
 use Rattle.repository.specs.Parts.{AreMade}
 use Rattle.repository.specs.Tests.{missing_ref, refs_of, IsRefused, Passes}
@@ -52,10 +52,15 @@ pub record IsAtRest {D : Type 0} (disk : DiskModel D) (c : CatalogueParts) (d : 
 abbrev pub IsSettled : {D : Type 0} → DiskModel D → D → RepositoryState → Type 0
 IsSettled disk d r = (q : Name) → Counts r q → disk.unsynced d q ≡ false
 
+-- A reading of each of these contents finds its bytes: they stand under its name, which is their SHA-1, and one of the troves
+-- records a file of this name and of their size.
+abbrev pub CanBeRead : List Carried → List TroveParts → Tree → Type 0
+CanBeRead contents troves tree = All (λ (c : Carried). FindsContent troves c.name tree (Some c.bytes)) contents
+
 -- ---- how it ends
 
--- The commit is done: the files hold the catalogue with the new troves, and each repository that the disk stored became that
--- after the commit. Where no name counted for it had changed since the last sync, none has now, and a crash leaves a tree that
+-- The commit is done: the files hold the catalogue with the new troves, each content that is carried can be read, also where
+-- another one is damaged, and each repository that the disk stored became that after the commit. Where no name counted for it had changed since the last sync, none has now, and a crash leaves a tree that
 -- recovers to that after the commit alone (the law `at_rest`).
 pub record IsDone {D : Type 0} (disk : DiskModel D) (change : ChangeSet) (c c' : CatalogueParts) (ids : List TroveId) (old new : D) : Type 0 where
   pub troves : List TroveParts
@@ -63,6 +68,7 @@ pub record IsDone {D : Type 0} (disk : DiskModel D) (change : ChangeSet) (c c' :
   pub ids_are : ids ≡ ids_of troves
   pub catalogue_is : c' ≡ catalogue_after troves c
   pub rests : IsAtRest disk c' new
+  pub contents : CanBeRead change.contents c'.troves (disk.reads new)
   pub stores : (r : RepositoryState) → StoresRepository (disk.reads old) r → StoresRepository (disk.reads new) (after_commit troves change.contents r)
   -- no name became unsynced
   pub calm : (q : Name) → IsUnsynced disk new q → IsUnsynced disk old q

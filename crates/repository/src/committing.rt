@@ -21,7 +21,8 @@ use repo_load::tree_disk::TreeDisk;
 use std::alloc::Global;
 
 /// Commits the troves that a change set makes, in the order of its parts, with the contents that it carries, and answers their
-/// ids. It takes effect as a whole or not at all, whenever the machine stops. A change set without parts changes nothing.
+/// ids. It takes effect as a whole or not at all, whenever the machine stops. A change set without parts changes nothing. After
+/// Ok each carried content can be read, whatever other content is damaged.
 ///
 /// First all is tested, without a write. Part by part: `MissingBase` where the base of a relative part isn't committed (an
 /// earlier part doesn't count), or no trove comes of it; `Exists` where its id is committed or that of an earlier part;

@@ -6,6 +6,7 @@ use Rattle.sha1.specs.Sha1.{sha1}
 use Rattle.job_targets.specs.cny-base.declared.node.Node.{Node}
 use Rattle.job_targets.specs.cny-base.declared.node.Node.TheVariants as node
 use Rattle.job_targets.specs.cny-base.declared.refusal.Refusal.{Refusal}
+use Rattle.job_targets.specs.cny-base.declared.refusal.Refusal.TheVariants.{Collision}
 use Rattle.job_targets.specs.cny-base.declared.stop.Stop.{Stop}
 use Rattle.job_targets.specs.cny-base.declared.stop.Stop.TheVariants.{Refused, Memory, Failed, Damaged, FarFailed, FarDamaged}
 use Rattle.job_targets.specs.tree-disk.Tree.{Name, Tree, same_name, is_file}
@@ -15,7 +16,7 @@ use Rattle.job_targets.specs.tree-disk.ClearLaws.{or_left, or_right}
 use Rattle.job_targets.specs.tree-disk.Confined.{Among}
 use Rattle.job_targets.specs.tree-journal.Apply.{with_base}
 use Rattle.job_targets.proofs.tree-journal.OwnFiles.{get-base_other}
-use Rattle.job_targets.specs.content-store.Outcome.{if_passed, placed, put_names, put_outcome, same_or_collision, CanPut, Decides, IsCollisionOf, PutStops}
+use Rattle.job_targets.specs.content-store.Outcome.{if_passed, placed, put_names, put_outcome, same_or_collision, CanPut, Decides, IsCollision, IsCollisionOf, PutStops}
 use Rattle.job_targets.specs.content-store.Store.{content_path, file_bytes}
 use Rattle.job_targets.proofs.content-store.Differences.{none_of_same}
 use Rattle.rollback_stack.specs.Saving.{is_save_name, IsSaveStop, MayHold}
@@ -72,13 +73,19 @@ outcome_ok path name bytes tree may = ⊎_elim
 
 -- ---- how the put ended
 
+any_collision : (name : List ℕ) (refusal : Refusal) → IsCollisionOf name refusal → IsCollision refusal
+any_collision name (Collision its at) is = tt
+any_collision name _ is = absurd is
+
 pub put_stops : {D X : Type 0} {disk : DiskModel D} {mid new : D} (path name bytes : List ℕ) (e : Stop) → (IsTrue disk.tells → MayHold (disk.reads mid) path bytes)
     → Decides disk (put_names path) (put_outcome path name bytes) mid new (stopped {X = X} e) → PutStops (IsCollisionOf name) (disk.faults mid) (disk.faults new) e
     → IsSaveStop disk.tells (disk.faults mid) (disk.faults new) e
 put_stops path name bytes Failed may decides stops = stops
 put_stops path name bytes Memory may decides stops = tt
-put_stops {disk = disk} {mid = mid} path name bytes (Refused refusal) may decides stops =
-    λ tells. let ok = outcome_ok path name bytes (disk.reads mid) (may tells) in never ok.1 (decides.ends tells).0
+put_stops {disk = disk} {mid = mid} path name bytes (Refused refusal) may decides stops = record {
+  untold = λ tells. let ok = outcome_ok path name bytes (disk.reads mid) (may tells) in never ok.1 (decides.ends tells).0;
+  collides = any_collision name refusal stops;
+}
   where
     never : {o : Result Tree Refusal} {t : Tree} → o ≡ Ok t → o ≡ Err refusal → ⊥
     never one other = absurd (cc (one, other))

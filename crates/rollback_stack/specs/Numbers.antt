@@ -6,10 +6,10 @@ use Rattle.job_targets.specs.cny-base.declared.refusal.Fault.TheVariants as faul
 use Rattle.job_targets.specs.cny-base.declared.refusal.Refusal.TheVariants.{TooLarge}
 use Rattle.job_targets.specs.cny-base.declared.refusal.What.TheVariants.{Jobs}
 
--- the newest job has the greatest number, or no memory was left
-abbrev pub IsFullOrMemory : ℕ → Fault → Type 0
-IsFullOrMemory newest fault.Memory = Unit {0}
-IsFullOrMemory newest (fault.Refused why) = (why ≡ TooLarge Jobs JOBS_LIMIT) × (newest ≡ JOBS_LIMIT)
+-- the newest job has the greatest number; want of memory never comes
+abbrev pub IsFull : ℕ → Fault → Type 0
+IsFull newest fault.Memory = ⊥
+IsFull newest (fault.Refused why) = (why ≡ TooLarge Jobs JOBS_LIMIT) × (newest ≡ JOBS_LIMIT)
 
 -- so many jobs has a stack with these numbers
 abbrev pub job_count : ℕ → ℕ → ℕ

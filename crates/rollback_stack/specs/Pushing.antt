@@ -11,7 +11,7 @@ use Rattle.local_db.specs.declared.format.Format.TheVariants.{Two}
 use Rattle.local_db.specs.declared.db.Db.{Db}
 use Rattle.rollback_stack.specs.declared.undo.Undo.{Undo}
 use Rattle.rollback_stack.specs.Undo.{entries_of, LeadsTo}
-use Rattle.rollback_stack.specs.Saving.{dropped_below, is_saving_name, IsSavedJob}
+use Rattle.rollback_stack.specs.Saving.{dropped_below, is_saving_name, IsSavedJob, IsUntoldCollision}
 
 -- the names at which it is written before the write set of the job whose database this is
 abbrev pub is_written : Db → Name → Bool
@@ -35,12 +35,12 @@ pub record IsPushed (x : Tree) (undo : Undo) (db : Db) (puts : List Put) : Type 
   pub puts_are : puts ≡ record_put undo.number mode bytes ∷ []
   pub ready : IsSavedJob undo.number (dropped_below db.oldest) undo.entries x
 
--- Why the record isn't pushed: the disk failed, or no memory was left. (Where the disk tells nothing, a file may stand in a
--- directory that was just made.)
+-- Why the record isn't pushed: the disk failed, or no memory was left; or, where the disk tells nothing, a content that is saved
+-- collides with a file in a directory that was just made.
 abbrev pub IsPushStop : Bool → Type 0 → Stop → Type 0
 IsPushStop told rose stop.Failed = rose
 IsPushStop told rose stop.Memory = Unit {0}
-IsPushStop told rose (stop.Refused why) = IsTrue told → ⊥
+IsPushStop told rose (stop.Refused why) = IsUntoldCollision told why
 IsPushStop told rose (stop.Damaged path) = ⊥
 IsPushStop told rose stop.FarFailed = ⊥
 IsPushStop told rose (stop.FarDamaged path) = ⊥

@@ -5,6 +5,7 @@ use Rattle.sha1.specs.Sha1.{sha1}
 use Rattle.job_targets.specs.cny-base.Below.{is_below}
 use Rattle.job_targets.specs.cny-base.Count.{Rose}
 use Rattle.job_targets.specs.cny-base.Reserved.{private_directory}
+use Rattle.job_targets.specs.cny-base.declared.refusal.Refusal.{Refusal}
 use Rattle.job_targets.specs.cny-base.declared.stop.Stop.{Stop}
 use Rattle.job_targets.specs.cny-base.declared.stop.Stop.TheVariants.{Refused, Memory, Failed, Damaged, FarFailed, FarDamaged}
 use Rattle.job_targets.specs.tree-disk.Tree.{Name, Tree, same_name}
@@ -13,6 +14,7 @@ use Rattle.job_targets.specs.tree-disk.Disk.{DiskModel, Shows}
 use Rattle.job_targets.specs.tree-disk.Rows.{is_dir_at}
 use Rattle.job_targets.specs.tree-disk.Confined.{Among, Confined, LeavesOnly}
 use Rattle.job_targets.specs.tree-journal.Apply.{with_base}
+use Rattle.job_targets.specs.content-store.Outcome.{IsCollision}
 use Rattle.job_targets.specs.content-store.Store.{content_path, file_bytes, stored}
 use Rattle.job_targets.specs.journal-log.declared.put.Want.{Want}
 use Rattle.local_db.specs.declared.format.Format.{Format}
@@ -98,12 +100,17 @@ pub record IsSavedJob (number : ℕ) (dropped : Option ℕ) (es : List Entry) (x
 
 -- ---- runs of calls
 
--- Why it stopped: a fault, or want of memory. (Where the disk tells nothing, another file may stand in a directory that was
--- just made.)
+-- Such a refusal comes only where the disk tells nothing: there another file may stand in a directory that was just made, so that
+-- a content collides with it.
+pub record IsUntoldCollision (told : Bool) (refusal : Refusal) : Type 0 where
+  pub untold : IsTrue told → ⊥
+  pub collides : IsCollision refusal
+
+-- Why it stopped: a fault, or want of memory; or so refused.
 abbrev pub IsSaveStop : Bool → ℕ → ℕ → Stop → Type 0
 IsSaveStop told before now Failed = Rose before now
 IsSaveStop told before now Memory = Unit {0}
-IsSaveStop told before now (Refused refusal) = IsTrue told → ⊥
+IsSaveStop told before now (Refused refusal) = IsUntoldCollision told refusal
 IsSaveStop told before now (Damaged path) = ⊥
 IsSaveStop told before now FarFailed = ⊥
 IsSaveStop told before now (FarDamaged path) = ⊥

@@ -57,7 +57,8 @@ fn record_puts(alloc: Global, number: u32, bytes: Bytes) -> Result<Puts, OutOfMe
 ///
 /// Before that, what stands at the places of the job's number is cleared; and where the oldest number of the database is above 2
 /// also what stands at those of the number two below it: a job that was dropped, to which no database refers any more. However it
-/// ends, no other name changes but the private directory itself. The contents can be saved: `stashable` is `Ok`.
+/// ends, no other name changes but the private directory itself. The contents can be saved: `stashable` is `Ok`. No refusal comes
+/// where the disk tells its tree, and `Collision` alone on every other one.
 pub fn push_puts<D: TreeDisk>(
     alloc: Global,
     disk: &mut D,

@@ -96,7 +96,8 @@ fn save_all<D: TreeDisk>(
 /// Before that, what stands at the places of the job is cleared, and what stands at those of the job `dropped`, to which no
 /// database refers any more; and the private directory is made one, in place of a file or a link. However it ends, at every
 /// moment, no other name changes. The bytes of the old files are given, and they can be saved: `stashable` is `Ok`. `Failed` comes
-/// only where the disk's count of faults rose, and where the disk tells its tree want of memory is the only other stop.
+/// only where the disk's count of faults rose. The only other stop is want of memory, and where the disk tells nothing also
+/// `Collision`: a file may stand in a directory that was just made.
 pub fn save_job<D: TreeDisk>(
     alloc: Global,
     disk: &mut D,

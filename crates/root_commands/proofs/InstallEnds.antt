@@ -1,7 +1,7 @@
 -- How `install` ends.
-use Rattle.std.proofs.Common.{◌≡◌, ℕ, List, [], ◌∷◌, map, Option, Some, None, Result, Ok, Err, IfErr, All, refl, sym, ap, ◌∙◌, subst, inl, inr, arith}
+use Rattle.std.proofs.Common.{◌≡◌, ℕ, List, [], ◌∷◌, ◌++◌, map, Option, Some, None, Result, Ok, Err, IfErr, All, refl, sym, ap, ◌∙◌, subst, inl, inr, arith}
 use Rattle.std.specs.Option.{option_or}
-use Rattle.std.proofs.lemmas.List.Elements.{All-cons, All-nil, All-weaker}
+use Rattle.std.proofs.lemmas.List.Elements.{All-head, All-tail, All-weaker}
 use Rattle.repo_commands.specs.cny-base.Count.{Rose}
 use Rattle.repo_commands.specs.cny-base.declared.options.Options.{Options}
 use Rattle.repo_commands.specs.cny-base.declared.refusal.Fault.{Fault}
@@ -16,13 +16,13 @@ use Rattle.repo_commands.specs.trove-stream.Forbidden.{first_forbidden}
 use Rattle.repo_commands.specs.change-set.declared.change.Carried.{Carried}
 use Rattle.repo_commands.specs.change-set.declared.change.Part.TheVariants.{Whole}
 use Rattle.repo_commands.specs.change-set.ChangeSet.{IsContentOf}
+use Rattle.repo_commands.specs.change-set.Contents.{IfRefused}
 use Rattle.repo_commands.specs.content-store.Contents.{empty_contents}
 use Rattle.repo_commands.specs.content-store.declared.contents.NoContents.{NoContents}
 use Rattle.cny_manifest.specs.declared.made.Made.{Made}
 use Rattle.cny_manifest.specs.FirstFault.{IsFaultOf}
 use Rattle.cny_manifest.specs.Makes.{HasOwnContents, Makes}
 use Rattle.system_core.specs.declared.done.Done.{Done}
-use Rattle.system_core.specs.Lists.{AreAllowed}
 use Rattle.system_core.specs.Steps.{HasCause, HasOwnCause}
 use Rattle.cli_call.specs.declared.opened.Opened.{Opened}
 use Rattle.cli_call.specs.Alone.{PerformsAlone}
@@ -35,24 +35,27 @@ use Rattle.cli_call.specs.State.{Effect, State}
 use Rattle.cli_call.specs.Store.{IsStore}
 use Rattle.cli_call.specs.StoreLaws.{nothing_done}
 use Rattle.cli_call.specs.Stores.{repository_store}
-use Rattle.root_commands.specs.Install.{first_reserved, install, install_made, InstallsMade, IsReservedFault, UnlessReserved}
+use Rattle.update_job.specs.Allowed.{AreAllowed, IsAllowed, IsFirstReserved}
+use Rattle.root_commands.specs.Install.{first_reserved, install, install_made, InstallsMade, UnlessReserved}
 
 -- ---- paths that no trove may record
 
 -- the first trove records none
-pub none_first : (t : TroveParts) (troves : List TroveParts) → first_forbidden t.files ≡ None → first_reserved (t ∷ troves) ≡ first_reserved troves
+none_first : (t : TroveParts) (troves : List TroveParts) → first_forbidden t.files ≡ None → first_reserved (t ∷ troves) ≡ first_reserved troves
 none_first t troves none = ap (λ (o : Option (List ℕ)). option_or o (first_reserved troves)) none
 
-pub some_first : (t : TroveParts) (troves : List TroveParts) (path : List ℕ) → first_forbidden t.files ≡ Some path → first_reserved (t ∷ troves) ≡ Some path
+some_first : (t : TroveParts) (troves : List TroveParts) (path : List ℕ) → first_forbidden t.files ≡ Some path → first_reserved (t ∷ troves) ≡ Some path
 some_first t troves path some = ap (λ (o : Option (List ℕ)). option_or o (first_reserved troves)) some
 
-pub reserved_none : (troves : List TroveParts) → first_reserved troves ≡ None → AreAllowed troves
-reserved_none [] none = All-nil (λ (t : TroveParts). first_forbidden t.files ≡ None)
-reserved_none (t ∷ troves) none = by (first_forbidden t.files) refl (reserved_none troves)
-  where
-    by : (o : Option (List ℕ)) → first_forbidden t.files ≡ o → (first_reserved troves ≡ None → AreAllowed troves) → AreAllowed (t ∷ troves)
-    by None is rest = All-cons (λ (u : TroveParts). first_forbidden u.files ≡ None) t troves is (rest (sym (none_first t troves is) ∙ none))
-    by (Some path) is rest = absurd (cc (sym (some_first t troves path is) ∙ none))
+pub allowed_none : (troves : List TroveParts) → AreAllowed troves → first_reserved troves ≡ None
+allowed_none [] allowed = refl
+allowed_none (t ∷ troves) allowed = none_first t troves (All-head IsAllowed t troves allowed) ∙ allowed_none troves (All-tail IsAllowed t troves allowed)
+
+-- the first path is that of the first trove that records one
+reserved_at : (front : List TroveParts) (t : TroveParts) (behind : List TroveParts) (path : List ℕ) → AreAllowed front → first_forbidden t.files ≡ Some path → first_reserved (front ++ t ∷ behind) ≡ Some path
+reserved_at [] t behind path allowed some = some_first t behind path some
+reserved_at (u ∷ front) t behind path allowed some =
+    none_first u (front ++ t ∷ behind) (All-head IsAllowed u front allowed) ∙ reserved_at front t behind path (All-tail IsAllowed u front allowed) some
 
 -- ---- no contents behind
 
@@ -99,10 +102,12 @@ pub unread_refuses : (options : Options) (input : List ℕ) (f : Fault) → IsFa
 unread_refuses options input f is why same s = inr (record { fault = why; first = subst (IsFaultOf input) same is; is = refl })
 
 -- a path is reserved
-pub reserved_refuses : (options : Options) (input : List ℕ) (made : Made) → Makes input made → (f : Fault) → IsReservedFault made.troves f → (why : Refusal) → f ≡ fault.Refused why → (s : State) → (install options).IsOutcome s input (Err why)
+pub reserved_refuses : (options : Options) (input : List ℕ) (made : Made) → Makes input made → (f : Fault) → IfRefused (IsFirstReserved made.troves) f → (why : Refusal) → f ≡ fault.Refused why → (s : State) → (install options).IsOutcome s input (Err why)
 reserved_refuses options input made makes f is why same s =
-    let named = subst (IsReservedFault made.troves) same is in
-    inl (record { made = made; makes = makes; is = subst (λ (o : Option (List ℕ)). UnlessReserved o (InstallsMade options made s.root) (Err why)) (sym named.1) (ap Err named.2) })
+    let first : IsFirstReserved made.troves why = subst (IfRefused (IsFirstReserved made.troves)) same is in
+    let path = first.reserved.path in
+    let named : first_reserved made.troves ≡ Some path = ap first_reserved first.is ∙ reserved_at first.front first.trove first.behind path first.allowed first.reserved.first in
+    inl (record { made = made; makes = makes; is = subst (λ (o : Option (List ℕ)). UnlessReserved o (InstallsMade options made s.root) (Err why)) (sym named) (ap Err first.reserved.refused) })
 
 -- what the manifest makes is installed
 pub installs_more : (options : Options) (input : List ℕ) (made : Made) → Makes input made → first_reserved made.troves ≡ None → (s : State) (outcome : Result Effect Refusal) → (install_made options made).IsOutcome s input outcome → (install options).IsOutcome s input outcome

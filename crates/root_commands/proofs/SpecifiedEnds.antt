@@ -12,7 +12,7 @@ use Rattle.local_db.specs.declared.format.Format.TheVariants.{Two}
 use Rattle.local_db.specs.Stores.{StoresIn}
 use Rattle.system_core.specs.JobWriting as settling
 use Rattle.system_core.specs.declared.done.Done.{Done}
-use Rattle.system_core.specs.Answers.{AnswersCall, AnswersRefusal, no_list, untested, last}
+use Rattle.system_core.specs.Answers.{AnswersCall, AnswersRefusal, collided, no_list, untested, last}
 use Rattle.system_core.specs.Job.{Sources}
 use Rattle.system_core.specs.Lists.{ListStep}
 use Rattle.system_core.specs.Steps.{Ends, HasOwnCause}
@@ -51,7 +51,8 @@ module _ {D : Type 0} {disk : DiskModel D} (laws : IsDisk disk) (from : Sources)
   refused_read : (why : Refusal) → AnswersRefusal disk from step db old new why → IsTrue disk.tells → HasRead disk old new (Unit {0})
   refused_read why (no_list is same) told = subst (λ (d : D). HasRead disk old d (Unit {0})) (sym same) (nothing_done laws old)
   refused_read why (untested list leads is reads) told = let read = reads told in record { answer = tt; same = read.same; time = read.time }
-  refused_read why (last list leads passes puts reads) told = let read = reads told in record { answer = tt; same = read.same; time = read.time }
+  refused_read why (collided list leads passes puts collides) told = absurd (collides.collision.untold told)
+  refused_read why (last list leads passes puts refused reads) told = let read = reads told in record { answer = tt; same = read.same; time = read.time }
 
   read_at : (e : Stop) → AnswersCall disk from step db old new now (Err e) → IsTrue disk.tells → ReadsAtRefusal disk old new e
   read_at (stop.Refused why) answers told = refused_read why answers told

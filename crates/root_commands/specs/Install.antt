@@ -2,8 +2,6 @@
 use Rattle.std.specs.Prelude.{◌≡◌, ℕ, true, false, List, [], ◌∷◌, Option, Some, None, Result, Err}
 use Rattle.std.specs.Option.{option_or}
 use Rattle.repo_commands.specs.cny-base.declared.options.Options.{Options}
-use Rattle.repo_commands.specs.cny-base.declared.refusal.Fault.{Fault}
-use Rattle.repo_commands.specs.cny-base.declared.refusal.Fault.TheVariants as fault
 use Rattle.repo_commands.specs.cny-base.declared.refusal.Refusal.{Refusal}
 use Rattle.repo_commands.specs.cny-base.declared.refusal.Refusal.TheVariants as refusal
 use Rattle.repo_commands.specs.trove-stream.declared.parts.TroveParts.{TroveParts}
@@ -24,11 +22,6 @@ first_reserved (t ∷ troves) = option_or (first_forbidden t.files) (first_reser
 abbrev pub UnlessReserved : Option (List ℕ) → (Result Effect Refusal → Type 0) → Result Effect Refusal → Type 0
 UnlessReserved None IsOutcome outcome = IsOutcome outcome
 UnlessReserved (Some path) IsOutcome outcome = outcome ≡ Err (refusal.Reserved path)
-
--- its refusal, or want of memory
-abbrev pub IsReservedFault : List TroveParts → Fault → Type 0
-IsReservedFault troves (fault.Refused why) = (path : List ℕ) × (first_reserved troves ≡ Some path) × (why ≡ refusal.Reserved path)
-IsReservedFault troves fault.Memory = Unit {0}
 
 -- the job of the troves of a manifest, each in place of what its name reached, with the contents of the manifest
 abbrev pub InstallsMade : Options → Made → RootState → Result Effect Refusal → Type 0

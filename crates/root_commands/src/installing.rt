@@ -1,35 +1,21 @@
 //! The command that installs what a manifest makes.
-ghost use Rattle.std.specs.Prelude.{◌≡◌, IfErr, List, None, OnOk, ℕ};
+ghost use Rattle.std.specs.Prelude.{List, ℕ};
 ghost use Rattle.cny_manifest.specs.Makes.{HasOwnContents};
 ghost use Rattle.cli_call.specs.Alone.{PerformsAlone};
 ghost use Rattle.cli_call.specs.Command.{disks, AreReady, Performs};
 ghost use Rattle.system_core.specs.Lists.{AreAllowed};
 ghost use Rattle.root_commands.specs.Install as spec;
-ghost use Rattle.root_commands.specs.Install.{first_reserved, IsReservedFault};
 
 use cli_call::{Failure, Opened, on_root, store_laws};
 use cny_manifest::{Made, read};
 use cny_report::changes_text;
 use local_db::distinct_databases;
-use repo_commands::cny_base::{Fault, Options, Text};
+use repo_commands::cny_base::{Options, Text};
 use repo_commands::content_store::NoContents;
 use repo_commands::tree_disk::TreeDisk;
-use repo_commands::trove_stream::{Trove, check};
 use std::alloc::Global;
 use system_core::update;
-
-// Refuses the first path that no trove may record, trove by trove.
-fn check_troves(alloc: Global, troves: &[Trove]) -> Result<(), Fault>
-    ensures none { OnOk result (first_reserved troves.now ≡ None) }
-    ensures refused { IfErr result (IsReservedFault troves.now) }
-{
-    let mut rest = troves;
-    while let [trove, after @ ..] = rest {
-        check(alloc, trove)?;
-        rest = after;
-    }
-    Ok(())
-}
+use update_job::check_allowed;
 
 // The job of the troves that a manifest makes, with its contents, and nothing else.
 fn install_made<T: TreeDisk, P: TreeDisk>(
@@ -80,6 +66,6 @@ pub fn install_manifest<T: TreeDisk, P: TreeDisk>(
 {
     store_laws();
     let made = read(alloc, input)?;
-    check_troves(alloc, made.troves.get())?;
+    check_allowed(alloc, made.troves.get())?;
     install_made(alloc, options, &made, opened, repo, root)
 }

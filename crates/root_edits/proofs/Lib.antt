@@ -3,6 +3,7 @@ mod Answered
 mod Listed
 mod SearchLaws
 mod FindsLaws
+mod Stopping
 mod Members
 mod Adding
 mod Gathering

@@ -1,7 +1,9 @@
 -- Runs of calls that only read a disk, and how they end.
-use Rattle.std.specs.Prelude.{ℕ, ◌≤◌, Bool, IsTrue, Result, Ok, Err}
+use Rattle.std.specs.Prelude.{◌≡◌, ℕ, ◌≤◌, Bool, IsTrue, Result, Ok, Err}
 use Rattle.update_job.specs.cny-base.Count.{Rose}
 use Rattle.update_job.specs.cny-base.declared.refusal.Refusal.{Refusal}
+use Rattle.update_job.specs.cny-base.declared.refusal.Refusal.TheVariants as refusal
+use Rattle.update_job.specs.cny-base.declared.refusal.What.TheVariants.{Local}
 use Rattle.update_job.specs.cny-base.declared.stop.Stop.{Stop}
 use Rattle.update_job.specs.cny-base.declared.stop.Stop.TheVariants.{Refused, Memory, Failed, Damaged, FarFailed, FarDamaged}
 use Rattle.tree_scan.specs.tree-disk.Tree.{Tree}
@@ -23,3 +25,19 @@ pub record Finds {D X : Type 0} (disk : DiskModel D) (P : Tree → X → Type 0)
   pub later : disk.faults old ≤ disk.faults new
   pub same : IsTrue disk.tells → HasRead disk old new (Unit {0})
   pub ends : Ends disk.tells (P (disk.reads old)) (Q (disk.reads old)) result (disk.faults old) (disk.faults new)
+
+-- ---- on every disk, also on one that tells nothing
+
+-- a file is too large
+abbrev pub IsSizeRefusal : Refusal → Type 0
+IsSizeRefusal (refusal.TooLarge kind size) = kind ≡ Local
+IsSizeRefusal _ = ⊥
+
+-- so refused, and for nothing else; or a fault, or want of memory
+abbrev pub IsSizeStop : Stop → Type 0
+IsSizeStop (Refused why) = IsSizeRefusal why
+IsSizeStop Failed = Unit {0}
+IsSizeStop Memory = Unit {0}
+IsSizeStop (Damaged path) = ⊥
+IsSizeStop FarFailed = ⊥
+IsSizeStop (FarDamaged path) = ⊥

@@ -3,6 +3,9 @@ use Rattle.std.specs.Prelude.{◌≡◌, ◌⊎◌, ℕ, List, [], ◌∷◌, fl
 use Rattle.std.specs.Option.{option_map, option_or}
 use Rattle.update_job.specs.cny-base.declared.refusal.Refusal.{Refusal}
 use Rattle.update_job.specs.cny-base.declared.refusal.Refusal.TheVariants as refusal
+use Rattle.update_job.specs.cny-base.declared.refusal.What.TheVariants as what
+use Rattle.update_job.specs.cny-base.declared.stop.Stop.{Stop}
+use Rattle.update_job.specs.cny-base.declared.stop.Stop.TheVariants as stop
 use Rattle.update_job.specs.trove-parts.declared.files.FileAt.{FileAt}
 use Rattle.update_job.specs.trove-stream.declared.parts.TroveParts.{TroveParts}
 use Rattle.change_rel.specs.Leads.{Leads}
@@ -89,3 +92,37 @@ pub record IsRefusedTrove (list : List TroveParts) (name : List ℕ) (tree : Tre
 
 abbrev pub IsLocalRefusal : List TroveParts → List ℕ → Tree → Refusal → Type 0
 IsLocalRefusal list name tree refused = IsNotInstalled list name refused ⊎ IsRefusedTrove list name tree refused
+
+-- ---- on every disk, also on one that tells nothing
+
+-- a trove of the name is installed, and of those that it reaches no version would be too long
+pub record PassesVersions (list : List TroveParts) (name : List ℕ) : Type 0 where
+  pub installed : IsNameless name list → ⊥
+  pub troves : List TroveParts
+  pub reached : AreReached list name troves
+  pub short : too_long troves ≡ None
+
+-- one of them would be, and this is the refusal of the first
+pub record IsTooLongTrove (list : List TroveParts) (name : List ℕ) (refused : Refusal) : Type 0 where
+  pub installed : IsNameless name list → ⊥
+  pub troves : List TroveParts
+  pub reached : AreReached list name troves
+  pub refusal_is : too_long troves ≡ Some refused
+
+-- The refusals that the list alone decides come exactly so. Behind them come those of a file that is too large and of a collision, and no
+-- other.
+abbrev pub IsLocalAnswer : List TroveParts → List ℕ → Refusal → Type 0
+IsLocalAnswer list name (refusal.NotInstalled missing) = IsNotInstalled list name (refusal.NotInstalled missing)
+IsLocalAnswer list name (refusal.TooLarge what.Version size) = IsTooLongTrove list name (refusal.TooLarge what.Version size)
+IsLocalAnswer list name (refusal.TooLarge what.Local size) = PassesVersions list name
+IsLocalAnswer list name (refusal.Collision hash at) = PassesVersions list name
+IsLocalAnswer list name _ = ⊥
+
+-- so refused; or a fault behind them, or want of memory
+abbrev pub IsLocalStop : List TroveParts → List ℕ → Stop → Type 0
+IsLocalStop list name (stop.Refused why) = IsLocalAnswer list name why
+IsLocalStop list name stop.Failed = PassesVersions list name
+IsLocalStop list name stop.Memory = Unit {0}
+IsLocalStop list name (stop.Damaged path) = ⊥
+IsLocalStop list name stop.FarFailed = ⊥
+IsLocalStop list name (stop.FarDamaged path) = ⊥

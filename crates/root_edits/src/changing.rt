@@ -1,10 +1,10 @@
 //! The change set of local changes.
-ghost use Rattle.std.specs.Prelude.{◌≡◌, [], All, IfOk, OnOk, Some, map};
+ghost use Rattle.std.specs.Prelude.{◌≡◌, [], All, IfErr, IfOk, OnOk, Some, map};
 ghost use Rattle.update_job.specs.trove-parts.Id.{IsTroveId};
 ghost use Rattle.update_job.specs.change-set.ChangeSet.{HasContents, IsPart};
 ghost use Rattle.update_job.specs.trove-stream.Installed.{IsNameless};
-ghost use Rattle.root_edits.specs.Finds.{Finds};
-ghost use Rattle.root_edits.specs.Local.{all_sights, IsLocal, IsLocalRefusal};
+ghost use Rattle.root_edits.specs.Finds.{Finds, IsSizeStop};
+ghost use Rattle.root_edits.specs.Local.{all_sights, IsLocal, IsLocalRefusal, IsLocalStop};
 ghost use Rattle.root_edits.specs.Moved as moved;
 ghost use Rattle.root_edits.specs.Standing.{sights, too_large};
 ghost use Rattle.root_edits.specs.Steps.{HasAddedPart, HaveAddedParts};
@@ -37,6 +37,7 @@ fn add_trove<T: TreeDisk>(
     requires id { id.now ≡ moved.local_id trove.now.id }
     ensures finds { Finds T.disk (λ tree done. Unit {0}) (λ tree refused. too_large (sights tree trove.now.files) ≡ Some refused) root.old root.new result }
     ensures added { OnOk result (HasAddedPart T.disk.tells (T.disk.reads root.old) troves.now trove.now parts.old.items parts.new.items carried.old.items carried.new.items) }
+    ensures stops { IfErr result IsSizeStop }
 {
     let files = standing_files(alloc, root, trove.files(), carried)?;
     let fresh = moved_trove(alloc, troves, ids, trove, id, files)?;
@@ -60,6 +61,7 @@ fn add_troves<T: TreeDisk>(
     requires no_contents { carried.old.items ≡ [] }
     ensures finds { Finds T.disk (λ tree done. Unit {0}) (λ tree refused. too_large (all_sights tree troves.now) ≡ Some refused) root.old root.new result }
     ensures added { OnOk result (HaveAddedParts T.disk.tells (T.disk.reads root.old) troves.now troves.now parts.new.items carried.new.items) }
+    ensures stops { IfErr result IsSizeStop }
 {
     for (place, trove) in troves.troves().iter().enumerate() {
         add_trove(alloc, root, troves, ids, trove, &ids[place], parts, carried)?;
@@ -80,8 +82,8 @@ fn add_troves<T: TreeDisk>(
 /// It is refused by `NotInstalled` where there is no trove of this name; by `TooLarge` with `What::Version` for the first trove whose
 /// version would have more than 512 bytes; by `TooLarge` with `What::Local` for the first recorded path, trove by trove, at which a
 /// file of more than 16,777,216 bytes stands; and by `Collision` for the first path whose content is carried and differs from one of
-/// the same SHA-1 that is carried for a path before it; in this order. `Failed` comes only where the root's count of faults rose, and
-/// no other stop but want of memory. Nothing is changed, however it ends.
+/// the same SHA-1 that is carried for a path before it; in this order, and on no disk by anything else. `Failed` comes only where the
+/// root's count of faults rose, and no other stop but want of memory. Nothing is changed, however it ends.
 pub fn local<T: TreeDisk>(
     alloc: Global,
     root: &mut T,
@@ -89,7 +91,8 @@ pub fn local<T: TreeDisk>(
     name: &Name,
 ) -> Result<ChangeSet, Stop>
     ensures finds { Finds T.disk (IsLocal installed.now name.now) (IsLocalRefusal installed.now name.now) root.old root.new result }
-    // On every disk.
+    // On every disk, also on one that tells nothing.
+    ensures stops { IfErr result (IsLocalStop installed.now name.now) }
     ensures installed { OnOk result (¬ (IsNameless name.now installed.now)) }
     ensures parts { IfOk result (λ set. All IsPart set.parts) }
     ensures contents { IfOk result HasContents }

@@ -1,5 +1,5 @@
 //! The files of a trove by what stands at their paths.
-ghost use Rattle.std.specs.Prelude.{◌≡◌, ◌++◌, [], IfOk, IsTrue, None, OnOk, Option, Some};
+ghost use Rattle.std.specs.Prelude.{◌≡◌, ◌++◌, [], IfErr, IfOk, IsTrue, None, OnOk, Option, Some};
 ghost use Rattle.std.specs.FinMap.{get};
 ghost use Rattle.std.specs.List.{cons_option};
 ghost use Rattle.update_job.specs.file-stream.Owner.{root_owner};
@@ -7,7 +7,7 @@ ghost use Rattle.update_job.specs.file-stream.Record.{has_name_and_size};
 ghost use Rattle.tree_scan.specs.tree-disk.declared.disk.Look.TheVariants as look;
 ghost use Rattle.tree_scan.specs.tree-disk.Rows.{look_of};
 ghost use Rattle.tree_scan.specs.tree-disk.Steps.{Tests};
-ghost use Rattle.root_edits.specs.Finds.{Finds};
+ghost use Rattle.root_edits.specs.Finds.{Finds, IsSizeStop};
 ghost use Rattle.root_edits.specs.Standing as spec;
 ghost use Rattle.root_edits.specs.Standing.{content_of_node, local_content, local_file, sights, too_large, too_large_node};
 ghost use Rattle.root_edits.specs.Steps.{within_limit, Fits, HaveSeen, IsNameOf};
@@ -37,6 +37,7 @@ fn file_at<D: TreeDisk>(
         (λ tree. within_limit (get tree path.now) (too_large_node (get tree path.now)))
         disk.old disk.new result }
     ensures fits { IfOk result Fits }
+    ensures stops { IfErr result IsSizeStop }
 {
     match steps::read_whole(alloc, disk, path, u64::from(CONTENT_LIMIT))? {
         Some(bytes) => {
@@ -58,6 +59,7 @@ fn node_at<D: TreeDisk>(alloc: Global, disk: &mut D, path: &Path) -> Result<Opti
         (λ tree. within_limit (get tree path.now) (too_large_node (get tree path.now)))
         disk.old disk.new result }
     ensures fits { IfOk result Fits }
+    ensures stops { IfErr result IsSizeStop }
 {
     match steps::look(alloc, disk, path)? {
         Look::Nothing => Ok(None),
@@ -244,6 +246,7 @@ pub(crate) fn standing_files<D: TreeDisk>(
 ) -> Result<Files, Stop>
     ensures finds { Finds D.disk (λ tree files. Unit {0}) (λ tree refused. too_large (sights tree recorded.now) ≡ Some refused) disk.old disk.new result }
     ensures seen { IfOk result (λ files. HaveSeen D.disk.tells (D.disk.reads disk.old) recorded.now files carried.old.items carried.new.items) }
+    ensures stops { IfErr result IsSizeStop }
 {
     let mut files = Vec::new(alloc);
     for file in recorded {

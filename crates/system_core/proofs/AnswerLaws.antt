@@ -22,11 +22,11 @@ use Rattle.job_targets.specs.declared.targets.Targets.{Targets}
 use Rattle.job_targets.specs.Gathering.{Gathers}
 use Rattle.job_targets.specs.Outcome.{IsTargetRefusal, IsTargetStop}
 use Rattle.system_core.specs.Last.{IsRefusedLast, PassesLast, too_large, too_many}
-use Rattle.system_core.specs.JobWriting.{AnswersJob, IsJobStop}
+use Rattle.system_core.specs.JobWriting.{AnswersJob, CollidesWriting, IsJobStop}
 use Rattle.local_db.specs.declared.db.Db.{Db}
 use Rattle.local_db.specs.Installed.{IsInstalled}
 use Rattle.system_core.specs.declared.done.Done.{Done}
-use Rattle.system_core.specs.Answers.{AnswersCall, AnswersDone, AnswersRefusal, HasList, IsTestAnswer, IsTestStop, PassesListTests, last, no_list, untested}
+use Rattle.system_core.specs.Answers.{AnswersCall, AnswersDone, AnswersRefusal, HasList, IsTestAnswer, IsTestStop, PassesListTests, collided, last, no_list, untested}
 use Rattle.system_core.specs.Job.{IsTestRefusal, IsTested, Sources}
 use Rattle.system_core.specs.Lists.{ListStep, to_list}
 use Rattle.system_core.specs.Something.{HasNothing}
@@ -95,18 +95,21 @@ module _ {D C : Type 0} {disk : DiskModel D} {contents : ContentsModel C} (from 
   tests_answer now (FarDamaged path) run stops = ((list, refl, stops), run.same)
 
   module _ (made : Targets) (run : Gathers disk contents (IsTested from db.installed list) (IsTestRefusal from db.installed list) old mid far far' (Ok made)) (passes : PassesListTests list) where
-    refused_last : {new : D} (tested : (new ≡ mid) ⊎ PassesLast db list made.puts) (why : Refusal) → (IsTrue disk.tells → IsRefusedLast db list made.puts why) → AnswersCall disk from (to_list list) db old new db (Err (Refused why))
+    refused_last : {new : D} (tested : (new ≡ mid) ⊎ PassesLast db list made.puts) (why : Refusal) → IsRefusedLast db list made.puts why → AnswersRefusal disk from (to_list list) db old new why
     refused_last {new = new} tested why refused =
-        last list refl passes made.puts (λ tells. read_as
+        last list refl passes made.puts refused (λ tells. read_as
         (⊎_elim
         (λ (same : new ≡ mid). subst (λ (d : D). HasRead disk old d (Unit {0})) (sym same) (run.same tells))
-        (λ (passed : PassesLast db list made.puts). absurd (not_both db list made.puts why (refused tells) passed))
+        (λ (passed : PassesLast db list made.puts). absurd (not_both db list made.puts why refused passed))
         tested)
-        ((made, refl, run.ends tells), refused tells))
+        (made, refl, run.ends tells))
 
     -- the writing stopped
     pub write_answer : {new : D} (now : Db) (rose : Type 0) (e : Stop) → IsJobStop disk.tells rose db list made.puts e → (new ≡ mid) ⊎ PassesLast db list made.puts → AnswersCall disk from (to_list list) db old new now (Err e)
-    write_answer now rose (Refused why) stops tested = refused_last tested why stops
+    write_answer now rose (Refused why) stops tested = ⊎_elim
+        (λ (refused : IsRefusedLast db list made.puts why). refused_last tested why refused)
+        (λ (collides : CollidesWriting disk.tells db list made.puts why). collided list refl passes made.puts collides)
+        stops
     write_answer now rose Memory stops tested = tt
     write_answer now rose Failed stops tested = (list, refl, passes)
     write_answer now rose (Damaged path) stops tested = stops
@@ -140,7 +143,8 @@ module _ {D : Type 0} (disk : DiskModel D) (from : Sources) (step : ListStep) (d
     refusal_by : (why : Refusal) → AnswersRefusal disk from (to_list list) db old new why → AnswersRefusal disk from step db old new why
     refusal_by why (no_list never same) = absurd never
     refusal_by why (untested l is answer read) = untested l (led step list l leads is) answer read
-    refusal_by why (last l is passes puts read) = last l (led step list l leads is) passes puts read
+    refusal_by why (last l is passes puts refused read) = last l (led step list l leads is) passes puts refused read
+    refusal_by why (collided l is passes puts collides) = collided l (led step list l leads is) passes puts collides
 
     list_by : HasList (to_list list) → HasList step
     list_by (l, is, passes) = (l, led step list l leads is, passes)

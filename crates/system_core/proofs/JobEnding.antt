@@ -165,7 +165,7 @@ module _ (before : Db) (list : List TroveParts) (puts : List Put) (es : List Ent
       at_stop : (rose : Type 0) (e : Stop) → IsTrue disk.tells → IsPushStop disk.tells rose e → Goes disk Two s (after_job puts list s) puts old new (Err e) → JobEnds disk puts list s old new (Err e)
       at_stop rose Failed tells stops goes = goes
       at_stop rose Memory tells stops goes = goes
-      at_stop rose (Refused why) tells stops goes = absurd (stops tells)
+      at_stop rose (Refused why) tells stops goes = absurd (stops.untold tells)
       at_stop rose (Damaged path) tells stops goes = absurd stops
       at_stop rose FarFailed tells stops goes = absurd stops
       at_stop rose (FarDamaged path) tells stops goes = absurd stops
@@ -210,7 +210,7 @@ pub passes_size : (list : List TroveParts) → Fits Two list → last.database_s
 passes_size list fits = fits.short
 
 fault_stop : (told : Bool) (rose : Type 0) (db : Db) (list : List TroveParts) (puts : List Put) (e : Fault) → IsRefusedOrMemory db list puts e → IsJobStop told rose db list puts (stop_of_fault e)
-fault_stop told rose db list puts (fault.Refused why) is = λ tells. is
+fault_stop told rose db list puts (fault.Refused why) is = inl is
 fault_stop told rose db list puts fault.Memory is = tt
 
 pub refused_stops : {T : Type 0} (told : Bool) (rose : Type 0) (db : Db) (list : List TroveParts) (puts : List Put) (e : Fault) (r : Result T Stop) → IsErrAnd r (λ x. x ≡ stop_of_fault e)
@@ -221,7 +221,7 @@ refused_stops told rose db list puts e (Err x) same is = subst (IsJobStop told r
 push_stop : (told : Bool) (rose : Type 0) (db : Db) (list : List TroveParts) (puts : List Put) (e : Stop) → PassesLast db list puts → IsPushStop told rose e → IsJobStop told rose db list puts e
 push_stop told rose db list puts Failed passes is = (is, passes)
 push_stop told rose db list puts Memory passes is = tt
-push_stop told rose db list puts (Refused why) passes is = λ tells. absurd (is tells)
+push_stop told rose db list puts (Refused why) passes is = inr (record { passes = passes; collision = is })
 push_stop told rose db list puts (Damaged path) passes is = is
 push_stop told rose db list puts FarFailed passes is = is
 push_stop told rose db list puts (FarDamaged path) passes is = is

@@ -28,7 +28,7 @@ use Rattle.system_core.specs.RootWriting.{Goes}
 use Rattle.job_targets.specs.declared.targets.Targets.{Targets}
 use Rattle.job_targets.specs.Gathering.{Gathers}
 use Rattle.system_core.specs.Last.{ChangesNothing, IsRefusedLast, PassesLast}
-use Rattle.system_core.specs.JobWriting.{AnswersJob, AreTargetsOf, CanWriteJob, IsJobStop, JobEnds, done}
+use Rattle.system_core.specs.JobWriting.{AnswersJob, AreTargetsOf, CanWriteJob, CollidesWriting, IsJobStop, JobEnds, done}
 use Rattle.system_core.specs.declared.done.Done.{Done}
 use Rattle.system_core.specs.Job.{IsTestRefusal, IsTested, PassesTests, Sources, db_of, last, untested}
 use Rattle.system_core.specs.Lists.{AreAllowed, to_list}
@@ -151,7 +151,10 @@ module _ {D : Type 0} {disk : DiskModel D} (laws : IsDisk disk) (tells : IsTrue 
       write_end changes are now (FarDamaged path) ends stops tested = absurd ends
 
       refusal_of_stop : (rose : Type 0) (e : Stop) → IsJobStop disk.tells rose db list made.puts e → IsTrue disk.tells → (why : Refusal) → e ≡ Refused why → IsRefusedLast db list made.puts why
-      refusal_of_stop rose e stops told why is = (subst (IsJobStop disk.tells rose db list made.puts) is stops) told
+      refusal_of_stop rose e stops told why is = ⊎_elim
+          (λ (refused : IsRefusedLast db list made.puts why). refused)
+          (λ (collides : CollidesWriting disk.tells db list made.puts why). absurd (collides.collision.untold told))
+          (subst (IsJobStop disk.tells rose db list made.puts) is stops)
 
       pub write_stop : (changes : List Change) → AreChanges db.installed list changes → (rose : Type 0) (now : Db) (e : Stop) (r : Result Done Stop) → IsErrAnd r (λ x. x ≡ e) → JobEnds disk made.puts list s mid new (Err e) → IsJobStop disk.tells rose db list made.puts e
           → (new ≡ mid) ⊎ PassesLast db list made.puts → Ends disk from (to_list list) s old new now r

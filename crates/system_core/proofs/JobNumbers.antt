@@ -9,7 +9,7 @@ use Rattle.rollback_stack.specs.cny-base.declared.refusal.Refusal.TheVariants.{T
 use Rattle.rollback_stack.specs.cny-base.declared.refusal.What.TheVariants.{Database}
 use Rattle.rollback_stack.specs.trove-stream.declared.parts.TroveParts.{TroveParts}
 use Rattle.local_db.specs.Writing.{IsTooLargeOrMemory}
-use Rattle.rollback_stack.specs.Numbers.{IsFullOrMemory}
+use Rattle.rollback_stack.specs.Numbers.{IsFull}
 use Rattle.local_db.specs.Formats.{AreEnds}
 use Rattle.local_db.specs.SystemState.{StackItem, newest, oldest, AreNumbered}
 use Rattle.local_db.specs.Steps.{pushed}
@@ -67,12 +67,12 @@ pub large_last : {T : Type 0} (newest : ℕ) (list : List TroveParts) (size : �
 large_last newest list size e (Ok x) same is cause = tt
 large_last newest list size e (Err f) same is cause = subst (IsLastOrMemory newest list) (sym is) (large newest list size e same cause)
 
-full : (newest : ℕ) (list : List TroveParts) (size : ℕ) (e : Fault) → size ≡ database_size list → size ≤ DATABASE_LIMIT → IsFullOrMemory newest e → IsLastOrMemory newest list e
-full newest list size fault.Memory same short is = tt
+full : (newest : ℕ) (list : List TroveParts) (size : ℕ) (e : Fault) → size ≡ database_size list → size ≤ DATABASE_LIMIT → IsFull newest e → IsLastOrMemory newest list e
+full newest list size fault.Memory same short is = absurd is
 full newest list size (fault.Refused why) same short is = inr (subst (λ (n : ℕ). n ≤ DATABASE_LIMIT) same short, is.1, is.0)
 
 -- there is no number
 pub full_last : {T : Type 0} (newest : ℕ) (list : List TroveParts) (size : ℕ) (e : Fault) (r : Result T Fault) → size ≡ database_size list → size ≤ DATABASE_LIMIT → IsErrAnd r (λ f. f ≡ e)
-    → IsFullOrMemory newest e → IfErr r (IsLastOrMemory newest list)
+    → IsFull newest e → IfErr r (IsLastOrMemory newest list)
 full_last newest list size e (Ok x) same short is cause = tt
 full_last newest list size e (Err f) same short is cause = subst (IsLastOrMemory newest list) (sym is) (full newest list size e same short cause)

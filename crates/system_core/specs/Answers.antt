@@ -15,7 +15,7 @@ use Rattle.dep_closure.specs.Closed.{IsClosed, IsUnmetOrMemory}
 use Rattle.update_job.specs.Changes.{AreChanges}
 use Rattle.job_targets.specs.declared.targets.Targets.{Targets}
 use Rattle.system_core.specs.Last.{IsRefusedLast}
-use Rattle.system_core.specs.JobWriting.{AnswersJob}
+use Rattle.system_core.specs.JobWriting.{AnswersJob, CollidesWriting}
 use Rattle.local_db.specs.declared.db.Db.{Db}
 use Rattle.local_db.specs.Installed.{IsInstalled}
 use Rattle.system_core.specs.declared.done.Done.{Done}
@@ -69,14 +69,16 @@ pub record AnswersDone {D : Type 0} (disk : DiskModel D) (from : Sources) (step 
   pub tested : IsTrue disk.tells → HasWrites from db.installed list (disk.reads old) puts
 
 -- No list follows; or the first test that fails is this one; or all of these passed, and one of the last tests fails. Where the disk
--- tells its tree it was only read, and these are the tests over it. (Elsewhere a refusal may come while the job is written, where
--- something came to stand at its own places.)
+-- tells its tree it was only read, and these are the tests over it. On a disk that tells nothing an old content may collide while the
+-- job is written, behind all tests.
 pub data AnswersRefusal {D : Type 0} (disk : DiskModel D) (from : Sources) (step : ListStep) (db : Db) (old new : D) (why : Refusal) : Type 0 where
   no_list : step.refuses why → new ≡ old → AnswersRefusal disk from step db old new why
   untested : (list : List TroveParts) → step.leads list → IsTestAnswer list why → Reads disk old new (IsTestRefusal from db.installed list (disk.reads old) why)
       → AnswersRefusal disk from step db old new why
-  last : (list : List TroveParts) → step.leads list → PassesListTests list → (puts : List Put)
-      → Reads disk old new (HasWrites from db.installed list (disk.reads old) puts × IsRefusedLast db list puts why) → AnswersRefusal disk from step db old new why
+  last : (list : List TroveParts) → step.leads list → PassesListTests list → (puts : List Put) → IsRefusedLast db list puts why
+      → Reads disk old new (HasWrites from db.installed list (disk.reads old) puts) → AnswersRefusal disk from step db old new why
+  collided : (list : List TroveParts) → step.leads list → PassesListTests list → (puts : List Put) → CollidesWriting disk.tells db list puts why
+      → AnswersRefusal disk from step db old new why
 
 -- a list follows, and it passes its tests
 abbrev pub HasList : ListStep → Type 0

@@ -1,8 +1,9 @@
 -- What a job asks of its targets and of the root, and how it ends.
-use Rattle.std.specs.Prelude.{◌≡◌, ◌≢◌, ℕ, ◌+◌, Bool, false, IsTrue, List, map, Option, Some, None, Result, Ok, Err, All}
+use Rattle.std.specs.Prelude.{◌≡◌, ◌≢◌, ◌⊎◌, ℕ, ◌+◌, Bool, false, IsTrue, List, map, Option, Some, None, Result, Ok, Err, All}
 use Rattle.std.specs.FinMap.{get}
 use Rattle.rollback_stack.specs.cny-base.Path.{parent}
 use Rattle.rollback_stack.specs.cny-base.Reserved.{private_directory}
+use Rattle.rollback_stack.specs.cny-base.declared.refusal.Refusal.{Refusal}
 use Rattle.rollback_stack.specs.cny-base.declared.stop.Stop.{Stop}
 use Rattle.rollback_stack.specs.cny-base.declared.stop.Stop.TheVariants.{Refused, Memory, Failed, Damaged, FarFailed, FarDamaged}
 use Rattle.rollback_stack.specs.journal-log.declared.put.Put.{Put}
@@ -28,6 +29,7 @@ use Rattle.local_db.specs.Stores.{HoldsDatabase}
 use Rattle.local_db.specs.Steps.{after_job, old_of, paths_of, pushed, want_of}
 use Rattle.local_db.specs.declared.db.Db.{Db}
 use Rattle.rollback_stack.specs.declared.undo.Undo.{Undo}
+use Rattle.rollback_stack.specs.Saving.{IsUntoldCollision}
 use Rattle.rollback_stack.specs.Undo.{AreEntries, GivesBack, entries_of}
 use Rattle.system_core.specs.RootWriting.{Goes}
 use Rattle.system_core.specs.Last.{ChangesNothing, IsRefusedLast, PassesLast, db_after}
@@ -130,12 +132,16 @@ AnswersJob db list puts new (Ok (Some number)) = (number ≡ db.newest + 1) × (
 AnswersJob db list puts new (Ok None) = (new ≡ db) × ChangesNothing db list puts
 AnswersJob db list puts new (Err stop) = new ≡ db
 
--- Why it stopped: a fault or want of memory, once the last tests passed; or the first of them that fails. (Where the disk tells
--- nothing, a file may stand in a directory that was just made.)
+-- The last tests passed; and where the disk tells nothing, an old content collides while it is saved.
+pub record CollidesWriting (told : Bool) (db : Db) (list : List TroveParts) (puts : List Put) (why : Refusal) : Type 0 where
+  pub passes : PassesLast db list puts
+  pub collision : IsUntoldCollision told why
+
+-- Why it stopped: a fault or want of memory, once the last tests passed; or the first of them that fails; or such a collision.
 abbrev pub IsJobStop : Bool → Type 0 → Db → List TroveParts → List Put → Stop → Type 0
 IsJobStop told rose db list puts Failed = rose × PassesLast db list puts
 IsJobStop told rose db list puts Memory = Unit {0}
-IsJobStop told rose db list puts (Refused why) = IsTrue told → IsRefusedLast db list puts why
+IsJobStop told rose db list puts (Refused why) = IsRefusedLast db list puts why ⊎ CollidesWriting told db list puts why
 IsJobStop told rose db list puts (Damaged path) = ⊥
 IsJobStop told rose db list puts FarFailed = ⊥
 IsJobStop told rose db list puts (FarDamaged path) = ⊥

@@ -29,7 +29,7 @@ returns-in_err-ids-clause-any_moment g c tells r h settled =
 pub returns-then-is_empty-clause-ends : goal.returns-then-is_empty-clause-ends
 returns-then-is_empty-clause-ends g c tells =
     let empty = empty_list c.in_ok-added.added.troves c.is_empty.result (c.is_empty.ensures ∙ ap (λ (l : List TroveParts). length l == 0) c.troves-2.ensures.value) c.if-is_empty.true in
-    done_nothing g.met.D.TreeDisk.laws c.args.change.now c.args.catalogue.now c.in_ok-added.added c.in_ok-ids.ids tells (c.requires.rests tells) c.in_ok-added.ensures.tested empty
+    done_nothing g.met.D.TreeDisk.laws c.args.change.now c.args.catalogue.now c.in_ok-added.added c.in_ok-ids.ids tells c.requires.contents (c.requires.rests tells) c.in_ok-added.ensures.tested empty
     (c.in_ok-ids.ensures ∙ ap ids_of c.troves.ensures.value)
 
 pub returns-then-is_empty-clause-any_moment : goal.returns-then-is_empty-clause-any_moment
@@ -58,7 +58,7 @@ returns-clause-ends g c tells =
     let full = full_list c.in_ok-added.added.troves c.is_empty.result (c.is_empty.ensures ∙ ap (λ (l : List TroveParts). length l == 0) c.troves-2.ensures.value) c.if-is_empty.false in
     let writes = writes_as c.args.catalogue.now c.args.change.now.contents c.get-contents.result.now c.in_ok-added.added.troves c.troves-3.result.now c.tested.new.disk c.write.new.disk _ c.get-contents.ensures c.troves-3.ensures.value c.in_ok-write.ensures.writes in
     let are = subst (All IsTrove) c.troves-3.ensures.value c.in_ok-write.ensures.troves in
-    done_write g.met.D.TreeDisk.laws c.args.change.now c.args.catalogue.now c.stored_state.ensures.catalogue c.join.new.catalogue c.in_ok-added.added c.in_ok-ids.ids tells c.requires.contents (c.requires.rests tells) c.in_ok-added.ensures.tested full
+    done_write g.met.D.TreeDisk.laws c.args.change.now c.args.catalogue.now c.stored_state.ensures.catalogue c.join.new.catalogue c.in_ok-added.added c.in_ok-ids.ids tells c.requires.contents (c.requires.rests tells) c.in_ok-added.ensures.tested full (c.in_ok-added.ensures.sound tells full)
     (rules_join c.args.catalogue.now c.args.change.now.parts c.in_ok-added.added.troves full are c.in_ok-added.ensures.joins)
     (c.in_ok-ids.ensures ∙ ap ids_of c.troves.ensures.value) writes
     (c.in_ok-join.ensures ∙ ap (λ (l : List TroveParts). catalogue_with l c.args.catalogue.now) c.troves-4.ensures.value)

@@ -1,10 +1,11 @@
+use Rattle.std.proofs.Common.{refl}
 use Rattle.cli_call.specs.Alone.{PerformsAlone}
 use Rattle.cli_call.specs.AloneLaws.{alone_more}
 use Rattle.cli_call.specs.Command.{disks, Performs}
 use Rattle.cli_call.specs.CommandLaws.{performs_more}
 use Rattle.cli_call.specs.Failures.{failure_of_fault}
 use Rattle.root_commands.specs.Install.{install, install_made}
-use Rattle.root_commands.proofs.InstallEnds.{fault_alone, fault_performs, installs_more, reserved_none, reserved_refuses, unread_refuses}
+use Rattle.root_commands.proofs.InstallEnds.{allowed_none, fault_alone, fault_performs, installs_more, reserved_refuses, unread_refuses}
 use Rattle.root_commands.proofs.Passing.{err_is}
 use Rattle.root_commands.proofs.installing.install_manifest.Goals as goal
 
@@ -13,17 +14,18 @@ returns-in_err-made-clause-performs g c =
     err_is (Performs g.T.TreeDisk.disk g.P.TreeDisk.disk (install c.args.options.now) c.args.input.now (disks c.args.root.now c.args.repo.now c.args.opened.now) (disks c.args.root.now c.args.repo.now c.args.opened.now)) c.from_residual.result (failure_of_fault c.in_err-made.field-0.0) c.from_residual.ensures.1
     (fault_performs g.P.TreeDisk.disk g.met.T.TreeDisk.laws c.args.options.now c.args.input.now c.args.root.now c.args.repo.now c.args.opened.now c.in_err-made.field-0.0 (unread_refuses c.args.options.now c.args.input.now c.in_err-made.field-0.0 c.in_err-made.ensures.refused) g.met.P.TreeDisk.laws c.store_laws.ensures c.requires)
 
-pub returns-in_err-check_troves-clause-performs : goal.returns-in_err-check_troves-clause-performs
-returns-in_err-check_troves-clause-performs g c =
-    err_is (Performs g.T.TreeDisk.disk g.P.TreeDisk.disk (install c.args.options.now) c.args.input.now (disks c.args.root.now c.args.repo.now c.args.opened.now) (disks c.args.root.now c.args.repo.now c.args.opened.now)) c.from_residual-in_err-check_troves.result (failure_of_fault c.in_err-check_troves.field-0.0) c.from_residual-in_err-check_troves.ensures.1
-    (fault_performs g.P.TreeDisk.disk g.met.T.TreeDisk.laws c.args.options.now c.args.input.now c.args.root.now c.args.repo.now c.args.opened.now c.in_err-check_troves.field-0.0
-    (reserved_refuses c.args.options.now c.args.input.now c.in_ok-made.made c.in_ok-made.ensures.value c.in_err-check_troves.field-0.0 (rw c.get.ensures at c.in_err-check_troves.ensures.refused)) g.met.P.TreeDisk.laws c.store_laws.ensures c.requires)
+pub returns-in_err-check_allowed-clause-performs : goal.returns-in_err-check_allowed-clause-performs
+returns-in_err-check_allowed-clause-performs g c =
+    err_is (Performs g.T.TreeDisk.disk g.P.TreeDisk.disk (install c.args.options.now) c.args.input.now (disks c.args.root.now c.args.repo.now c.args.opened.now) (disks c.args.root.now c.args.repo.now c.args.opened.now)) c.from_residual-in_err-check_allowed.result (failure_of_fault c.in_err-check_allowed.field-0.0) c.from_residual-in_err-check_allowed.ensures.1
+    (fault_performs g.P.TreeDisk.disk g.met.T.TreeDisk.laws c.args.options.now c.args.input.now c.args.root.now c.args.repo.now c.args.opened.now c.in_err-check_allowed.field-0.0
+    (reserved_refuses c.args.options.now c.args.input.now c.in_ok-made.made c.in_ok-made.ensures.value c.in_err-check_allowed.field-0.0 (rw c.get.ensures at c.in_err-check_allowed.ensures.reserved)) g.met.P.TreeDisk.laws c.store_laws.ensures c.requires)
 
 pub returns-clause-performs : goal.returns-clause-performs
 returns-clause-performs g c =
     let options = c.args.options.now in
     let made = c.in_ok-made.made in
-    performs_more (install_made options made) (install options) c.args.input.now c.args.input.now (installs_more options c.args.input.now made c.in_ok-made.ensures.value (rw c.get.ensures at c.in_ok-check_troves.ensures.none))
+    let allowed = c.in_ok-check_allowed.ensures.allowed.0 refl in
+    performs_more (install_made options made) (install options) c.args.input.now c.args.input.now (installs_more options c.args.input.now made c.in_ok-made.ensures.value (allowed_none made.troves (rw c.get.ensures at allowed)))
     (disks c.args.root.now c.args.repo.now c.args.opened.now) (disks c.install_made.new.root c.args.repo.now c.install_made.new.opened) c.install_made.result (c.install_made.ensures.performs c.args.input.now)
 
 pub returns-in_err-made-clause-alone : goal.returns-in_err-made-clause-alone
@@ -31,18 +33,19 @@ returns-in_err-made-clause-alone g c =
     err_is (PerformsAlone g.T.TreeDisk.disk g.P.TreeDisk.disk (install c.args.options.now) c.args.input.now (disks c.args.root.now c.args.repo.now c.args.opened.now) (disks c.args.root.now c.args.repo.now c.args.opened.now)) c.from_residual.result (failure_of_fault c.in_err-made.field-0.0) c.from_residual.ensures.1
     (fault_alone g.P.TreeDisk.disk g.met.T.TreeDisk.laws c.args.options.now c.args.input.now c.args.root.now c.args.repo.now c.args.opened.now c.in_err-made.field-0.0 (unread_refuses c.args.options.now c.args.input.now c.in_err-made.field-0.0 c.in_err-made.ensures.refused))
 
-pub returns-in_err-check_troves-clause-alone : goal.returns-in_err-check_troves-clause-alone
-returns-in_err-check_troves-clause-alone g c =
-    err_is (PerformsAlone g.T.TreeDisk.disk g.P.TreeDisk.disk (install c.args.options.now) c.args.input.now (disks c.args.root.now c.args.repo.now c.args.opened.now) (disks c.args.root.now c.args.repo.now c.args.opened.now)) c.from_residual-in_err-check_troves.result (failure_of_fault c.in_err-check_troves.field-0.0) c.from_residual-in_err-check_troves.ensures.1
-    (fault_alone g.P.TreeDisk.disk g.met.T.TreeDisk.laws c.args.options.now c.args.input.now c.args.root.now c.args.repo.now c.args.opened.now c.in_err-check_troves.field-0.0
-    (reserved_refuses c.args.options.now c.args.input.now c.in_ok-made.made c.in_ok-made.ensures.value c.in_err-check_troves.field-0.0 (rw c.get.ensures at c.in_err-check_troves.ensures.refused)))
+pub returns-in_err-check_allowed-clause-alone : goal.returns-in_err-check_allowed-clause-alone
+returns-in_err-check_allowed-clause-alone g c =
+    err_is (PerformsAlone g.T.TreeDisk.disk g.P.TreeDisk.disk (install c.args.options.now) c.args.input.now (disks c.args.root.now c.args.repo.now c.args.opened.now) (disks c.args.root.now c.args.repo.now c.args.opened.now)) c.from_residual-in_err-check_allowed.result (failure_of_fault c.in_err-check_allowed.field-0.0) c.from_residual-in_err-check_allowed.ensures.1
+    (fault_alone g.P.TreeDisk.disk g.met.T.TreeDisk.laws c.args.options.now c.args.input.now c.args.root.now c.args.repo.now c.args.opened.now c.in_err-check_allowed.field-0.0
+    (reserved_refuses c.args.options.now c.args.input.now c.in_ok-made.made c.in_ok-made.ensures.value c.in_err-check_allowed.field-0.0 (rw c.get.ensures at c.in_err-check_allowed.ensures.reserved)))
 
 pub returns-clause-alone : goal.returns-clause-alone
 returns-clause-alone g c =
     let options = c.args.options.now in
     let made = c.in_ok-made.made in
-    alone_more (install_made options made) (install options) c.args.input.now c.args.input.now (installs_more options c.args.input.now made c.in_ok-made.ensures.value (rw c.get.ensures at c.in_ok-check_troves.ensures.none))
+    let allowed = c.in_ok-check_allowed.ensures.allowed.0 refl in
+    alone_more (install_made options made) (install options) c.args.input.now c.args.input.now (installs_more options c.args.input.now made c.in_ok-made.ensures.value (allowed_none made.troves (rw c.get.ensures at allowed)))
     (disks c.args.root.now c.args.repo.now c.args.opened.now) (disks c.install_made.new.root c.args.repo.now c.install_made.new.opened) c.install_made.result (c.install_made.ensures.alone c.args.input.now)
 
 pub install_made-requires-clause-allowed : goal.install_made-requires-clause-allowed
-install_made-requires-clause-allowed g c = reserved_none c.in_ok-made.made.troves (rw c.get.ensures at c.in_ok-check_troves.ensures.none)
+install_made-requires-clause-allowed g c = let allowed = c.in_ok-check_allowed.ensures.allowed.0 refl in rw c.get.ensures at allowed

@@ -1,11 +1,13 @@
 use Rattle.std.proofs.Common.{List, All, inl, sym, ap, subst, ◌∙◌}
 use Rattle.update_job.specs.change-set.declared.change.Part.{Part}
 use Rattle.update_job.specs.change-set.ChangeSet.{HasContents, IsPart}
+use Rattle.update_job.specs.trove-stream.declared.parts.TroveParts.{TroveParts}
 use Rattle.manifest_troves.specs.Contents.{IsCollisionOf}
 use Rattle.root_edits.specs.Local.{IsLocal}
 use Rattle.root_edits.specs.Moved.{too_long}
 use Rattle.root_edits.specs.Steps.{IsRefusalOrMemory, IsUninstalled}
 use Rattle.root_edits.proofs.FindsLaws.{finds_answer, finds_fault, finds_start, finds_stop}
+use Rattle.root_edits.proofs.Stopping.{collision_stop, long_stop, size_stop, uninstalled_stop}
 use Rattle.root_edits.proofs.Setting.{answered, first_large, first_long, refused_by, refused_collision, set_has_contents}
 use Rattle.root_edits.proofs.changing.local.Goals as goal
 
@@ -60,3 +62,22 @@ returns-clause-contents g c =
     let contents = c.in_ok-contents.contents in
     subst (λ (l : List Part). HasContents (record { parts = l; contents = contents })) (sym c.new.ensures)
     (set_has_contents c.add_troves.new.parts.items c.add_troves.new.carried.items contents c.in_ok-add_troves.ensures.added.contents c.in_ok-contents.ensures.given c.in_ok-contents.ensures.rising)
+
+pub returns-in_err-troves-clause-stops : goal.returns-in_err-troves-clause-stops
+returns-in_err-troves-clause-stops g c =
+    uninstalled_stop c.args.installed.now c.args.name.now c.in_err-troves.field-0.0 c.from_residual.result c.from_residual.ensures.1 c.in_err-troves.ensures.fault
+
+pub returns-in_err-ids-clause-stops : goal.returns-in_err-ids-clause-stops
+returns-in_err-ids-clause-stops g c =
+    long_stop c.args.installed.now c.args.name.now c.in_ok-troves.troves c.in_ok-troves.ensures.installed c.in_ok-troves.ensures.value c.in_err-ids.field-0.0 c.from_residual-in_err-ids.result
+    c.from_residual-in_err-ids.ensures.1 (subst (λ (l : List TroveParts). IsRefusalOrMemory (too_long l) c.in_err-ids.field-0.0) c.troves.ensures.value c.in_err-ids.ensures.fault)
+
+pub returns-in_err-add_troves-clause-stops : goal.returns-in_err-add_troves-clause-stops
+returns-in_err-add_troves-clause-stops g c =
+    size_stop c.args.installed.now c.args.name.now c.in_ok-troves.troves c.in_ok-troves.ensures.installed c.in_ok-troves.ensures.value (ap too_long (sym c.troves.ensures.value) ∙ c.in_ok-ids.ensures.none)
+    _ c.from_residual-in_err-add_troves.result c.from_residual-in_err-add_troves.ensures.1 c.in_err-add_troves.ensures.stops
+
+pub returns-in_err-contents-clause-stops : goal.returns-in_err-contents-clause-stops
+returns-in_err-contents-clause-stops g c =
+    collision_stop c.args.installed.now c.args.name.now c.in_ok-troves.troves c.in_ok-troves.ensures.installed c.in_ok-troves.ensures.value (ap too_long (sym c.troves.ensures.value) ∙ c.in_ok-ids.ensures.none)
+    c.add_troves.new.carried.items c.in_err-contents.field-0.0 c.from_residual-in_err-contents.result c.from_residual-in_err-contents.ensures.1 c.in_err-contents.ensures.refused
