@@ -390,15 +390,9 @@ def read_olds(tree, found):
 
 
 def taken_back(tree, db, number):
-    """The writes that take back the newest job, or all from the newest down to a number, and the database after them."""
-    if number is None and db.newest:
-        read_file(tree, stacks.record_path(db.newest))
-        job = answered(stacks.read_job, standing(tree), 2, db.newest, db.troves)
-        read_olds(tree, [(db.newest, was) for _, was, _ in job.changes])
-        job, nodes = answered(stacks.newest, standing(tree), db)
-        check_undo(tree, {}, job.changes)
-        return answered(stacks.inverse, standing(tree), job, nodes, db)
-    if number is not None and db.newest and db.oldest <= number <= db.newest:
+    """The writes that take back all jobs from the newest down to a number, without one the newest, and the database after them."""
+    number = number or db.newest
+    if db.newest and db.oldest <= number <= db.newest:
         found, after, marks = {}, db.troves, stacks.marks_of(standing(tree))
         for one in range(db.newest, number - 1, -1):
             read_file(tree, stacks.record_path(one))
@@ -411,7 +405,7 @@ def taken_back(tree, db, number):
             if found[path][1] == stacks.NOTHING:
                 tree.look(path)
             read_olds(tree, [found[path]])
-    return answered(stacks.inverse_to, standing(tree), db, number or db.newest)
+    return answered(stacks.inverse_to, standing(tree), db, number)
 
 
 # ---- a whole call

@@ -179,8 +179,6 @@ def damaged():
     name = saved_path(2) + b"/" + sha1(b"abX").hexdigest().encode()
     for node in (None, dir_(), file_(b"abY"), file_(b"")):
         yield REPLACED.edit(name, node), name
-    # before the tests of the paths
-    yield REPLACED.edit(b"/etc/foo", file_(b"abY")).edit(name, None), name
 
 
 def damaged_to():
@@ -204,6 +202,9 @@ def lines():
         yield rollback_line(root)
     for root, path in damaged():
         yield damaged_line(root, path)
+    # the tests of the paths come before a saved content is read
+    name = saved_path(2) + b"/" + sha1(b"abX").hexdigest().encode()
+    yield rollback_line(REPLACED.edit(b"/etc/foo", file_(b"abY")).edit(name, None))
     for root in (INSTALLED, REPLACED, ERASED, TURNED_KINDS, LIST_ALONE):
         for pick in (0, 1, 4_294_967_295):
             yield stop_line(root, pick)

@@ -1,32 +1,26 @@
 -- What `rollback` restores, by how its call ended.
 use Rattle.std.proofs.Common.{◌≡◌, inl, inr, ⊎_elim, ℕ, true, false, List, ◌∷◌, ◌++◌, Option, Some, None, Result, Ok, Err, All, Contains, sym, ◌∙◌, ap, subst}
-use Rattle.std.proofs.lemmas.List.Elements.{All-contains, All-head}
 use Rattle.std.specs.FinMap.{get}
 use Rattle.cli_call.specs.cny-base.Reserved.{is_reserved}
 use Rattle.cli_call.specs.cny-base.declared.refusal.Refusal.{Refusal}
 use Rattle.cli_call.specs.cny-base.declared.refusal.Refusal.TheVariants.{Edited, NoJob, Parent, StackEmpty}
 use Rattle.cny_flow.specs.Flow.{SinkState}
-use Rattle.cli_call.specs.journal-log.Targets.{with_targets}
-use Rattle.cli_call.specs.tree-disk.Tree.{Name, Tree, AgreesOutside}
+use Rattle.cli_call.specs.tree-disk.Tree.{Tree, AgreesOutside}
 use Rattle.cli_call.specs.tree-disk.Disk.{DiskModel}
-use Rattle.cli_call.specs.local-db.SystemState.{IsFree, IsStackItem, IsSystemState, StackItem, SystemState, is_listed}
-use Rattle.cli_call.specs.local-db.Steps.{after_rollback, backs}
+use Rattle.cli_call.specs.local-db.SystemState.{IsStackItem, IsSystemState, StackItem, SystemState, newest}
 use Rattle.cli_call.specs.local-db.Stores.{StoresSystem}
-use Rattle.cli_call.proofs.local-db.Images.{all_restored, kept, restored}
 use Rattle.cli_call.proofs.local-db.Several.{rollbacks_system}
-use Rattle.cli_call.proofs.local-db.Sorted.{listed_in}
 use Rattle.cli_call.proofs.local-db.Writes.{nothing_in}
-use Rattle.cli_call.specs.system-core.Restoring.{IsException, IsRestored, IsUnedited}
 use Rattle.cli_call.specs.system-core.RestoringAll.{AreRestored, AreUnedited, IsExceptionTo}
-use Rattle.cli_call.specs.system-core.Rollback.{IsSystemRefusal, db_of, rolled_back, without_newest}
+use Rattle.cli_call.specs.system-core.Rollback.{db_of}
 use Rattle.cli_call.specs.system-core.Several.{HasJob, IsRefusalTo, jobs_below, jobs_to, rolled_back_to}
-use Rattle.cli_call.specs.system-core.Tests.{IsFirstEdited, IsFirstOrphan}
 use Rattle.cli_call.proofs.system-core.Counting.{split_at}
+use Rattle.cli_call.proofs.system-core.OneJob.{has_newest, newest_exception, newest_restored, newest_unedited}
 use Rattle.cli_call.proofs.system-core.Restored.{left_alone, put_into}
 use Rattle.cli_call.proofs.system-core.Sequence.{after_list, after_tree, after_whole}
 use Rattle.cli_call.proofs.system-core.NewestStored.{all_front, all_middle}
 use Rattle.cli_call.specs.system-core.FixedDirs.{fixed_dirs}
-use Rattle.root_commands.specs.RollingBack.{TakesBack, TakesBackTo, roll_back, take_back}
+use Rattle.root_commands.specs.RollingBack.{TakesBackTo, roll_back, take_back}
 use Rattle.cli_call.specs.Call.{CallState}
 use Rattle.cli_call.specs.Reading.{given}
 use Rattle.cli_call.specs.State.{on_root, Change, Effect, State, Then, after, tree_of}
@@ -47,40 +41,6 @@ is_system x s (inr two) = two.system
 managed : (x : Tree) (s : SystemState) → StoresSystem x s → AgreesOutside is_reserved x s.tree
 managed x s (inl one) = one.managed
 managed x s (inr two) = two.managed
-
--- ---- the newest job
-
-module _ (s : SystemState) (system : IsSystemState s) (o : StackItem) (olds : List StackItem) (stack : s.stack ≡ o ∷ olds) where
-  item : IsStackItem o
-  item = All-head IsStackItem o olds (subst (All IsStackItem) stack system.olds)
-
-  outer : (q : Name) → is_listed o.paths q ≡ true → is_reserved q ≡ false
-  outer q own = (All-contains IsFree o.paths q item.free (listed_in o.paths q own)).not_reserved
-
-  back : rolled_back s ≡ after_rollback o olds s
-  back = ap (λ (l : List StackItem). without_newest l s) stack
-
-  -- the root that stores the system afterwards has what stood before the job
-  newest_restored : (y : Tree) → StoresSystem y (rolled_back s) → IsRestored o s.tree (db_of (rolled_back s)) y
-  newest_restored y stores = record {
-    own = λ q mine. agrees q (outer q mine) ∙ restored o item s.tree q mine;
-    others = λ q out other. agrees q out ∙ kept o item s.tree q other;
-    list = ap (λ (t : SystemState). t.installed) back;
-    whole = λ same q out. agrees q out ∙ ap (λ (t : Tree). get t q) (ap (with_targets (backs o)) same ∙ all_restored o item);
-  }
-    where
-      agrees : (q : Name) → is_reserved q ≡ false → get y q ≡ get (with_targets (backs o) s.tree) q
-      agrees q out = managed y (rolled_back s) stores q out ∙ ap (λ (t : SystemState). get t.tree q) back
-
-  same_job : (p : StackItem) (ps : List StackItem) → s.stack ≡ p ∷ ps → p ≡ o
-  same_job p ps is = let both : p ∷ ps ≡ o ∷ olds = sym is ∙ stack in cc both
-
-  -- why it isn't taken back
-  newest_exception : IsUnedited o s.tree → (why : Refusal) → IsSystemRefusal s why → IsException o s.tree why
-  newest_exception unedited StackEmpty is = absurd (cc (sym is ∙ stack))
-  newest_exception unedited (Edited path) is = put_into o item s.tree unedited path (subst (λ (p : StackItem). IsFirstEdited p s.tree path) (same_job is.job is.others is.stack_is) is.holds)
-  newest_exception unedited (Parent path) is = left_alone o item s.tree unedited system.tree path (subst (λ (p : StackItem). IsFirstOrphan p s.tree path) (same_job is.job is.others is.stack_is) is.holds)
-  newest_exception unedited _ is = absurd is
 
 -- ---- all jobs down to a number
 
@@ -145,17 +105,18 @@ module _ {T P : Type 0} (root_disk : DiskModel T) (repo_disk : DiskModel P) (bef
     rests_at e t is ended = subst (λ (c : Change). RestsAt root_store root_disk now.root (after s c).root) is ended.1
 
     module _ (system : IsSystemState s.root) (Ended : Result Effect Refusal → Type 0) (done : (e : Effect) → Ended (Ok e) → RestsAfter e) (refused : (r : Refusal) → Ended (Err r) → Refuses r) where
-      newest_ended : (o : Result Effect Refusal) → TakesBack s.root o → Ended o → RestoresNewest root_disk repo_disk s.root before now err err' status
-      newest_ended (Ok e) is ended o olds stack unedited =
-          let rests = rests_at e (rolled_back s.root) is.change (done e ended) in
-          inl (record { ended = (done e ended).0; next = rolled_back s.root; rests = rests; restored = newest_restored s.root system o olds stack (root_disk.reads now.root) rests.stored })
-      newest_ended (Err r) is ended o olds stack unedited = inr (record { refusal = r; is = newest_exception s.root system o olds stack unedited r is; refused = refused r ended })
-
       all_ended : (number : ℕ) (o : Result Effect Refusal) → TakesBackTo number s.root o → Ended o → RestoresTo root_disk repo_disk number s.root before now err err' status
       all_ended number (Ok e) is ended has unedited =
           let rests = rests_at e (rolled_back_to number s.root) is.change (done e ended) in
           inl (record { ended = (done e ended).0; next = rolled_back_to number s.root; rests = rests; restored = all_restored_to s.root system number (root_disk.reads now.root) rests.stored })
       all_ended number (Err r) is ended has unedited = inr (record { refusal = r; is = exception_to s.root system number has unedited r is; refused = refused r ended })
+
+      -- the newest alone
+      newest_ended : (o : Result Effect Refusal) → TakesBackTo (newest s.root.stack) s.root o → Ended o → RestoresNewest root_disk repo_disk s.root before now err err' status
+      newest_ended o is ended job olds stack unedited = ⊎_elim
+          (λ done. inl (record { ended = done.ended; next = done.next; rests = done.rests; restored = newest_restored s.root system job olds stack (db_of done.next) (root_disk.reads now.root) done.restored }))
+          (λ met. inr (record { refusal = met.refusal; is = newest_exception s.root system job olds stack met.refusal met.is; refused = met.refused }))
+          (all_ended (newest s.root.stack) o is ended (has_newest s.root system job olds stack) (newest_unedited s.root system job olds stack unedited))
 
       restores : (number : Option ℕ) (o : Result Effect Refusal) → take_back number s.root o → Ended o → RestoresBy root_disk repo_disk number s.root before now err err' status
       restores None o is ended = newest_ended o is ended

@@ -147,7 +147,7 @@ module _ {T P : Type 0} (root_disk : DiskModel T) (repo_disk : DiskModel P) (law
       let holds = (ready.root told).holds in
       let here : HasDamagedFile root_store (root_disk.reads root) path = record {
         flag_clear = (ready.root told).flag_clear;
-        damaged = (inr (record { db = opened.db; holds = holds; damaged = inr (inl damaged) }), λ s stored. none_damaged law one (root_disk.reads root) opened.db s holds stored path damaged);
+        damaged = (inr (record { db = opened.db; holds = holds; damaged = inl damaged }), λ s stored. none_damaged law one (root_disk.reads root) opened.db s holds stored path damaged);
       } in
       subst (λ (t : Tree). HasDamagedFile root_store t path) (sym (same told)) here
 

@@ -1,5 +1,5 @@
 -- A damaged record isn't passed over.
-use Rattle.std.proofs.Common.{◌≡◌, ⊎_elim, Bool, false, ℕ, zero, suc, ◌+◌, ◌-◌, ◌<◌, ◌≤◌, List, [], ◌∷◌, ◌++◌, length, None, Some, Result, Ok, Err, IfOk, IfErr, All, refl, sym, ap, ◌∙◌, subst, inl, inr, arith, length-append}
+use Rattle.std.proofs.Common.{◌≡◌, ⊎_elim, Bool, false, ℕ, zero, suc, ◌+◌, ◌-◌, ◌<◌, ◌≤◌, List, [], ◌∷◌, ◌++◌, length, Option, None, Some, Result, Ok, Err, IfOk, IfErr, All, refl, sym, ap, ◌∙◌, subst, inl, inr, arith, length-append}
 use Rattle.std.specs.Prelude.{◌⊎◌, IsTrue}
 use Rattle.std.proofs.lemmas.List.Elements.{All-contains}
 use Rattle.repo_commands.specs.cny-base.declared.refusal.Refusal.{Refusal}
@@ -16,7 +16,6 @@ use Rattle.repo_commands.specs.tree-scan.declared.mark.Mark.{Mark}
 use Rattle.repo_commands.specs.tree-scan.Marks.{fingerprint}
 use Rattle.repo_commands.specs.trove-stream.declared.parts.TroveParts.{TroveParts}
 use Rattle.local_db.specs.declared.db.Db.{Db}
-use Rattle.repo_commands.specs.job-targets.declared.entry.Entry.{Entry}
 use Rattle.repo_commands.specs.job-targets.Old.{IsDamagedOld, IsSaved, is_staged}
 use Rattle.local_db.specs.declared.format.Format.TheVariants.{Two}
 use Rattle.local_db.specs.Record as state
@@ -25,19 +24,15 @@ use Rattle.rollback_stack.specs.Marks.{CanUndo, IsEdited, IsUndoRefusal, Marks, 
 use Rattle.repo_commands.specs.job-record.JobReading.{HoldsNoRecord, HoldsRecord, HoldsRecords}
 use Rattle.rollback_stack.specs.declared.undo.Note.{Note as Undone}
 use Rattle.rollback_stack.specs.declared.undo.Back.{Back}
-use Rattle.rollback_stack.specs.declared.undo.Undo.{Undo}
-use Rattle.rollback_stack.specs.Undo.{entries_of, entry_of}
 use Rattle.rollback_stack.specs.Inverse.{IsBackRefusal, IsDamagedContent, IsDamagedJob, IsOldWant, IsRefusedJob}
 use Rattle.rollback_stack.specs.Numbers.{job_count}
-use Rattle.rollback_stack.specs.Reading.{AreNotes, IsAllStop, IsDamagedAt, IsDamagedNewest, IsNewest}
+use Rattle.rollback_stack.specs.Reading.{AreNotes, IsAllStop}
 use Rattle.rollback_stack.proofs.Noting.{records_push}
-use Rattle.system_core.specs.Preparing.{IsRefusal}
-use Rattle.system_core.specs.Rollback.{HasTakenBack, StopsSo}
 use Rattle.system_core.specs.Several.{HasTakenBackTo, IsStepTo, StopsTo}
-use Rattle.system_core.proofs.NewestStored.{OneRecord, all_middle, split_map}
+use Rattle.system_core.proofs.NewestStored.{OneRecord, all_middle}
 use Rattle.cli_call.specs.declared.failure.Failure.{Failure}
 use Rattle.cli_call.specs.Stops.{root_failure, root_result}
-use Rattle.root_commands.specs.Records.{IsDamagedOfAll, ListsWhole, NoneIs, TakesBackWhole}
+use Rattle.root_commands.specs.Records.{IsDamagedOfAll, ListsWhole, NoneIs, TakesBackWhole, last_job}
 
 same_some : {A : Type 0} (x y : A) → Some x ≡ Some y → x ≡ y
 same_some x y e = cc e
@@ -130,49 +125,7 @@ told_whole one x db notes are path damaged =
     let fewer = damaged.fewer in
     held_whole one x db.newest db.installed told.before told.jobs told.holds damaged.good damaged.before (omega (arith, long, fewer)) damaged.holds damaged.none
 
--- ---- the newest job taken back
-
-newest_none : (x : Tree) (db : Db) (path : Name) → IsDamagedJob x db db.newest path → HoldsNoRecord Two x db.newest db.installed
-newest_none x db path damaged = at damaged.jobs damaged.at.holds damaged.at.above damaged.none
-  where
-    at : (jobs : List (List state.Entry)) → HoldsRecords Two x db.newest db.installed jobs damaged.after → length jobs + db.newest ≤ db.newest → HoldsNoRecord Two x (db.newest - length jobs) damaged.after
-        → HoldsNoRecord Two x db.newest db.installed
-    at [] holds above none =
-        let first : db.newest - 0 ≡ db.newest = omega arith in
-        subst (λ (k : ℕ). HoldsNoRecord Two x k db.installed) first (subst (λ (l : List TroveParts). HoldsNoRecord Two x (db.newest - 0) l) holds none)
-    at (es ∷ jobs) holds above none = absurd (omega (arith, above))
-
-newest_whole : (one : OneRecord) (x : Tree) (db : Db) → ((undo : Undo) × IsNewest x db undo) → NoneIs (IsDamagedNewest x db)
-newest_whole one x db newest path damaged = at damaged.1
-  where
-    is : IsNewest x db newest.0
-    is = newest.1
-
-    held : HoldsRecord Two x db.newest db.installed is.before (entries_of newest.0.entries)
-    held = subst (λ (k : ℕ). HoldsRecord Two x k db.installed is.before (entries_of newest.0.entries)) is.leads.newest is.holds
-
-    at : IsDamagedAt x db path → ⊥
-    at (inl no_record) = no_record.1 is.before (entries_of newest.0.entries) held
-    at (inr content) =
-        let first = content.3 in
-        let same = one Two x db.newest db.installed content.0 is.before content.1 (entries_of newest.0.entries) content.2 held in
-        let split = split_map entry_of newest.0.entries first.front first.first first.rest (sym same.1 ∙ first.split) in
-        let one_is = split.one_is in
-        saved_whole x newest.0.number split.one.was (entry_of split.one).was path
-        (all_middle (λ (e : Entry). is_staged e.was ≡ false) split.before split.one split.behind (subst (All (λ (e : Entry). is_staged e.was ≡ false)) split.split is.leads.entries_are.given))
-        refl
-        (all_middle (λ (e : Entry). IsSaved x newest.0.number e.was) split.before split.one split.behind (subst (All (λ (e : Entry). IsSaved x newest.0.number e.was)) split.split is.saved))
-        (subst (λ (k : ℕ). IsDamagedOld x k (entry_of split.one).was path) (sym is.leads.newest) (subst (λ (e : state.Entry). IsDamagedOld x db.newest e.was path) one_is first.damaged))
-
-newest_refused : (x : Tree) (db : Db) (why : Refusal) → IsRefusal x db why → NoneIs (IsDamagedJob x db db.newest)
-newest_refused x db why (inl none) path damaged =
-    let some = damaged.at.on_stack.some in
-    let kept = damaged.at.on_stack.kept in
-    let empty = none.1 in
-    omega (arith, some, kept, empty)
-newest_refused x db why (inr is) path damaged = newest_none x db path damaged is.before is.es is.holds
-
--- ---- several jobs taken back
+-- ---- jobs taken back
 
 -- a job that can be taken back isn't refused
 not_both : (es : List state.Entry) (m : Marks) (why : Refusal) → CanUndo es m → IsUndoRefusal es m why → ⊥
@@ -258,41 +211,33 @@ pub list_failed : (told : Bool) (x : Tree) (db : Db) (count n : ℕ) (after : Li
 list_failed told x db count n after rose (Ok jobs) f is h = absurd (cc is)
 list_failed told x db count n after rose (Err e) f is h = subst (λ (y : Result (List Undone) Failure). IfErr y (λ g. ListsWhole {A = List ℕ} x db (Err g))) is (list_stop told x db count n after rose e h)
 
-module _ {T : Type 0} (root_disk : DiskModel T) (root root' : T) (db db' : Db) where
-  -- the newest job
-  newest_stop : (e : Stop) → StopsSo root_disk db root root' e → TakesBackWhole {A = List ℕ} None (root_disk.reads root) db (Err (root_failure e))
-  newest_stop (stop.Refused why) h = newest_refused (root_disk.reads root) db why h.answer
-  newest_stop stop.Failed h = tt
-  newest_stop stop.Memory h = tt
-  newest_stop (stop.Damaged path) h = tt
-  newest_stop stop.FarFailed h = tt
-  newest_stop (stop.FarDamaged path) h = tt
+-- jobs taken back
+module _ {T : Type 0} (root_disk : DiskModel T) (root root' : T) (db db' : Db) (one : OneRecord) (number : Option ℕ) (told : IsTrue root_disk.tells) where
+  abbrev Whole : Result (List ℕ) Failure → Type 0
+  Whole r = TakesBackWhole {A = List ℕ} number (root_disk.reads root) db r
 
-  pub newest_failed : (r : Result ℕ Stop) (f : Failure) → root_result r ≡ Err f → IfErr r (StopsSo root_disk db root root') → TakesBackWhole {A = List ℕ} None (root_disk.reads root) db (Err f)
-  newest_failed (Ok n) f is h = absurd (cc is)
-  newest_failed (Err e) f is h = subst (λ (x : Result ℕ Failure). IfErr x (λ g. TakesBackWhole {A = List ℕ} None (root_disk.reads root) db (Err g))) is (newest_stop e h)
+  back_stop : (e : Stop) → StopsTo root_disk db (last_job number db) root root' e → Whole (Err (root_failure e))
+  back_stop (stop.Refused why) h = several_refused one root_disk.tells (root_disk.reads root) db (last_job number db) told why h.answer
+  back_stop stop.Failed h = tt
+  back_stop stop.Memory h = tt
+  back_stop (stop.Damaged path) h = tt
+  back_stop stop.FarFailed h = tt
+  back_stop (stop.FarDamaged path) h = tt
 
-  pub newest_done : OneRecord → (r : Result ℕ Stop) (n : ℕ) → root_result r ≡ Ok n → IfOk r (HasTakenBack root_disk db db' root root') → NoneIs (IsDamagedNewest (root_disk.reads root) db)
-  newest_done one (Ok m) n is h = newest_whole one (root_disk.reads root) db (h.step_is.undo, h.step_is.newest)
-  newest_done one (Err e) n is h = absurd (cc is)
+  stop_at : (r : Result ℕ Stop) (f : Failure) → root_result r ≡ Err f → IfErr r (StopsTo root_disk db (last_job number db) root root') → Whole (Err f)
+  stop_at (Ok n) f is h = absurd (cc is)
+  stop_at (Err e) f is h = subst (λ (x : Result ℕ Failure). IfErr x (λ g. Whole (Err g))) is (back_stop e h)
 
-  -- several jobs
-  module _ (one : OneRecord) (number : ℕ) (told : IsTrue root_disk.tells) where
-    several_stop : (e : Stop) → StopsTo root_disk db number root root' e → TakesBackWhole {A = List ℕ} (Some number) (root_disk.reads root) db (Err (root_failure e))
-    several_stop (stop.Refused why) h = several_refused one root_disk.tells (root_disk.reads root) db number told why h.answer
-    several_stop stop.Failed h = tt
-    several_stop stop.Memory h = tt
-    several_stop (stop.Damaged path) h = tt
-    several_stop stop.FarFailed h = tt
-    several_stop (stop.FarDamaged path) h = tt
+  done_at : (r : Result ℕ Stop) (n : ℕ) → root_result r ≡ Ok n → IfOk r (HasTakenBackTo root_disk db db' (last_job number db) root root') → Whole (Ok [])
+  done_at (Ok m) n is h path damaged = ⊎_elim
+      (no_record one (root_disk.reads root) db (last_job number db) h.step h.step_is path)
+      (no_content one (root_disk.reads root) db (last_job number db) h.step h.step_is path)
+      damaged
+  done_at (Err e) n is h path damaged = absurd (cc is)
 
-    pub several_failed : (r : Result ℕ Stop) (f : Failure) → root_result r ≡ Err f → IfErr r (StopsTo root_disk db number root root') → TakesBackWhole {A = List ℕ} (Some number) (root_disk.reads root) db (Err f)
-    several_failed (Ok n) f is h = absurd (cc is)
-    several_failed (Err e) f is h = subst (λ (x : Result ℕ Failure). IfErr x (λ g. TakesBackWhole {A = List ℕ} (Some number) (root_disk.reads root) db (Err g))) is (several_stop e h)
+  module _ (last : ℕ) (last_is : last ≡ last_job number db) (r : Result ℕ Stop) where
+    pub back_failed : (f : Failure) → root_result r ≡ Err f → IfErr r (StopsTo root_disk db last root root') → Whole (Err f)
+    back_failed f is h = stop_at r f is (subst (λ (n : ℕ). IfErr r (StopsTo root_disk db n root root')) last_is h)
 
-    pub several_done : (r : Result ℕ Stop) (n : ℕ) → root_result r ≡ Ok n → IfOk r (HasTakenBackTo root_disk db db' number root root') → TakesBackWhole {A = List ℕ} (Some number) (root_disk.reads root) db (Ok [])
-    several_done (Ok m) n is h path damaged = ⊎_elim
-        (no_record one (root_disk.reads root) db number h.step h.step_is path)
-        (no_content one (root_disk.reads root) db number h.step h.step_is path)
-        damaged
-    several_done (Err e) n is h path damaged = absurd (cc is)
+    pub back_done : (n : ℕ) → root_result r ≡ Ok n → IfOk r (HasTakenBackTo root_disk db db' last root root') → Whole (Ok [])
+    back_done n is h = done_at r n is (subst (λ (k : ℕ). IfOk r (HasTakenBackTo root_disk db db' k root root')) last_is h)

@@ -1,5 +1,5 @@
--- The two ways of `rollback`.
-use Rattle.std.proofs.Common.{◌≡◌, ◌≤◌, ◌<◌, ◌+◌, ◌-◌, ℕ, Bool, true, false, List, [], ◌∷◌, ◌++◌, length, Result, Ok, Err, OnOk, IfOk, IfErr, refl, sym, ap, ◌∙◌, subst, inl, inr, arith}
+-- How `rollback` ends, by what is promised of the jobs that it takes back.
+use Rattle.std.proofs.Common.{◌≡◌, ◌≤◌, ◌<◌, ◌+◌, ◌-◌, ℕ, Bool, true, false, List, [], ◌∷◌, ◌++◌, length, Option, None, Some, Result, Ok, Err, OnOk, IfOk, IfErr, refl, sym, ap, ◌∙◌, subst, inr, arith}
 use Rattle.std.specs.Prelude.{◌⊎◌, ◌||◌, IsTrue, Contains, min}
 use Rattle.std.proofs.lemmas.List.{length-take, take-append-drop}
 use Rattle.std.proofs.lemmas.List.Elements.{Contains-append_left}
@@ -8,7 +8,7 @@ use Rattle.repo_commands.specs.cny-base.declared.refusal.Refusal.{Refusal}
 use Rattle.repo_commands.specs.cny-base.declared.stop.Stop.{Stop}
 use Rattle.repo_commands.specs.cny-base.declared.stop.Stop.TheVariants as stop
 use Rattle.repo_commands.specs.tree-disk.Tree.{Name, Tree, same_name}
-use Rattle.repo_commands.specs.tree-disk.Disk.{DiskModel}
+use Rattle.repo_commands.specs.tree-disk.Disk.{DiskModel, IsDisk}
 use Rattle.local_db.specs.declared.db.Db.{Db}
 use Rattle.local_db.specs.declared.format.Format.TheVariants.{Two}
 use Rattle.local_db.specs.SystemState.{AreNumbered, StackItem, SystemState, is_listed, newest}
@@ -16,18 +16,22 @@ use Rattle.local_db.specs.Steps.{after_rollback, after_rollbacks}
 use Rattle.local_db.specs.Stores.{StoresIn}
 use Rattle.local_db.proofs.Writes.{contains_first, contains_rest}
 use Rattle.rollback_stack.specs.Inverse.{IsDamagedContent, IsDamagedJob}
-use Rattle.rollback_stack.specs.Reading.{IsDamagedNewest}
-use Rattle.system_core.specs.Rollback.{CanTakeBack, EndsSo, HasCause, HasTakenBack, IsSystemRefusal, IsTakenBack, OfNewest, RollsBack, StopsSo, newest_paths, rolled_back, without_newest}
-use Rattle.system_core.specs.Preparing.{IsRefusalKind}
+use Rattle.system_core.specs.Rollback.{HasCause}
 use Rattle.system_core.specs.Several.{AreTakenBack, CanTakeBackTo, EndsTo, HasTakenBackTo, IsRefusalKindTo, IsRefusalTo, RollsBackTo, StopsTo, jobs_below, jobs_to, paths_of_jobs, rolled_back_to}
 use Rattle.cny_report.specs.Jobs.{rolled_back_text}
+use Rattle.cli_call.specs.declared.failure.Failure.{Failure}
+use Rattle.cli_call.specs.declared.failure.Failure.TheVariants as failure
 use Rattle.cli_call.specs.declared.opened.Opened.{Opened}
-use Rattle.cli_call.specs.Command.{LeavesName}
-use Rattle.cli_call.specs.RootDatabase.{OneDatabase}
+use Rattle.cli_call.specs.Alone.{PerformsAlone}
+use Rattle.cli_call.specs.Command.{disks, AreReady, LeavesName, Performs}
+use Rattle.cli_call.specs.RootDatabase.{OneDatabase, held_database}
 use Rattle.cli_call.specs.State.{RootState}
-use Rattle.cli_call.specs.Store.{IsSettled}
-use Rattle.cli_call.specs.Stores.{root_store}
-use Rattle.root_commands.proofs.TakingBack.{CausesBack, EndsBack, StopsBack, TakenBack, Ways}
+use Rattle.cli_call.specs.Stops.{root_result}
+use Rattle.cli_call.specs.Store.{IsSettled, IsStore}
+use Rattle.cli_call.specs.Stores.{repository_store, root_store}
+use Rattle.root_commands.specs.Records.{last_job}
+use Rattle.root_commands.specs.RollingBack.{meant_number, roll_back, take_back}
+use Rattle.root_commands.proofs.TakingBack.{CausesBack, EndsBack, StopsBack, TakenBack, Ways, failed_alone, failed_performs, memory_alone, memory_performs, told_alone, told_performs}
 
 -- ---- numbers of jobs
 
@@ -67,77 +71,7 @@ causes_all : (IsKind : Refusal → Type 0) (rose : Type 0) (r : Result ℕ Stop)
 causes_all IsKind rose (Ok n) h = tt
 causes_all IsKind rose (Err e) h = cause_back IsKind rose e h
 
--- ---- the newest job
-
-module _ {T : Type 0} (root_disk : DiskModel T) (root root' : T) (opened opened' : Opened) where
-  abbrev pub NewestTells : RootState → ℕ → Type 0
-  NewestTells s n = OfNewest s (IsTakenBack s n opened'.db)
-
-  abbrev pub NewestDamage : Name → Type 0
-  NewestDamage path = IsDamagedNewest (root_disk.reads root) opened.db path
-
-  newest_out : (s : RootState) → StoresIn Two (root_disk.reads root) s → CanTakeBack s → (q : Name) → LeavesName s (rolled_back s) q → is_listed (newest_paths s.stack) q ≡ false
-  newest_out s stores can q leaves =
-      let among : Contains s.stack can.job = subst (λ (l : List StackItem). Contains l can.job) (sym can.stack_is) (contains_first can.job can.others) in
-      let numbered : AreNumbered (can.job ∷ can.others) = subst AreNumbered can.stack_is stores.system.numbered in
-      let below : newest (rolled_back s).stack < can.job.number = subst (λ (l : List StackItem). newest (without_newest l s).stack < can.job.number) (sym can.stack_is) (newest_below can.job can.others numbered) in
-      subst (λ (l : List StackItem). is_listed (newest_paths l) q ≡ false) (sym can.stack_is) (leaves.undone can.job among below)
-
-  pub newest_ways : Ways (root_disk.reads root) opened.db CanTakeBack rolled_back (λ s. newest_paths s.stack) NewestTells NewestDamage
-  newest_ways = record {
-    damage = λ path is holds. record { db = opened.db; holds = holds; damaged = inl is };
-    can_tell = λ s n tells. record { job = tells.job; others = tells.others; stack_is = tells.stack_is; holds = tells.holds.can };
-    left_out = newest_out;
-  }
-
-  newest_ends : (s : RootState) (r : Result ℕ Stop) → EndsSo s opened'.db r → EndsBack (NewestTells s) (IsSystemRefusal s) r
-  newest_ends s (Ok n) h = h
-  newest_ends s (Err (stop.Refused why)) h = h
-  newest_ends s (Err stop.Failed) h = tt
-  newest_ends s (Err stop.Memory) h = tt
-  newest_ends s (Err (stop.Damaged path)) h = h
-  newest_ends s (Err stop.FarFailed) h = h
-  newest_ends s (Err (stop.FarDamaged path)) h = h
-
-  newest_rests : (r : Result ℕ Stop) → IfOk r (HasTakenBack root_disk opened.db opened'.db root root') → OnOk r (IsSettled root_disk root_store.base root')
-  newest_rests (Ok n) h = record { flag_clear = h.put.flag_clear; synced = h.put.synced }
-  newest_rests (Err e) h = tt
-
-  newest_stops : (e : Stop) → StopsSo root_disk opened.db root root' e → StopsBack root_disk NewestDamage root root' e
-  newest_stops (stop.Refused why) h = record { answer = tt; same = h.same; time = h.time }
-  newest_stops (stop.Damaged path) h = h
-  newest_stops stop.Failed h = tt
-  newest_stops stop.Memory h = tt
-  newest_stops stop.FarFailed h = tt
-  newest_stops (stop.FarDamaged path) h = tt
-
-  stops_all : (r : Result ℕ Stop) → IfErr r (StopsSo root_disk opened.db root root') → IfErr r (StopsBack root_disk NewestDamage root root')
-  stops_all (Ok n) h = tt
-  stops_all (Err e) h = newest_stops e h
-
-  pub newest_taken : (r : Result ℕ Stop) → (IsTrue root_disk.tells → (s : SystemState) → StoresIn Two (root_disk.reads root) s → RollsBack root_disk s opened'.db root root' r)
-      → (IsTrue root_disk.tells → IfOk r (HasTakenBack root_disk opened.db opened'.db root root')) → (IsTrue root_disk.tells → IfErr r (StopsSo root_disk opened.db root root'))
-      → IfErr r (HasCause (IsRefusalKind opened.db) (Rose (root_disk.faults root) (root_disk.faults root'))) → root_disk.faults root ≤ root_disk.faults root'
-      → TakenBack root_disk root root' CanTakeBack rolled_back (λ s. newest_paths s.stack) IsSystemRefusal NewestTells NewestDamage r
-  newest_taken r rolls done stops causes later = record {
-    taken = λ told s stores. let h = rolls told s stores in record { ends = newest_ends s r h.ends; only = h.only; moves = h.moves };
-    rests = λ told. newest_rests r (done told);
-    stops = λ told. stops_all r (stops told);
-    causes = causes_all (IsRefusalKind opened.db) (Rose (root_disk.faults root) (root_disk.faults root')) r causes;
-    later = later;
-  }
-
--- the text of it
-pub newest_text : (x : Tree) (s : RootState) (db : Db) (n k : ℕ) (text : List ℕ) → StoresIn Two x s → OfNewest s (IsTakenBack s n db) → k ≡ min n 1 → text ≡ rolled_back_text n k → text ≡ rolled_back_text (newest s.stack) 1
-newest_text x s db n k text stores tells least is =
-    let numbered : AreNumbered (tells.job ∷ tells.others) = subst AreNumbered tells.stack_is stores.system.numbered in
-    let some = newest_below tells.job tells.others numbered in
-    let same : n ≡ newest s.stack = tells.holds.number_is ∙ ap newest (sym tells.stack_is) in
-    let number : n ≡ tells.job.number = tells.holds.number_is in
-    let one : k ≡ 1 = omega (arith, least, number, some) in
-    is ∙ ap (rolled_back_text n) one ∙ ap (λ (m : ℕ). rolled_back_text m 1) same
-
--- ---- several jobs
+-- ---- the jobs that are taken back
 
 or_false : (a b : Bool) → a ≡ false → b ≡ false → (a || b) ≡ false
 or_false true b h k = h
@@ -165,75 +99,154 @@ stack_after : (os rest : List StackItem) (s : SystemState) → s.stack ≡ os ++
 stack_after [] rest s is = is
 stack_after (o ∷ os) rest s is = stack_after os rest (after_rollback o (os ++ rest) s) refl
 
-module _ {T : Type 0} (root_disk : DiskModel T) (root root' : T) (opened opened' : Opened) (number : ℕ) where
-  abbrev pub SeveralTell : RootState → ℕ → Type 0
-  SeveralTell s n = AreTakenBack s number opened'.db n
-
-  abbrev pub SeveralDamage : Name → Type 0
-  SeveralDamage path = IsDamagedJob (root_disk.reads root) opened.db number path ⊎ IsDamagedContent (root_disk.reads root) opened.db number path
-
+-- `last` is the number of the last job, which each system of the root tells as `number_of`.
+module _ {T : Type 0} (root_disk : DiskModel T) (root root' : T) (opened opened' : Opened) (last : ℕ) (number_of : RootState → ℕ) where
   abbrev pub CanTake : RootState → Type 0
-  CanTake s = CanTakeBackTo s number
+  CanTake s = CanTakeBackTo s (number_of s)
 
-  several_out : (s : RootState) → StoresIn Two (root_disk.reads root) s → CanTake s → (q : Name) → LeavesName s (rolled_back_to number s) q → is_listed (paths_of_jobs (jobs_to number s.stack)) q ≡ false
-  several_out s stores can q leaves =
-      let os = jobs_to number s.stack in
-      let rest = jobs_below number s.stack in
-      let split : s.stack ≡ os ++ rest = sym (take-append-drop (newest s.stack + 1 - number) s.stack) in
-      let then : (rolled_back_to number s).stack ≡ rest = stack_after os rest s split in
+  abbrev pub back_of : RootState → RootState
+  back_of s = rolled_back_to (number_of s) s
+
+  abbrev pub text_of : RootState → List ℕ
+  text_of s = rolled_back_text (newest s.stack) (length (jobs_to (number_of s) s.stack))
+
+  abbrev pub paths_of : RootState → List Name
+  paths_of s = paths_of_jobs (jobs_to (number_of s) s.stack)
+
+  abbrev pub Refuses : RootState → Refusal → Type 0
+  Refuses s why = IsRefusalTo s (number_of s) why
+
+  abbrev pub Tells : RootState → ℕ → Type 0
+  Tells s n = AreTakenBack s (number_of s) opened'.db n
+
+  abbrev pub IsDamage : Name → Type 0
+  IsDamage path = IsDamagedJob (root_disk.reads root) opened.db last path ⊎ IsDamagedContent (root_disk.reads root) opened.db last path
+
+  left_out : (s : RootState) → StoresIn Two (root_disk.reads root) s → CanTake s → (q : Name) → LeavesName s (back_of s) q → is_listed (paths_of s) q ≡ false
+  left_out s stores can q leaves =
+      let os = jobs_to (number_of s) s.stack in
+      let rest = jobs_below (number_of s) s.stack in
+      let split : s.stack ≡ os ++ rest = sym (take-append-drop (newest s.stack + 1 - number_of s) s.stack) in
+      let then : (back_of s).stack ≡ rest = stack_after os rest s split in
       unlisted_all os rest q (subst AreNumbered split stores.system.numbered)
       (λ o among below. leaves.undone o (subst (λ (l : List StackItem). Contains l o) (sym split) (Contains-append_left os rest o among)) (subst (λ (l : List StackItem). newest l < o.number) (sym then) below))
 
-  pub several_ways : Ways (root_disk.reads root) opened.db CanTake (rolled_back_to number) (λ s. paths_of_jobs (jobs_to number s.stack)) SeveralTell SeveralDamage
-  several_ways = record {
-    damage = λ path is holds. record { db = opened.db; holds = holds; damaged = inr (inr (number, is)) };
+  pub ways : Ways (root_disk.reads root) opened.db CanTake back_of paths_of Tells IsDamage
+  ways = record {
+    damage = λ path is holds. record { db = opened.db; holds = holds; damaged = inr (last, is) };
     can_tell = λ s n tells. (tells.job, tells.can);
-    left_out = several_out;
+    left_out = left_out;
   }
 
-  several_ends : (s : RootState) (r : Result ℕ Stop) → EndsTo s number opened'.db r → EndsBack (SeveralTell s) (IsRefusalTo s number) r
-  several_ends s (Ok n) h = h
-  several_ends s (Err (stop.Refused why)) h = h
-  several_ends s (Err stop.Failed) h = tt
-  several_ends s (Err stop.Memory) h = tt
-  several_ends s (Err (stop.Damaged path)) h = h
-  several_ends s (Err stop.FarFailed) h = h
-  several_ends s (Err (stop.FarDamaged path)) h = h
+  ends_all : (s : RootState) (r : Result ℕ Stop) → EndsTo s (number_of s) opened'.db r → EndsBack (Tells s) (Refuses s) r
+  ends_all s (Ok n) h = h
+  ends_all s (Err (stop.Refused why)) h = h
+  ends_all s (Err stop.Failed) h = tt
+  ends_all s (Err stop.Memory) h = tt
+  ends_all s (Err (stop.Damaged path)) h = h
+  ends_all s (Err stop.FarFailed) h = h
+  ends_all s (Err (stop.FarDamaged path)) h = h
 
-  several_rests : (r : Result ℕ Stop) → IfOk r (HasTakenBackTo root_disk opened.db opened'.db number root root') → OnOk r (IsSettled root_disk root_store.base root')
-  several_rests (Ok n) h = record { flag_clear = h.put.flag_clear; synced = h.put.synced }
-  several_rests (Err e) h = tt
+  rests_all : (r : Result ℕ Stop) → IfOk r (HasTakenBackTo root_disk opened.db opened'.db last root root') → OnOk r (IsSettled root_disk root_store.base root')
+  rests_all (Ok n) h = record { flag_clear = h.put.flag_clear; synced = h.put.synced }
+  rests_all (Err e) h = tt
 
-  several_stops : (e : Stop) → StopsTo root_disk opened.db number root root' e → StopsBack root_disk SeveralDamage root root' e
-  several_stops (stop.Refused why) h = record { answer = tt; same = h.same; time = h.time }
-  several_stops (stop.Damaged path) h = h
-  several_stops stop.Failed h = tt
-  several_stops stop.Memory h = tt
-  several_stops stop.FarFailed h = tt
-  several_stops (stop.FarDamaged path) h = tt
+  stops_each : (e : Stop) → StopsTo root_disk opened.db last root root' e → StopsBack root_disk IsDamage root root' e
+  stops_each (stop.Refused why) h = record { answer = tt; same = h.same; time = h.time }
+  stops_each (stop.Damaged path) h = h
+  stops_each stop.Failed h = tt
+  stops_each stop.Memory h = tt
+  stops_each stop.FarFailed h = tt
+  stops_each (stop.FarDamaged path) h = tt
 
-  stops_each : (r : Result ℕ Stop) → IfErr r (StopsTo root_disk opened.db number root root') → IfErr r (StopsBack root_disk SeveralDamage root root')
-  stops_each (Ok n) h = tt
-  stops_each (Err e) h = several_stops e h
+  stops_all : (r : Result ℕ Stop) → IfErr r (StopsTo root_disk opened.db last root root') → IfErr r (StopsBack root_disk IsDamage root root')
+  stops_all (Ok n) h = tt
+  stops_all (Err e) h = stops_each e h
 
-  pub several_taken : (r : Result ℕ Stop) → (IsTrue root_disk.tells → (s : SystemState) → StoresIn Two (root_disk.reads root) s → RollsBackTo root_disk s number opened'.db root root' r)
-      → (IsTrue root_disk.tells → IfOk r (HasTakenBackTo root_disk opened.db opened'.db number root root')) → (IsTrue root_disk.tells → IfErr r (StopsTo root_disk opened.db number root root'))
-      → IfErr r (HasCause (IsRefusalKindTo opened.db number) (Rose (root_disk.faults root) (root_disk.faults root'))) → root_disk.faults root ≤ root_disk.faults root'
-      → TakenBack root_disk root root' CanTake (rolled_back_to number) (λ s. paths_of_jobs (jobs_to number s.stack)) (λ s. IsRefusalTo s number) SeveralTell SeveralDamage r
-  several_taken r rolls done stops causes later = record {
-    taken = λ told s stores. let h = rolls told s stores in record { ends = several_ends s r h.ends; only = h.only; moves = h.moves };
-    rests = λ told. several_rests r (done told);
-    stops = λ told. stops_each r (stops told);
-    causes = causes_all (IsRefusalKindTo opened.db number) (Rose (root_disk.faults root) (root_disk.faults root')) r causes;
+  pub taken : (r : Result ℕ Stop) → ((s : RootState) → IsTrue root_disk.tells → StoresIn Two (root_disk.reads root) s → last ≡ number_of s)
+      → (IsTrue root_disk.tells → (s : SystemState) → StoresIn Two (root_disk.reads root) s → RollsBackTo root_disk s last opened'.db root root' r)
+      → (IsTrue root_disk.tells → IfOk r (HasTakenBackTo root_disk opened.db opened'.db last root root')) → (IsTrue root_disk.tells → IfErr r (StopsTo root_disk opened.db last root root'))
+      → IfErr r (HasCause (IsRefusalKindTo opened.db last) (Rose (root_disk.faults root) (root_disk.faults root'))) → root_disk.faults root ≤ root_disk.faults root'
+      → TakenBack root_disk root root' CanTake back_of paths_of Refuses Tells IsDamage r
+  taken r same rolls done stops causes later = record {
+    taken = λ told s stores.
+        let h : RollsBackTo root_disk s (number_of s) opened'.db root root' r = subst (λ (n : ℕ). RollsBackTo root_disk s n opened'.db root root' r) (same s told stores) (rolls told s stores) in
+        record { ends = ends_all s r h.ends; only = h.only; moves = h.moves };
+    rests = λ told. rests_all r (done told);
+    stops = λ told. stops_all r (stops told);
+    causes = causes_all (IsRefusalKindTo opened.db last) (Rose (root_disk.faults root) (root_disk.faults root')) r causes;
     later = later;
   }
 
 -- the text of it
-pub several_text : (law : OneDatabase) (x : Tree) (s : RootState) (db db' : Db) (number n k : ℕ) (text : List ℕ) → db.newest ≡ newest s.stack → StoresIn Two x s → AreTakenBack s number db' n → k ≡ min db.newest n → text ≡ rolled_back_text db.newest k
+pub told_text_is : (law : OneDatabase) (x : Tree) (s : RootState) (db db' : Db) (number n k : ℕ) (text : List ℕ) → db.newest ≡ newest s.stack → StoresIn Two x s → AreTakenBack s number db' n → k ≡ min db.newest n → text ≡ rolled_back_text db.newest k
     → text ≡ rolled_back_text (newest s.stack) (length (jobs_to number s.stack))
-several_text law x s db db' number n k text same stores tells least is =
+told_text_is law x s db db' number n k text same stores tells least is =
     let few = few_jobs s.stack stores.system.numbered in
     let within : length (jobs_to number s.stack) ≡ min (newest s.stack + 1 - number) (length s.stack) = length-take (newest s.stack + 1 - number) s.stack in
     let count : n ≡ length (jobs_to number s.stack) = tells.count_is in
     let one : k ≡ length (jobs_to number s.stack) = omega (arith, least, same, few, within, count) in
     is ∙ ap (rolled_back_text db.newest) one ∙ ap (λ (m : ℕ). rolled_back_text m (length (jobs_to number s.stack))) same
+
+-- the number that is meant, by the database and by the system
+pub meant_is : (number : Option ℕ) (s : RootState) (db : Db) (last : ℕ) → last ≡ last_job number db → db.newest ≡ newest s.stack → last ≡ meant_number number s
+meant_is None s db last is same = is ∙ same
+meant_is (Some number) s db last is same = is
+
+-- ---- the clauses of the command
+
+module _ {T P : Type 0} {root_disk : DiskModel T} (root_disk_laws : IsDisk root_disk) (law : OneDatabase) (root root' : T) (repo : P) (repo_disk : DiskModel P) (opened opened' : Opened) (ready : AreReady root_disk repo_disk (disks root repo opened))
+    (number : Option ℕ) (last : ℕ) (last_is : last ≡ last_job number opened.db) (r : Result ℕ Stop)
+    (rolls : IsTrue root_disk.tells → (s : SystemState) → StoresIn Two (root_disk.reads root) s → RollsBackTo root_disk s last opened'.db root root' r)
+    (done : IsTrue root_disk.tells → IfOk r (HasTakenBackTo root_disk opened.db opened'.db last root root')) (stops : IsTrue root_disk.tells → IfErr r (StopsTo root_disk opened.db last root root'))
+    (causes : IfErr r (HasCause (IsRefusalKindTo opened.db last) (Rose (root_disk.faults root) (root_disk.faults root')))) (later : root_disk.faults root ≤ root_disk.faults root') (input : List ℕ) where
+  abbrev number_in : RootState → ℕ
+  number_in s = meant_number number s
+
+  newest_in : (s : RootState) → IsTrue root_disk.tells → StoresIn Two (root_disk.reads root) s → opened.db.newest ≡ newest s.stack
+  newest_in s told stores = (held_database law (root_disk.reads root) opened.db s (ready.root told).holds (inr stores)).newest
+
+  took : TakenBack root_disk root root' (CanTake root_disk root root' opened opened' last number_in) (back_of root_disk root root' opened opened' last number_in) (paths_of root_disk root root' opened opened' last number_in)
+      (Refuses root_disk root root' opened opened' last number_in) (Tells root_disk root root' opened opened' last number_in) (IsDamage root_disk root root' opened opened' last number_in) r
+  took = taken root_disk root root' opened opened' last number_in r (λ s told stores. meant_is number s opened.db last last_is (newest_in s told stores)) rolls done stops causes later
+
+  abbrev Alone : Result (List ℕ) Failure → Type 0
+  Alone f = PerformsAlone root_disk repo_disk (roll_back number) input (disks root repo opened) (disks root' repo opened') f
+
+  abbrev Done : Result (List ℕ) Failure → Type 0
+  Done f = Performs root_disk repo_disk (roll_back number) input (disks root repo opened) (disks root' repo opened') f
+
+  pub alone_failed : (f : Failure) → root_result r ≡ Err f → Alone (Err f)
+  alone_failed f is = failed_alone root_disk_laws law root root' repo repo_disk opened opened' ready (CanTake root_disk root root' opened opened' last number_in) (back_of root_disk root root' opened opened' last number_in)
+      (text_of root_disk root root' opened opened' last number_in) (paths_of root_disk root root' opened opened' last number_in) (Refuses root_disk root root' opened opened' last number_in) (Tells root_disk root root' opened opened' last number_in)
+      (IsDamage root_disk root root' opened opened' last number_in) (ways root_disk root root' opened opened' last number_in) (take_back number) (λ s e back. back) (λ s why refused. refused) input r f is took
+
+  pub alone_memory : (n : ℕ) → root_result r ≡ Ok n → Alone (Err failure.Memory)
+  alone_memory n is = memory_alone root_disk_laws law root root' repo repo_disk opened opened' ready (CanTake root_disk root root' opened opened' last number_in) (back_of root_disk root root' opened opened' last number_in)
+      (text_of root_disk root root' opened opened' last number_in) (paths_of root_disk root root' opened opened' last number_in) (Refuses root_disk root root' opened opened' last number_in) (Tells root_disk root root' opened opened' last number_in)
+      (IsDamage root_disk root root' opened opened' last number_in) (ways root_disk root root' opened opened' last number_in) (take_back number) (λ s e back. back) (λ s why refused. refused) input r n is took
+
+  module _ (n k : ℕ) (text : List ℕ) (is : root_result r ≡ Ok n) (least : k ≡ min opened.db.newest n) (text_is : text ≡ rolled_back_text opened.db.newest k) where
+    told_so : IsTrue root_disk.tells → (s : RootState) → StoresIn Two (root_disk.reads root) s → Tells root_disk root root' opened opened' last number_in s n → text ≡ text_of root_disk root root' opened opened' last number_in s
+    told_so told s stores tells = told_text_is law (root_disk.reads root) s opened.db opened'.db (number_in s) n k text (newest_in s told stores) stores tells least text_is
+
+    pub alone_told : Alone (Ok text)
+    alone_told = told_alone root_disk_laws law root root' repo repo_disk opened opened' ready (CanTake root_disk root root' opened opened' last number_in) (back_of root_disk root root' opened opened' last number_in)
+        (text_of root_disk root root' opened opened' last number_in) (paths_of root_disk root root' opened opened' last number_in) (Refuses root_disk root root' opened opened' last number_in) (Tells root_disk root root' opened opened' last number_in)
+        (IsDamage root_disk root root' opened opened' last number_in) (ways root_disk root root' opened opened' last number_in) (take_back number) (λ s e back. back) (λ s why refused. refused) input r n text is took told_so
+
+    pub performs_told : IsDisk repo_disk → IsStore repository_store → Done (Ok text)
+    performs_told repo_disk_laws repo_laws = told_performs root_disk_laws law root root' repo repo_disk opened opened' ready (CanTake root_disk root root' opened opened' last number_in) (back_of root_disk root root' opened opened' last number_in)
+        (text_of root_disk root root' opened opened' last number_in) (paths_of root_disk root root' opened opened' last number_in) (Refuses root_disk root root' opened opened' last number_in) (Tells root_disk root root' opened opened' last number_in)
+        (IsDamage root_disk root root' opened opened' last number_in) (ways root_disk root root' opened opened' last number_in) (take_back number) (λ s e back. back) (λ s why refused. refused) input repo_disk_laws repo_laws r n text is took told_so
+
+  module _ (repo_disk_laws : IsDisk repo_disk) (repo_laws : IsStore repository_store) where
+    pub performs_failed : (f : Failure) → root_result r ≡ Err f → Done (Err f)
+    performs_failed f is = failed_performs root_disk_laws law root root' repo repo_disk opened opened' ready (CanTake root_disk root root' opened opened' last number_in) (back_of root_disk root root' opened opened' last number_in)
+        (text_of root_disk root root' opened opened' last number_in) (paths_of root_disk root root' opened opened' last number_in) (Refuses root_disk root root' opened opened' last number_in) (Tells root_disk root root' opened opened' last number_in)
+        (IsDamage root_disk root root' opened opened' last number_in) (ways root_disk root root' opened opened' last number_in) (take_back number) (λ s e back. back) (λ s why refused. refused) input repo_disk_laws repo_laws r f is took
+
+    pub performs_memory : (n : ℕ) → root_result r ≡ Ok n → Done (Err failure.Memory)
+    performs_memory n is = memory_performs root_disk_laws law root root' repo repo_disk opened opened' ready (CanTake root_disk root root' opened opened' last number_in) (back_of root_disk root root' opened opened' last number_in)
+        (text_of root_disk root root' opened opened' last number_in) (paths_of root_disk root root' opened opened' last number_in) (Refuses root_disk root root' opened opened' last number_in) (Tells root_disk root root' opened opened' last number_in)
+        (IsDamage root_disk root root' opened opened' last number_in) (ways root_disk root root' opened opened' last number_in) (take_back number) (λ s e back. back) (λ s why refused. refused) input repo_disk_laws repo_laws r n is took

@@ -4,7 +4,6 @@ use Rattle.repo_commands.specs.job-record.JobReading.{IsDamagedRecord}
 use Rattle.local_db.specs.declared.db.Db.{Db}
 use Rattle.rollback_stack.specs.Inverse.{IsDamagedContent, IsDamagedJob}
 use Rattle.rollback_stack.specs.Numbers.{job_count}
-use Rattle.rollback_stack.specs.Reading.{IsDamagedNewest}
 use Rattle.local_db.specs.declared.format.Format.TheVariants.{Two}
 use Rattle.repo_commands.specs.tree-disk.Tree.{Name, Tree}
 use Rattle.cli_call.specs.declared.failure.Failure.{Failure}
@@ -45,8 +44,7 @@ last_job (Some number) db = number
 
 -- The record of a job that is to be taken back is damaged, once the newer ones can be taken back; or a content that is to stand again.
 abbrev pub IsDamagedBack : Option ℕ → Tree → Db → Name → Type 0
-IsDamagedBack None tree db path = IsDamagedNewest tree db path
-IsDamagedBack (Some number) tree db path = IsDamagedJob tree db number path ⊎ IsDamagedContent tree db number path
+IsDamagedBack number tree db path = IsDamagedJob tree db (last_job number db) path ⊎ IsDamagedContent tree db (last_job number db) path
 
 -- After Ok neither is, and after a refusal no record.
 abbrev pub TakesBackWhole : {A : Type 0} → Option ℕ → Tree → Db → Result A Failure → Type 0

@@ -1,6 +1,6 @@
 -- The numbers of a stack, and of the stack once several jobs are gone.
-use Rattle.std.proofs.Common.{◌≡◌, ◌≢◌, ⊎_elim, ℕ, ◌+◌, ◌-◌, ◌<◌, ◌≤◌, true, false, List, [], ◌∷◌, ◌++◌, length, Contains, refl, sym, ◌∙◌, ap, arith, take-append-drop}
-use Rattle.std.specs.Prelude.{nat_lt}
+use Rattle.std.proofs.Common.{◌≡◌, ◌≢◌, ⊎_elim, ℕ, ◌+◌, ◌-◌, ◌<◌, ◌≤◌, Bool, true, false, List, [], ◌∷◌, ◌++◌, length, Contains, refl, sym, ◌∙◌, ap, arith, take-append-drop}
+use Rattle.std.specs.Prelude.{nat_lt, if◌then◌else◌}
 use Rattle.std.proofs.lemmas.Bool.{cases_order}
 use Rattle.std.proofs.lemmas.Bool.Decides.{nat_tests}
 use Rattle.std.proofs.lemmas.List.{length-take-le}
@@ -9,7 +9,6 @@ use Rattle.local_db.proofs.Systems.{low_at_least, numbered_rest, numbers_by_leng
 use Rattle.local_db.proofs.Writes.{contains_cases, contains_first, contains_rest, nothing_in}
 use Rattle.rollback_stack.specs.Writes.{newest_below, oldest_below}
 use Rattle.system_core.specs.Several.{HasJob, count_to, jobs_below, jobs_to}
-use Rattle.system_core.proofs.RollbackNumbers.{chosen, is_below, other}
 
 -- ---- which numbers have a job
 
@@ -59,7 +58,7 @@ few_jobs (o ∷ olds) count number numbered some low top =
 
 -- ---- the rest of the stack
 
-numbers_apart : (o : StackItem) (os : List StackItem) (r : StackItem) (rest : List StackItem) → AreNumbered (o ∷ (os ++ r ∷ rest)) → o.number ≡ r.number + length (o ∷ os)
+pub numbers_apart : (o : StackItem) (os : List StackItem) (r : StackItem) (rest : List StackItem) → AreNumbered (o ∷ (os ++ r ∷ rest)) → o.number ≡ r.number + length (o ∷ os)
 numbers_apart o [] r rest numbered = let next = numbered.0 in omega (arith, next)
 numbers_apart o (p ∷ os) r rest numbered =
     let next = numbered.0 in
@@ -74,6 +73,17 @@ oldest_stays (o ∷ p ∷ os) r rest = oldest_stays (p ∷ os) r rest
 numbered_end : (os rest : List StackItem) → AreNumbered (os ++ rest) → AreNumbered rest
 numbered_end [] rest numbered = numbered
 numbered_end (o ∷ os) rest numbered = numbered_end os rest (numbered_rest o (os ++ rest) numbered)
+
+is_below : (a b : ℕ) → a < b → nat_lt a b ≡ true
+is_below a b lt = grind (arith, nat_tests)
+
+chosen : (b : Bool) (x y : ℕ) → b ≡ true → (if b then x else y) ≡ x
+chosen true x y is = refl
+chosen false x y is = absurd (cc is)
+
+other : (b : Bool) (x y : ℕ) → b ≡ false → (if b then x else y) ≡ y
+other true x y is = absurd (cc is)
+other false x y is = refl
 
 not_lower : (a b : ℕ) → b ≤ a → nat_lt a b ≡ false
 not_lower a b le = grind (arith, nat_tests)

@@ -1,6 +1,6 @@
 -- How several rollbacks at once end: what is restored, and the write set put on the root.
 use Rattle.std.proofs.Common.{◌≡◌, inl, inr, ℕ, ◌+◌, ◌≤◌, Bool, IsTrue, List, ◌∷◌, ◌++◌, Result, Ok, Err, All, Contains, refl, sym, ◌∙◌, ap, subst, arith}
-use Rattle.std.specs.Prelude.{OnOk}
+use Rattle.std.specs.Prelude.{IsErrAnd, OnOk}
 use Rattle.std.specs.FinMap.{get}
 use Rattle.rollback_stack.specs.cny-base.declared.refusal.Refusal.{Refusal}
 use Rattle.rollback_stack.specs.cny-base.declared.refusal.Refusal.TheVariants.{Edited, NoJob, Parent, StackEmpty}
@@ -32,6 +32,11 @@ use Rattle.system_core.proofs.Restored.{left_alone, put_into}
 use Rattle.system_core.proofs.Sequence.{after_list, after_tree, after_whole}
 use Rattle.system_core.proofs.SteppingAll.{IsSystemStepTo, system_step_to, unfinished_to}
 use Rattle.system_core.proofs.NewestStored.{OneDatabase, OneRecord, all_front, all_middle, one_held}
+
+-- an error that is handed on
+pub err_is : {T : Type 0} (r : Result T Stop) (e : Stop) → IsErrAnd r (λ s. s ≡ e) → r ≡ Err e
+err_is (Ok x) e is = absurd is
+err_is (Err s) e is = ap Err is
 
 -- ---- what is restored
 
@@ -175,3 +180,11 @@ cause_to told x db number rose (stop.Refused why) is = kind_to told x db number 
 cause_to told x db number rose (stop.Damaged path) is = tt
 cause_to told x db number rose stop.FarFailed is = is
 cause_to told x db number rose (stop.FarDamaged path) is = is
+
+pub cause_written : (IsKind : Refusal → Type 0) (rose : Type 0) (e : Stop) → IsDiskStop e → (e ≡ stop.Failed → rose) → HasCause IsKind rose e
+cause_written IsKind rose stop.Failed is failed = failed refl
+cause_written IsKind rose stop.Memory is failed = tt
+cause_written IsKind rose (stop.Refused why) is failed = absurd is
+cause_written IsKind rose (stop.Damaged path) is failed = tt
+cause_written IsKind rose stop.FarFailed is failed = is
+cause_written IsKind rose (stop.FarDamaged path) is failed = is

@@ -1,5 +1,5 @@
--- The newest job of a system, by the record that a root holds of it.
-use Rattle.std.proofs.Common.{◌≡◌, ◌≢◌, ℕ, false, List, [], ◌∷◌, ◌++◌, map, Option, Some, None, All, Contains, refl, sym, ◌∙◌, ap, subst, arith}
+-- The database of a root, and a job by the record and the contents that the root holds of it.
+use Rattle.std.proofs.Common.{◌≡◌, ℕ, false, List, [], ◌∷◌, ◌++◌, map, Option, Some, None, All, Contains, refl, sym, ◌∙◌, ap, subst}
 use Rattle.std.proofs.lemmas.List.Elements.{All-cons, All-head, All-nil, All-tail}
 use Rattle.std.specs.FinMap.{get}
 use Rattle.sha1.specs.Sha1.{sha1}
@@ -19,17 +19,13 @@ use Rattle.job_targets.specs.Old.{IsDamagedOld, IsSaved, is_staged}
 use Rattle.local_db.specs.Formats.{database_bytes}
 use Rattle.local_db.specs.Names.{database, saved}
 use Rattle.local_db.specs.Record as state
-use Rattle.local_db.specs.Stores.{HoldsDatabase, HoldsFile, HoldsItem, HoldsSaved, HoldsStack, IsDatabase, SameDatabase, StoresIn, absent, written}
-use Rattle.local_db.specs.SystemState.{IsStackItem, StackItem, SystemState, newest}
+use Rattle.local_db.specs.Stores.{HoldsDatabase, HoldsFile, HoldsItem, HoldsSaved, IsDatabase, SameDatabase, absent, written}
+use Rattle.local_db.specs.SystemState.{IsStackItem, StackItem}
 use Rattle.local_db.specs.Steps.{want_of}
 use Rattle.local_db.specs.declared.format.Format.{Format}
 use Rattle.local_db.specs.declared.format.Format.TheVariants.{Two}
 use Rattle.local_db.proofs.Other.{checks_law}
-use Rattle.local_db.proofs.Writes.{contains_rest}
 use Rattle.rollback_stack.specs.job-record.JobReading.{HoldsRecord}
-use Rattle.rollback_stack.specs.Undo.{entries_of, entry_of}
-use Rattle.rollback_stack.specs.Writes.{put_of}
-use Rattle.system_core.proofs.UndoneEntries.{back_at, told_at}
 
 -- ---- the database
 
@@ -58,17 +54,7 @@ one_held one x list other low high lower higher (written is file) (written its t
     let same = one Two Two list other low high lower higher is its (same_some _ _ (sym file ∙ too)) in
     record { lists = same.lists; lows = same.oldest; highs = same.newest }
 
--- ---- the newest job
-
-pub record Newest (stack : List StackItem) : Type 0 where
-  pub job : StackItem
-  pub others : List StackItem
-  pub stack_is : stack ≡ job ∷ others
-
--- there is one where its number isn't 0
-pub some_newest : (stack : List StackItem) → newest stack ≢ 0 → Newest stack
-some_newest [] some = absurd (some refl)
-some_newest (o ∷ olds) some = record { job = o; others = olds; stack_is = refl }
+-- ---- the record of a job
 
 abbrev pub OneRecord : Type 0
 OneRecord = (f : Format) (x : Tree) (n : ℕ) (after before other : List TroveParts) (es ds : List state.Entry)
@@ -167,32 +153,3 @@ not_damaged x o held n number_is p path among damaged = at (get o.before p) refl
 pub job_record : (x : Tree) (n : ℕ) (list : List TroveParts) (o : StackItem) → HoldsItem Two x list o → IsStackItem o → o.number ≡ n → HoldsRecord Two x n list o.list (state.entries_of o)
 job_record x n list o held item number_is = subst (λ (k : ℕ). HoldsRecord Two x k list o.list (state.entries_of o)) number_is
     (record { bytes = held.bytes; file = held.file; text = held.text; checks = checks_law Two x list o item held })
-
--- ---- by one job
-
-module _ (x : Tree) (s : SystemState) (stores : StoresIn Two x s) (o : StackItem) (olds : List StackItem) (stack : s.stack ≡ o ∷ olds) where
-  pub held : HoldsItem Two x s.installed o
-  held = (subst (HoldsStack Two x s.installed) stack stores.olds).0
-
-  pub item : IsStackItem o
-  item = All-head IsStackItem o olds (subst (All IsStackItem) stack stores.system.olds)
-
-  -- its record, of this number and against this list
-  pub record_of : (n : ℕ) (list : List TroveParts) → n ≡ o.number → list ≡ s.installed → HoldsRecord Two x n list o.list (state.entries_of o)
-  record_of n list number_is list_is =
-      subst (λ (l : List TroveParts). HoldsRecord Two x n l o.list (state.entries_of o)) (sym list_is) (job_record x n s.installed o held item (sym number_is))
-
-  -- the writes of the entries that were read are those of the nodes before the job
-  pub same_writes : (es : List Entry) (paths : List Name) → ((p : Name) → Contains paths p → Contains o.paths p) → entries_of es ≡ map (told_at o) paths
-      → All (λ (e : Entry). is_staged e.was ≡ false) es → All (λ (e : Entry). IsSaved x o.number e.was) es → map put_of es ≡ map (back_at o) paths
-  same_writes [] [] within same given kept = refl
-  same_writes [] (p ∷ paths) within same given kept = absurd (cc same)
-  same_writes (e ∷ es) [] within same given kept = absurd (cc same)
-  same_writes (e ∷ es) (p ∷ paths) within same given kept =
-      let first : entry_of e ≡ told_at o p = cc same in
-      let rest : entries_of es ≡ map (told_at o) paths = cc same in
-      let here : e.path ≡ p = ap (λ (d : state.Entry). d.path) first in
-      let wants : e.was ≡ want_of (get o.before p) = same_want e.was (get o.before p) (All-head (λ (e : Entry). is_staged e.was ≡ false) e es given) (ap (λ (d : state.Entry). d.was) first)
-      (λ a d b c is there hash. one_content x o p held.contents (within p (0, omega arith, refl)) e.was a d b c is there hash (All-head (λ (e : Entry). IsSaved x o.number e.was) e es kept)) in
-      let later = same_writes es paths (λ q among. within q (contains_rest p q paths among)) rest (All-tail (λ (e : Entry). is_staged e.was ≡ false) e es given) (All-tail (λ (e : Entry). IsSaved x o.number e.was) e es kept) in
-      λ i. (record { path = here i; want = wants i }) ∷ later i

@@ -4,22 +4,15 @@ use Rattle.std.proofs.lemmas.Bool.{cases_Bool}
 use Rattle.std.proofs.lemmas.List.Elements.{All-contains, Contains-append_right}
 use Rattle.std.specs.FinMap.{get}
 use Rattle.rollback_stack.specs.cny-base.Path.{parent}
-use Rattle.rollback_stack.specs.cny-base.Reserved.{is_reserved}
 use Rattle.rollback_stack.specs.cny-base.declared.node.Node.{Node}
-use Rattle.rollback_stack.specs.journal-log.Targets.{with_targets}
 use Rattle.rollback_stack.specs.tree-disk.Tree.{Name, Tree, WellFormed, is_dir}
 use Rattle.rollback_stack.specs.tree-scan.Marks as marks
 use Rattle.rollback_stack.specs.tree-scan.Marks.{fingerprint}
-use Rattle.local_db.specs.declared.db.Db.{Db}
-use Rattle.local_db.specs.SystemState.{IsStackItem, StackItem, SystemState, is_listed}
-use Rattle.local_db.specs.Steps.{after_rollback, backs}
-use Rattle.local_db.specs.Stores.{StoresIn}
-use Rattle.local_db.specs.declared.format.Format.TheVariants.{Two}
-use Rattle.local_db.proofs.Images.{all_restored, kept, restored}
+use Rattle.local_db.specs.SystemState.{IsStackItem, StackItem, is_listed}
+use Rattle.local_db.proofs.Images.{kept, restored}
 use Rattle.local_db.proofs.Sorted.{in_listed, listed_in}
 use Rattle.local_db.proofs.Writes.{not_both}
-use Rattle.system_core.specs.Restoring.{IsLeftAlone, IsPutInto, IsRestored, IsUnedited}
-use Rattle.system_core.specs.Rollback.{db_of}
+use Rattle.system_core.specs.Restoring.{IsLeftAlone, IsPutInto, IsUnedited}
 use Rattle.system_core.specs.Tests.{IsEdited, IsFirstEdited, IsFirstOrphan}
 use Rattle.system_core.proofs.UndoneEntries.{dir_told}
 
@@ -100,13 +93,3 @@ module _ (o : StackItem) (item : IsStackItem o) (tree : Tree) (unedited : IsUned
             (λ mine. absurd (not_both {A = ⊥} (is_dir (get o.before (parent path))) dir_before (ap is_dir (sym (restored o item tree (parent path) mine)) ∙ h.orphan.1)))
             (λ no. no)
             (cases_Bool (is_listed o.paths (parent path)))
-
--- the root that stores the system after the rollback has what stood before the job
-pub is_restored : (o : StackItem) (olds : List StackItem) (s : SystemState) (db : Db) (x : Tree) → IsStackItem o → ((q : Name) → is_listed o.paths q ≡ true → is_reserved q ≡ false)
-    → StoresIn Two x (after_rollback o olds s) → db ≡ db_of (after_rollback o olds s) → IsRestored o s.tree db x
-is_restored o olds s db x item outer stores is = record {
-  own = λ q mine. stores.managed q (outer q mine) ∙ restored o item s.tree q mine;
-  others = λ q out other. stores.managed q out ∙ kept o item s.tree q other;
-  list = ap (λ (d : Db). d.installed) is;
-  whole = λ same q out. stores.managed q out ∙ ap (λ (t : Tree). get t q) (ap (with_targets (backs o)) same ∙ all_restored o item);
-}

@@ -42,7 +42,6 @@ use Rattle.system_core.specs.Tests as test
 use Rattle.system_core.proofs.Counting.{AreLeft, few_jobs, has_job, least, numbers_left}
 use Rattle.system_core.proofs.PuttingAll.{not_target_to}
 use Rattle.system_core.proofs.Sequence.{AreFrom, AreTurns, after_list, all_turns, entries_all, from_front, from_newest, from_rest, held_jobs, job_listed, oldest_is, records_by_number, saved_in, stack_left}
-use Rattle.system_core.proofs.Stepping.{empty_stack}
 use Rattle.system_core.proofs.NewestStored.{OneDatabase, OneRecord, SameParts, all_middle, job_record, not_damaged, one_held}
 use Rattle.system_core.proofs.Together.{free_of, mark_after, nodes_free, oldest_of, together, turns}
 use Rattle.system_core.proofs.Turn.{first_edited_to, first_orphan_to, first_turn}
@@ -97,6 +96,14 @@ module _ (one_db : OneDatabase) (one : OneRecord) (x : Tree) (s : SystemState) (
 
   numbered : AreNumbered s.stack
   numbered = stores.system.numbered
+
+  empty_stack : db.newest ≡ 0 → s.stack ≡ []
+  empty_stack zero = no_jobs s.stack stores.system.numbered (sym parts.highs ∙ zero)
+    where
+      no_jobs : (stack : List StackItem) → AreNumbered stack → newest stack ≡ 0 → stack ≡ []
+      no_jobs [] numbered none = refl
+      no_jobs (o ∷ []) numbered none = absurd (omega (arith, numbered, none))
+      no_jobs (o ∷ p ∷ olds) numbered none = absurd (omega (arith, numbered.0, none))
 
   from : AreFrom (newest s.stack) s.stack
   from = from_newest s.stack stores.system.numbered
@@ -339,7 +346,7 @@ module _ (one_db : OneDatabase) (one : OneRecord) (x : Tree) (s : SystemState) (
   -- ---- stops
 
   refusal_to : (number : ℕ) (why : Refusal) → IsBackRefusal true x db number why → IsRefusalTo s number why
-  refusal_to number StackEmpty is = empty_stack one_db one x s stores db holds well is
+  refusal_to number StackEmpty is = empty_stack is
   refusal_to number (NoJob n) is = (
     is.0,
     λ none. is.1 (parts.highs ∙ ap newest none),

@@ -17,7 +17,6 @@ pub mod Lists
 pub mod Something
 pub mod Steps
 pub mod Tests
-pub mod Preparing
 pub mod Inserting
 pub mod Rollback
 pub mod Restoring

@@ -130,6 +130,11 @@ IsRefusalKindTo db number StackEmpty = db.newest ≡ 0
 IsRefusalKindTo db number (NoJob n) = (n ≡ number) × (db.newest ≢ 0) × ((number < db.oldest) ⊎ (db.newest < number))
 IsRefusalKindTo db number why = IsUndoKind why
 
+-- of the newest job: the same without `NoJob`
+abbrev pub IsRefusalKind : Db → Refusal → Type 0
+IsRefusalKind db StackEmpty = db.newest ≡ 0
+IsRefusalKind db why = IsUndoKind why
+
 -- A refusal and a damaged file change nothing. Where there is no step nothing is done but reading.
 abbrev pub StopsTo : {D : Type 0} → DiskModel D → Db → ℕ → D → D → Stop → Type 0
 StopsTo disk db number old new (stop.Refused why) = HasRead disk old new (IsBackRefusal disk.tells (disk.reads old) db number why)
@@ -138,3 +143,10 @@ StopsTo disk db number old new stop.Failed = HasOnlyRead disk old new ⊎ HasSte
 StopsTo disk db number old new stop.Memory = HasOnlyRead disk old new ⊎ HasStepTo (disk.reads old) db number
 StopsTo disk db number old new stop.FarFailed = ⊥
 StopsTo disk db number old new (stop.FarDamaged path) = ⊥
+
+-- ---- the newest job alone
+
+-- It answers the number of the job. By how many jobs were taken back that is one.
+abbrev pub counted : Result ℕ Stop → Result ℕ Stop
+counted (Ok number) = Ok 1
+counted (Err stop) = Err stop

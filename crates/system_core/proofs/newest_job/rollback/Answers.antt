@@ -1,138 +1,81 @@
-use Rattle.std.proofs.Common.{inl, ℕ, Result, Err, refl, sym, ap, subst}
+use Rattle.std.proofs.Common.{ℕ, Result, Err, Ok, sym, subst}
 use Rattle.rollback_stack.specs.cny-base.Count.{Rose}
 use Rattle.rollback_stack.specs.cny-base.declared.stop.Stop.{Stop}
-use Rattle.rollback_stack.specs.tree-disk.Moments.{rose_before}
-use Rattle.rollback_stack.proofs.Later.{read_as}
 use Rattle.rollback_stack.proofs.NewestJob.{if_err_from}
-use Rattle.system_core.specs.Preparing.{IsRefusalKind}
+use Rattle.local_db.specs.SystemState.{newest}
 use Rattle.system_core.specs.Restoring.{Restores}
-use Rattle.system_core.specs.Rollback.{HasCause, RollsBack, StopsSo, newest_paths, rolled_back}
-use Rattle.system_core.proofs.RollbackEnding.{cause_before, cause_written, restores_err, stops_so, unwritten, written_so}
-use Rattle.system_core.proofs.Finished.{done_restores, done_rolls, err_is, failed_restores, failed_rolls, taken_back}
-use Rattle.system_core.proofs.Moving.{still}
-use Rattle.system_core.proofs.Putting.{can_write}
+use Rattle.system_core.specs.RestoringAll.{AreUnedited, RestoresTo}
+use Rattle.system_core.specs.Rollback.{HasCause}
+use Rattle.system_core.specs.Several.{HasJob, HasTakenBackTo, IsRefusalKind, RollsBackTo, StopsTo, counted}
+use Rattle.system_core.proofs.EndingAll.{err_is}
+use Rattle.system_core.proofs.OneJob.{just_one, newest_cause, newest_is, one_restored}
 use Rattle.system_core.proofs.newest_job.rollback.Goals as goal
 
-pub returns-in_err-step-clause-rolls : goal.returns-in_err-step-clause-rolls
-returns-in_err-step-clause-rolls g c tells s stores =
+pub returns-in_err-rollback_to-clause-rolls : goal.returns-in_err-rollback_to-clause-rolls
+returns-in_err-rollback_to-clause-rolls g c tells s stores =
     let disk = g.T.TreeDisk.disk in
-    let laws = g.met.T.TreeDisk.laws in
     let old = c.args.root.now in
-    let mid = c.prepare.new.disk in
+    let new = c.rollback_to.new.root in
+    let left = c.rollback_to.new.db in
+    let e = c.in_err-rollback_to.field-0.0 in
+    let same = newest_is c.distinct_databases.ensures.unique (disk.reads old) s c.args.db.now (c.requires.ready tells).holds stores in
+    subst (λ (r : Result ℕ Stop). RollsBackTo disk s (newest s.stack) left old new (counted r)) (sym (err_is c.from_residual.result e c.from_residual.ensures.1))
+    (subst (λ (n : ℕ). RollsBackTo disk s n left old new (Err e)) same (c.in_err-rollback_to.ensures.rolls tells s stores))
+
+pub returns-in_err-rollback_to-clause-restores : goal.returns-in_err-rollback_to-clause-restores
+returns-in_err-rollback_to-clause-restores g c tells s o olds stores stack unedited =
+    let disk = g.T.TreeDisk.disk in
+    let x = disk.reads c.rollback_to.new.root in
+    let left = c.rollback_to.new.db in
+    let e = c.in_err-rollback_to.field-0.0 in
+    let same = newest_is c.distinct_databases.ensures.unique (disk.reads c.args.root.now) s c.args.db.now (c.requires.ready tells).holds stores in
+    subst (λ (r : Result ℕ Stop). Restores o s.tree left x r) (sym (err_is c.from_residual.result e c.from_residual.ensures.1))
+    (one_restored s stores.system o olds stack (Err e) left x
+    (subst (λ (n : ℕ). HasJob s.stack n → AreUnedited s n → RestoresTo s n left x (Err e)) same (c.in_err-rollback_to.ensures.restores tells s stores)) unedited)
+
+pub returns-in_err-rollback_to-clause-stops : goal.returns-in_err-rollback_to-clause-stops
+returns-in_err-rollback_to-clause-stops g c tells =
     let db = c.args.db.now in
-    let ready = c.requires.ready tells in
-    let e = c.in_err-step.field-0.0 in
-    let rose = Rose (disk.faults old) (disk.faults mid) in
-    subst (λ (r : Result ℕ Stop). RollsBack disk s db old mid r) (sym (err_is c.from_residual.result e c.from_residual.ensures.1))
-    (record {
-      ends = unwritten c.distinct_databases.ensures.unique c.one_record.ensures.one (disk.reads old) s stores db ready.holds (laws.reads_well_formed old) disk.tells rose db e tells c.in_err-step.ensures.stops;
-      only = inl (read_as (c.in_err-step.ensures.value tells) tt);
-      moves = still disk laws s db old ready stores (c.in_err-step.ensures.value tells) (rolled_back s) (newest_paths s.stack) (Err e) tt;
-    })
+    if_err_from (StopsTo g.T.TreeDisk.disk db db.newest c.args.root.now c.rollback_to.new.root) c.from_residual.result c.in_err-rollback_to.field-0.0 c.from_residual.ensures.1
+    (c.in_err-rollback_to.ensures.stops tells)
 
-pub returns-in_err-step-clause-restores : goal.returns-in_err-step-clause-restores
-returns-in_err-step-clause-restores g c tells s o olds stores stack unedited =
+pub returns-in_err-rollback_to-clause-causes : goal.returns-in_err-rollback_to-clause-causes
+returns-in_err-rollback_to-clause-causes g c =
     let disk = g.T.TreeDisk.disk in
-    let laws = g.met.T.TreeDisk.laws in
-    let old = c.args.root.now in
-    let mid = c.prepare.new.disk in
     let db = c.args.db.now in
-    let ready = c.requires.ready tells in
-    let e = c.in_err-step.field-0.0 in
-    let rose = Rose (disk.faults old) (disk.faults mid) in
-    subst (λ (r : Result ℕ Stop). Restores o s.tree db (disk.reads mid) r) (sym (err_is c.from_residual.result e c.from_residual.ensures.1))
-    (restores_err (disk.reads old) (disk.reads mid) s stores db o olds stack unedited e
-    (unwritten c.distinct_databases.ensures.unique c.one_record.ensures.one (disk.reads old) s stores db ready.holds (laws.reads_well_formed old) disk.tells rose db e tells c.in_err-step.ensures.stops))
-
-pub returns-in_err-step-clause-stops : goal.returns-in_err-step-clause-stops
-returns-in_err-step-clause-stops g c tells =
-    let disk = g.T.TreeDisk.disk in
-    let old = c.args.root.now in
-    let mid = c.prepare.new.disk in
-    let db = c.args.db.now in
-    let e = c.in_err-step.field-0.0 in
-    let rose = Rose (disk.faults old) (disk.faults mid) in
-    if_err_from (StopsSo disk db old mid) c.from_residual.result e c.from_residual.ensures.1
-    (stops_so disk db old mid rose e tells (c.in_err-step.ensures.value tells) c.in_err-step.ensures.stops)
-
-pub returns-in_err-step-clause-causes : goal.returns-in_err-step-clause-causes
-returns-in_err-step-clause-causes g c =
-    let disk = g.T.TreeDisk.disk in
-    let old = c.args.root.now in
-    let rose = Rose (disk.faults old) (disk.faults c.prepare.new.disk) in
-    let e = c.in_err-step.field-0.0 in
-    if_err_from (HasCause (IsRefusalKind c.args.db.now) rose) c.from_residual.result e c.from_residual.ensures.1
-    (cause_before disk.tells (disk.reads old) c.args.db.now rose e c.in_err-step.ensures.stops)
-
-pub write_all-requires : goal.write_all-requires
-write_all-requires g c = record {
-  can = λ tells.
-      let disk = g.T.TreeDisk.disk in
-      let old = c.args.root.now in
-      let run = c.in_ok-step.ensures.value tells in
-      let ready = c.requires.ready tells in
-      can_write (disk.reads old) c.args.db.now c.in_ok-step.step run.answer (g.met.T.TreeDisk.laws.reads_well_formed old) ready.holds disk old c.prepare.new.disk ready run.same.reads run.same.unsynced refl;
-}
-
-pub returns-in_err-write_all-clause-rolls : goal.returns-in_err-write_all-clause-rolls
-returns-in_err-write_all-clause-rolls g c tells s stores =
-    let disk = g.T.TreeDisk.disk in
-    let laws = g.met.T.TreeDisk.laws in
-    let old = c.args.root.now in
-    let mid = c.prepare.new.disk in
-    let new = c.write_all.new.root in
-    let db = c.args.db.now in
-    let e = c.in_err-write_all.field-0.0 in
-    subst (λ (r : Result ℕ Stop). RollsBack disk s db old new r) (sym (err_is c.from_residual-in_err-write_all.result e c.from_residual-in_err-write_all.ensures.1))
-    (failed_rolls disk laws c.distinct_databases.ensures.unique c.one_record.ensures.one db old mid new (c.requires.ready tells) c.in_ok-step.step (c.in_ok-step.ensures.value tells)
-    c.in_ok-step.ensures.later c.in_err-write_all.ensures.later (Err e) (c.in_err-write_all.ensures.goes tells) s stores e c.in_err-write_all.ensures.stops)
-
-pub returns-in_err-write_all-clause-restores : goal.returns-in_err-write_all-clause-restores
-returns-in_err-write_all-clause-restores g c tells s o olds stores stack unedited =
-    let disk = g.T.TreeDisk.disk in
-    let laws = g.met.T.TreeDisk.laws in
-    let old = c.args.root.now in
-    let mid = c.prepare.new.disk in
-    let new = c.write_all.new.root in
-    let db = c.args.db.now in
-    let e = c.in_err-write_all.field-0.0 in
-    subst (λ (r : Result ℕ Stop). Restores o s.tree db (disk.reads new) r) (sym (err_is c.from_residual-in_err-write_all.result e c.from_residual-in_err-write_all.ensures.1))
-    (failed_restores disk laws c.distinct_databases.ensures.unique c.one_record.ensures.one db old mid new (c.requires.ready tells) c.in_ok-step.step (c.in_ok-step.ensures.value tells)
-    c.in_ok-step.ensures.later c.in_err-write_all.ensures.later (Err e) (c.in_err-write_all.ensures.goes tells) s stores o olds stack unedited e c.in_err-write_all.ensures.stops)
-
-pub returns-in_err-write_all-clause-stops : goal.returns-in_err-write_all-clause-stops
-returns-in_err-write_all-clause-stops g c tells =
-    let disk = g.T.TreeDisk.disk in
-    let old = c.args.root.now in
-    let new = c.write_all.new.root in
-    let db = c.args.db.now in
-    let e = c.in_err-write_all.field-0.0 in
-    if_err_from (StopsSo disk db old new) c.from_residual-in_err-write_all.result e c.from_residual-in_err-write_all.ensures.1
-    (written_so disk db old new e (c.in_ok-step.step, (c.in_ok-step.ensures.value tells).answer) c.in_err-write_all.ensures.stops)
-
-pub returns-in_err-write_all-clause-causes : goal.returns-in_err-write_all-clause-causes
-returns-in_err-write_all-clause-causes g c =
-    let disk = g.T.TreeDisk.disk in
-    let old = c.args.root.now in
-    let mid = c.prepare.new.disk in
-    let new = c.write_all.new.root in
-    let rose = Rose (disk.faults old) (disk.faults new) in
-    let e = c.in_err-write_all.field-0.0 in
-    if_err_from (HasCause (IsRefusalKind c.args.db.now) rose) c.from_residual-in_err-write_all.result e c.from_residual-in_err-write_all.ensures.1
-    (cause_written (IsRefusalKind c.args.db.now) rose e c.in_err-write_all.ensures.stops (λ failed. rose_before (disk.faults old) (disk.faults mid) (disk.faults new) c.in_ok-step.ensures.later (c.in_err-write_all.ensures.failed (ap Err failed))))
+    let rose = Rose (disk.faults c.args.root.now) (disk.faults c.rollback_to.new.root) in
+    let e = c.in_err-rollback_to.field-0.0 in
+    if_err_from (HasCause (IsRefusalKind db) rose) c.from_residual.result e c.from_residual.ensures.1
+    (newest_cause db c.requires.db rose e c.in_err-rollback_to.ensures.causes)
 
 pub returns-clause-rolls : goal.returns-clause-rolls
 returns-clause-rolls g c tells s stores =
     let disk = g.T.TreeDisk.disk in
-    done_rolls disk g.met.T.TreeDisk.laws c.distinct_databases.ensures.unique c.one_record.ensures.one c.args.db.now c.args.root.now c.prepare.new.disk c.write_all.new.root (c.requires.ready tells) c.in_ok-step.step
-    (c.in_ok-step.ensures.value tells) c.in_ok-step.ensures.later c.in_ok-write_all.ensures.later _ (c.in_ok-write_all.ensures.goes tells) s stores refl
+    let old = c.args.root.now in
+    let new = c.rollback_to.new.root in
+    let left = c.rollback_to.new.db in
+    let count = c.in_ok-rollback_to.field-0 in
+    let one = just_one disk c.args.db.now left old new count (c.in_ok-rollback_to.ensures.done tells) in
+    let same = newest_is c.distinct_databases.ensures.unique (disk.reads old) s c.args.db.now (c.requires.ready tells).holds stores in
+    subst (λ (k : ℕ). RollsBackTo disk s (newest s.stack) left old new (Ok k)) one
+    (subst (λ (n : ℕ). RollsBackTo disk s n left old new (Ok count)) same (c.in_ok-rollback_to.ensures.rolls tells s stores))
 
 pub returns-clause-restores : goal.returns-clause-restores
 returns-clause-restores g c tells s o olds stores stack unedited =
     let disk = g.T.TreeDisk.disk in
-    done_restores disk g.met.T.TreeDisk.laws c.distinct_databases.ensures.unique c.one_record.ensures.one c.args.db.now c.args.root.now c.prepare.new.disk c.write_all.new.root (c.requires.ready tells) c.in_ok-step.step
-    (c.in_ok-step.ensures.value tells) c.in_ok-step.ensures.later c.in_ok-write_all.ensures.later _ (c.in_ok-write_all.ensures.goes tells) s stores refl o olds stack unedited
+    let x = disk.reads c.rollback_to.new.root in
+    let left = c.rollback_to.new.db in
+    let count = c.in_ok-rollback_to.field-0 in
+    let same = newest_is c.distinct_databases.ensures.unique (disk.reads c.args.root.now) s c.args.db.now (c.requires.ready tells).holds stores in
+    one_restored s stores.system o olds stack (Ok count) left x
+    (subst (λ (n : ℕ). HasJob s.stack n → AreUnedited s n → RestoresTo s n left x (Ok count)) same (c.in_ok-rollback_to.ensures.restores tells s stores)) unedited
 
 pub returns-clause-done : goal.returns-clause-done
 returns-clause-done g c tells =
-    taken_back g.T.TreeDisk.disk c.args.db.now c.args.root.now c.prepare.new.disk c.write_all.new.root c.in_ok-step.step (c.in_ok-step.ensures.value tells) (c.in_ok-write_all.ensures.put tells)
+    let disk = g.T.TreeDisk.disk in
+    let db = c.args.db.now in
+    let old = c.args.root.now in
+    let new = c.rollback_to.new.root in
+    let left = c.rollback_to.new.db in
+    let count = c.in_ok-rollback_to.field-0 in
+    subst (λ (k : ℕ). HasTakenBackTo disk db left db.newest old new k) (just_one disk db left old new count (c.in_ok-rollback_to.ensures.done tells)) (c.in_ok-rollback_to.ensures.done tells)

@@ -7,9 +7,7 @@ use Rattle.rollback_stack.proofs.NewestJob.{if_err_from}
 use Rattle.system_core.specs.RestoringAll.{RestoresTo}
 use Rattle.system_core.specs.Rollback.{HasCause}
 use Rattle.system_core.specs.Several.{IsRefusalKindTo, RollsBackTo, StopsTo, jobs_to, paths_of_jobs, rolled_back_to}
-use Rattle.system_core.proofs.RollbackEnding.{cause_written}
-use Rattle.system_core.proofs.EndingAll.{cause_to, done_restores_to, done_rolls_to, failed_restores_to, failed_rolls_to, restores_to_err, stops_to, taken_back_to, written_to}
-use Rattle.system_core.proofs.Finished.{err_is}
+use Rattle.system_core.proofs.EndingAll.{cause_to, cause_written, done_restores_to, done_rolls_to, err_is, failed_restores_to, failed_rolls_to, restores_to_err, stops_to, taken_back_to, written_to}
 use Rattle.system_core.proofs.Moving.{still}
 use Rattle.system_core.proofs.PuttingAll.{can_write_to}
 use Rattle.system_core.proofs.SteppingAll.{unwritten_to}
