@@ -18,8 +18,8 @@ import repository_model as repo_side
 from disk_model import DIR, Damaged, Refused, Tree, is_within, item, parent_of, str_field
 from job_commands_model import Call
 from program_model import Streams, manifest_of
-from rel_vectors import relative_of
-from repository_vectors import commit_bytes
+from relative_model import relative_of
+from repository_lines import commit_bytes
 from stream_model import ChangeSet, Id, Trove, asked_by, directory, regular, set_bytes
 
 BASE, REPO = root_side.BASE, repo_side.BASE

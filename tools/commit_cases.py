@@ -1,13 +1,13 @@
-"""The lines of repository_vectors that commit change sets, and the answers that it has to give to them.
+"""The lines of repository_lines that commit change sets, and the answers that it has to give to them.
 
 A line of the calls is the name of a call and its arguments, with a tab before each: the tree of a repository, and change sets.
 What a commit does is taken here from docs/FORMATS.md alone, over a tree as a dictionary; the streams are read and written by
-tools/stream_model.py, the repository's files by tools/repository_vectors.py. Nothing is shared with the program that is tested.
+tools/stream_model.py, the repository's files by tools/repository_lines.py. Nothing is shared with the program that is tested.
 """
 from hashlib import sha1
 
-import rel_vectors as relatives
-from repository_vectors import BASE, Damaged, collection, commit_bytes, commit_path, component, content, load, nodes_text, on, tree_of
+import relative_model as relatives
+from repository_lines import BASE, Damaged, argument, collection, commit_bytes, commit_path, component, content, load, nodes_text, on, tree_of
 from stream_model import Relative, Trove, directory, forbidden_path, id_text, read_set, regular, set_bytes
 
 # ---- what a commit does
@@ -132,6 +132,11 @@ def held_text(tree):
     return count_text(commits) + b" %d" % found
 
 
+def shown(data):
+    """The bytes of a file, of more than 40 their number and SHA-1."""
+    return data.hex().encode() or b"-" if len(data) <= 40 else b"%d:%s" % (len(data), sha1(data).hexdigest().encode())
+
+
 def standing(tree):
     """What stands at each path, those nearer the root first."""
     words = {"d": b"dir", "f": b"file", "l": b"link"}
@@ -145,7 +150,7 @@ def standing(tree):
         elif kind == "d":
             text += b";dir %04o %s" % (mode, path)
         else:
-            text += b";file %04o %s %s" % (mode, data.hex().encode() or b"-", path)
+            text += b";file %04o %s %s" % (mode, shown(data), path)
     return text
 
 
@@ -409,8 +414,8 @@ def calls():
 
 
 def given(call, words):
-    """The words of a line: change sets in hexadecimal digits, and the number of a crash as it is."""
-    return [words[0].hex().encode(), words[1]] if call == b"stop" else [text.hex().encode() for text in words]
+    """The words of a line: change sets, and the number of a crash as it is."""
+    return [argument(words[0]), words[1]] if call == b"stop" else [argument(text) for text in words]
 
 
 def lines(asked):

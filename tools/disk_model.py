@@ -5,6 +5,7 @@ are listed or once it is stopped. A journal has its files in a private directory
 a recovery makes, and in which order, is told here alone.
 """
 import hashlib
+import itertools
 
 
 class Refused(Exception):
@@ -88,9 +89,10 @@ class Tree:
         self.read("look", path)
         return self.nodes.get(path)
 
-    def read_at(self, path):
+    def read_at(self, path, at=0, room=None):
+        """The bytes of a file from a place on, at most so many."""
         self.read("read", path)
-        return self.nodes[path][2]
+        return self.nodes[path][2][at:][:room]
 
     def list(self, path):
         self.read("list", path)
@@ -155,6 +157,9 @@ class Tree:
 # ---- what is done on a tree
 
 CHUNK = 4096
+
+# How many bytes of a file are hashed or copied by one call.
+PIECE = 65536
 
 
 def read_whole(tree, path):
@@ -238,12 +243,13 @@ class Journal:
 
     @staticmethod
     def numbered(puts):
-        """Each file of a write set has the least number that is free, in path order."""
-        number, found = 0, []
+        """Each file of a write set has the least number that is free, in path order. Those of staged files aren't."""
+        taken, found = {node[2] for _, node in puts if is_of(node, "staged")}, []
         for path, node in puts:
             if is_of(node, "file"):
+                number = next(one for one in itertools.count() if one not in taken)
+                taken.add(number)
                 node = staged(node[1], number, len(node[2]), hashlib.sha1(node[2]).digest())
-                number += 1
             found.append((path, node))
         return found
 
@@ -313,18 +319,23 @@ class Journal:
         tree.append(path, data)
 
     def write_staged(self, tree, puts, numbered):
-        """Writes the bytes of each file of the write set to a staged file. None of its writes names one that stands."""
+        """Writes the bytes of each file of the write set to a staged file. Of the files that stand there, those stay that it
+        names."""
         make_dir(tree, self.stage)
+        kept = {self.staged_path(node[2]) for _, node in puts if is_of(node, "staged")}
         for child in tree.list(self.stage):
-            clear(tree, child)
+            if child not in kept:
+                clear(tree, child)
         for (_, node), (_, want) in zip(puts, numbered):
-            if is_of(want, "staged"):
+            if is_of(node, "file"):
                 tree.append(self.staged_path(want[2]), node[2])
 
     def put_target(self, tree, path, want):
-        """A file is made at the work name, as a copy of its staged bytes, in one piece in all these cases, and renamed."""
+        """A file is made at the work name, as a copy of its staged bytes, in pieces, of which one without bytes has one, and
+        renamed."""
         if is_of(want, "staged"):
-            tree.append(self.work, tree.read_at(self.staged_path(want[2])))
+            for at in range(0, max(want[3], 1), PIECE):
+                tree.append(self.work, tree.read_at(self.staged_path(want[2]), at, PIECE))
             tree.set_mode(self.work, want[1])
             tree.rename(self.work, path)
         elif is_of(want, "link"):
@@ -384,8 +395,8 @@ class Journal:
         stands = tree.look(path)
         if not is_of(stands, "file") or len(stands[2]) != size:
             raise Damaged(path)
-        if size:
-            tree.read_at(path)
+        for at in range(0, size, PIECE):
+            tree.read_at(path, at, PIECE)
         if hashlib.sha1(stands[2]).digest() != name:
             raise Damaged(path)
 
@@ -408,10 +419,14 @@ class Journal:
         return puts
 
     def recover(self, tree):
-        """Brings to its end what a crash left, and answers whether the commit flag was set."""
+        """Brings to its end what a crash left, and answers whether the commit flag was set. Where the base is so long that
+        its flag has no path, none is set."""
         for path in (self.base, self.gate, self.log, self.work):
-            tree.look(path)
+            if is_path(path):
+                tree.look(path)
         tree.sync()
+        if not is_path(self.gate):
+            return False
         gate = tree.look(self.gate)
         if not is_of(gate, "file") or len(gate[2]) != 1 or tree.read_at(self.gate) != b"O":
             return False

@@ -3,7 +3,7 @@
 those of program_model.py.
 
 Nothing is remembered between calls: the database, the records and the saved contents are read from the root's files by
-stack_vectors.py. Lists are those of list_model.py, the table of paths is that of plan_model.py, and disks and journals are those of
+stack_cases.py. Lists are those of list_model.py, the table of paths is that of plan_model.py, and disks and journals are those of
 disk_model.py. How many calls of the root a command makes, and in which order, is told here, for the lines `from`.
 """
 import hashlib
@@ -14,14 +14,14 @@ import list_model as lists
 import plan_model as plans
 import program_model as program
 import repository_model as repository
-import stack_vectors as stacks
+import stack_cases as stacks
 from disk_model import Damaged, Refused, clear, is_of, make_dir, read_whole
-from local_vectors import Refused as LocalRefused
-from local_vectors import local_changes, local_id, reached
+from local_model import Refused as LocalRefused
+from local_model import local_changes, local_id, reached
 from program_model import JOURNAL, Ended, change_set_of, is_spec, manifest_of
-from rel_vectors import applied
-from report_vectors import trove_text
-from state_vectors import database_bytes, read_database
+from relative_model import applied
+from report_cases import trove_text
+from state_cases import database_bytes, read_database
 from stream_model import Fault, NotOfForm, Relative, forbidden_path, id_text, is_label, is_name, set_text
 
 BASE, DATABASE = stacks.BASE, stacks.DATABASE
@@ -95,7 +95,7 @@ WORDS = {kind: word for word, kind in KINDS.items()}
 
 
 def standing(tree):
-    """What stands, without a call of the disk, as stack_vectors.py has it."""
+    """What stands, without a call of the disk, as stack_cases.py has it."""
     return {path: (KINDS[node[0]], *node[1:]) for path, node in tree.nodes.items()}
 
 

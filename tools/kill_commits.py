@@ -18,7 +18,7 @@ import time
 
 sys.path.insert(0, str(pathlib.Path(__file__).resolve().parent))
 from commit_cases import set_of
-from repository_vectors import component
+from repository_lines import component
 
 FILES = 150
 T1, T2 = (b"kill:data=/conary.example.com@ex:devel/1.0-%d-1" % number for number in (1, 2))

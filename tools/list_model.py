@@ -6,7 +6,7 @@ The streams of troves come from tools/stream_model.py, which shares nothing with
 import hashlib
 
 import stream_model
-from stream_model import id_of_text, record_bytes
+from stream_model import id_of_text
 
 
 class Refused(Exception):
@@ -32,11 +32,6 @@ class Trove:
 
     def parts(self):
         return self.id, tuple(one.id for one in self.refs), self.requires, self.provides, self.files
-
-    def written(self):
-        files = [f"{path} {record_bytes(record, True).hex()}" for path, record in self.files]
-        lists = ("; ".join(part) or "-" for part in [*self.parts()[1:4], files])
-        return "|".join([self.id, *lists])
 
     def value(self):
         """The trove as its stream has it."""

@@ -1,4 +1,4 @@
-"""Manifests, good and broken: the calls of the program manifest_vectors. tools/manifest_model.py says what each answers."""
+"""Manifests, good and broken: calls and their arguments. tools/manifest_model.py says what each answers."""
 from stream_cases import Terms
 
 V = b"/conary.example.com@ex:devel/1.0-1-1"
@@ -77,8 +77,8 @@ def policy_calls():
             paths.append(place + end)
     paths += [b"/.h", b"/.a", b"/.pc", b"/x.h", b"/h", b"/usr/lib.a", b"/usr/share/doc.h", b"/usr/share/locale.pc", b"/lib.h/x"]
     for path in paths:
-        yield "other", path
-        yield "dir", path
+        yield "component", path
+        yield "dir_component", path
 
 
 def line_calls():
@@ -314,13 +314,26 @@ def large_calls():
         yield Terms(package(), (b"requires foo:a", count, b" trove: a\n"), (b"provides foo:a", count, b" trove: a\n"), b"end\n")
 
 
-def cases():
-    for name, path in policy_calls():
-        yield name, path
+def components():
+    for call, path in policy_calls():
+        yield call, path.decode()
+
+
+def manifests():
     for calls in (line_calls, ref_calls, dep_calls, entry_calls, place_calls, package_calls, large_calls):
         for manifest in calls():
-            yield "read", manifest
-    yield "read", Terms(component(b"file 0644 16777216 /x"), (b"c", 100_000))
+            yield "manifest", manifest
+    yield "manifest", Terms(component(b"file 0644 16777216 /x"), (b"c", 100_000))
+
+
+def damaged():
     for manifest in (EVERY, REFS, M):
-        yield "beginnings", manifest
-        yield "changes", b"\0\n /z:\xff", manifest
+        yield "beginnings", "manifest", manifest
+        yield "changes_to", "manifest", manifest, b"\0\n /z:\xff"
+
+
+CASES = [
+    ("components of paths", components),
+    ("manifests", manifests),
+    ("damaged manifests", damaged),
+]

@@ -2,7 +2,7 @@
 the first fault of any other bytes.
 
 The texts of names, paths, versions, flavors and dependencies are those of tools/text_model.py. Nothing is shared with the
-program; tools/manifest_vectors.py makes its lines with this.
+program; tools/stream_lines.py makes its lines with this.
 """
 import hashlib
 import re
@@ -119,7 +119,7 @@ class Reading:
         self.flavor = b""
 
     def malformed(self, at):
-        return Refused(f"malformed {at}")
+        return Refused(f"malformed at {at}")
 
     def line(self):
         """The line that begins here, and the place behind its line feed."""
@@ -245,7 +245,7 @@ class Reading:
             self.entries.append(entry._replace(target=self.take_line(self.target_line)))
             return
         if entry.size > CONTENT_LIMIT:
-            raise Refused(f"too large Content {entry.size}")
+            raise Refused(f"too large: content {entry.size}")
         content = self.take_content(entry.size)
         name = hashlib.sha1(content).digest()
         self.entries.append(entry._replace(name=name))
@@ -297,7 +297,7 @@ class Reading:
             other = kept.setdefault(name, content)
             if other != content:
                 at = next((i for i, (x, y) in enumerate(zip(other, content)) if x != y), min(len(other), len(content)))
-                raise Refused(f"collision {name.hex()} {at}")
+                raise Refused(f"collision {name.hex()} at {at}")
         return sorted(kept.items())
 
 

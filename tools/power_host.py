@@ -26,7 +26,7 @@ import time
 
 sys.path.insert(0, str(pathlib.Path(__file__).resolve().parent))
 from commit_cases import set_of
-from repository_vectors import component
+from repository_lines import component
 
 FILES = 6
 TORN = b"\xee" * 3

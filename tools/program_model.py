@@ -58,20 +58,12 @@ def trove_of(made):
     return Trove(Id(made.name, made.version, made.flavor), [record_of(entry) for entry in made.entries], refs, made.requires, made.provides)
 
 
-WORDS_OF_REFUSALS = (("malformed ", "malformed at "), ("too large Content ", "too large: content "))
-
-
 def manifest_of(data):
     """The troves and contents of a whole manifest."""
     try:
         troves, contents = manifest_model.Reading(data).read()
     except manifest_model.Refused as refusal:
-        text = str(refusal)
-        for short, whole in WORDS_OF_REFUSALS:
-            text = text.replace(short, whole)
-        if text.startswith("collision"):
-            text = " at ".join(text.rsplit(" ", 1))
-        raise Refused(text.encode()) from None
+        raise Refused(str(refusal).encode()) from None
     return [trove_of(trove) for trove in troves], contents
 
 

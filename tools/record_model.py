@@ -5,6 +5,7 @@ It shares nothing with the programs that are tested with it. The grammar of trov
 from collections import namedtuple
 
 import stream_model as model
+from root_words import mark_word
 from stream_model import NotOfForm, Owner, id_bytes, id_text, is_path, is_target, item, need, rises, str_field, take_str
 
 MAGIC = {1: b"CNYRB01\n", 2: b"CNYRB02\n"}
@@ -59,15 +60,6 @@ def take_mark(text):
     target, rest = take_str(rest)
     need(is_target(target))
     return ("l", target), rest
-
-
-def mark_text(mark):
-    kind, *fields = mark
-    if kind == "d":
-        return f"d:{fields[0]:04o}"
-    if kind == "f":
-        return f"f:{fields[0]:04o}:{fields[1]}:{fields[2].hex()}"
-    return "l:" + fields[0].decode() if kind == "l" else kind
 
 
 # ---- deltas
@@ -157,8 +149,8 @@ def record_bytes(record, kind):
 
 def record_text(record):
     parts = [str(record.number)] + [delta_text(delta) for delta in record.deltas]
-    parts += [f"{path.decode()} {mark_text(before)} {mark_text(after)}" for path, before, after in record.entries]
-    return "; ".join(parts)
+    parts += [f"{path.decode()} from {mark_word(before)} to {mark_word(after)}" for path, before, after in record.entries]
+    return "\t".join(parts)
 
 
 def read_text(text, kind):

@@ -1,7 +1,7 @@
 """A model of a repository on a disk, made from docs/FORMATS.md alone: its commits and contents read and written, which troves a
 specification means, what references reach, shadows and branches of that, and the tests of a commit.
 
-Streams are read and written by stream_model.py, texts by text_model.py, the files of commits by repository_vectors.py, and the
+Streams are read and written by stream_model.py, texts by text_model.py, the files of commits by repository_lines.py, and the
 journal's by disk_model.py. Nothing is shared with the program.
 """
 import hashlib
@@ -9,8 +9,8 @@ from collections import namedtuple
 
 import text_model as texts
 from disk_model import Damaged, Journal, Refused, clear, is_of, make_dir, read_whole
-from rel_vectors import applied, contents_to_send, relative_of
-from repository_vectors import commit_bytes, read_commit
+from relative_model import applied, contents_to_send, relative_of
+from repository_lines import commit_bytes, read_commit
 from stream_model import ChangeSet, NotOfForm, Relative, forbidden_path, id_text
 
 BASE = b"/conaryrepo"
@@ -220,8 +220,8 @@ def next_revised(catalogue, troves):
         if trove.identity.name == troves[0].identity.name and alike:
             latest = other.revision
     answer = texts.next_answer(own.revision, own.depth, latest)
-    if answer[0] == b"too large":
-        raise Refused(b"too large: count %s" % answer[2])
+    if answer[0].startswith(b"too large"):
+        raise Refused(answer[0])
     text = own.branch + b"/" + b"-".join(part for part in answer[1:] if part != b"none")
     if len(text) > 512:
         raise Refused(b"too large: version %d" % len(text))

@@ -17,11 +17,11 @@ import command_vectors as others
 from command_vectors import ABC, BASE, DIR, GATE, LABEL, PICKS, at, carried, component, cooked, file, manifest, plain, word
 from disk_model import Tree
 from job_commands_model import DATABASE, Job, standing
-from rel_vectors import relative_of
+from relative_model import relative_of
 from root_examples import ABX, CLASH, EXAMPLES, F1, F2, FOO, M, M2, ROWS, WRONG, Examples, calls_to, config, is_journals
 from root_model import Job as RootJob
 from root_model import Root
-from state_vectors import database_bytes
+from state_cases import database_bytes
 from stream_model import regular, set_bytes
 
 # ---- words

@@ -5,12 +5,12 @@ import hashlib
 
 import command_vectors as others
 import plan_model as plans
-import stack_vectors as stacks
+import stack_cases as stacks
 import stream_cases as streams
 from command_vectors import ABC, BASE, DIR, GATE, LABEL, PICKS, STABLE, V2, at, carried, cooked, file, manifest, word
 from disk_model import Tree, is_within
 from job_commands_model import DATABASE, standing
-from state_vectors import database_bytes
+from state_cases import database_bytes
 from stream_model import set_bytes
 
 WRONG = []

@@ -1,14 +1,14 @@
 """A model of a root, made from docs/FORMATS.md and docs/MODEL.md alone: its files, with the whole trees and lists of each job kept
 beside them, and what the newest job taken back makes of them.
 
-Databases and records are written by tools/state_vectors.py and tools/record_model.py.
+Databases and records are written by tools/state_cases.py and tools/record_model.py.
 """
 from collections import namedtuple
 from hashlib import sha1
 
 from record_model import CAME, LISTED, NOTHING, TURNED, WAS, Record, record_bytes
-from rel_vectors import relative_of
-from state_vectors import database_bytes
+from relative_model import relative_of
+from state_cases import database_bytes
 from stream_model import id_text
 
 BASE = b"/var/lib/conarydb"
@@ -173,7 +173,7 @@ class Root:
         root.outer, root.troves, root.jobs = self.restored(), job.troves, self.jobs[:-1]
         del root.own[record_path(job.number)]
         root.with_database()
-        return root, "r.%d [%s]" % (job.number, root.db_text())
+        return root, "r.%d taken back [%s]" % (job.number, root.db_text())
 
     def taken_back_to(self, number):
         """The root and the answer after all jobs from the newest down to this number were taken back at once."""
@@ -187,7 +187,7 @@ class Root:
             if why is not None:
                 return self, "%s [%s]" % (why, self.db_text())
             root, _ = root.taken_back()
-        return root, "%d jobs [%s]" % (len(self.jobs) - len(root.jobs), root.db_text())
+        return root, "%d taken back [%s]" % (len(self.jobs) - len(root.jobs), root.db_text())
 
     def after(self, number):
         return self.taken_back() if number is None else self.taken_back_to(number)

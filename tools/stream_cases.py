@@ -1,4 +1,4 @@
-"""The cases of tools/stream_vectors.py: each a call and its arguments, by topic.
+"""The cases of streams: each a call and its arguments, by topic.
 
 An argument is bytes, a text, or Terms. The bytes are made by hand or by the few builders below; what a call has to
 answer is said here of a few calls on items alone.
@@ -17,15 +17,16 @@ class Terms:
         self.terms = terms
 
     def text(self):
-        return "+".join(self.term_text(term) for term in self.terms)
+        texts = [self.term_text(term) for term in self.terms if term]
+        return "=" + "+".join(texts) if texts else ""
 
     @staticmethod
     def term_text(term):
         if isinstance(term, bytes):
-            return term.hex()
+            return "0x" + term.hex()
         if len(term) == 2:
-            return f"{term[0].hex()}*{term[1]}"
-        return f"{term[0].hex()}#{term[1]}#{term[2].hex()}"
+            return f"{term[1]}*0x{term[0].hex()}"
+        return f"{term[1]}#0x{term[0].hex()}#0x{term[2].hex()}"
 
     def bytes(self):
         return b"".join(self.term_bytes(term) for term in self.terms)
@@ -208,13 +209,13 @@ def records():
     for text in (DIR, FILE, LINK):
         yield "record", text
     yield "make_record", "dir", "0755", "root", "root"
-    yield "make_record", "file", "0644", "root", "root", "c-t", "3", ABC
+    yield "make_record", "file", "0644", "root", "root", "c-t", "3", ABC.hex()
     yield "make_record", "link", "a/b"
     # The greatest mode, with each flag, none and all of them.
     yield "record", b"\x01d\x00\x0f\xff"
     for bits, flags in ((0, "---"), (1, "c--"), (2, "-i-"), (4, "--t"), (7, "cit")):
         yield "record", b"\x01f" + bytes([bits]) + b"\x0f\xff\x00\x00\x00\x03" + ABC
-        yield "make_record", "file", "7777", "root", "root", flags, "3", ABC
+        yield "make_record", "file", "7777", "root", "root", flags, "3", ABC.hex()
     yield "make_record", "link", Terms((b"a", 1024))
     yield "record", long_target(1024)
     yield "record", long_target(1025)
@@ -222,7 +223,7 @@ def records():
         yield "record", text
     # The greatest size, and one mode whose two bytes differ.
     yield "record", b"\x01f\x00\x01\xa4\x01\x00\x00\x0012345678901234567890"
-    yield "make_record", "file", "0644", "root", "root", "---", "16777216", ABC
+    yield "make_record", "file", "0644", "root", "root", "---", "16777216", ABC.hex()
     yield "same_record", b"\x01l\x00\x00\x00\x00\x01a", b"\x01l\x00\x00\x00\x00\x01a"
     yield "same_record", b"\x01l\x00\x00\x00\x00\x01a", b"\x01l\x00\x00\x00\x00\x01b"
 
@@ -256,7 +257,7 @@ def owned_records():
         yield "record_full", text
     for user, group in (("daemon", "adm"), ("root", "adm"), ("daemon", "root"), ("a" * 32, "b" * 32), ("a" * 33, "b"), ("a", "-b")):
         yield "make_record", "dir", "0755", user, group
-        yield "make_record", "file", "0644", user, group, "-i-", "3", ABC
+        yield "make_record", "file", "0644", user, group, "-i-", "3", ABC.hex()
         owned = b"\x02d\x00\x01\xed" + field(user.encode()) + field(group.encode())
         yield "record", owned
         yield "record_full", owned
@@ -341,7 +342,7 @@ def lists():
     yield "files", b"x" + FILES + b"\x05", "1", b"\x05"
     yield "files", b"x" + FILES, "1", b"\x05"
     for size in (0, 16_777_216, 16_777_217):
-        yield "sized_file", str(size), bytes(20)
+        yield "sized_file", str(size), "00" * 20
     for text in BROKEN_FILES:
         yield "files", text, "0", b"\x04"
     yield "refs", REFS, "0", b"\x05"
@@ -822,8 +823,8 @@ def refusals():
         yield "refusal", "TooLarge", what, "65536"
     yield "refusal", "Malformed", "11"
     yield "refusal", "Malformed", "0"
-    yield "refusal", "MissingContent", ABC
-    yield "refusal", "Collision", ABC, "65535"
+    yield "refusal", "MissingContent", ABC.hex()
+    yield "refusal", "Collision", ABC.hex(), "65535"
     yield "refusal", "StackEmpty"
     yield "refusal", "NoLabel"
     yield "refusal", "BadConfig", "1"
@@ -860,7 +861,7 @@ def texts():
     first = stream(b"foo:runtime", b"/a@b:c/1.0-2-1", b"", b"")
     flavored = stream(b"foo:lib", V, b"~ssl is: x86(~i686,sse2)", b"")
     yield "troves_text", first, flavored, stream(b"foo:runtime", b"/a@b:c/1.0-1-1", b"", b"")
-    yield "troves_text", b""
+    yield ("troves_text",)
     yield "set", MAGIC + item(0x10, stream(b"foo:lib", V, b"~ssl is: x86(~i686,sse2)", b"")) + END
 
 

@@ -1,7 +1,7 @@
 """An independent reading of docs/FORMATS.md: file records, ids, troves, relative troves and change sets, each with its
 grammar and its one stream, and what a reader of change sets answers for bytes that are none.
 
-It shares nothing with the programs that are tested with it. tools/stream_vectors.py makes their lines with it.
+It shares nothing with the programs that are tested with it. tools/stream_lines.py makes their lines with it.
 """
 import hashlib
 import re

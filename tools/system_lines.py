@@ -1,30 +1,14 @@
-"""Calls on roots as lines: how a root, a call and what stands are written, and what a line has to answer, by tools/system_model.py."""
+"""Calls on roots as lines: how a call is written, and what a line has to answer, by tools/system_model.py."""
 import hashlib
 import itertools
 
+import root_words
 from plan_model import contents
 from root_model import BASE, parent
-from system_model import Ends, content_word
-
-LONGEST_SHOWN, LONGEST_NAMED = 40, 1_000_000
+from root_words import bytes_word, placed, tree_word
+from system_model import Ends
 
 # ---- texts
-
-
-def node_word(path, node, show):
-    kind, mode, data = node
-    if kind == "l":
-        return f"link {data.decode()} {path.decode()}"
-    return f"dir {mode:04o} {path.decode()}" if kind == "d" else f"file {mode:04o} {show(data)} {path.decode()}"
-
-
-def shown(data):
-    """What a file has: its bytes where they are few, else their number, and where they aren't very many their SHA-1."""
-    if len(data) <= LONGEST_SHOWN:
-        return data.hex() or "-"
-    if len(data) > LONGEST_NAMED:
-        return str(len(data))
-    return f"{len(data)}:{hashlib.sha1(data).hexdigest()}"
 
 
 def is_tree(nodes):
@@ -33,15 +17,13 @@ def is_tree(nodes):
 
 def root_field(nodes):
     assert is_tree(nodes)
-    return ";".join(node_word(path, nodes[path], content_word) for path in sorted(nodes))
+    return tree_word(nodes)
 
 
 def standing(nodes):
     """What stands at each path but the journal's own files, those nearer the root first."""
     own = [BASE + last for last in (b"/log", b"/gate", b"/p", b"/w")]
-    paths = [path for path in nodes if not any(path == one or path.startswith(one + b"/") for one in own)]
-    paths.sort(key=lambda path: (path.count(b"/"), path.split(b"/")))
-    return "".join(";" + node_word(path, nodes[path], shown) for path in paths)
+    return root_words.standing({path: node for path, node in nodes.items() if not any(path == one or path.startswith(one + b"/") for one in own)})
 
 
 # ---- calls
@@ -58,22 +40,16 @@ class Call:
         try:
             after, told = self.made(system)
         except Ends as ends:
-            why, refused = ends.args
-            return system, f"{why} [{system.root.db_text()}]" if refused else why
+            return system, f"{ends.args[0]} [{system.root.db_text()}]"
         return after, f"{told} [{after.root.db_text()}]"
 
 
-def listed(words):
-    return ",".join(words) or "-"
-
-
 def streams(troves):
-    return listed([one.stream().hex() for one in troves])
+    return ";".join(bytes_word(one.stream()) for one in troves)
 
 
 def content_words(texts):
-    by_name = sorted(set(map(contents, texts)), key=lambda data: hashlib.sha1(data).digest())
-    return listed(["0*x" if data == b"" else content_word(data) for data in by_name])
+    return ";".join(map(bytes_word, sorted(set(map(contents, texts)), key=lambda data: hashlib.sha1(data).digest())))
 
 
 def far_word(far):
@@ -81,7 +57,7 @@ def far_word(far):
 
 
 def options_word(options):
-    return "+".join(options) or "-"
+    return "+".join(options)
 
 
 def searched(options, far):
@@ -92,7 +68,7 @@ def searched(options, far):
 
 
 def update(come, carried=(), far=(), options=()):
-    words = f"update {options_word(options)} {streams(come)} {content_words(carried)} {far_word(far)}"
+    words = f"update|{options_word(options)}|{streams(come)}|{content_words(carried)}|{far_word(far)}"
     return Call(words, lambda system: system.update(come, *searched_with(options, carried, far)))
 
 
@@ -102,31 +78,31 @@ def searched_with(options, carried, far):
 
 
 def adopt(troves, far=(), options=()):
-    words = f"adopt {options_word(options)} {streams(sorted(troves, key=lambda one: one.name))} {far_word(far)}"
+    words = f"adopt|{options_word(options)}|{streams(sorted(troves, key=lambda one: one.name))}|{far_word(far)}"
     return Call(words, lambda system: system.adopt(troves, *searched(options, far)))
 
 
 def erase(names, options=()):
-    return Call(f"erase {options_word(options)} {listed(names)}", lambda system: system.erase(names, options))
+    return Call(f"erase|{options_word(options)}|{';'.join(names)}", lambda system: system.erase(names, options))
 
 
 def verify(names=(), far=()):
     given = far if isinstance(far, str) else list(map(contents, far))
-    return Call(f"verify {listed(names)} {far_word(far)}", lambda system: system.verify(names, given))
+    return Call(f"verify|{';'.join(names)}|{far_word(far)}", lambda system: system.verify(names, given))
 
 
 ROLLBACK = Call("rollback", lambda system: system.rollback())
 
 
 def rollback_to(number):
-    return Call(f"rollback_to {number}", lambda system: system.rollback_to(number))
+    return Call(f"rollback_to|{number}", lambda system: system.rollback_to(number))
 
 
 class Edit:
     """Another program puts a node, or nothing."""
 
     def __init__(self, path, node=None):
-        self.words = "edit " + (f"nothing {path}" if node is None else node_word(path.encode(), node, content_word))
+        self.words = "edit|" + placed(path.encode(), node, bytes_word)
         self.path, self.node = path, node
 
     def on(self, system):
@@ -164,11 +140,16 @@ def stop_lines(label, system, call, picks, nodes=None):
         yield line, "\t".join(["stopped", *each_once([recovered(system, call), recovered(after, call)])])
 
 
-def fail_line(label, system, call, nodes=None):
+def fail_line(label, system, call, nodes=None, looks=True):
+    """A call of the disk fails before the root is ready, then, where the call looks at the disk at all, while the call reads and
+    prepares, and then once it is decided; last none does."""
     after, said = call.on(system)
     line = "\t".join(["fail", label, root_field(nodes or system.root.nodes()), call.words])
-    texts = ["failed, " + recovered(system, call), "failed, " + recovered(after, call), f"{said}, {recovered(after, call)}"]
-    return line, "\t".join(["failed", *each_once(texts)])
+    failed = f"failed [{system.root.db_text()}], "
+    texts = ["failed, " + recovered(system, call)]
+    if looks:
+        texts += [failed + recovered(system, call), failed + recovered(after, call)]
+    return line, "\t".join(["failed", *each_once([*texts, f"{said}, {recovered(after, call)}"])])
 
 
 def nodes_seen(before, after):
@@ -185,6 +166,6 @@ def seen_line(label, system, call, nodes=None):
     told = []
     for path in paths:
         there = nodes_seen(old.get(path), new.get(path))
-        told.append("".join(";" + (node_word(path, node, shown) if node else "nothing " + path.decode()) for node in there))
-    line = "\t".join(["seen", label, root_field(nodes or system.root.nodes()), ",".join(path.decode() for path in paths), call.words])
+        told.append("".join(";" + placed(path, node) for node in there))
+    line = "\t".join(["seen", label, root_field(nodes or system.root.nodes()), ";".join(path.decode() for path in paths), call.words])
     return line, "\t".join([said, *told])

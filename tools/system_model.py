@@ -10,7 +10,7 @@ import list_model as lists
 import plan_model as plans
 from disk_model import Failed, Journal, Tree
 from root_model import BASE, MOST_JOBS, Job, Root, mark_of, mark_of_record, record_path
-from state_vectors import database_bytes
+from state_cases import database_bytes
 from stream_model import ROOT, directory, link, regular
 
 JOURNAL = Journal(BASE)

@@ -1,4 +1,4 @@
-"""The worked cases of the program text_vectors: calls, and the answers to them that were found by hand."""
+"""The worked cases of the program text_lines: calls, and the answers to them that were found by hand."""
 from text_model import CLASSES
 
 FOO = b"/conary.example.com@ex:devel"
@@ -386,12 +386,12 @@ CASES = [
     (("revise", b"/h@n:t//u/1.1-1", b"/h@n:t//u/1.1-0.1"), b"ok\t/h@n:t//h@n:u/1.1-0.1\t"),
     (("next", b"/h@n:t/2-7", b"/h@n:t/2-4294967294"), b"ok\t2\t4294967295\tnone"),
     (("revise", b"/h@n:t/2-7", b"/h@n:t/2-4294967295"), b"ok\t/h@n:t/2-4294967295\t"),
-    (("next", b"/h@n:t/2-4294967295", b"/h@n:t/2-4294967295"), b"too large\tcount\t4294967295"),
+    (("next", b"/h@n:t/2-4294967295", b"/h@n:t/2-4294967295"), b"too large: count 4294967295"),
     # The shadow deepens, and the branch doesn't.
     (("shadow", FOO + b"/1.0-1", STABLE), b"ok\t" + FOO + b"//" + STABLE + b"/1.0-1\t"),
     (("branch", FOO + b"/1.0-1", STABLE), b"ok\t" + FOO + b"/1.0-1/" + STABLE + b"/1.0-1\t"),
-    (("shadow", LONG, b"h@n:u"), b"too large\tversion\t519"),
-    (("branch", LONG, b"h@n:u"), b"too large\tversion\t1024"),
+    (("shadow", LONG, b"h@n:u"), b"too large: version 519"),
+    (("branch", LONG, b"h@n:u"), b"too large: version 1024"),
     (("empty_flavor",), b"ok\t\t\t\t"),
     (("flavor_equality", b"~a is: x(!b)", b"~a is: x(!b)"), b"same"),
     (("flavor_equality", b"~a is: x(!b)", b""), b"different"),

@@ -1,6 +1,6 @@
 """The texts of names, paths, versions, flavors, dependencies and ids, made from the rules of docs/FORMATS.md alone.
 
-`ANSWERS` has for the name of each call of the program text_vectors what it answers: a function from the bytes of the
+`ANSWERS` has for the name of each call of the program text_lines what it answers: a function from the bytes of the
 arguments to the fields of the answer.
 """
 import re
@@ -211,7 +211,7 @@ def version_of(text, whole):
 
 def made_answer(version):
     size = len(version.text)
-    return [b"too large", b"version", b"%d" % size] if size > 512 else [b"ok"] + version.parts()
+    return [b"too large: version %d" % size] if size > 512 else [b"ok"] + version.parts()
 
 
 def shadow_of(version, label):
@@ -227,7 +227,7 @@ def next_answer(wanted, depth, latest):
     count = [] if latest is None else latest[1] if build is None else latest[2]
     count = count + [0] * (depth + 1 - len(count))
     if count[-1] == GREATEST:
-        return [b"too large", b"count", b"%d" % GREATEST]
+        return [b"too large: count %d" % GREATEST]
     count[-1] += 1
     source, build = (count, None) if build is None else (source, count)
     return [b"ok", upstream, count_text(source), count_text(build)]

@@ -1,87 +1,66 @@
 //! The database of a root.
-ghost use Rattle.std.specs.Prelude.{IfOk};
+ghost use Rattle.std.specs.Prelude.{IfOk, IfSome};
+ghost use Rattle.local_db.specs.Database.{IsDb};
 ghost use Rattle.local_db.specs.declared.format.Format.TheVariants.{Two};
 ghost use Rattle.local_db.specs.Stores.{IsDatabase};
 
-use crate::ends::end_text;
-use crate::quiet::Quiet;
-use local_db::Db;
-use state_words::Stop;
+use line_words::{Answer, Quiet};
+use local_db::{Db, distinct_databases, encode, load};
 use std::alloc::Global;
-use system_core::cny_base::Stop as DiskEnd;
+use system_core::cny_base::{Fault, Stop};
 use system_core::ready;
-use system_core::trove_parts::{TroveId, id_text};
+use system_core::trove_stream::Trove;
 
-fn push_id(alloc: Global, line: &mut String, id: &TroveId) -> Result<(), Stop> {
-    let text = id_text(alloc, id)?;
-    line.push(' ')?;
-    line.push_str(text.get())?;
-    Ok(())
-}
+/// The private directory of a root.
+pub const PRIVATE: &str = "/var/lib/conarydb";
 
-/// The numbers of the stack, and the ids of the troves.
-pub fn db_text(alloc: Global, db: &Db) -> Result<String, Stop> {
-    let mut line = format!(in alloc; "{} {}", db.oldest, db.newest)?;
-    for trove in db.installed.troves() {
-        push_id(alloc, &mut line, trove.id())?;
-    }
-    Ok(line)
-}
-
-/// Why a root has no database: a text that says so, or why there is none.
-pub enum Unready {
-    /// What a call on the root answers.
-    Ended(String),
-    /// There is no answer.
-    Stopped(Stop),
-}
-
-impl Unready {
-    // The end of a call. It is taken whole, so that only this function lets it go.
-    fn of(alloc: Global, end: DiskEnd) -> Unready {
-        match end_text(alloc, &end) {
-            Ok(text) => Unready::Ended(text),
-            Err(stop) => Unready::Stopped(stop),
-        }
-    }
-
-    /// The answer of a call on the root.
-    pub fn text(self) -> Result<String, Stop> {
-        match self {
-            Unready::Ended(text) => Ok(text),
-            Unready::Stopped(stop) => Err(stop),
-        }
+// Nothing, where the database fits format 2: that of each line does.
+fn check_room(alloc: Global, db: &Db) -> Result<(), Stop>
+    requires { IsDb db.now }
+    ensures { IfOk result (λ done. IsDatabase Two db.now.installed db.now.oldest db.now.newest) }
+{
+    distinct_databases();
+    match encode(alloc, db) {
+        Ok(_) => Ok(()),
+        Err(Fault::Memory) => Err(Stop::Memory),
+        Err(Fault::Refused(why)) => Err(Stop::Refused(why)),
     }
 }
 
-impl Drop for Unready {
-    fn drop(self) {
-        match self {
-            Unready::Ended(_text) => (),
-            Unready::Stopped(_stop) => (),
-        }
-    }
-}
-
-/// The database of a disk once it is made ready.
-pub fn readied(alloc: Global, disk: &mut Quiet) -> Result<Db, Unready>
+/// The database of a root of format 2, which isn't made ready.
+pub fn database_of(alloc: Global, disk: &mut Quiet) -> Result<Db, Stop>
     ensures { IfOk result (λ db. IsDatabase Two db.installed db.oldest db.newest) }
 {
-    match ready(alloc, disk) {
-        Ok(db) => Ok(db),
-        Err(end) => Err(Unready::of(alloc, end)),
+    let db = load(alloc, disk)?;
+    check_room(alloc, &db)?;
+    Ok(db)
+}
+
+/// The database of a root once it is made ready for a command; else there is none, and why stands in the answer.
+pub fn readied(disk: &mut Quiet, answer: &mut Answer) -> Option<Db>
+    ensures { IfSome result (λ db. IsDatabase Two db.installed db.oldest db.newest) }
+{
+    match ready(answer.alloc(), disk) {
+        Ok(db) => Some(db),
+        Err(end) => {
+            answer.stopped(&end);
+            None
+        }
     }
 }
 
-// The text of a database, which is let go.
-fn told(alloc: Global, db: Db) -> Result<String, Stop> {
-    db_text(alloc, &db)
+/// Appends the ids of troves, a space before each.
+pub fn push_troves(answer: &mut Answer, troves: &[Trove]) {
+    for trove in troves {
+        answer.text(" ");
+        answer.id(trove.id());
+    }
 }
 
-/// The text of the database of a disk once it is made ready, or of why there is none.
-pub fn ready_text(alloc: Global, disk: &mut Quiet) -> Result<String, Stop> {
-    match readied(alloc, disk) {
-        Ok(db) => told(alloc, db),
-        Err(why) => why.text(),
-    }
+/// Appends the numbers of the stack, and the ids of the troves.
+pub fn push_db(answer: &mut Answer, db: &Db) {
+    answer.number(u64::from(db.oldest));
+    answer.text(" ");
+    answer.number(u64::from(db.newest));
+    push_troves(answer, db.installed.troves());
 }

@@ -1,23 +1,13 @@
-//! The words of lines that give roots: trees and contents, the disks over them, their databases, and calls that are cut off or fail.
-//! What the programs share that make calls on roots.
+//! The words of lines that give jobs and roots, and what is told of them: troves, entries and contents of a line, the database of a
+//! root, and the writes of a job. What the programs share that make calls on roots.
 #![tactic(auto)]
 
 mod carried;
-mod contents;
 mod databases;
-mod ends;
-mod failing;
-mod far;
-mod listing;
-mod nodes;
-mod quiet;
+mod entries;
+mod troves;
 
 pub use carried::{are_in_order, carried_of};
-pub use contents::{content_of, contents_of};
-pub use databases::{Unready, db_text, readied, ready_text};
-pub use ends::{end_text, is_refusal};
-pub use failing::{Call, failed_once, stopped};
-pub use far::{Far, far_of};
-pub use listing::{Part, nodes_text, seen_text};
-pub use nodes::{disk_of, edit_of};
-pub use quiet::Quiet;
+pub use databases::{PRIVATE, database_of, push_db, push_troves, readied};
+pub use entries::{entries_of, push_puts_text, push_want};
+pub use troves::{are_allowed, list_of, troves_of};

@@ -1,0 +1,78 @@
+//! Answers calls on a disk in memory, on a content store over it, on write sets and their logs, and on the journal. A line of standard
+//! input is the name of a call and its arguments, a tab before each; the line of standard output with its number is what the call
+//! answers. Input and wanted output come from tools/disk_lines.py, which is made from the rules of docs/ alone.
+//!
+//! The calls of a disk and of the content store are steps of a script: each goes on where the one before left the disk. All others stand
+//! for themselves.
+#![tactic(auto)]
+
+mod cuts;
+mod disk;
+mod found;
+mod journal;
+mod logs;
+mod numbers;
+mod puts;
+mod runs;
+mod script;
+mod steps;
+mod store;
+mod traced;
+
+use line_words::{Answer, Calls, Line, Quiet, answer_all};
+use std::io;
+
+/// The disk that goes on from line to line.
+struct Disks {
+    disk: Quiet,
+}
+
+// Written by hand, so that to let a value go is a single call.
+impl Drop for Disks {
+    fn drop(self) {
+        let Disks { disk: _disk } = self;
+    }
+}
+
+// Calls that stand for themselves.
+fn alone(line: &mut Line, answer: &mut Answer) {
+    match line.name() {
+        "encode" => logs::encode(line, answer),
+        "decode" => logs::decode(line, answer),
+        "rules" => logs::rules(line, answer),
+        "named" => logs::named(line, answer),
+        "contains" => logs::contains(line, answer),
+        "kept" => numbers::kept(line, answer),
+        "numbers" => numbers::numbers(line, answer),
+        "staged" => numbers::staged(line, answer),
+        "is_staged" => numbers::is_staged(line, answer),
+        "apply" => journal::applied(line, answer),
+        "recover" => journal::recovered(line, answer),
+        "see" => cuts::see(line, answer),
+        "see_again" => cuts::see_again(line, answer),
+        "crash_in" => cuts::crash_in(line, answer),
+        "images" => cuts::images(line, answer),
+        "cuts" => cuts::cuts(line, answer),
+        _ => line.unreadable(),
+    }
+}
+
+impl Calls for Disks {
+    fn call(&mut self, line: &mut Line, answer: &mut Answer) {
+        let name = line.name();
+        match name.split_once(' ') {
+            Some(("any", step)) => steps::call(&mut self.disk, step, line, answer),
+            Some(("store", step)) => store::call(&mut self.disk, step, line, answer),
+            _ if script::has(name) => script::call(&mut self.disk, line, answer),
+            _ if disk::has(name) => disk::call(&mut self.disk.tree, line, answer),
+            _ => alone(line, answer),
+        }
+    }
+}
+
+fn main(rt: HostRuntime) -> io::Result<()> {
+    match script::first_disk(rt.alloc()) {
+        Ok(disk) => answer_all(&rt, &mut Disks { disk }),
+        Err(_) => Err(io::Error::from(io::ErrorKind::OutOfMemory)),
+    }
+}

@@ -1,6 +1,0 @@
-mod answers;
-mod crashes;
-mod listed;
-mod runs;
-mod tables;
-mod words;

@@ -1,2 +1,0 @@
-mod flow;
-mod lanes;

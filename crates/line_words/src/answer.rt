@@ -1,0 +1,307 @@
+//! The answer that is written.
+use crate::stop::Stop;
+use cny_report::refusal_text;
+use cny_report::trove_parts::{TroveId, id_text};
+use std::alloc::{AllocError, Global};
+use std::cmp::Ordering;
+use tree_memory::cny_base::{
+    self, Copies, Fault, Mode, OutOfMemory, Refusal, Text, TextFault, decimal, octal,
+};
+
+/// An answer. It remembers the first failure of those that append to it, which give nothing back.
+pub struct Answer {
+    alloc: Global,
+    text: String,
+    begun: bool,
+    stop: Option<Stop>,
+}
+
+// Written by hand, so that to let a value go is a single call wherever a function ends early.
+impl Drop for Answer {
+    fn drop(self) {
+        let Answer {
+            alloc: _alloc,
+            text: _text,
+            begun: _begun,
+            stop: _stop,
+        } = self;
+    }
+}
+
+impl Answer {
+    /// Nothing yet.
+    pub fn new(alloc: Global) -> Self {
+        Answer {
+            alloc,
+            text: String::new(alloc),
+            begun: false,
+            stop: None,
+        }
+    }
+
+    /// What makes values.
+    pub fn alloc(&self) -> Global {
+        self.alloc
+    }
+
+    /// What was appended so far.
+    pub fn get(&self) -> &str {
+        self.text.as_str()
+    }
+
+    /// The text. The first failure, where there was one.
+    pub fn end(self) -> Result<String, Stop> {
+        let Answer {
+            alloc: _alloc,
+            text,
+            begun: _begun,
+            stop,
+        } = self;
+        match stop {
+            None => Ok(text),
+            Some(stop) => Err(stop),
+        }
+    }
+
+    // ---- failures
+
+    /// Remembers why there is no answer, where nothing failed before.
+    pub fn note(&mut self, stop: Stop) {
+        if self.stop.is_none() {
+            self.stop = Some(stop);
+        }
+    }
+
+    /// No memory was left.
+    pub fn memory(&mut self) {
+        self.note(Stop::Memory);
+    }
+
+    /// The arguments aren't what the call takes.
+    pub fn unreadable(&mut self) {
+        self.note(Stop::Unreadable);
+    }
+
+    /// Whether something failed.
+    pub fn failed(&self) -> bool {
+        self.stop.is_some()
+    }
+
+    /// What was made; none where it failed, which is remembered.
+    pub fn kept<T: Drop, E: Into<Stop> + Drop>(&mut self, made: Result<T, E>) -> Option<T> {
+        match made {
+            Ok(value) => Some(value),
+            Err(fault) => {
+                self.note(fault.into());
+                None
+            }
+        }
+    }
+
+    // ---- texts
+
+    /// Appends a text.
+    pub fn text(&mut self, text: &str) {
+        self.begun = true;
+        if self.text.push_str(text).is_err() {
+            self.memory();
+        }
+    }
+
+    /// Begins a field: appends a tab, where anything stands before.
+    pub fn tab(&mut self) {
+        if self.begun {
+            self.text("\t");
+        }
+    }
+
+    /// Appends a text as a field.
+    pub fn field(&mut self, text: &str) {
+        self.tab();
+        self.text(text);
+    }
+
+    /// Appends a text that takes memory.
+    pub fn made(&mut self, text: Result<Text, OutOfMemory>) {
+        match text {
+            Ok(text) => self.text(text.get()),
+            Err(OutOfMemory) => self.memory(),
+        }
+    }
+
+    /// Appends a text that was formatted.
+    pub fn formatted(&mut self, text: Result<String, AllocError>) {
+        match text {
+            Ok(text) => self.text(text.as_str()),
+            Err(_) => self.memory(),
+        }
+    }
+
+    /// Appends a number in decimal digits.
+    pub fn number(&mut self, number: u64) {
+        let digits = decimal(self.alloc, number);
+        self.made(digits);
+    }
+
+    /// Appends a number in decimal digits as a field.
+    pub fn field_number(&mut self, number: u64) {
+        self.tab();
+        self.number(number);
+    }
+
+    /// Appends bytes in hexadecimal digits.
+    pub fn hex(&mut self, bytes: &[u8]) {
+        match hex::encode(self.alloc, bytes) {
+            Ok(digits) => self.text(digits.as_str()),
+            Err(_) => self.memory(),
+        }
+    }
+
+    /// Appends bytes in hexadecimal digits as a field.
+    pub fn field_hex(&mut self, bytes: &[u8]) {
+        self.tab();
+        self.hex(bytes);
+    }
+
+    /// Appends a mode in octal digits.
+    pub fn mode(&mut self, mode: Mode) {
+        if let Ok(digits) = str::from_utf8(&octal(mode)) {
+            self.text(digits);
+        }
+    }
+
+    /// Appends the text of an id.
+    pub fn id(&mut self, id: &TroveId) {
+        let text = id_text(self.alloc, id);
+        self.made(text);
+    }
+
+    /// Appends `yes` or `no` as a field.
+    pub fn holds(&mut self, holds: bool) {
+        self.field(if holds { "yes" } else { "no" });
+    }
+
+    /// Appends a text of lines, with a tab for each line feed.
+    pub fn lines(&mut self, text: &str) {
+        let mut lines = text.split('\n');
+        if let Some(first) = lines.next() {
+            self.text(first);
+        }
+        for line in lines {
+            self.text("\t");
+            self.text(line);
+        }
+    }
+
+    // ---- equality and order
+
+    /// `same` or `different`.
+    pub fn equality(&mut self, equal: bool) {
+        self.field(if equal { "same" } else { "different" });
+    }
+
+    /// Whether two values are equal, and their order.
+    pub fn order(&mut self, order: Ordering, equal: bool) {
+        self.equality(equal);
+        self.field(match order {
+            Ordering::Less => "less",
+            Ordering::Equal => "equal",
+            Ordering::Greater => "greater",
+        });
+    }
+
+    // ---- values
+
+    /// `ok` and a text, each as a field.
+    pub fn ok(&mut self, text: &str) {
+        self.field("ok");
+        self.field(text);
+    }
+
+    /// Tells a copy of a value.
+    pub fn copied<T: Copies, F: FnOnce(&T, &mut Answer)>(&mut self, value: &T, tell: F)
+        requires { F.IsAlwaysCallable tell }
+    {
+        if let Some(copy) = self.kept(value.copy()) {
+            tell(&copy, self);
+        }
+    }
+
+    /// Tells what was read, or `bad`.
+    pub fn read<T: Drop, F: FnOnce(&T, &mut Answer)>(&mut self, read: Result<T, TextFault>, tell: F)
+        requires { F.IsAlwaysCallable tell }
+    {
+        match read {
+            Ok(value) => tell(&value, self),
+            Err(fault) => self.fault(fault),
+        }
+    }
+
+    // ---- why a call has no value
+
+    /// `bad`, or that no memory was left.
+    pub fn fault(&mut self, fault: TextFault) {
+        match fault {
+            TextFault::Bad => self.field("bad"),
+            TextFault::Memory => self.memory(),
+        }
+    }
+
+    /// The text of a refusal.
+    pub fn refusal(&mut self, refusal: &Refusal) {
+        let text = refusal_text(self.alloc, refusal);
+        self.tab();
+        self.made(text);
+    }
+
+    /// The text of a refusal, or that no memory was left.
+    pub fn refused(&mut self, fault: &Fault) {
+        match fault {
+            Fault::Refused(refusal) => self.refusal(refusal),
+            Fault::Memory => self.memory(),
+        }
+    }
+
+    // Appends a word and a path.
+    fn damaged(&mut self, word: &str, path: &str) {
+        self.text(word);
+        self.text(path);
+    }
+
+    /// Appends why a call on disks stopped: the text of a refusal, `failed`, `damaged PATH`, the last two behind `far ` for the other
+    /// disk, or that no memory was left.
+    pub fn stop(&mut self, stop: &cny_base::Stop) {
+        match stop {
+            cny_base::Stop::Refused(refusal) => {
+                let text = refusal_text(self.alloc, refusal);
+                self.made(text);
+            }
+            cny_base::Stop::Memory => self.memory(),
+            cny_base::Stop::Failed => self.text("failed"),
+            cny_base::Stop::Damaged { path } => self.damaged("damaged ", path.text()),
+            cny_base::Stop::FarFailed => self.text("far failed"),
+            cny_base::Stop::FarDamaged { path } => self.damaged("far damaged ", path.text()),
+        }
+    }
+
+    /// The same as a field.
+    pub fn stopped(&mut self, stop: &cny_base::Stop) {
+        self.tab();
+        self.stop(stop);
+    }
+
+    // ---- answers apart
+
+    /// An answer of its own, to be added or compared.
+    pub fn apart(&self) -> Answer {
+        Answer::new(self.alloc)
+    }
+
+    /// Appends an answer that was made apart, with its failure.
+    pub fn add(&mut self, part: &Answer) {
+        self.text(part.get());
+        if let Some(stop) = part.stop {
+            self.note(stop);
+        }
+    }
+}

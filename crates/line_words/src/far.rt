@@ -1,0 +1,90 @@
+//! Contents of a line, which may fail or be damaged.
+use crate::line::Line;
+use content_store::{Contents, FarStop};
+use sha1::Sha1;
+use std::alloc::Global;
+use std::collections::BTreeMap;
+use tree_memory::cny_base::{Bytes, Copies, Path};
+
+/// Contents by their SHA-1. It counts how often it was asked.
+pub struct Far {
+    pub contents: BTreeMap<[u8; 20], Bytes>,
+    /// Each search fails.
+    pub fails: bool,
+    /// Each search ends at a damaged file.
+    pub damaged: bool,
+    pub faults: u64,
+    pub finds: u64,
+}
+
+impl Drop for Far {
+    fn drop(self) {
+        let Far {
+            contents: _contents,
+            fails: _fails,
+            damaged: _damaged,
+            faults: _faults,
+            finds: _finds,
+        } = self;
+    }
+}
+
+fn damaged_path(alloc: Global) -> Option<Path> {
+    match Path::read(alloc, "/c/damaged") {
+        Ok(path) => Some(path),
+        Err(_) => None,
+    }
+}
+
+impl Contents for Far {
+    ghost use Rattle.line_words.specs.Far.{far_contents, far_source};
+
+    ghost contents = { far_contents (λ c. c.faults) };
+
+    fn find(&mut self, alloc: Global, name: &[u8; 20]) -> Result<Option<Bytes>, FarStop> {
+        self.finds = self.finds.saturating_add(1);
+        if self.fails {
+            self.faults = self.faults.saturating_add(1);
+            return Err(FarStop::Failed);
+        }
+        if self.damaged {
+            return match damaged_path(alloc) {
+                Some(path) => Err(FarStop::Damaged { path }),
+                None => Err(FarStop::Memory),
+            };
+        }
+        match self.contents.get(name) {
+            Some(bytes) if Sha1::digest(bytes.get()) == *name => Ok(Some(bytes.copy()?)),
+            _ => Ok(None),
+        }
+    }
+
+    ghost laws = { far_source (λ c. c.faults) };
+}
+
+impl Line<'_> {
+    fn push_content(&mut self, contents: &mut BTreeMap<[u8; 20], Bytes>, raw: &str) {
+        if let Some(bytes) = self.part::<Bytes>(raw) {
+            self.kept(contents.insert(Sha1::digest(bytes.get()), bytes));
+        }
+    }
+
+    /// The contents of the list at a place; `!fails` are some of which each search fails, `!damaged` some of which each search ends
+    /// at a damaged file.
+    pub fn far(&mut self, place: usize) -> Far {
+        let raw = self.raw(place);
+        let mut contents = BTreeMap::new(self.alloc());
+        if !raw.is_empty() && !raw.starts_with('!') {
+            for part in raw.split(';') {
+                self.push_content(&mut contents, part);
+            }
+        }
+        Far {
+            contents,
+            fails: raw == "!fails",
+            damaged: raw == "!damaged",
+            faults: 0,
+            finds: 0,
+        }
+    }
+}

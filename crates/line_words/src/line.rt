@@ -1,0 +1,315 @@
+//! The line that is read.
+use crate::answer::Answer;
+use crate::argument::Argument;
+use crate::stop::Stop;
+use crate::terms::bytes_of;
+use crate::value::Value;
+use std::alloc::Global;
+use tree_memory::cny_base::{Copies, Mode, Name, Path, Target, TextFault};
+
+/// A line. It remembers the first failure of those that read its arguments, which give any value then and go on.
+pub struct Line<'a> {
+    alloc: Global,
+    name: &'a str,
+    arguments: &'a [Argument],
+    stop: Option<Stop>,
+}
+
+// Written by hand, so that to let a value go is a single call wherever a function ends early.
+impl Drop for Line<'_> {
+    fn drop(self) {
+        let Line {
+            alloc: _alloc,
+            name: _name,
+            arguments: _arguments,
+            stop: _stop,
+        } = self;
+    }
+}
+
+impl<'a> Line<'a> {
+    /// The line of this text, with these arguments.
+    pub fn new(alloc: Global, text: &'a str, arguments: &'a [Argument]) -> Self {
+        let name = match text.split_once('\t') {
+            Some((name, _)) => name,
+            None => text,
+        };
+        Line {
+            alloc,
+            name,
+            arguments,
+            stop: None,
+        }
+    }
+
+    /// The name of the call.
+    pub fn name(&self) -> &'a str {
+        self.name
+    }
+
+    /// What makes values.
+    pub fn alloc(&self) -> Global {
+        self.alloc
+    }
+
+    /// How many arguments there are.
+    pub fn len(&self) -> usize {
+        self.arguments.len()
+    }
+
+    /// Whether there is an argument at a place.
+    pub fn has(&self, place: usize) -> bool {
+        place < self.arguments.len()
+    }
+
+    // ---- failures
+
+    /// Remembers why the line has no answer, where nothing failed before.
+    pub fn note(&mut self, stop: Stop) {
+        if self.stop.is_none() {
+            self.stop = Some(stop);
+        }
+    }
+
+    /// The line is no call, or an argument isn't what the call takes.
+    pub fn unreadable(&mut self) {
+        self.note(Stop::Unreadable);
+    }
+
+    /// Whether something failed.
+    pub fn failed(&self) -> bool {
+        self.stop.is_some()
+    }
+
+    /// Whether all was read.
+    pub fn end(&self) -> Result<(), Stop> {
+        match self.stop {
+            None => Ok(()),
+            Some(stop) => Err(stop),
+        }
+    }
+
+    /// What was made or read; none where it failed, which is remembered.
+    pub fn kept<T: Drop, E: Into<Stop> + Drop>(&mut self, made: Result<T, E>) -> Option<T> {
+        match made {
+            Ok(value) => Some(value),
+            Err(fault) => {
+                self.note(fault.into());
+                None
+            }
+        }
+    }
+
+    // ---- arguments that are borrowed or copied
+
+    /// The argument at a place as it stands in the line; an empty text where there is none.
+    pub fn raw(&mut self, place: usize) -> &'a str {
+        let arguments = self.arguments;
+        match arguments.get(place) {
+            Some(argument) => argument.raw.as_str(),
+            None => {
+                self.unreadable();
+                ""
+            }
+        }
+    }
+
+    /// The bytes of the argument at a place; none where it is unreadable.
+    pub fn bytes(&mut self, place: usize) -> &'a [u8] {
+        let arguments = self.arguments;
+        if let Some(argument) = arguments.get(place) {
+            if let Some(bytes) = &argument.bytes {
+                return bytes.get();
+            }
+        }
+        self.unreadable();
+        b""
+    }
+
+    /// The text of the argument at a place; an empty one where it is unreadable.
+    pub fn text(&mut self, place: usize) -> &'a str {
+        match str::from_utf8(self.bytes(place)) {
+            Ok(text) => text,
+            Err(_) => {
+                self.unreadable();
+                ""
+            }
+        }
+    }
+
+    /// The number at a place, below 2^64; 0 where it is unreadable.
+    pub fn number(&mut self, place: usize) -> u64 {
+        self.value::<u64>(place).unwrap_or(0)
+    }
+
+    /// The number at a place, below 2^32; 0 where it is unreadable.
+    pub fn small(&mut self, place: usize) -> u32 {
+        self.value::<u32>(place).unwrap_or(0)
+    }
+
+    /// The mode at a place, in octal digits; any where it is unreadable.
+    pub fn mode(&mut self, place: usize) -> Mode {
+        match self.value::<Mode>(place) {
+            Some(mode) => mode,
+            None => Mode::owner_only(),
+        }
+    }
+
+    /// The name of a content at a place, in hexadecimal digits; any where it is unreadable.
+    pub fn digest(&mut self, place: usize) -> [u8; 20] {
+        match self.value::<[u8; 20]>(place) {
+            Some(name) => name,
+            None => [0; 20],
+        }
+    }
+
+    // ---- arguments that are values of their own
+
+    /// The value at a place.
+    pub fn value<T: Value>(&mut self, place: usize) -> Option<T> {
+        let bytes = self.bytes(place);
+        let read = T::read(self.alloc, bytes);
+        self.kept(read)
+    }
+
+    /// The path at a place.
+    pub fn path(&mut self, place: usize) -> Option<Path> {
+        self.value::<Path>(place)
+    }
+
+    /// The name of a trove at a place.
+    pub fn trove_name(&mut self, place: usize) -> Option<Name> {
+        self.value::<Name>(place)
+    }
+
+    /// The target of a link at a place.
+    pub fn target(&mut self, place: usize) -> Option<Target> {
+        self.value::<Target>(place)
+    }
+
+    /// What a reader of texts makes of the argument at a place.
+    pub fn read<T: Drop, F: FnOnce(Global, &str) -> Result<T, TextFault>>(
+        &mut self,
+        place: usize,
+        reader: F,
+    ) -> Option<T>
+        requires { F.IsAlwaysCallable reader }
+    {
+        let text = self.text(place);
+        let read = reader(self.alloc, text);
+        self.kept(read)
+    }
+
+    /// The value of a part of an argument, as it stands in the line.
+    pub fn part<T: Value>(&mut self, raw: &str) -> Option<T> {
+        let read = part_of(self.alloc, raw);
+        self.kept(read)
+    }
+
+    // Appends the value of a part of an argument.
+    fn push_part<T: Value>(&mut self, parts: &mut Vec<T>, raw: &str) {
+        let pushed = push_value(self.alloc, parts, raw);
+        self.kept(pushed);
+    }
+
+    /// The values of the list at a place, with a semicolon between two; none of an empty argument.
+    pub fn list<T: Value>(&mut self, place: usize) -> Vec<T> {
+        let raw = self.raw(place);
+        let mut parts = Vec::new(self.alloc);
+        if !raw.is_empty() {
+            for part in raw.split(';') {
+                self.push_part(&mut parts, part);
+            }
+        }
+        parts
+    }
+
+    /// The values of the arguments from a place on.
+    pub fn rest<T: Value>(&mut self, first: usize) -> Vec<T> {
+        let mut parts = Vec::new(self.alloc);
+        for place in first..self.arguments.len() {
+            let raw = self.raw(place);
+            self.push_part(&mut parts, raw);
+        }
+        parts
+    }
+
+    // ---- calls on values
+
+    /// Tells what a reader makes of the text of the first argument, or `bad`.
+    pub fn reads<
+        T: Drop,
+        R: FnOnce(Global, &str) -> Result<T, TextFault>,
+        F: FnOnce(&T, &mut Answer),
+    >(&mut self, answer: &mut Answer, reader: R, tell: F)
+        requires reads { R.IsAlwaysCallable reader }
+        requires tells { F.IsAlwaysCallable tell }
+    {
+        let text = self.text(0);
+        let read = reader(self.alloc, text);
+        answer.read(read, tell);
+    }
+
+    /// The same, but tells a copy.
+    pub fn reads_copy<
+        T: Copies,
+        R: FnOnce(Global, &str) -> Result<T, TextFault>,
+        F: FnOnce(&T, &mut Answer),
+    >(&mut self, answer: &mut Answer, reader: R, tell: F)
+        requires reads { R.IsAlwaysCallable reader }
+        requires tells { F.IsAlwaysCallable tell }
+    {
+        let text = self.text(0);
+        match reader(self.alloc, text) {
+            Ok(value) => answer.copied(&value, tell),
+            Err(bad) => answer.fault(bad),
+        }
+    }
+
+    /// Tells what a reader makes of the bytes of the first argument, or `bad`.
+    pub fn reads_bytes<
+        T: Drop,
+        R: FnOnce(Global, &[u8]) -> Result<T, TextFault>,
+        F: FnOnce(&T, &mut Answer),
+    >(&mut self, answer: &mut Answer, reader: R, tell: F)
+        requires reads { R.IsAlwaysCallable reader }
+        requires tells { F.IsAlwaysCallable tell }
+    {
+        let bytes = self.bytes(0);
+        let read = reader(self.alloc, bytes);
+        answer.read(read, tell);
+    }
+
+    /// Calls with the value of the first argument.
+    pub fn one<A: Value, F: FnOnce(&A, &mut Answer)>(&mut self, answer: &mut Answer, call: F)
+        requires { F.IsAlwaysCallable call }
+    {
+        if let Some(first) = self.value(0) {
+            call(&first, answer);
+        }
+    }
+
+    /// Calls with the values of the first two arguments.
+    pub fn two<A: Value, B: Value, F: FnOnce(&A, &B, &mut Answer)>(
+        &mut self,
+        answer: &mut Answer,
+        call: F,
+    )
+        requires { F.IsAlwaysCallable call }
+    {
+        if let (Some(first), Some(second)) = (self.value(0), self.value(1)) {
+            call(&first, &second, answer);
+        }
+    }
+}
+
+// The value of a part of an argument.
+fn part_of<T: Value>(alloc: Global, raw: &str) -> Result<T, Stop> {
+    let bytes = bytes_of(alloc, raw)?;
+    T::read(alloc, bytes.get())
+}
+
+fn push_value<T: Value>(alloc: Global, parts: &mut Vec<T>, raw: &str) -> Result<(), Stop> {
+    let part = part_of(alloc, raw)?;
+    Ok(parts.push(part)?)
+}

@@ -1,0 +1,42 @@
+//! What comes of a call that is made again and again.
+use crate::answer::Answer;
+use std::alloc::Global;
+
+/// Texts of which each that differs from the one before is told.
+pub struct Outcomes {
+    last: String,
+}
+
+impl Drop for Outcomes {
+    fn drop(self) {
+        let Outcomes { last: _last } = self;
+    }
+}
+
+impl Outcomes {
+    /// None so far.
+    pub fn new(alloc: Global) -> Self {
+        Outcomes {
+            last: String::new(alloc),
+        }
+    }
+
+    /// Whether a text differs from the last one, which it is from now on.
+    pub fn is_new(&mut self, answer: &mut Answer, text: &str) -> bool {
+        if text == self.last.as_str() {
+            return false;
+        }
+        if let Some(text) = answer.kept(String::from_str(answer.alloc(), text)) {
+            self.last = text;
+        }
+        true
+    }
+
+    /// Appends a part as a field, where its text differs from that of the last one.
+    pub fn push(&mut self, answer: &mut Answer, part: &Answer) {
+        if self.is_new(answer, part.get()) {
+            answer.tab();
+            answer.add(part);
+        }
+    }
+}

@@ -1,0 +1,43 @@
+//! The loop of a program that answers lines.
+use crate::answer::Answer;
+use crate::argument::arguments_of;
+use crate::line::Line;
+use crate::stop::Stop;
+use std::alloc::Global;
+use std::io::{self, BufRead, BufReader, BufWriter, Write};
+
+/// The calls of a program, and what it keeps from line to line.
+pub trait Calls {
+    /// Answers the call of a line.
+    fn call(&mut self, line: &mut Line, answer: &mut Answer);
+}
+
+fn answer_to<C: Calls>(alloc: Global, calls: &mut C, text: &str) -> Result<String, Stop> {
+    let arguments = arguments_of(alloc, text)?;
+    let mut line = Line::new(alloc, text, arguments.as_slice());
+    let mut answer = Answer::new(alloc);
+    calls.call(&mut line, &mut answer);
+    line.end()?;
+    answer.end()
+}
+
+// The line that is written. A line that isn't a call, and want of memory, are errors.
+fn line_to<C: Calls>(alloc: Global, calls: &mut C, text: &str) -> io::Result<String> {
+    match answer_to(alloc, calls, text) {
+        Ok(text) => Ok(text),
+        Err(Stop::Unreadable) => Err(io::Error::from(io::ErrorKind::InvalidInput)),
+        Err(Stop::Memory) => Err(io::Error::from(io::ErrorKind::OutOfMemory)),
+    }
+}
+
+/// Answers each line of standard input by a line of standard output. A line that isn't a call, and want of memory, end the program
+/// with an error.
+pub fn answer_all<C: Calls>(rt: &HostRuntime, calls: &mut C) -> io::Result<()> {
+    let mut out = BufWriter::new(rt.alloc(), io::writer(rt))?;
+    for line in BufReader::new(rt.alloc(), rt.reader())?.lines(rt.alloc()) {
+        let text = line_to(rt.alloc(), calls, line?.as_str())?;
+        out.write_all(text.as_str().as_bytes())?;
+        out.write_all(b"\n")?;
+    }
+    out.flush()
+}

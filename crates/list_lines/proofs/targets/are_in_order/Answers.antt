@@ -1,0 +1,12 @@
+use Rattle.std.proofs.Common.{rules}
+use Rattle.std.specs.Cmp.Lexicographic.{nat_list_cmp_total}
+use Rattle.std.proofs.lemmas.Cmp.{on_total}
+use Rattle.std.proofs.lemmas.List.Sorted.{answers_always}
+use Rattle.job_targets.specs.change-set.declared.change.Carried.{Carried}
+use Rattle.job_targets.specs.change-set.ChangeSet.{content_cmp}
+use Rattle.list_lines.proofs.Adjacent.{is_less, rising_answer}
+use Rattle.list_lines.proofs.targets.are_in_order.Goals as goal
+
+pub returns : goal.returns
+returns c =
+    rising_answer (on_total (λ (x : Carried). x.name) nat_list_cmp_total) c.args.carried.now c.is_sorted_by.result (c.is_sorted_by.ensures.cases (is_less content_cmp) (answers_always _ _ _ (λ f a r h k. search rules)))

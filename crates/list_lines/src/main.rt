@@ -1,0 +1,118 @@
+//! Answers calls on lists of troves: on a catalogue, on specifications and configuration files, on a closure and on whole lists, on
+//! what updates and erasures make of installed lists, on local changes, and on fingerprints, plans, their write sets and
+//! verifications over trees in memory. A line of standard input is the name of a call and its arguments, a tab before each; the line
+//! of standard output with its number is what the call answers. A catalogue, which is empty at first, and a closure, which is of no
+//! troves at first, go on from line to line. Input and wanted output come from tools/list_lines.py, which is made from the rules
+//! alone.
+#![tactic(auto)]
+
+mod catalogue;
+mod closure;
+mod jobs;
+mod local;
+mod marks;
+mod plans;
+mod shadows;
+mod specs;
+mod targets;
+mod verifying;
+
+use crate::closure::Closing;
+use line_words::{Answer, Calls, Line, answer_all};
+use repo_index::Catalogue;
+use std::alloc::Global;
+use std::io;
+
+/// What goes on from line to line.
+struct Lists {
+    catalogue: Catalogue,
+    closing: Closing,
+}
+
+// Written by hand, so that to let a value go is a single call.
+impl Drop for Lists {
+    fn drop(self) {
+        let Lists {
+            catalogue: _catalogue,
+            closing: _closing,
+        } = self;
+    }
+}
+
+// Calls that only look at the catalogue.
+fn of_catalogue(catalogue: &Catalogue, line: &mut Line, answer: &mut Answer) {
+    match line.name() {
+        "troves" => catalogue::troves(catalogue, answer),
+        "find" => catalogue::find(catalogue, line, answer),
+        "place_of" => catalogue::place_of(catalogue, line, answer),
+        "by_name" => catalogue::by_name(catalogue, line, answer),
+        "latest" => catalogue::latest(catalogue, line, answer),
+        "has_content" => catalogue::has_content(catalogue, line, answer),
+        "expand" => catalogue::expanded(catalogue, line, answer),
+        "resolve" => specs::resolved(catalogue, line, answer),
+        "moved" => shadows::move_onto(catalogue, line, answer),
+        _ => line.unreadable(),
+    }
+}
+
+// Calls that change what goes on.
+fn of_lists(lists: &mut Lists, line: &mut Line, answer: &mut Answer) {
+    match line.name() {
+        "new" => catalogue::new(&mut lists.catalogue, line, answer),
+        "add" => catalogue::add(&mut lists.catalogue, line, answer),
+        "count_commit" => catalogue::count_commit(&mut lists.catalogue, answer),
+        "copy" => catalogue::copy(&mut lists.catalogue, answer),
+        "trove" => lists.closing.wait(line, answer),
+        "closed" => lists.closing.closed(line.alloc(), answer),
+        "of" => lists.closing.of(line, answer),
+        "change" => lists.closing.change(line, answer),
+        _ => of_catalogue(&lists.catalogue, line, answer),
+    }
+}
+
+// Calls on trees.
+fn of_trees(lists: &mut Lists, line: &mut Line, answer: &mut Answer) {
+    match line.name() {
+        "local" => local::edits(line, answer),
+        "mark" => marks::mark(line, answer),
+        "matches" => marks::is_recorded(line, answer),
+        "alike" => marks::alike(line, answer),
+        "differing" => marks::differing_bytes(line, answer),
+        "plan" => plans::planned(line, answer),
+        "targets" => targets::of_plan(line, answer),
+        "verify" => verifying::tree(line, answer),
+        _ => of_lists(lists, line, answer),
+    }
+}
+
+impl Calls for Lists {
+    fn call(&mut self, line: &mut Line, answer: &mut Answer) {
+        match line.name() {
+            "spec" => specs::spec(line, answer),
+            "config" => specs::config(line, answer),
+            "updated" => jobs::update(line, answer),
+            "erased" => jobs::erase(line, answer),
+            "changed" => jobs::compare(line, answer),
+            "closed_without" => jobs::close_without(line, answer),
+            "mark_file" => marks::file(line, answer),
+            "same" => marks::are_same(line, answer),
+            "verified" => verifying::copy(line, answer),
+            _ => of_trees(self, line, answer),
+        }
+    }
+}
+
+fn start(alloc: Global) -> io::Result<Lists> {
+    match Closing::start(alloc) {
+        Ok(closing) => Ok(Lists {
+            catalogue: Catalogue::new(alloc),
+            closing,
+        }),
+        Err(_) => Err(io::Error::from(io::ErrorKind::OutOfMemory)),
+    }
+}
+
+fn main(rt: HostRuntime) -> io::Result<()> {
+    let mut lists = start(rt.alloc())?;
+    answer_all(&rt, &mut lists)
+}

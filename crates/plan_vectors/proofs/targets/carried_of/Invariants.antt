@@ -1,7 +1,0 @@
-use Rattle.std.proofs.Common.{◌≡◌, All}
-use Rattle.sha1.specs.Sha1.{sha1}
-use Rattle.job_targets.specs.change-set.declared.change.Carried.{Carried}
-use Rattle.plan_vectors.proofs.targets.carried_of.Given as goal
-
-abbrev pub invariant-loop-one : goal.invariant-loop-one
-invariant-loop-one l = All (λ (content : Carried). content.name ≡ sha1 content.bytes) l.carried.items

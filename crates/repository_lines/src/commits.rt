@@ -1,0 +1,79 @@
+//! The calls that commit change sets.
+ghost use Rattle.std.specs.Prelude.{IfSome};
+ghost use Rattle.repository.specs.change-set.ChangeSet.{HasContents};
+
+use crate::held::{told_held, told_sizes};
+use crate::reading::on_repository;
+use line_words::{Answer, Line, Quiet};
+use repo_index::Catalogue;
+use repository::change_set::{ChangeSet, decode};
+use repository::cny_base::Fault;
+use repository::commit;
+use repository::trove_parts::TroveId;
+
+// The private directory of a repository.
+const BASE: &str = "/conaryrepo";
+
+// The change set of a stream.
+fn set_of(bytes: &[u8], answer: &mut Answer) -> Option<ChangeSet>
+    ensures { IfSome result HasContents }
+{
+    match decode(answer.alloc(), bytes) {
+        Ok(set) => Some(set),
+        Err(Fault::Memory) => {
+            answer.memory();
+            None
+        }
+        Err(Fault::Refused(_)) => {
+            answer.unreadable();
+            None
+        }
+    }
+}
+
+// Ids, with a blank before each.
+fn told_ids(ids: &[TroveId], answer: &mut Answer) {
+    answer.field("ok");
+    for id in ids {
+        answer.text(" ");
+        answer.id(id);
+    }
+}
+
+fn commit_set(disk: &mut Quiet, catalogue: &mut Catalogue, set: &ChangeSet, answer: &mut Answer)
+    requires { HasContents set.now }
+{
+    match commit(answer.alloc(), disk, catalogue, set) {
+        Ok(ids) => told_ids(ids.get(), answer),
+        Err(stop) => answer.stopped(&stop),
+    }
+}
+
+/// Commits the change set of a stream, and tells the answer.
+pub fn commit_bytes(
+    disk: &mut Quiet,
+    catalogue: &mut Catalogue,
+    bytes: &[u8],
+    answer: &mut Answer,
+) {
+    if let Some(set) = set_of(bytes, answer) {
+        commit_set(disk, catalogue, &set, answer);
+    }
+}
+
+fn committed_on(disk: &mut Quiet, catalogue: &mut Catalogue, line: &mut Line, answer: &mut Answer) {
+    for place in 1..line.len() {
+        commit_bytes(disk, catalogue, line.bytes(place), answer);
+    }
+    answer.tab();
+    told_sizes(catalogue, answer);
+    answer.tab();
+    told_held(disk, answer);
+    answer.tab();
+    answer.nodes_kept(&disk.tree, BASE);
+}
+
+/// Commits change sets one after another: the answers, what the catalogue has then, what is loaded again, and what stands.
+pub fn committed(line: &mut Line, answer: &mut Answer) {
+    on_repository(line, answer, committed_on);
+}

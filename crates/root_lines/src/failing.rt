@@ -1,0 +1,217 @@
+//! Calls on roots that are cut off, and calls over disks that fail.
+use crate::jobs::make;
+use line_words::{Answer, Argument, Line, Outcomes, Quiet, Stop, arguments_of};
+use root_words::{PRIVATE, push_db, readied};
+use sha1::Sha1;
+use std::alloc::Global;
+
+// More calls of the disk than any of the calls makes.
+const MANY: u32 = 2000;
+
+/// A call on a root.
+pub struct Call {
+    text: String,
+    arguments: Vec<Argument>,
+}
+
+// Written by hand, so that to let a value go is a single call wherever a function ends early.
+impl Drop for Call {
+    fn drop(self) {
+        let Call {
+            text: _text,
+            arguments: _arguments,
+        } = self;
+    }
+}
+
+// The text with a tab for each `|`.
+fn with_tabs(alloc: Global, text: &str) -> Result<String, Stop> {
+    let mut line = String::new(alloc);
+    for part in text.split('|') {
+        if !line.is_empty() {
+            line.push('\t')?;
+        }
+        line.push_str(part)?;
+    }
+    Ok(line)
+}
+
+fn call_of(alloc: Global, text: &str) -> Result<Call, Stop> {
+    let text = with_tabs(alloc, text)?;
+    let arguments = arguments_of(alloc, text.as_str())?;
+    Ok(Call { text, arguments })
+}
+
+impl Call {
+    /// The call of the argument at a place.
+    pub fn of(line: &mut Line, place: usize) -> Option<Call> {
+        let call = call_of(line.alloc(), line.raw(place));
+        line.kept(call)
+    }
+
+    /// Makes the call on a root, and tells what comes of it.
+    pub fn made(&self, disk: &mut Quiet, answer: &Answer) -> Answer {
+        let mut said = answer.apart();
+        let mut line = Line::new(
+            answer.alloc(),
+            self.text.as_str(),
+            self.arguments.as_slice(),
+        );
+        make(disk, &mut line, &mut said);
+        said.kept(line.end());
+        said
+    }
+}
+
+/// Appends the database of a root once it is made ready, or why it can't be.
+pub fn push_ready(disk: &mut Quiet, answer: &mut Answer) {
+    let mut ready = answer.apart();
+    if let Some(db) = readied(disk, &mut ready) {
+        push_db(&mut ready, &db);
+    }
+    answer.add(&ready);
+}
+
+// The SHA-1 of what stands outside the private directory.
+fn push_name(disk: &Quiet, answer: &mut Answer) {
+    let mut outer = answer.apart();
+    outer.nodes_but(&disk.tree, |path| path.starts_with(PRIVATE));
+    if let Some(nodes) = answer.kept(outer.end()) {
+        answer.hex(&Sha1::digest(nodes.as_bytes()));
+    }
+}
+
+// What a call leaves that was cut off or failed: its answer, and a disk that reads so and doesn't fail.
+struct Left {
+    said: String,
+    disk: Quiet,
+}
+
+impl Drop for Left {
+    fn drop(self) {
+        let Left {
+            said: _said,
+            disk: _disk,
+        } = self;
+    }
+}
+
+impl Left {
+    // What a call leaves that is made on a disk, which then crashes.
+    fn by(call: &Call, disk: &mut Quiet, pick: u64, answer: &mut Answer) -> Option<Left> {
+        let said = call.made(disk, answer);
+        let said = answer.kept(said.end())?;
+        let tree = answer.kept(disk.tree.crash(answer.alloc(), pick))?;
+        let disk = Quiet::new(tree);
+        Some(Left { said, disk })
+    }
+
+    // Whether the call came to its end.
+    fn is_end(&self) -> bool {
+        !self.said.as_str().starts_with("failed")
+    }
+
+    // The answer, and all that stands.
+    fn whole(&self, answer: &mut Answer) -> Option<String> {
+        let mut whole = answer.apart();
+        whole.text(self.said.as_str());
+        whole.nodes(&self.disk.tree);
+        answer.kept(whole.end())
+    }
+
+    // What is ready then, the SHA-1 of what stands, and what comes of the call where it is made again.
+    fn push_recovered(&mut self, call: &Call, answer: &mut Answer) {
+        push_ready(&mut self.disk, answer);
+        answer.text(", ");
+        push_name(&self.disk, answer);
+        answer.text(", again ");
+        let said = call.made(&mut self.disk, answer);
+        answer.add(&said);
+    }
+}
+
+// What was told: of what was left, and what came of it.
+struct Told {
+    left: Outcomes,
+    texts: Outcomes,
+    // Whether the answer is told too.
+    with_answer: bool,
+}
+
+impl Drop for Told {
+    fn drop(self) {
+        let Told {
+            left: _left,
+            texts: _texts,
+            with_answer: _with_answer,
+        } = self;
+    }
+}
+
+impl Told {
+    fn new(alloc: Global, with_answer: bool) -> Self {
+        Told {
+            left: Outcomes::new(alloc),
+            texts: Outcomes::new(alloc),
+            with_answer,
+        }
+    }
+
+    fn push(&mut self, left: &mut Left, call: &Call, answer: &mut Answer) {
+        let mut text = answer.apart();
+        if self.with_answer {
+            text.text(left.said.as_str());
+            text.text(", ");
+        }
+        left.push_recovered(call, &mut text);
+        self.texts.push(answer, &text);
+    }
+
+    // Tells what comes of what a call left on a disk, and answers whether that was the last one: it came to its end, or there is
+    // no answer. Where as much was left as the last time, nothing else can come of it.
+    fn ends(&mut self, disk: &mut Quiet, pick: u64, call: &Call, answer: &mut Answer) -> bool {
+        let Some(mut left) = Left::by(call, disk, pick, answer) else {
+            return true;
+        };
+        let Some(whole) = left.whole(answer) else {
+            return true;
+        };
+        if self.left.is_new(answer, whole.as_str()) {
+            self.push(&mut left, call, answer);
+        }
+        left.is_end()
+    }
+}
+
+/// What comes of a call that is cut off after no call of the disk, after one and so on, until it ends, and then of the same call
+/// made again: each text that differs from the one before.
+pub fn push_all_stopped(line: &mut Line, call: &Call, answer: &mut Answer) {
+    answer.text("stopped");
+    let pick = line.number(2);
+    let mut told = Told::new(answer.alloc(), false);
+    for calls in 0..MANY {
+        let Some(mut disk) = line.disk(1, 0) else {
+            return;
+        };
+        disk.tree.stop_after(calls);
+        if told.ends(&mut disk, pick, call, answer) {
+            return;
+        }
+    }
+    line.unreadable();
+}
+
+/// The same of a call of which the first call of the disk fails, the second and so on, behind the answer that comes then.
+pub fn push_all_failed(line: &mut Line, call: &Call, answer: &mut Answer) {
+    answer.text("failed");
+    let mut told = Told::new(answer.alloc(), true);
+    for number in 1..u64::from(MANY) {
+        let Some(mut disk) = line.disk(1, number) else {
+            return;
+        };
+        if told.ends(&mut disk, 0, call, answer) {
+            return;
+        }
+    }
+    line.unreadable();
+}

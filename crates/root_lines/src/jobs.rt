@@ -1,0 +1,212 @@
+//! Calls on a root that change it or compare it: jobs, jobs taken back, verifications, and edits by other programs. OPTIONS are
+//! `replace` and `keep`, with a `+` between two.
+ghost use Rattle.std.specs.Prelude.{◌≡◌, All};
+ghost use Rattle.sha1.specs.Sha1.{sha1};
+ghost use Rattle.system_core.specs.change-set.declared.change.Carried as declared;
+ghost use Rattle.local_db.specs.declared.format.Format.TheVariants.{Two};
+ghost use Rattle.local_db.specs.Stores.{IsDatabase};
+
+use line_words::cny_report::{changes_text, verified_text};
+use line_words::{Answer, Line, Quiet};
+use local_db::Db;
+use root_words::{are_allowed, are_in_order, carried_of, list_of, push_db, readied, troves_of};
+use system_core::change_set::Carried;
+use system_core::cny_base::{Name, Options, Stop};
+use system_core::trove_stream::{Installed, Trove};
+use system_core::{Done, adopt, erase, rollback, rollback_to, update, verify};
+
+fn options_in(line: &mut Line) -> Options {
+    let text = line.raw(0);
+    Options {
+        replace: text.contains("replace"),
+        keep: text.contains("keep"),
+    }
+}
+
+// The lines of a text, with a comma and a space between two.
+fn push_lines(answer: &mut Answer, text: &str) {
+    let mut lines = text.trim_end().split('\n');
+    if let Some(first) = lines.next() {
+        answer.text(first);
+    }
+    for line in lines {
+        answer.text(", ");
+        answer.text(line);
+    }
+}
+
+// The job of this number.
+fn push_job(answer: &mut Answer, number: u32) {
+    answer.text("r.");
+    answer.number(u64::from(number));
+}
+
+// `r.N: CHANGES` or `no job: CHANGES`.
+fn push_done(answer: &mut Answer, done: &Done) {
+    match done.number {
+        Some(number) => push_job(answer, number),
+        None => answer.text("no job"),
+    }
+    answer.text(": ");
+    let changes = changes_text(answer.alloc(), done.changes.get());
+    if let Some(changes) = answer.kept(changes) {
+        push_lines(answer, changes.get());
+    }
+}
+
+// What a job did, or why it ended.
+fn told(answer: &mut Answer, outcome: Result<Done, Stop>) {
+    match outcome {
+        Ok(done) => push_done(answer, &done),
+        Err(end) => answer.stopped(&end),
+    }
+}
+
+// The update to these troves with these contents.
+fn update_to(
+    disk: &mut Quiet,
+    db: &mut Db,
+    come: &[Trove],
+    carried: &[Carried],
+    line: &mut Line,
+    answer: &mut Answer,
+)
+    requires db { IsDatabase Two db.old.installed db.old.oldest db.old.newest }
+    requires hash { All (λ (content : declared.Carried). content.name ≡ sha1 content.bytes) carried.now }
+{
+    let options = options_in(line);
+    if !are_allowed(answer.alloc(), come) || !are_in_order(carried) {
+        return line.unreadable();
+    }
+    let mut far = line.far(3);
+    let outcome = update(answer.alloc(), disk, db, come, carried, &mut far, &options);
+    told(answer, outcome);
+}
+
+// `update OPTIONS TROVES CARRIED FAR`.
+fn updated(disk: &mut Quiet, db: &mut Db, line: &mut Line, answer: &mut Answer)
+    requires { IsDatabase Two db.old.installed db.old.oldest db.old.newest }
+{
+    let come = troves_of(line, 1);
+    if let Some(carried) = carried_of(line, 2) {
+        update_to(disk, db, &come, &carried, line, answer);
+    }
+}
+
+// The whole list becomes this one.
+fn adopt_list(disk: &mut Quiet, db: &mut Db, list: Installed, line: &mut Line, answer: &mut Answer)
+    requires { IsDatabase Two db.old.installed db.old.oldest db.old.newest }
+{
+    let options = options_in(line);
+    if !are_allowed(answer.alloc(), list.troves()) {
+        return line.unreadable();
+    }
+    let mut far = line.far(2);
+    let outcome = adopt(answer.alloc(), disk, db, list, &mut far, &options);
+    told(answer, outcome);
+}
+
+// `adopt OPTIONS TROVES FAR`.
+fn adopted(disk: &mut Quiet, db: &mut Db, line: &mut Line, answer: &mut Answer)
+    requires { IsDatabase Two db.old.installed db.old.oldest db.old.newest }
+{
+    if let Some(list) = list_of(line, 1) {
+        adopt_list(disk, db, list, line, answer);
+    }
+}
+
+// `erase OPTIONS NAMES`.
+fn erased(disk: &mut Quiet, db: &mut Db, line: &mut Line, answer: &mut Answer)
+    requires { IsDatabase Two db.old.installed db.old.oldest db.old.newest }
+{
+    let options = options_in(line);
+    let names = line.list::<Name>(1);
+    let outcome = erase(answer.alloc(), disk, db, &names, &options);
+    told(answer, outcome);
+}
+
+// `rollback`.
+fn taken_back(disk: &mut Quiet, db: &mut Db, answer: &mut Answer)
+    requires { IsDatabase Two db.old.installed db.old.oldest db.old.newest }
+{
+    match rollback(answer.alloc(), disk, db) {
+        Ok(number) => {
+            push_job(answer, number);
+            answer.text(" taken back");
+        }
+        Err(end) => answer.stopped(&end),
+    }
+}
+
+// `rollback_to NUMBER`.
+fn all_taken_back(disk: &mut Quiet, db: &mut Db, line: &mut Line, answer: &mut Answer)
+    requires { IsDatabase Two db.old.installed db.old.oldest db.old.newest }
+{
+    let number = line.small(0);
+    match rollback_to(answer.alloc(), disk, db, number) {
+        Ok(count) => {
+            answer.number(u64::from(count));
+            answer.text(" taken back");
+        }
+        Err(end) => answer.stopped(&end),
+    }
+}
+
+// `verify NAMES FAR`.
+fn verified(disk: &mut Quiet, db: &Db, line: &mut Line, answer: &mut Answer) {
+    let names = line.list::<Name>(0);
+    let mut far = line.far(1);
+    match verify(answer.alloc(), disk, &db.installed, &names, &mut far) {
+        Ok(found) => {
+            let text = verified_text(answer.alloc(), &found);
+            if let Some(text) = answer.kept(text) {
+                push_lines(answer, text.get());
+            }
+        }
+        Err(end) => answer.stopped(&end),
+    }
+}
+
+fn made_on(disk: &mut Quiet, db: &mut Db, line: &mut Line, answer: &mut Answer)
+    requires { IsDatabase Two db.old.installed db.old.oldest db.old.newest }
+{
+    match line.name() {
+        "update" => updated(disk, db, line, answer),
+        "adopt" => adopted(disk, db, line, answer),
+        "erase" => erased(disk, db, line, answer),
+        "rollback" => taken_back(disk, db, answer),
+        "rollback_to" => all_taken_back(disk, db, line, answer),
+        "verify" => verified(disk, db, line, answer),
+        _ => line.unreadable(),
+    }
+}
+
+// `edit NODE`: another program puts a node, or takes away what stands.
+fn edit(disk: &mut Quiet, line: &mut Line, answer: &mut Answer) {
+    let raw = line.raw(0);
+    if let Some((path, node)) = line.placed_of(raw) {
+        let edited = disk.tree.edit(answer.alloc(), &path, node);
+        line.kept(edited);
+        answer.text("edited");
+    }
+}
+
+// Makes a call with the database of a root, and tells what comes of it, and the database that it left.
+fn made_with(disk: &mut Quiet, db: &mut Db, line: &mut Line, answer: &mut Answer)
+    requires { IsDatabase Two db.old.installed db.old.oldest db.old.newest }
+{
+    made_on(disk, db, line, answer);
+    answer.text(" [");
+    push_db(answer, db);
+    answer.text("]");
+}
+
+/// Makes a call on a root, once it is ready, and tells what comes of it.
+pub fn make(disk: &mut Quiet, line: &mut Line, answer: &mut Answer) {
+    if line.name() == "edit" {
+        return edit(disk, line, answer);
+    }
+    if let Some(mut db) = readied(disk, answer) {
+        made_with(disk, &mut db, line, answer);
+    }
+}

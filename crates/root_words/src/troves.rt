@@ -1,0 +1,104 @@
+//! Troves of a line.
+ghost use Rattle.std.specs.Prelude.{◌≡◌, ◌↔◌, All, IsTrue, None};
+ghost use Rattle.system_core.specs.trove-stream.Forbidden.{first_forbidden};
+
+use line_words::{Line, Stop};
+use std::alloc::Global;
+use system_core::cny_base::Bytes;
+use system_core::trove_stream::{Installed, Trove, check, decode_full};
+
+fn push_trove(alloc: Global, troves: &mut Vec<Trove>, stream: &[u8]) -> Result<(), Stop> {
+    let trove = decode_full(alloc, stream)?;
+    Ok(troves.push(trove)?)
+}
+
+// The stream of these bytes with the digits of a number between them.
+fn stream_of(alloc: Global, before: &[u8], number: u32, after: &[u8]) -> Result<Bytes, Stop> {
+    let digits = format!(in alloc; "{number}")?;
+    let mut stream = Bytes::new(alloc, before)?;
+    stream.push_slice(digits.as_bytes())?;
+    stream.push_slice(after)?;
+    Ok(stream)
+}
+
+fn push_numbered(
+    line: &mut Line,
+    troves: &mut Vec<Trove>,
+    number: u32,
+    before: &[u8],
+    after: &[u8],
+) {
+    let stream = stream_of(line.alloc(), before, number, after);
+    if let Some(stream) = line.kept(stream) {
+        let pushed = push_trove(line.alloc(), troves, stream.get());
+        line.kept(pushed);
+    }
+}
+
+// `COUNT BYTES BYTES`: so many troves, whose streams are the two with a number between them, from 10,000 on.
+fn push_many(line: &mut Line, troves: &mut Vec<Trove>, raw: &str) {
+    let (count, streams) = raw.split_once(' ').unwrap_or((raw, ""));
+    let (before, after) = streams.split_once(' ').unwrap_or((streams, ""));
+    let count = line.part::<u32>(count).unwrap_or(0);
+    if let (Some(before), Some(after)) = (line.part::<Bytes>(before), line.part::<Bytes>(after)) {
+        for number in 0..count {
+            push_numbered(
+                line,
+                troves,
+                number.saturating_add(10_000),
+                before.get(),
+                after.get(),
+            );
+        }
+    }
+}
+
+fn push_troves(line: &mut Line, troves: &mut Vec<Trove>, raw: &str) {
+    if let Some(rest) = raw.strip_prefix("numbered ") {
+        push_many(line, troves, rest);
+    } else if let Some(stream) = line.part::<Bytes>(raw) {
+        let pushed = push_trove(line.alloc(), troves, stream.get());
+        line.kept(pushed);
+    }
+}
+
+/// The troves of the list at a place, by the bytes of their streams in the explicit encoding; `numbered COUNT BYTES BYTES` are so many,
+/// whose streams are the two with a number between them, from 10,000 on.
+pub fn troves_of(line: &mut Line, place: usize) -> Vec<Trove> {
+    let raw = line.raw(place);
+    let mut troves = Vec::new(line.alloc());
+    if !raw.is_empty() {
+        for one in raw.split(';') {
+            push_troves(line, &mut troves, one);
+        }
+    }
+    troves
+}
+
+/// The troves of the list at a place, whose names rise.
+pub fn list_of(line: &mut Line, place: usize) -> Option<Installed> {
+    let list = Installed::new(troves_of(line, place));
+    if list.is_none() {
+        line.unreadable();
+    }
+    list
+}
+
+// Whether the trove records no path that no trove may record.
+fn is_allowed(alloc: Global, trove: &Trove) -> bool
+    ensures { IsTrue result ↔ (first_forbidden trove.now.files ≡ None) }
+{
+    check(alloc, trove).is_ok()
+}
+
+/// Whether none of the troves records a path that no trove may record.
+pub fn are_allowed(alloc: Global, troves: &[Trove]) -> bool
+    ensures { IsTrue result ↔ All (λ t. first_forbidden t.files ≡ None) troves.now }
+{
+    for trove in troves {
+        if !is_allowed(alloc, trove) {
+            return false;
+        }
+    }
+    true
+}

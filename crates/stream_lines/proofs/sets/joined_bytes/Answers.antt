@@ -1,0 +1,16 @@
+use Rattle.std.proofs.Common.{[], All, sym, subst}
+use Rattle.std.specs.List.Sorted.{IsStrictlySortedBy}
+use Rattle.std.proofs.lemmas.List.Elements.{All-nil}
+use Rattle.cny_report.specs.change-set.ChangeSet.{IsContentOf, content_cmp}
+use Rattle.stream_lines.proofs.sets.joined_bytes.Goals as goal
+
+none_rise : IsStrictlySortedBy content_cmp []
+unfolding IsStrictlySortedBy
+none_rise = tt
+
+-- a set without contents
+pub encode-requires : goal.encode-requires
+encode-requires c = record {
+  contents = subst (All (IsContentOf c.in_ok-set.set.parts)) (sym c.in_ok-set.ensures) (All-nil (IsContentOf c.in_ok-set.set.parts));
+  rising = subst (IsStrictlySortedBy content_cmp) (sym c.in_ok-set.ensures) none_rise;
+}

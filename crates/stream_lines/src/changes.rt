@@ -1,0 +1,211 @@
+//! Calls of what leads from a trove to another, and of what comes with a change set. Where an argument is no stream of its kind,
+//! or two troves are no such pair, the answer is `unreadable`.
+ghost use Rattle.std.specs.Prelude.{◌≡◌, ◌≢◌};
+
+use crate::again::{behind, push_shown};
+use change_rel::{apply, relative, to_send};
+use cny_report::change_set::{ChangeSet, Part, decode as decode_set};
+use cny_report::cny_base::{Copies, Fault, TextFault};
+use cny_report::trove_stream::{
+    Installed, RelTrove, Trove, Troves, decode, decode_rel, encode, encode_rel,
+};
+use line_words::Answer;
+use std::alloc::Global;
+use update_job::{applied, check_allowed};
+
+// More bytes are answered by their number and their SHA-1.
+const MOST_SHOWN: usize = 400;
+
+// The trove with this stream.
+fn trove_of(alloc: Global, answer: &mut Answer, bytes: &[u8]) -> Option<Trove> {
+    let read = decode(alloc, bytes);
+    if let Err(TextFault::Bad) = read {
+        answer.text("unreadable");
+        return None;
+    }
+    answer.kept(read)
+}
+
+fn push_trove(alloc: Global, answer: &mut Answer, trove: &Trove) {
+    let mut out = behind(answer, b"");
+    answer.kept(encode(alloc, trove, &mut out));
+    push_shown(answer, out.get(), MOST_SHOWN);
+}
+
+// What a relative trove makes of a trove, or the refusal.
+fn push_applied(alloc: Global, answer: &mut Answer, old: &Trove, rel: &RelTrove) {
+    match apply(alloc, old, rel) {
+        Ok(fresh) => push_trove(alloc, answer, &fresh),
+        Err(fault) => answer.refused(&fault),
+    }
+}
+
+fn push_relative(alloc: Global, answer: &mut Answer, rel: &RelTrove) {
+    let mut out = behind(answer, b"");
+    answer.kept(encode_rel(alloc, rel, &mut out));
+    push_shown(answer, out.get(), MOST_SHOWN);
+}
+
+/// What is asked of two troves.
+#[derive(Clone, Copy)]
+pub enum Asked {
+    /// The stream of `relative`.
+    Relative,
+    /// The stream of what `apply` makes of the first by what `relative` gives.
+    Round,
+    /// What `to_send` gives.
+    Sent,
+}
+
+// The relative trove between two of one name and two ids.
+fn between(alloc: Global, answer: &mut Answer, old: &Trove, fresh: &Trove) -> Option<RelTrove> {
+    old.id().is_valid();
+    fresh.id().is_valid();
+    if old.id().name != fresh.id().name || old.id() == fresh.id() {
+        answer.text("unreadable");
+        return None;
+    }
+    answer.kept(relative(alloc, old, fresh))
+}
+
+// The number of the names that `to_send` gives, and the names one behind the other.
+fn push_sent(alloc: Global, answer: &mut Answer, old: Option<&Trove>, fresh: &Trove) {
+    if let Some(names) = answer.kept(to_send(alloc, old, fresh)) {
+        let mut out = behind(answer, b"");
+        for name in names.get() {
+            answer.kept(out.push_slice(name.as_slice()));
+        }
+        answer.number(names.get().len() as u64);
+        answer.text(" ");
+        push_shown(answer, out.get(), MOST_SHOWN);
+    }
+}
+
+fn push_between(alloc: Global, answer: &mut Answer, asked: Asked, old: &Trove, fresh: &Trove) {
+    if let Asked::Sent = asked {
+        push_sent(alloc, answer, Some(old), fresh);
+    } else if let Some(rel) = between(alloc, answer, old, fresh) {
+        match asked {
+            Asked::Relative => push_relative(alloc, answer, &rel),
+            _ => push_applied(alloc, answer, old, &rel),
+        }
+    }
+}
+
+/// What is asked of the troves with these streams.
+pub fn of_two(alloc: Global, answer: &mut Answer, asked: Asked, old: &[u8], fresh: &[u8]) {
+    if let Some(old) = trove_of(alloc, answer, old) {
+        if let Some(fresh) = trove_of(alloc, answer, fresh) {
+            push_between(alloc, answer, asked, &old, &fresh);
+        }
+    }
+}
+
+/// What `to_send` gives of the trove with this stream where there is no old one.
+pub fn of_new(alloc: Global, answer: &mut Answer, fresh: &[u8]) {
+    if let Some(fresh) = trove_of(alloc, answer, fresh) {
+        push_sent(alloc, answer, None, &fresh);
+    }
+}
+
+/// The stream of what `apply` makes of a trove, or the refusal.
+pub fn of_relative(alloc: Global, answer: &mut Answer, old: &[u8], rel: &[u8]) {
+    if let Some(old) = trove_of(alloc, answer, old) {
+        match decode_rel(alloc, rel) {
+            Ok(rel) => push_applied(alloc, answer, &old, &rel),
+            Err(TextFault::Bad) => answer.text("unreadable"),
+            Err(TextFault::Memory) => answer.memory(),
+        }
+    }
+}
+
+// ---- troves that come with a change set
+
+fn set_of(alloc: Global, answer: &mut Answer, bytes: &[u8]) -> Option<ChangeSet> {
+    match decode_set(alloc, bytes) {
+        Ok(set) => Some(set),
+        Err(Fault::Refused(_)) => {
+            answer.text("unreadable");
+            None
+        }
+        Err(Fault::Memory) => {
+            answer.memory();
+            None
+        }
+    }
+}
+
+// Adds a copy of a whole trove; false for a relative one.
+fn add_whole(answer: &mut Answer, troves: &mut Vec<Trove>, part: &Part) -> bool {
+    if let Part::Whole(trove) = part {
+        if let Some(trove) = answer.kept(trove.copy()) {
+            answer.kept(troves.push(trove));
+        }
+        return true;
+    }
+    false
+}
+
+// The troves of a change set that has no relative ones.
+fn whole_of(alloc: Global, answer: &mut Answer, parts: &[Part]) -> Option<Vec<Trove>> {
+    let mut troves = Vec::new(alloc);
+    for part in parts {
+        if !add_whole(answer, &mut troves, part) {
+            answer.text("unreadable");
+            return None;
+        }
+    }
+    Some(troves)
+}
+
+fn wholes_of(alloc: Global, answer: &mut Answer, bytes: &[u8]) -> Option<Vec<Trove>> {
+    match set_of(alloc, answer, bytes) {
+        Some(set) => whole_of(alloc, answer, set.parts.get()),
+        None => None,
+    }
+}
+
+fn installed_of(alloc: Global, answer: &mut Answer, bytes: &[u8]) -> Option<Installed> {
+    let troves = wholes_of(alloc, answer, bytes)?;
+    let installed = Installed::new(troves);
+    if installed.is_none() {
+        answer.text("unreadable");
+    }
+    installed
+}
+
+// The number of the troves, and the stream of each.
+fn push_troves(alloc: Global, answer: &mut Answer, troves: &Troves) {
+    answer.number(troves.get().len() as u64);
+    for trove in troves.get() {
+        answer.text(" ");
+        push_trove(alloc, answer, trove);
+    }
+}
+
+fn push_parts(alloc: Global, answer: &mut Answer, installed: &Installed, parts: &[Part]) {
+    match applied(alloc, installed, parts) {
+        Ok(troves) => push_troves(alloc, answer, &troves),
+        Err(fault) => answer.refused(&fault),
+    }
+}
+
+/// The streams of what `applied` makes of the troves of a change set, which are the installed ones, by the parts of another,
+/// or the refusal.
+pub fn over_installed(alloc: Global, answer: &mut Answer, installed: &[u8], change: &[u8]) {
+    if let Some(installed) = installed_of(alloc, answer, installed) {
+        if let Some(change) = set_of(alloc, answer, change) {
+            push_parts(alloc, answer, &installed, change.parts.get());
+        }
+    }
+}
+
+/// What `check_allowed` answers of the troves of a change set.
+pub fn allowed(alloc: Global, answer: &mut Answer, change: &[u8]) {
+    if let Some(troves) = wholes_of(alloc, answer, change) {
+        match check_allowed(alloc, troves.as_slice()) {
+            Ok(()) => answer.text("ok"),
+            Err(fault) => answer.refused(&fault),
+        }
+    }
+}

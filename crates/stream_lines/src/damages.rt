@@ -1,0 +1,111 @@
+//! Damaged bytes: what readers answer for all beginnings of some bytes, and for other values of a byte.
+use crate::again::unless_bad;
+use crate::manifests::manifest;
+use crate::sets;
+use cny_report::cny_base::TextFault;
+use cny_report::file_stream::{Encoding, decode_as};
+use cny_report::trove_stream::{decode, decode_full, decode_rel, decode_rel_full};
+use line_words::Answer;
+use std::alloc::Global;
+
+// A longer text of a manifest is told by its digest.
+const LONGEST: usize = 40;
+
+// `ok`, or `bad`.
+fn told<T: Drop>(answer: &mut Answer, read: Result<T, TextFault>) {
+    if let Some(_) = unless_bad(answer, read) {
+        answer.text("ok");
+    }
+}
+
+// What the reader of this kind of bytes answers.
+fn answer_of(alloc: Global, kind: &str, bytes: &[u8]) -> Answer {
+    let mut answer = Answer::new(alloc);
+    match kind {
+        "record" => told(&mut answer, decode_as(alloc, Encoding::Compact, bytes)),
+        "record_full" => told(&mut answer, decode_as(alloc, Encoding::Explicit, bytes)),
+        "trove" => told(&mut answer, decode(alloc, bytes)),
+        "trove_full" => told(&mut answer, decode_full(alloc, bytes)),
+        "relative" => told(&mut answer, decode_rel(alloc, bytes)),
+        "relative_full" => told(&mut answer, decode_rel_full(alloc, bytes)),
+        "set" => sets::read(alloc, &mut answer, bytes),
+        "manifest" => manifest(alloc, &mut answer, bytes, LONGEST),
+        _ => answer.unreadable(),
+    }
+    answer
+}
+
+// Whether the first of these answers is the last of a run of equal ones.
+fn ends_run(given: &[Answer]) -> bool {
+    match given {
+        [first, next, ..] => first.get() != next.get(),
+        _ => true,
+    }
+}
+
+// The runs of equal answers: the lowest and the highest number, and the answer.
+fn push_runs(alloc: Global, answer: &mut Answer, given: &[Answer]) {
+    let mut low = 0;
+    for number in 0..given.len() {
+        if ends_run(&given[number..]) {
+            answer.formatted(format!(in alloc; "{low}..{number}: "));
+            answer.add(&given[number]);
+            answer.text("; ");
+            low = number + 1;
+        }
+    }
+}
+
+// Adds what the reader of a kind answers.
+fn add(alloc: Global, answer: &mut Answer, given: &mut Vec<Answer>, kind: &str, bytes: &[u8]) {
+    answer.kept(given.push(answer_of(alloc, kind, bytes)));
+}
+
+/// What the reader of a kind answers for each beginning of these bytes, the whole of them too.
+pub fn beginnings(alloc: Global, answer: &mut Answer, kind: &str, bytes: &[u8]) {
+    let mut given = Vec::new(alloc);
+    for len in 0..=bytes.len() {
+        add(alloc, answer, &mut given, kind, &bytes[..len]);
+    }
+    push_runs(alloc, answer, given.as_slice());
+}
+
+// The same where the byte at a place has another value.
+fn add_changed(
+    alloc: Global,
+    answer: &mut Answer,
+    given: &mut Vec<Answer>,
+    kind: &str,
+    bytes: &[u8],
+    place: usize,
+    value: u8,
+) {
+    if let Ok(mut bytes) = Vec::from_slice(alloc, bytes) {
+        if let Some(byte) = bytes.get_mut(place) {
+            *byte = value;
+        }
+        add(alloc, answer, given, kind, bytes.as_slice());
+    } else {
+        answer.memory();
+    }
+}
+
+/// What the reader of a kind answers for each value of the byte at a place.
+pub fn changes(alloc: Global, answer: &mut Answer, kind: &str, bytes: &[u8], place: usize) {
+    let mut given = Vec::new(alloc);
+    for value in 0..=u8::MAX {
+        add_changed(alloc, answer, &mut given, kind, bytes, place, value);
+    }
+    push_runs(alloc, answer, given.as_slice());
+}
+
+/// What the reader of a kind answers for each place of bytes at which the byte has one of these values.
+pub fn changes_to(alloc: Global, answer: &mut Answer, kind: &str, bytes: &[u8], values: &[u8]) {
+    let mut given = Vec::new(alloc);
+    for value in values {
+        for place in 0..bytes.len() {
+            add_changed(alloc, answer, &mut given, kind, bytes, place, *value);
+        }
+    }
+    push_runs(alloc, answer, given.as_slice());
+}

@@ -1,0 +1,227 @@
+//! Calls on the lists of a trove.
+ghost use Rattle.std.specs.Prelude.{◌≤◌, length};
+
+use crate::again::{behind, push_compared, unless_bad};
+use crate::elements::{Element, elements, push_list};
+use cny_report::cny_base::{Copies, ListOf, Mode, Path};
+use cny_report::file_stream::{Encoding, FileRec, Flags, Owner};
+use cny_report::trove_parts::{
+    FileAt, TroveId, are_deps, are_files, are_paths, are_refs, put_id_item, take_deps, take_files,
+    take_id_item, take_paths, take_refs,
+};
+use line_words::{Answer, Line};
+use std::alloc::Global;
+
+// ---- lists in streams
+
+// Bytes, a place within them, a tag, and how many elements there may be, if that is limited.
+#[derive(Clone, Copy)]
+struct Asked<'a> {
+    bytes: &'a [u8],
+    at: usize,
+    tag: u8,
+    limit: Option<usize>,
+    ghost within: { at ≤ length bytes.now },
+}
+
+// What stands from the place up to an end.
+fn bytes_to<'a>(answer: &mut Answer, asked: Asked<'a>, to: usize) -> &'a [u8] {
+    if to < asked.at || to > asked.bytes.len() {
+        answer.unreadable();
+        return b"";
+    }
+    &asked.bytes[asked.at..to]
+}
+
+// The end of a list, the list, and how it is written again.
+fn push_taken<T: Element>(
+    alloc: Global,
+    answer: &mut Answer,
+    encoding: Encoding,
+    asked: Asked<'_>,
+    to: usize,
+    list: &[T],
+) {
+    answer.number(to as u64);
+    push_list(alloc, answer, list);
+    let mut out = behind(answer, b"x");
+    answer.kept(T::put(alloc, encoding, &mut out, asked.tag, list));
+    let wanted = bytes_to(answer, asked, to);
+    push_compared(answer, out.get(), wanted);
+}
+
+// The same of a copy of the list.
+fn push_copied<T: Element + Copies>(
+    alloc: Global,
+    answer: &mut Answer,
+    encoding: Encoding,
+    asked: Asked<'_>,
+    to: usize,
+    list: &ListOf<T>,
+) {
+    if let Some(copy) = answer.kept(list.copy()) {
+        push_taken(alloc, answer, encoding, asked, to, copy.get());
+    }
+}
+
+fn files(alloc: Global, answer: &mut Answer, encoding: Encoding, asked: Asked<'_>) {
+    let found = take_files(
+        alloc,
+        encoding,
+        asked.bytes,
+        asked.at,
+        asked.tag,
+        asked.limit,
+    );
+    if let Some(found) = unless_bad(answer, found) {
+        push_copied(alloc, answer, encoding, asked, found.to, &found.files);
+    }
+}
+
+fn refs(alloc: Global, answer: &mut Answer, asked: Asked<'_>) {
+    let found = take_refs(alloc, asked.bytes, asked.at, asked.tag, asked.limit);
+    if let Some(found) = unless_bad(answer, found) {
+        push_copied(
+            alloc,
+            answer,
+            Encoding::Compact,
+            asked,
+            found.to,
+            &found.refs,
+        );
+    }
+}
+
+fn deps(alloc: Global, answer: &mut Answer, asked: Asked<'_>) {
+    let found = take_deps(alloc, asked.bytes, asked.at, asked.tag, asked.limit);
+    if let Some(found) = unless_bad(answer, found) {
+        push_copied(
+            alloc,
+            answer,
+            Encoding::Compact,
+            asked,
+            found.to,
+            &found.deps,
+        );
+    }
+}
+
+fn paths(alloc: Global, answer: &mut Answer, asked: Asked<'_>) {
+    let found = take_paths(alloc, asked.bytes, asked.at, asked.tag);
+    if let Some(found) = unless_bad(answer, found) {
+        push_copied(
+            alloc,
+            answer,
+            Encoding::Compact,
+            asked,
+            found.to,
+            &found.paths,
+        );
+    }
+}
+
+// The end of the id, the id, and how it is written again.
+fn push_id(alloc: Global, answer: &mut Answer, asked: Asked<'_>, to: usize, id: &TroveId) {
+    answer.number(to as u64);
+    answer.text("\t");
+    answer.id(id);
+    let mut out = behind(answer, b"x");
+    answer.kept(put_id_item(alloc, &mut out, asked.tag, id));
+    let wanted = bytes_to(answer, asked, to);
+    push_compared(answer, out.get(), wanted);
+}
+
+fn id_item(alloc: Global, answer: &mut Answer, asked: Asked<'_>) {
+    let found = take_id_item(alloc, asked.bytes, asked.at, asked.tag);
+    if let Some(found) = unless_bad(answer, found) {
+        push_id(alloc, answer, asked, found.to, &found.id);
+    }
+}
+
+fn of_kind(alloc: Global, answer: &mut Answer, kind: &str, asked: Asked<'_>) {
+    match kind {
+        "files" => files(alloc, answer, Encoding::Compact, asked),
+        "files_full" => files(alloc, answer, Encoding::Explicit, asked),
+        "refs" => refs(alloc, answer, asked),
+        "deps" => deps(alloc, answer, asked),
+        "paths" => paths(alloc, answer, asked),
+        _ => id_item(alloc, answer, asked),
+    }
+}
+
+/// What `take_files` and its kin find in bytes at a place with a tag and, if there is a fourth argument, a limit: the end, the
+/// list, and how a copy of it is written again.
+pub fn taken(alloc: Global, answer: &mut Answer, line: &mut Line) {
+    let at = line.small(1) as usize;
+    let limit = if line.len() < 4 {
+        None
+    } else {
+        Some(line.small(3) as usize)
+    };
+    let bytes = line.bytes(0);
+    match line.bytes(2) {
+        [tag] if at <= bytes.len() => of_kind(
+            alloc,
+            answer,
+            line.name(),
+            Asked {
+                bytes,
+                at,
+                tag: *tag,
+                limit,
+            },
+        ),
+        _ => answer.unreadable(),
+    }
+}
+
+// ---- lists in any order
+
+/// `are_files` of the files of items.
+pub fn are_files_of(alloc: Global, answer: &mut Answer, bytes: &[u8]) {
+    let files = elements::<FileAt>(alloc, answer, bytes, 4);
+    answer.holds(are_files(files.as_slice()));
+}
+
+/// `are_refs` of the ids of items.
+pub fn are_refs_of(alloc: Global, answer: &mut Answer, bytes: &[u8]) {
+    let refs = elements(alloc, answer, bytes, 5);
+    answer.holds(are_refs(refs.as_slice()));
+}
+
+/// `are_deps` of the dependencies of items.
+pub fn are_deps_of(alloc: Global, answer: &mut Answer, bytes: &[u8]) {
+    let deps = elements(alloc, answer, bytes, 6);
+    answer.holds(are_deps(deps.as_slice()));
+}
+
+/// `are_paths` of the paths of items.
+pub fn are_paths_of(alloc: Global, answer: &mut Answer, bytes: &[u8]) {
+    let paths = elements::<Path>(alloc, answer, bytes, 0x23);
+    answer.holds(are_paths(paths.as_slice()));
+}
+
+// `are_files` of a file with this path and owner.
+fn push_sized(answer: &mut Answer, path: Path, owner: Owner, size: u32, name: [u8; 20]) {
+    let rec = FileRec::File {
+        mode: Mode::owner_only(),
+        owner,
+        flags: Flags {
+            config: false,
+            initial: false,
+            transient: false,
+        },
+        size,
+        name,
+    };
+    answer.holds(are_files(&[FileAt { path, rec }]));
+}
+
+/// `are_files` of one file of a size.
+pub fn sized_file(alloc: Global, answer: &mut Answer, size: u32, name: [u8; 20]) {
+    if let Some(path) = answer.kept(Path::read(alloc, "/a")) {
+        if let Some(owner) = answer.kept(Owner::new(alloc, "root", "root")) {
+            push_sized(answer, path, owner, size, name);
+        }
+    }
+}

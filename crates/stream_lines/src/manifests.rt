@@ -1,0 +1,126 @@
+//! Calls on manifests: what one makes, as a text.
+use crate::again::push_digest;
+use crate::records::push_flags;
+use cny_dep::Dep;
+use cny_manifest::{Made, component_of, read};
+use cny_report::change_set::Carried;
+use cny_report::cny_base::{Copies, Mode};
+use cny_report::file_stream::{FileRec, Owner};
+use cny_report::trove_parts::{FileAt, TroveId};
+use cny_report::trove_stream::Trove;
+use line_words::{Answer, Line};
+use std::alloc::Global;
+
+/// A longer text is told by its digest.
+pub const LONGEST: usize = 4_000;
+
+fn push_id(answer: &mut Answer, front: &str, id: &TroveId) {
+    answer.text(front);
+    answer.id(id);
+}
+
+fn push_deps(answer: &mut Answer, front: &str, deps: &[Dep]) {
+    for dep in deps {
+        answer.text(front);
+        answer.text(dep.text());
+    }
+}
+
+// The mode and the names of an owner.
+fn push_owned(alloc: Global, answer: &mut Answer, mode: Mode, owner: &Owner) {
+    let (user, group, bits) = (owner.user(), owner.group(), mode.bits());
+    answer.formatted(format!(in alloc; "{bits} {user}:{group} "));
+}
+
+fn push_file(alloc: Global, answer: &mut Answer, file: &FileAt) {
+    match &file.rec {
+        FileRec::Dir { mode, owner } => {
+            answer.text("; dir ");
+            push_owned(alloc, answer, *mode, owner);
+            answer.text(file.path.text());
+        }
+        FileRec::File {
+            mode,
+            owner,
+            flags,
+            size,
+            name,
+        } => {
+            answer.text("; file ");
+            push_owned(alloc, answer, *mode, owner);
+            push_flags(answer, *flags);
+            answer.formatted(format!(in alloc; " {size} "));
+            answer.hex(name.as_slice());
+            answer.text(" ");
+            answer.text(file.path.text());
+        }
+        FileRec::Link { target } => {
+            answer.text("; link ");
+            answer.text(file.path.text());
+            answer.text(" to ");
+            answer.text(target.text());
+        }
+    }
+}
+
+fn push_trove(alloc: Global, answer: &mut Answer, trove: &Trove) {
+    push_id(answer, "; trove ", trove.id());
+    for id in trove.refs() {
+        push_id(answer, "; ref ", id);
+    }
+    push_deps(answer, "; requires ", trove.requires_());
+    push_deps(answer, "; provides ", trove.provides());
+    for file in trove.files() {
+        push_file(alloc, answer, file);
+    }
+}
+
+fn push_content(answer: &mut Answer, content: &Carried) {
+    answer.text("; content ");
+    answer.hex(content.name.as_slice());
+    answer.text(" ");
+    answer.number(content.bytes.get().len() as u64);
+}
+
+fn push_made(alloc: Global, answer: &mut Answer, made: &Made) {
+    answer.text("ok");
+    for trove in made.troves.get() {
+        push_trove(alloc, answer, trove);
+    }
+    for content in made.contents.get() {
+        push_content(answer, content);
+    }
+}
+
+/// What a manifest makes, as a text or the digest of a longer one, or why it is refused.
+pub fn manifest(alloc: Global, answer: &mut Answer, bytes: &[u8], longest: usize) {
+    match read(alloc, bytes) {
+        Ok(made) => push_copied(alloc, answer, &made, longest),
+        Err(fault) => answer.refused(&fault),
+    }
+}
+
+fn push_copied(alloc: Global, answer: &mut Answer, made: &Made, longest: usize) {
+    if let Some(copy) = answer.kept(made.copy()) {
+        let mut text = answer.apart();
+        push_made(alloc, &mut text, &copy);
+        push_short(answer, &text, longest);
+    }
+}
+
+// The text itself, or its length and its digest.
+fn push_short(answer: &mut Answer, text: &Answer, longest: usize) {
+    if text.get().len() <= longest {
+        answer.add(text);
+    } else {
+        answer.text("ok ");
+        push_digest(answer, text.get().as_bytes());
+    }
+}
+
+/// The component to which a path falls, that of a directory or of anything else.
+pub fn component(answer: &mut Answer, line: &mut Line, dir: bool) {
+    if let Some(path) = line.path(0) {
+        answer.text(component_of(&path, dir));
+    }
+}

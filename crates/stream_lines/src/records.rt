@@ -1,0 +1,202 @@
+//! Calls on file records.
+ghost use Rattle.std.specs.Prelude.{◌↔◌, IsTrue, All};
+ghost use Rattle.cny_report.specs.file-stream.Record.{FitsSize};
+ghost use Rattle.cny_report.specs.trove-parts.Files.{FitsFile};
+
+use crate::again::{behind, copy_of, push_compared, unless_bad};
+use cny_report::cny_base::{Bytes, CONTENT_LIMIT, Mode};
+use cny_report::file_stream::{
+    Encoding, FileRec, Flags, Owner, decode_as, decode_full, encode_as, file_id,
+};
+use cny_report::trove_parts::FileAt;
+use line_words::{Answer, Line};
+use std::alloc::Global;
+
+// Whether the size of a file's contents is within its limit, as `encode` asks for.
+fn has_spelling(rec: &FileRec) -> bool
+    ensures { IsTrue result ↔ FitsSize rec.now }
+{
+    match rec {
+        FileRec::Dir { .. } => true,
+        FileRec::File { size, .. } => *size <= CONTENT_LIMIT,
+        FileRec::Link { .. } => true,
+    }
+}
+
+/// Whether each file has a size within its limit.
+pub fn have_spellings(files: &[FileAt]) -> bool
+    ensures { IsTrue result → All FitsFile files.now }
+{
+    for file in files {
+        if !has_spelling(&file.rec) {
+            return false;
+        }
+    }
+    true
+}
+
+// The mode and the owner.
+fn push_owned(alloc: Global, answer: &mut Answer, mode: Mode, owner: &Owner) {
+    answer.mode(mode);
+    let (user, group) = (owner.user(), owner.group());
+    answer.formatted(format!(in alloc; " {user} {group}"));
+}
+
+/// Appends a letter for each flag, or a dash.
+pub fn push_flags(answer: &mut Answer, flags: Flags) {
+    answer.text(if flags.config { "c" } else { "-" });
+    answer.text(if flags.initial { "i" } else { "-" });
+    answer.text(if flags.transient { "t" } else { "-" });
+}
+
+/// Appends the fields of a record.
+pub fn push_record(alloc: Global, answer: &mut Answer, rec: &FileRec) {
+    match rec {
+        FileRec::Dir { mode, owner } => {
+            answer.text("dir ");
+            push_owned(alloc, answer, *mode, owner);
+        }
+        FileRec::File {
+            mode,
+            owner,
+            flags,
+            size,
+            name,
+        } => {
+            answer.text("file ");
+            push_owned(alloc, answer, *mode, owner);
+            answer.text(" ");
+            push_flags(answer, *flags);
+            answer.formatted(format!(in alloc; " {size} "));
+            answer.hex(name.as_slice());
+        }
+        FileRec::Link { target } => {
+            answer.text("link ");
+            answer.text(target.text());
+        }
+    }
+}
+
+// The fields of a record, and its id.
+fn push_record_and_id(alloc: Global, answer: &mut Answer, rec: &FileRec)
+    requires { FitsSize rec.now }
+{
+    push_record(alloc, answer, rec);
+    answer.text("\t");
+    match file_id(alloc, rec) {
+        Ok(id) => answer.hex(id.as_slice()),
+        Err(_) => answer.memory(),
+    }
+}
+
+// The bytes of a record, behind these.
+fn written(
+    alloc: Global,
+    answer: &mut Answer,
+    encoding: Encoding,
+    rec: &FileRec,
+    front: &[u8],
+) -> Bytes
+    requires { FitsSize rec.now }
+{
+    let mut out = behind(answer, front);
+    answer.kept(encode_as(alloc, encoding, rec, &mut out));
+    out
+}
+
+// The fields of a record and its id, and whether it is written as these bytes.
+fn push_again(alloc: Global, answer: &mut Answer, encoding: Encoding, rec: &FileRec, bytes: &[u8]) {
+    if has_spelling(rec) {
+        push_record_and_id(alloc, answer, rec);
+        let out = written(alloc, answer, encoding, rec, b"x");
+        push_compared(answer, out.get(), bytes);
+    } else {
+        answer.unreadable();
+    }
+}
+
+/// `decode_as` of bytes: the record's fields and its id, and how a copy of it is written again.
+pub fn record(alloc: Global, answer: &mut Answer, encoding: Encoding, bytes: &[u8]) {
+    if let Some(rec) = unless_bad(answer, copy_of(decode_as(alloc, encoding, bytes))) {
+        push_again(alloc, answer, encoding, &rec, bytes);
+    }
+}
+
+fn flags_of(line: &mut Line, place: usize) -> Flags {
+    let letters = line.text(place);
+    let flags = Flags {
+        config: letters.contains('c'),
+        initial: letters.contains('i'),
+        transient: letters.contains('t'),
+    };
+    if letters.len() != 3 {
+        line.unreadable();
+    }
+    flags
+}
+
+// The record of this kind with this owner.
+fn owned_record(line: &mut Line, owner: Owner) -> FileRec {
+    let mode = line.mode(1);
+    if line.text(0) == "dir" {
+        return FileRec::Dir { mode, owner };
+    }
+    FileRec::File {
+        mode,
+        owner,
+        flags: flags_of(line, 4),
+        size: line.small(5),
+        name: line.digest(6),
+    }
+}
+
+// The fields of a record, its id, and its bytes in both encodings.
+fn push_made(alloc: Global, answer: &mut Answer, rec: &FileRec) {
+    if has_spelling(rec) {
+        push_record_and_id(alloc, answer, rec);
+        for encoding in [Encoding::Compact, Encoding::Explicit] {
+            let bytes = written(alloc, answer, encoding, rec, b"");
+            answer.text("\t");
+            answer.hex(bytes.get());
+        }
+    } else {
+        answer.unreadable();
+    }
+}
+
+fn make_link(alloc: Global, answer: &mut Answer, line: &mut Line) {
+    if let Some(target) = line.target(1) {
+        push_made(alloc, answer, &FileRec::Link { target });
+    }
+}
+
+/// A record with these fields: the fields, its id, and its bytes in both encodings.
+pub fn make(alloc: Global, answer: &mut Answer, line: &mut Line) {
+    if line.text(0) == "link" {
+        make_link(alloc, answer, line);
+    } else {
+        let owner = Owner::new(alloc, line.text(2), line.text(3));
+        if let Some(owner) = unless_bad(answer, owner) {
+            let rec = owned_record(line, owner);
+            push_made(alloc, answer, &rec);
+        }
+    }
+}
+
+/// `==` of two records in the explicit encoding.
+pub fn same(alloc: Global, answer: &mut Answer, first: &[u8], second: &[u8]) {
+    if let Some(first) = answer.kept(decode_full(alloc, first)) {
+        if let Some(second) = answer.kept(decode_full(alloc, second)) {
+            answer.holds(first == second);
+        }
+    }
+}
+
+/// `Owner::new` of a user and a group: a copy of it, and whether it is root.
+pub fn owner(alloc: Global, answer: &mut Answer, user: &str, group: &str) {
+    if let Some(owner) = unless_bad(answer, copy_of(Owner::new(alloc, user, group))) {
+        answer.text(owner.user());
+        answer.field(owner.group());
+        answer.holds(owner.is_root());
+    }
+}

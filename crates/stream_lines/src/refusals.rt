@@ -1,0 +1,121 @@
+//! Refusals as texts.
+use cny_report::cny_base::{Copies, Refusal, Text, What};
+use cny_report::refusal_text;
+use line_words::{Answer, Line};
+use std::alloc::Global;
+
+fn what_of(line: &mut Line, place: usize) -> What {
+    match line.text(place) {
+        "Input" => What::Input,
+        "Content" => What::Content,
+        "Local" => What::Local,
+        "Database" => What::Database,
+        "Config" => What::Config,
+        "Commits" => What::Commits,
+        "Count" => What::Count,
+        "Version" => What::Version,
+        "ChangeSet" => What::ChangeSet,
+        "Jobs" => What::Jobs,
+        "Message" => What::Message,
+        "Model" => What::Model,
+        _ => {
+            line.unreadable();
+            What::Input
+        }
+    }
+}
+
+// A refusal of numbers and names of contents; none for another word.
+fn plain(line: &mut Line) -> Option<Refusal> {
+    Some(match line.text(0) {
+        "Malformed" => Refusal::Malformed { at: line.number(1) },
+        "TooLarge" => Refusal::TooLarge {
+            what: what_of(line, 1),
+            size: line.number(2),
+        },
+        "MissingContent" => Refusal::MissingContent {
+            name: line.digest(1),
+        },
+        "Collision" => Refusal::Collision {
+            name: line.digest(1),
+            at: line.number(2),
+        },
+        "StackEmpty" => Refusal::StackEmpty,
+        "NoLabel" => Refusal::NoLabel,
+        "BadConfig" => Refusal::BadConfig {
+            line: line.small(1),
+        },
+        "NoJob" => Refusal::NoJob {
+            number: line.small(1),
+        },
+        "NoModel" => Refusal::NoModel,
+        "BadModel" => Refusal::BadModel {
+            line: line.small(1),
+        },
+        _ => return None,
+    })
+}
+
+// A refusal of a trove, a specification or a path.
+fn named(word: &str, text: Text) -> Option<Refusal> {
+    Some(match word {
+        "Exists" => Refusal::Exists { trove: text },
+        "MissingTrove" => Refusal::MissingTrove { spec: text },
+        "MissingBase" => Refusal::MissingBase { trove: text },
+        "MissingRef" => Refusal::MissingRef { name: text },
+        "NotInstalled" => Refusal::NotInstalled { name: text },
+        "Unowned" => Refusal::Unowned { path: text },
+        "Edited" => Refusal::Edited { path: text },
+        "Parent" => Refusal::Parent { path: text },
+        "Reserved" => Refusal::Reserved { path: text },
+        "SameLabel" => Refusal::SameLabel { label: text },
+        "NotBuilt" => Refusal::NotBuilt { word: text },
+        _ => return None,
+    })
+}
+
+// A text of its own; an empty one where memory runs out, which the answer remembers.
+fn owned(alloc: Global, answer: &mut Answer, text: &str) -> Text {
+    match Text::new(alloc, text) {
+        Ok(text) => text,
+        Err(_) => {
+            answer.memory();
+            Text::from_string(String::new(alloc))
+        }
+    }
+}
+
+// A refusal of several texts, or of one.
+fn of_texts(alloc: Global, answer: &mut Answer, line: &mut Line) -> Option<Refusal> {
+    let first = owned(alloc, answer, line.text(1));
+    match line.text(0) {
+        "Unmet" => Some(Refusal::Unmet {
+            name: first,
+            dep: owned(alloc, answer, line.text(2)),
+        }),
+        "Owned" => Some(Refusal::Owned {
+            path: first,
+            first: owned(alloc, answer, line.text(2)),
+            second: owned(alloc, answer, line.text(3)),
+        }),
+        word => named(word, first),
+    }
+}
+
+// `refusal_text` of a copy.
+fn push_copied(alloc: Global, answer: &mut Answer, refusal: &Refusal) {
+    if let Some(copy) = answer.kept(refusal.copy()) {
+        answer.made(refusal_text(alloc, &copy));
+    }
+}
+
+/// `refusal_text` of a copy of a refusal.
+pub fn text(alloc: Global, answer: &mut Answer, line: &mut Line) {
+    if let Some(refusal) = plain(line) {
+        push_copied(alloc, answer, &refusal);
+    } else if let Some(refusal) = of_texts(alloc, answer, line) {
+        push_copied(alloc, answer, &refusal);
+    } else {
+        line.unreadable();
+    }
+}

@@ -1,0 +1,88 @@
+//! Calls on change sets.
+ghost use Rattle.std.specs.Prelude.{◌≡◌, [], IfOk};
+ghost use Rattle.cny_report.specs.change-set.ChangeSet.{HasContents};
+
+use crate::again::{behind, push_compared, push_digest, push_lines};
+use cny_report::change_set::{CarriedList, ChangeSet, Parts, decode, encode};
+use cny_report::change_text;
+use cny_report::cny_base::{Bytes, Copies, Fault};
+use line_words::Answer;
+use std::alloc::Global;
+
+fn copied(alloc: Global, bytes: &[u8]) -> Result<ChangeSet, Fault>
+    ensures { IfOk result HasContents }
+{
+    Ok(decode(alloc, bytes)?.copy()?)
+}
+
+// The description of a change set.
+fn push_text(alloc: Global, answer: &mut Answer, set: &ChangeSet) {
+    answer.text("ok\t");
+    if let Some(text) = answer.kept(change_text(alloc, set)) {
+        push_lines(answer, text.get());
+    }
+}
+
+// How a change set is written again.
+fn push_again(answer: &mut Answer, again: &Bytes, wanted: &[u8]) {
+    let mut out = behind(answer, b"x");
+    answer.kept(out.push_slice(again.get()));
+    push_compared(answer, out.get(), wanted);
+}
+
+fn push_set(alloc: Global, answer: &mut Answer, set: &ChangeSet, bytes: &[u8])
+    requires { HasContents set.now }
+{
+    match encode(alloc, set) {
+        Ok(again) => {
+            push_text(alloc, answer, set);
+            push_again(answer, &again, bytes);
+        }
+        Err(fault) => answer.refused(&fault),
+    }
+}
+
+/// `decode` of bytes: the change set's description, and how a copy of it is written again; or the refusal.
+pub fn set(alloc: Global, answer: &mut Answer, bytes: &[u8]) {
+    match copied(alloc, bytes) {
+        Ok(set) => push_set(alloc, answer, &set, bytes),
+        Err(fault) => answer.refused(&fault),
+    }
+}
+
+// The parts of the change sets with these streams, without contents.
+fn parts_of(alloc: Global, streams: &[Bytes]) -> Result<ChangeSet, Fault>
+    ensures { IfOk result (λ set. set.contents ≡ []) }
+{
+    let mut parts = Vec::new(alloc);
+    for stream in streams {
+        for part in decode(alloc, stream.get())?.parts.into_vec() {
+            parts.push(part)?;
+        }
+    }
+    Ok(ChangeSet {
+        parts: Parts::new(parts),
+        contents: CarriedList::new(Vec::new(alloc)),
+    })
+}
+
+fn joined_bytes(alloc: Global, streams: &[Bytes]) -> Result<Bytes, Fault> {
+    let set = parts_of(alloc, streams)?;
+    encode(alloc, &set)
+}
+
+/// `encode` of the parts of change sets: the digest of the stream, or the refusal.
+pub fn joined(alloc: Global, answer: &mut Answer, streams: &[Bytes]) {
+    match joined_bytes(alloc, streams) {
+        Ok(bytes) => push_digest(answer, bytes.get()),
+        Err(fault) => answer.refused(&fault),
+    }
+}
+
+/// `ok`, or the text of the refusal of these bytes.
+pub fn read(alloc: Global, answer: &mut Answer, bytes: &[u8]) {
+    match decode(alloc, bytes) {
+        Ok(_) => answer.text("ok"),
+        Err(fault) => answer.refused(&fault),
+    }
+}

@@ -1,6 +1,0 @@
-use Rattle.std.proofs.Common.{All, take}
-use Rattle.cny_report.specs.trove-parts.Files.{FitsFile}
-use Rattle.stream_vectors.proofs.records.have_spellings.Given as goal
-
-abbrev pub invariant-loop-file : goal.invariant-loop-file
-invariant-loop-file l = All FitsFile (take l.file-index l.files)

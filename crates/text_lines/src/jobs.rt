@@ -1,0 +1,129 @@
+//! Calls on the texts of jobs and of verifications.
+use crate::troves::told;
+use cny_report::cny_base::Path;
+use cny_report::trove_parts::TroveId;
+use cny_report::{Note, changes_text, rolled_back_text, undos_text, verified_text};
+use line_words::{Answer, Line};
+use tree_scan::{Finding, Findings, Found, Verified};
+use update_job::{Change, Changes};
+
+// The change that a part tells: `+`, `~` or `-`, and the text of an id.
+fn change_of(line: &mut Line, raw: &str) -> Option<Change> {
+    if let Some(id) = raw.strip_prefix('+') {
+        return Some(Change::Installed(line.part(id)?));
+    }
+    if let Some(id) = raw.strip_prefix('~') {
+        return Some(Change::Updated(line.part(id)?));
+    }
+    match raw.strip_prefix('-') {
+        Some(id) => Some(Change::Erased(line.part(id)?)),
+        None => {
+            line.unreadable();
+            None
+        }
+    }
+}
+
+fn push_change(line: &mut Line, changes: &mut Vec<Change>, raw: &str) {
+    if let Some(change) = change_of(line, raw) {
+        line.kept(changes.push(change));
+    }
+}
+
+/// `changes_text` of changes.
+pub fn changes(line: &mut Line, answer: &mut Answer) {
+    let mut changes = Vec::new(line.alloc());
+    for place in 0..line.len() {
+        let raw = line.raw(place);
+        push_change(line, &mut changes, raw);
+    }
+    told(changes_text(answer.alloc(), changes.as_slice()), answer);
+}
+
+// The changes of a list.
+fn changes_of(line: &mut Line, raw: &str) -> Changes {
+    let mut changes = Vec::new(line.alloc());
+    if !raw.is_empty() {
+        for part in raw.split(';') {
+            push_change(line, &mut changes, part);
+        }
+    }
+    Changes::new(changes)
+}
+
+// The job that a part tells: its number, how many paths it changed and its changes, with a bar between two.
+fn note_of(line: &mut Line, raw: &str) -> Option<Note> {
+    let (number, rest) = raw.split_once('|')?;
+    let (paths, changes) = rest.split_once('|')?;
+    Some(Note {
+        number: line.part(number)?,
+        paths: line.part(paths)?,
+        changes: changes_of(line, changes),
+    })
+}
+
+fn push_note(line: &mut Line, notes: &mut Vec<Note>, raw: &str) {
+    match note_of(line, raw) {
+        Some(note) => {
+            line.kept(notes.push(note));
+        }
+        None => line.unreadable(),
+    }
+}
+
+/// `undos_text` of jobs.
+pub fn undos(line: &mut Line, answer: &mut Answer) {
+    let mut notes = Vec::new(line.alloc());
+    for place in 0..line.len() {
+        let raw = line.raw(place);
+        push_note(line, &mut notes, raw);
+    }
+    told(undos_text(answer.alloc(), notes.as_slice()), answer);
+}
+
+/// `rolled_back_text` of a number and how many jobs were rolled back.
+pub fn rolled_back(newest: u32, count: u32, answer: &mut Answer) {
+    if count > newest {
+        return answer.unreadable();
+    }
+    told(rolled_back_text(answer.alloc(), newest, count), answer);
+}
+
+fn found_of(line: &mut Line, word: &str) -> Option<Found> {
+    match word {
+        "missing" => Some(Found::Missing),
+        "changed" => Some(Found::Changed),
+        digits => Some(Found::Bytes(line.part(digits)?)),
+    }
+}
+
+// What a part tells: `missing`, `changed` or in how many bytes, a space, and the path.
+fn finding_of(line: &mut Line, raw: &str) -> Option<Finding> {
+    let (word, path) = raw.split_once(' ')?;
+    let path: Path = line.part(path)?;
+    let what = found_of(line, word)?;
+    Some(Finding { what, path })
+}
+
+fn push_finding(line: &mut Line, findings: &mut Vec<Finding>, raw: &str) {
+    match finding_of(line, raw) {
+        Some(finding) => {
+            line.kept(findings.push(finding));
+        }
+        None => line.unreadable(),
+    }
+}
+
+/// `verified_text` of how many paths were looked at, and of findings.
+pub fn verified(line: &mut Line, answer: &mut Answer) {
+    let mut findings = Vec::new(line.alloc());
+    for place in 1..line.len() {
+        let raw = line.raw(place);
+        push_finding(line, &mut findings, raw);
+    }
+    let verified = Verified {
+        paths: line.number(0),
+        lines: Findings::new(findings),
+    };
+    told(verified_text(answer.alloc(), &verified), answer);
+}
