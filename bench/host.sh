@@ -8,9 +8,7 @@
 # memory of the program, where GNU time is there.
 # Usage: bench/host.sh [COUNT...]
 set -eu
-top=$(cd "$(dirname "$0")/.." && pwd)
-work=$(mktemp -d)
-trap 'rm -rf "$work"' EXIT
+. "$(dirname "$0")/lib.sh"
 
 # A manifest with so many files of 100 bytes, 100 files in a directory.
 manifest() {

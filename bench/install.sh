@@ -2,9 +2,7 @@
 # Times `install` of manifests of 1,000 to 5,000 files of 100 bytes each on the trees in memory, and prints a line for each.
 # Usage: bench/install.sh [COUNT...]
 set -eu
-top=$(cd "$(dirname "$0")/.." && pwd)
-work=$(mktemp -d)
-trap 'rm -rf "$work"' EXIT
+. "$(dirname "$0")/lib.sh"
 
 # A manifest with so many files of 100 bytes, 100 files in a directory.
 manifest() {

@@ -1,17 +1,35 @@
-# What the benches share that build a program in a folder of their own. They read this file with `.`; by itself it does nothing.
+# What the benches share. They read this file with `.`; it sets $top, the repository, and $work, a folder that goes at their end.
+# The programs that they build stand in bench/programs, as files that the gate doesn't read.
+top=$(CDPATH='' cd "$(dirname "$0")/.." && pwd)
+work=$(mktemp -d)
+trap 'rm -rf "$work"' EXIT
 
-# copy_crates TOP WORK NAME LINE: makes the folder WORK a repository of the program NAME and of the crates that it stands on, copied
-# from the repository TOP without their must-fail edits. LINE is what follows the name in the program's line of crates.txt. It names
-# the crates that the program's code names; those below them are found in TOP's crates.txt. The bench writes the program's sources.
-copy_crates() {
-    mkdir -p "$2/crates/$3/src"
-    . "$1/tools/needed_lines.sh"
-    needed_lines "$1/crates.txt" "$4" >"$2/crates.txt"
-    for crate in $(cut -d: -f1 "$2/crates.txt"); do
-        mkdir "$2/crates/$crate"
+# copy_program NAME LINE: makes the folder $work a repository of the program NAME and of the crates that it stands on, copied without
+# their must-fail edits. LINE is what follows the name in the program's line of crates.txt. It names the crates that the program's
+# code names; those below them are found in the repository's crates.txt.
+copy_program() {
+    mkdir -p "$work/crates/$1/src"
+    . "$top/tools/needed_lines.sh"
+    needed_lines "$top/crates.txt" "$2" >"$work/crates.txt"
+    for crate in $(cut -d: -f1 "$work/crates.txt"); do
+        mkdir "$work/crates/$crate"
         for part in src specs proofs; do
-            [ ! -d "$1/crates/$crate/$part" ] || cp -r "$1/crates/$crate/$part" "$2/crates/$crate/"
+            [ ! -d "$top/crates/$crate/$part" ] || cp -r "$top/crates/$crate/$part" "$work/crates/$crate/"
         done
     done
-    echo "$3 $4" >>"$2/crates.txt"
+    echo "$1 $2" >>"$work/crates.txt"
+    for file in "$top/bench/programs/$1"/*.rattle; do
+        cp "$file" "$work/crates/$1/src/$(basename "$file" .rattle).rt"
+    done
+}
+
+# build_program NAME: proves and builds it, with what isn't proved yet on this machine, and goes to its folder, where it is out/NAME.
+# It is run once by that, on the file stdin in its folder where there is one.
+build_program() {
+    cd "$work/crates/$1"
+    [ -f stdin ] || : >stdin
+    if ! rt run <stdin >"$work/build.log" 2>&1; then
+        tail -5 "$work/build.log" >&2
+        exit 70
+    fi
 }
