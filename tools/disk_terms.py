@@ -67,13 +67,13 @@ def contents(data):
     return data.hex() if len(data) <= 40 else f"{len(data)}:{hashlib.sha1(data).hexdigest()}"
 
 
-def shown(node):
-    """A node in an answer, or that nothing stands."""
+def shown(node, told=contents):
+    """A node in an answer, or that nothing stands; its bytes as they are told."""
     if node is None:
         return "nothing"
     if node[0] == "link":
         return "link " + node[1].decode()
-    return f"{node[0]} {node[1]:04o}" + (f" {contents(node[2])}" if node[0] == "file" else "")
+    return f"{node[0]} {node[1]:04o}" + (f" {told(node[2])}" if node[0] == "file" else "")
 
 
 def level_order(nodes):
@@ -81,5 +81,5 @@ def level_order(nodes):
     return sorted((path for path in nodes if path != b"/"), key=lambda path: (path.count(b"/"), path.split(b"/")))
 
 
-def shown_tree(nodes):
-    return "".join(f";{shown(nodes[path])} {path.decode()}" for path in level_order(nodes))
+def shown_tree(nodes, told=contents):
+    return "".join(f";{shown(nodes[path], told)} {path.decode()}" for path in level_order(nodes))

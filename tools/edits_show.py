@@ -1,5 +1,5 @@
 #!/usr/bin/env python3
-"""Says which edits of a crate a vectors program shows: the must-fail edits, and those of edits/, which the gate doesn't try.
+"""Says which edits of a crate a program of lines shows: the must-fail edits, and those of edits/, which the gate doesn't try.
 
 An edit is a wrong body that the check has to refuse. Here each is applied to a copy of the crates, the program is
 run there on its `stdin`, by `rt try`, which proves nothing, and what it writes is compared with its `stdout`. A line is

@@ -5,9 +5,9 @@ worked out by hand, its wanted answer stands beside it, and the model is held ag
 
 A tree is a map from paths to nodes, as in the model; a write set is a list of pairs of a path and what is to stand there.
 """
+import disk_terms
 from disk_cases import Draws
 from disk_model import DIR, Damaged, Failed, Journal, Refused, Tree, is_of, parent_of
-from disk_terms import level_order
 
 BASE = b"/var/lib/conarydb"
 JOURNAL = Journal(BASE)
@@ -88,17 +88,18 @@ def tree_of(text):
     return {b"/": DIR, **dict(puts_of(text))}
 
 
+def digits(data):
+    """The bytes of a file in a worked case, however many they are."""
+    return data.hex() or "-"
+
+
 def shown_node(node):
     """A node as in the worked cases."""
-    if node is None:
-        return "nothing"
-    if node[0] == "link":
-        return "link " + node[1].decode()
-    return f"{node[0]} {node[1]:04o}" + (f" {node[2].hex() or '-'}" if node[0] == "file" else "")
+    return disk_terms.shown(node, digits)
 
 
 def shown_tree(nodes):
-    return "".join(f";{shown_node(nodes[path])} {path.decode()}" for path in level_order(nodes))
+    return disk_terms.shown_tree(nodes, digits)
 
 
 # ---- runs
