@@ -5,11 +5,12 @@ ghost use Rattle.cny_flow.specs.Flow.{sink_state, HasCause, GiveAppends, faults_
 
 use crate::fault::FlowFault;
 use crate::flow::Sink;
-use std::io::Write;
+use std::io::{ErrorKind, Write};
 use std::marker::Model;
 
-/// A writer of std, with a count of its errors, each of which is a fault. A write that takes nothing of a
-/// piece that isn't empty counts as an error. It tells what the writer tells, and never flushes it.
+/// A writer of std, with a count of its errors, each of which is a fault, but that a signal interrupts a write: it is made again
+/// then. A write that takes nothing of a piece that isn't empty counts as an error. It tells what the writer tells, and never
+/// flushes it.
 #[derive(Drop)]
 pub struct StdSink<W> {
     writer: W,
@@ -58,13 +59,18 @@ impl<W: Write> Sink for StdSink<W> {
     }
 }
 
-// Writes some first part of the bytes, and answers how many: 0 after an error.
+// Writes some first part of the bytes, and answers how many: 0 after an error. A write that a signal interrupts has written
+// nothing, and is made again.
 fn write_part<W: Write>(writer: &mut W, bytes: &[u8]) -> usize
     ensures bound { result ≤ length bytes.now }
     ensures written { Appends (W.contents writer.old) (W.contents writer.new) (take result bytes.now) }
 {
-    match writer.write(bytes) {
-        Ok(count) => count,
-        Err(_) => 0,
+    for _ in 0..u64::MAX {
+        match writer.write(bytes) {
+            Ok(count) => return count,
+            Err(e) if e.kind() == ErrorKind::Interrupted => {}
+            Err(_) => break,
+        }
     }
+    0
 }

@@ -6,13 +6,14 @@ ghost use Rattle.cny_flow.specs.Flow.{source_state, HasCause, KeepsRest, faults_
 
 use crate::fault::FlowFault;
 use crate::flow::Source;
-use std::io::Read;
+use std::io::{Error, ErrorKind, Read};
 use std::marker::Model;
 
 /// The most bytes that are read at once.
-const PIECE: usize = 4096;
+const PIECE: usize = 65_536;
 
-/// A reader of std, with a count of its errors, each of which is a fault. It tells what the reader tells.
+/// A reader of std, with a count of its errors, each of which is a fault, but that a signal interrupts a read: it is made again then.
+/// It tells what the reader tells.
 #[derive(Drop)]
 pub struct StdSource<R> {
     reader: R,
@@ -53,7 +54,7 @@ impl<R: Read> Source for StdSource<R> {
         // A reader may write anywhere in the buffer that it is lent, so it isn't lent the caller's.
         let mut piece = [0; PIECE];
         let room = buf.len().min(piece.len());
-        match self.reader.read(&mut piece[..room]) {
+        match read_some(&mut self.reader, &mut piece[..room]) {
             Ok(count) => {
                 buf[..count].copy_from_slice(&piece[..count]);
                 Ok(count)
@@ -64,4 +65,19 @@ impl<R: Read> Source for StdSource<R> {
             }
         }
     }
+}
+
+// Reads some bytes. A read that a signal interrupts has read nothing, and is made again.
+fn read_some<R: Read>(reader: &mut R, buf: &mut [u8]) -> Result<usize, Error>
+    ensures bound { ReadsAtMost result buf.new }
+    ensures moved { ReadConsumes (R.remaining reader.old) (R.remaining reader.new) result buf.new }
+{
+    for _ in 0..u64::MAX {
+        match reader.read(buf) {
+            Ok(count) => return Ok(count),
+            Err(e) if e.kind() == ErrorKind::Interrupted => {}
+            Err(e) => return Err(e),
+        }
+    }
+    Err(Error::from(ErrorKind::Interrupted))
 }

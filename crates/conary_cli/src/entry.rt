@@ -49,7 +49,8 @@ fn start_words(rt: &HostRuntime) -> Result<u8, OutOfMemory>
     }
 }
 
-// Runs words over two directories of the host. That of the repository is changed by commits alone, each through the journal.
+// Runs words over two directories of the host, each of which no other call has meanwhile: all calls of one that is in use fail. The
+// root is asked for last and used first, so of a directory that is given twice nothing is touched.
 fn run_on_host(
     rt: &HostRuntime,
     words: &[String],
@@ -59,8 +60,8 @@ fn run_on_host(
     ensures { IfOk result (λ status. status ≤ 8) }
 {
     let alloc = rt.alloc();
-    let mut repo = HostTree::journaled(alloc, rt, Text::new(alloc, repo)?);
-    let mut root = HostTree::new(alloc, rt, Text::new(alloc, root)?);
+    let mut repo = HostTree::locked(alloc, rt, Text::new(alloc, repo)?);
+    let mut root = HostTree::locked(alloc, rt, Text::new(alloc, root)?);
     Ok(run_over(rt, words, &mut repo, &mut root))
 }
 

@@ -1,23 +1,21 @@
-// What stands in a directory of the host, and how it is opened. Each path is looked at name by name, and none is reached through
-// a link but the directory itself.
-ghost use Rattle.std.specs.Prelude.{◌≤◌, length, IfOk};
-
+// What stands in a directory of the host. Each path is reached name by name, and none through a link but the directory itself.
+use crate::known::{Known, Standing};
+use crate::names::{above, above_at};
+use crate::open_files::OpenFiles;
 use crate::stop::HostStop;
+use crate::waiting::Waiting;
 use std::alloc::Global;
-use std::fs::{self, Files, Metadata, OpenFile};
-use std::io::{Error, ErrorKind, Read, Seek, SeekFrom};
-use std::os::unix::fs::PermissionsExt;
+use std::fs::{self, Files, Metadata};
+use std::io::{Error, ErrorKind};
+use std::os::unix::fs::{MetadataExt, PermissionsExt};
 use tree_disk::Look;
 use tree_disk::cny_base::{Mode, OutOfMemory, Path, Target, Text};
-
-// No path has more names.
-const MOST_NAMES: usize = 1_024;
 
 // The bits of a mode that say who may do what.
 const PERMISSION_BITS: u32 = 0o7777;
 
-/// What stands at a path of the host.
-#[derive(Drop)]
+/// What was seen at a path of the host.
+#[derive(Clone, Copy, Debug)]
 pub(crate) enum Seen {
     Nothing,
     Dir { mode: Mode },
@@ -25,18 +23,45 @@ pub(crate) enum Seen {
     Link,
 }
 
-/// A directory of the host.
+impl Seen {
+    // What stands there. Of a file or a link that was there before, nobody knows how many names it has.
+    fn standing(&self) -> Standing {
+        match self {
+            Seen::Nothing => Standing::Nothing,
+            Seen::Dir { .. } => Standing::dir(),
+            Seen::File { .. } => Standing::File { is_own: false },
+            Seen::Link => Standing::Link { is_own: false },
+        }
+    }
+}
+
+// What was seen by the last look, and not changed since.
 #[derive(Drop)]
-pub(crate) struct Host<'a, R> {
+struct LastSeen {
+    path: String,
+    seen: Seen,
+}
+
+/// A directory of the host, with what is known of it, what a sync has to wait for, and the files that are open.
+#[derive(Drop)]
+pub(crate) struct Host<'a, R: Files> {
     pub(crate) rt: &'a R,
-    pub(crate) dir: Text,
+    // No directory can be reached where there is none, or where it has no name.
+    dir: Option<Text>,
+    // The file system of the directory, once it was seen.
+    device: Option<u64>,
+    pub(crate) known: Known,
+    pub(crate) waiting: Waiting,
+    pub(crate) open: OpenFiles<R::File>,
+    last: Option<LastSeen>,
 }
 
 fn is_missing(error: &Error) -> bool {
     matches!(error.kind(), ErrorKind::NotFound | ErrorKind::NotADirectory)
 }
 
-fn mode_of(metadata: &Metadata) -> Result<Mode, HostStop> {
+/// The bits of a mode.
+pub(crate) fn mode_of(metadata: &Metadata) -> Result<Mode, HostStop> {
     let bits = metadata.permissions().mode() & PERMISSION_BITS;
     Mode::new(bits as u16).ok_or(HostStop::Failed)
 }
@@ -57,91 +82,152 @@ fn seen_of(metadata: &Metadata) -> Result<Seen, HostStop> {
     Err(HostStop::Failed)
 }
 
-// Fills the buffer as far as the reader gives bytes.
-fn fill<R: Read>(reader: &mut R, buf: &mut [u8]) -> Result<usize, HostStop>
-    ensures most { IfOk result (λ count. count ≤ length buf.old) }
-{
-    let mut count = 0;
-    for _ in 0..u64::MAX {
-        if count >= buf.len() {
-            break;
-        }
-        match reader.read(&mut buf[count..]) {
-            Ok(0) => break,
-            Ok(more) => count += more,
-            Err(e) if e.kind() == ErrorKind::Interrupted => {}
-            Err(_) => return Err(HostStop::Failed),
+impl<'a, R: Files> Host<'a, R> {
+    /// The directory of this name; no directory where there is none.
+    pub(crate) fn new(alloc: Global, rt: &'a R, dir: Option<Text>) -> Self {
+        Host {
+            rt,
+            dir,
+            device: None,
+            known: Known::new(alloc),
+            waiting: Waiting::new(alloc),
+            open: OpenFiles::new(alloc),
+            last: None,
         }
     }
-    Ok(count)
-}
 
-impl<R: Files> Host<'_, R> {
-    /// The host's name of a path. A directory without a name has none, so that it can't stand for the host's own root.
-    pub(crate) fn place(&self, alloc: Global, path: &Path) -> Result<String, HostStop> {
-        let dir = self.dir.get();
-        if dir.is_empty() {
-            return Err(HostStop::Failed);
+    // The name of the directory. One without a name has none, so that it can't stand for the host's own root.
+    fn dir(&self) -> Result<&str, HostStop> {
+        match &self.dir {
+            Some(dir) if !dir.get().is_empty() => Ok(dir.get()),
+            _ => Err(HostStop::Failed),
         }
-        let mut place = String::from_str(alloc, dir)?;
-        place.push_str(path.text())?;
+    }
+
+    /// Fails where no directory can be reached.
+    pub(crate) fn require_dir(&self) -> Result<(), HostStop> {
+        self.dir()?;
+        Ok(())
+    }
+
+    /// The host's name of a path.
+    pub(crate) fn place(&self, alloc: Global, path: &str) -> Result<String, HostStop> {
+        let mut place = String::from_str(alloc, self.dir()?)?;
+        place.push_str(path)?;
         Ok(place)
     }
 
     // What stands at a path itself, whatever is above it. The slash behind the directory leads through a link in its place.
-    fn seen_at(&self, alloc: Global, path: &Path) -> Result<Seen, HostStop> {
+    fn seen_at(&mut self, alloc: Global, path: &str) -> Result<Seen, HostStop> {
         let place = self.place(alloc, path)?;
         match fs::symlink_metadata(self.rt, place.as_str()) {
-            Ok(metadata) => seen_of(&metadata),
+            Ok(metadata) => self.admitted(&metadata),
             Err(e) if is_missing(&e) => Ok(Seen::Nothing),
             Err(_) => Err(HostStop::Failed),
         }
     }
 
-    fn is_dir_at(&self, alloc: Global, path: &Path) -> Result<bool, HostStop> {
-        Ok(matches!(self.seen_at(alloc, path)?, Seen::Dir { .. }))
+    // What was seen, where it is no directory of another file system: no rename leads there, and that would show only when a
+    // write set is half made. The first directory that is seen is the one in which all others are.
+    fn admitted(&mut self, metadata: &Metadata) -> Result<Seen, HostStop> {
+        let seen = seen_of(metadata)?;
+        if metadata.is_dir() {
+            let device = *self.device.get_or_insert(metadata.dev());
+            if device != metadata.dev() {
+                return Err(HostStop::Failed);
+            }
+        }
+        Ok(seen)
     }
 
-    // Whether all names above the path are directories.
-    fn is_below_dirs(&self, alloc: Global, path: &Path) -> Result<bool, HostStop> {
-        let mut above = path.parent_path(alloc)?;
-        for _ in 0..MOST_NAMES {
-            let Some(dir) = above else {
-                return Ok(true);
+    // What stands at a path above others, which is remembered.
+    fn standing_above(&mut self, alloc: Global, path: &str) -> Result<Standing, HostStop> {
+        if let Some(standing) = self.known.get(path) {
+            return Ok(standing);
+        }
+        let standing = self.seen_at(alloc, path)?.standing();
+        self.known.learn(alloc, path, standing)?;
+        Ok(standing)
+    }
+
+    // Whether all names above a path are directories, looked at from `/` down.
+    fn is_way_open(&mut self, alloc: Global, path: &str) -> Result<bool, HostStop> {
+        for at in 0..path.len() {
+            let Some(dir) = above_at(path, at) else {
+                continue;
             };
-            if !self.is_dir_at(alloc, &dir)? {
+            if !self.standing_above(alloc, dir)?.is_dir() {
                 return Ok(false);
             }
-            above = dir.parent_path(alloc)?;
         }
-        Err(HostStop::Failed)
+        Ok(true)
+    }
+
+    /// Whether all names above a path are directories. They are looked at only as far as it isn't known of the last.
+    pub(crate) fn is_below_dirs(&mut self, alloc: Global, path: &str) -> Result<bool, HostStop> {
+        match above(path) {
+            Some(dir) if !self.known.is_dir(dir) => self.is_way_open(alloc, path),
+            _ => Ok(true),
+        }
+    }
+
+    // What was seen at the path by the last look, where nothing has changed since.
+    fn last_seen(&self, path: &str) -> Option<Seen> {
+        match &self.last {
+            Some(last) if last.path.as_str() == path => Some(last.seen),
+            _ => None,
+        }
+    }
+
+    /// Something changes: what the last look saw may not stand any more.
+    pub(crate) fn forget_last(&mut self) {
+        self.last = None;
     }
 
     /// What stands at a path; nothing where a name above it isn't a directory.
-    pub(crate) fn seen(&self, alloc: Global, path: &Path) -> Result<Seen, HostStop> {
-        if !self.is_below_dirs(alloc, path)? {
+    pub(crate) fn seen(&mut self, alloc: Global, path: &str) -> Result<Seen, HostStop> {
+        if let Some(seen) = self.last_seen(path) {
+            return Ok(seen);
+        }
+        if !self.is_below_dirs(alloc, path)? || self.known.is_nothing(path) {
             return Ok(Seen::Nothing);
         }
-        self.seen_at(alloc, path)
+        self.look_again(alloc, path)
     }
 
-    /// What stands at a path whose parent is a directory; a failure where it is none.
-    pub(crate) fn seen_in_dir(&self, alloc: Global, path: &Path) -> Result<Seen, HostStop> {
-        if !self.is_below_dirs(alloc, path)? {
-            return Err(HostStop::Failed);
+    // What stands at a path below directories, looked at and remembered. Files and links that were there before are too many
+    // for that.
+    fn look_again(&mut self, alloc: Global, path: &str) -> Result<Seen, HostStop> {
+        let name = String::from_str(alloc, path)?;
+        let seen = self.seen_at(alloc, path)?;
+        let standing = seen.standing();
+        if standing.is_nothing() || standing.is_dir() {
+            self.known.learn(alloc, path, standing)?;
         }
-        self.seen_at(alloc, path)
+        self.last = Some(LastSeen { path: name, seen });
+        Ok(seen)
     }
 
-    fn target_at(&self, alloc: Global, path: &Path) -> Result<Target, HostStop> {
+    /// What stands at a path, as far as its kind is asked for.
+    pub(crate) fn standing(&mut self, alloc: Global, path: &str) -> Result<Standing, HostStop> {
+        match self.known.get(path) {
+            Some(standing) => Ok(standing),
+            None => Ok(self.seen(alloc, path)?.standing()),
+        }
+    }
+
+    fn target_at(&self, alloc: Global, path: &str) -> Result<Target, HostStop> {
         let place = self.place(alloc, path)?;
         let target = self.rt.read_link(alloc, place.as_str())?;
         Ok(Target::read(alloc, target.as_str())?)
     }
 
     /// What stands at a path, with a link's target.
-    pub(crate) fn look(&self, alloc: Global, path: &Path) -> Result<Look, HostStop> {
-        Ok(match self.seen(alloc, path)? {
+    pub(crate) fn look(&mut self, alloc: Global, path: &Path) -> Result<Look, HostStop> {
+        let path = path.text();
+        let seen = self.seen(alloc, path)?;
+        self.note_seen(alloc, path, seen.standing())?;
+        Ok(match seen {
             Seen::Nothing => Look::Nothing,
             Seen::Dir { mode } => Look::Dir { mode },
             Seen::File { mode, size } => Look::File { mode, size },
@@ -151,37 +237,61 @@ impl<R: Files> Host<'_, R> {
         })
     }
 
-    /// Fills the buffer from a place in a file on, up to the file's end.
-    pub(crate) fn read_at(
-        &self,
+    /// A sync waits for what an earlier process may have left unsynced at a path that was looked at, and on which the program
+    /// relies. Before the first sync that is all that stands there; behind it, where nothing stands, the directory that may have
+    /// lost the name (`docs/CRASH_SAFETY.md`, *What a killed process leaves*).
+    pub(crate) fn note_seen(
+        &mut self,
         alloc: Global,
-        path: &Path,
-        at: u64,
-        buf: &mut [u8],
-    ) -> Result<usize, HostStop>
-        ensures most { IfOk result (λ count. count ≤ length buf.old) }
-    {
-        let Seen::File { size, .. } = self.seen(alloc, path)? else {
-            return Err(HostStop::Failed);
-        };
-        if at >= size {
-            return Ok(0);
+        path: &str,
+        standing: Standing,
+    ) -> Result<(), OutOfMemory> {
+        match standing {
+            Standing::Nothing => self.note_above(alloc, path),
+            _ if self.waiting.was_synced() => Ok(()),
+            Standing::Link { .. } => self.note_above(alloc, path),
+            Standing::Dir { .. } | Standing::File { .. } => {
+                self.known.learn(alloc, path, standing)?;
+                self.note(alloc, path)
+            }
         }
-        let place = self.place(alloc, path)?;
-        let mut file = fs::open(self.rt, place.as_str())?;
-        file.seek(SeekFrom::Start(at))?;
-        fill(&mut file, buf)
     }
 
-    /// Waits until what stands at a path is kept: a file's bytes and mode, a directory's names and mode. What a link is, its
-    /// directory keeps.
-    pub(crate) fn sync_at(&self, alloc: Global, path: &Path) -> Result<(), HostStop> {
-        match self.seen(alloc, path)? {
-            Seen::Dir { .. } | Seen::File { .. } => {
-                let place = self.place(alloc, path)?;
-                Ok(fs::open(self.rt, place.as_str())?.sync_all()?)
-            }
-            Seen::Nothing | Seen::Link => Ok(()),
+    /// A sync waits for what stands at a path, where none has waited for it yet.
+    pub(crate) fn note(&mut self, alloc: Global, path: &str) -> Result<(), OutOfMemory> {
+        self.note_above(alloc, path)?;
+        if self.known.is_synced_dir(path) {
+            return Ok(());
         }
+        self.waiting.add(alloc, path)
+    }
+
+    // Whether a sync has waited for a directory, or the next one will; then it is the same of all above it.
+    fn is_noted(&self, path: &str) -> bool {
+        self.known.is_synced_dir(path) || self.waiting.has(path)
+    }
+
+    /// A sync waits for each directory above a path for which none has waited yet: an earlier process may have made it.
+    pub(crate) fn note_above(&mut self, alloc: Global, path: &str) -> Result<(), OutOfMemory> {
+        match above(path) {
+            Some(dir) if !self.is_noted(dir) => self.note_way(alloc, path),
+            _ => Ok(()),
+        }
+    }
+
+    // From `/` down, as far as there may be directories.
+    fn note_way(&mut self, alloc: Global, path: &str) -> Result<(), OutOfMemory> {
+        for at in 0..path.len() {
+            let Some(dir) = above_at(path, at) else {
+                continue;
+            };
+            if self.known.is_no_dir(dir) {
+                break;
+            }
+            if !self.is_noted(dir) {
+                self.waiting.add(alloc, dir)?;
+            }
+        }
+        Ok(())
     }
 }

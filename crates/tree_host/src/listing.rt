@@ -3,7 +3,7 @@ ghost use Rattle.std.specs.Prelude.{IfOk, IsTrue, All};
 ghost use Rattle.tree_disk.specs.cny-base.Path.{is_path, join};
 ghost use Rattle.tree_disk.specs.Disk.{NamesOf};
 
-use crate::host::{Host, Seen};
+use crate::host::Host;
 use crate::stop::HostStop;
 use std::alloc::Global;
 use std::fs::Files;
@@ -57,16 +57,23 @@ fn joined(alloc: Global, dir: &Path, names: Vec<String>) -> Result<Names, HostSt
 
 impl<R: Files> Host<'_, R> {
     /// The names of what stands in a directory, in the order of their bytes.
-    pub(crate) fn list(&self, alloc: Global, path: &Path) -> Result<Names, HostStop>
+    pub(crate) fn list(&mut self, alloc: Global, path: &Path) -> Result<Names, HostStop>
         ensures { IfOk result (NamesOf path.now) }
     {
-        let Seen::Dir { .. } = self.seen(alloc, path)? else {
-            return Err(HostStop::Failed);
-        };
-        let place = self.place(alloc, path)?;
-        let bytes = read_names(alloc, &mut self.rt.open_dir(place.as_str())?)?;
+        let bytes = self.name_bytes(alloc, path.text())?;
         let mut names = names_in(alloc, bytes.as_slice())?;
         names.sort()?;
         joined(alloc, path, names)
+    }
+
+    // The names in a directory, as the host gives them. A sync waits for it, where none has: an earlier process may have left a
+    // name unsynced that is missing.
+    fn name_bytes(&mut self, alloc: Global, path: &str) -> Result<Vec<u8>, HostStop> {
+        if !self.standing(alloc, path)?.is_dir() {
+            return Err(HostStop::Failed);
+        }
+        self.note(alloc, path)?;
+        let place = self.place(alloc, path)?;
+        read_names(alloc, &mut self.rt.open_dir(place.as_str())?)
     }
 }

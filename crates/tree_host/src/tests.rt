@@ -77,44 +77,58 @@ look /m|-";
 // `waits` tells how many names the next sync waits for.
 const WAITS: &str = "\
 dir /d 0755|o
+waits /|2
 append /d/f x|o
+waits /|3
 link /d/l f|o
-waits /|4
+waits /|3
 sync /|o
 waits /|0
 read /d/f 0|x
 look /d/l|l:f
-waits /|4
+waits /|0
 sync /|o
 waits /|0";
 
-const WAITS_JOURNALED: &str = "\
-look /d/f|f0600:1
+// The same for a further tree over the directory that was left so: before its first sync it waits for all that it looks at.
+const WAITS_AGAIN: &str = "\
 look /d/l|l:f
-waits /|4
+waits /|2
+look /d/f|f0600:1
+waits /|3
 sync /|o
 look /d/f|f0600:1
 read /d/f 0|x
 look /d/l|l:f
-waits /|0
 look /d|d0755
-waits /|2
 look /d/none|-
 list /d|f,l,
-waits /|3
+waits /|0
+dir /e 0755|o
+waits /|2
+sync /|o
 append /d/f y|o
-waits /|4
-rename /d/f /d/g|o
-waits /|5
+waits /|2
+mode /d/f 0644|o
+waits /|2
+rename /d/f /e/g|o
+waits /|3
+remove /d/l|o
+waits /|3
 sync /|o
 waits /|0";
 
 const OTHERS: &str = "\
-append /f bytes|o
+outside /f|o
 outside /f /g|o
+append /f bytes|o
+read /g 0|bytes
+append /f more|o
+read /g 5|more
 rename /f /g|o
 look /f|-
-read /g 0|bytes
+list /|g,
+read /g 0|bytesmor
 outside /h\u{9}x|o
 list /|F
 sync /|o
@@ -260,7 +274,7 @@ fn outside(rt: &HostRuntime, dir: &str, path: &str, word: &str) -> Result<String
 // How many names the next sync waits for.
 fn waits(alloc: Global, disk: &Tree<'_>) -> Result<String, Fail> {
     let mut text = String::new(alloc);
-    write!(text, "{}", disk.touched.paths.len())?;
+    write!(text, "{}", disk.host.waiting.count())?;
     Ok(text)
 }
 
@@ -342,9 +356,9 @@ fn what_a_sync_waits_for(rt: HostRuntime) -> Result<(), Fail> {
     let dir = new_dir(&rt, "waits")?;
     assert_eq!(rt; first_wrong(&rt, dir.as_str(), WAITS)?, "");
     let text = Text::new(rt.alloc(), dir.as_str())?;
-    let mut disk = HostTree::journaled(rt.alloc(), &rt, text);
+    let mut disk = HostTree::new(rt.alloc(), &rt, text);
     assert_eq!(rt;
-        first_wrong_over(&rt, &mut disk, dir.as_str(), WAITS_JOURNALED)?,
+        first_wrong_over(&rt, &mut disk, dir.as_str(), WAITS_AGAIN)?,
         ""
     );
     fs::remove_dir_all(&rt, dir.as_str())?;

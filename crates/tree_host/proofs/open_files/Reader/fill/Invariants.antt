@@ -1,8 +1,8 @@
 use Rattle.std.proofs.Common.{◌≡◌, ◌≤◌, length}
-use Rattle.tree_host.proofs.host.fill.Given as goal
+use Rattle.tree_host.proofs.open_files.Reader.fill.Given as goal
 
 abbrev pub invariant-loop : goal.invariant-loop
 invariant-loop g l = record {
   room : length l.buf ≡ length l.fn.buf;
-  within : l.count ≤ length l.buf;
+  within : l.filled ≤ length l.buf;
 }

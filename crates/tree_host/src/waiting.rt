@@ -1,0 +1,80 @@
+// The names that the next sync waits for.
+use std::alloc::Global;
+use std::collections::BTreeSet;
+use std::mem;
+use tree_disk::cny_base::OutOfMemory;
+
+/// The paths at which the next sync waits for what stands there: files whose bytes or mode changed, and directories in which a
+/// name changed, or whose mode.
+#[derive(Drop)]
+pub(crate) struct Waiting {
+    paths: BTreeSet<String>,
+    // Whether all that a sync waited for was kept at least once.
+    was_synced: bool,
+    // Whether the host failed to keep something.
+    is_lost: bool,
+}
+
+impl Waiting {
+    pub(crate) fn new(alloc: Global) -> Self {
+        Waiting {
+            paths: BTreeSet::new(alloc),
+            was_synced: false,
+            is_lost: false,
+        }
+    }
+
+    pub(crate) fn has(&self, path: &str) -> bool {
+        self.paths.contains(path)
+    }
+
+    /// Whether a sync ended well.
+    pub(crate) fn was_synced(&self) -> bool {
+        self.was_synced
+    }
+
+    /// Whether the host failed to keep something. It may count as kept by now what it has lost, so no later sync ends well.
+    pub(crate) fn is_lost(&self) -> bool {
+        self.is_lost
+    }
+
+    pub(crate) fn add(&mut self, alloc: Global, path: &str) -> Result<(), OutOfMemory> {
+        if !self.has(path) {
+            self.paths.insert(String::from_str(alloc, path)?)?;
+        }
+        Ok(())
+    }
+
+    /// Nothing that can be synced stands at the path any more.
+    pub(crate) fn leave(&mut self, path: &str) {
+        self.paths.remove(path);
+    }
+
+    /// The host failed to keep something.
+    pub(crate) fn lose(&mut self) {
+        self.is_lost = true;
+    }
+
+    /// Takes all paths out, for a sync.
+    pub(crate) fn take(&mut self, alloc: Global) -> BTreeSet<String> {
+        mem::replace(&mut self.paths, BTreeSet::new(alloc))
+    }
+
+    /// All that waited was kept.
+    pub(crate) fn end(&mut self) {
+        self.was_synced = true;
+    }
+
+    /// Puts the paths back that a sync took and didn't keep.
+    pub(crate) fn put_back(&mut self, paths: BTreeSet<String>) {
+        self.paths = paths;
+    }
+}
+
+#[cfg(test)]
+impl Waiting {
+    /// How many names the next sync waits for.
+    pub(crate) fn count(&self) -> usize {
+        self.paths.len()
+    }
+}
