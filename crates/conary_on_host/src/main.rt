@@ -1,90 +1,64 @@
-//! The program over directories of the host, and then a look past it at the directory `root`: its names, its nodes outside `var`,
-//! and the bytes of the file. It ends with the program's status, and its stored run installs a component.
+//! The program over directories of the host, and then a look past it at the directory `root`. Behind that the commands of the file
+//! `commands` run over files that record each call and let each call fail once.
+//!
+//! It ends with the program's status, and its stored run installs a component. Of each command it tells the calls and the waits for
+//! the disk, the names that a sync left out, and what the next command found behind each failed call.
 #![tactic(auto)]
 
+mod look;
+mod record;
+mod recorded;
+mod standing;
+mod trials;
+mod watched;
+
+use crate::look::look;
+use crate::trials::{Command, try_command};
 use conary_cli::start;
-use std::fs::{self, Metadata};
+use std::fs;
 use std::io::{self, Write};
-use std::os::unix::fs::PermissionsExt;
 use std::process::ExitCode;
 
-// Adds a word and a space behind it.
-fn add_word(text: &mut Vec<u8>, word: &str) -> io::Result<()> {
-    text.extend_from_slice(word.as_bytes())?;
-    Ok(text.push(b' ')?)
-}
-
-// Adds what a line ends with, and the line's end.
-fn end_line(text: &mut Vec<u8>, rest: &[u8]) -> io::Result<()> {
-    text.extend_from_slice(rest)?;
-    Ok(text.push(b'\n')?)
-}
-
-// The names in a directory, in the order of their bytes.
-fn names_in(rt: &HostRuntime, dir: &str) -> io::Result<Vec<String>> {
-    let mut names = Vec::new(rt.alloc());
-    for entry in fs::read_dir(rt, dir)? {
-        let entry = entry?;
-        names.push(String::from_str(rt.alloc(), entry.file_name())?)?;
+// The words of a line, with one space between them.
+fn words_of(rt: &HostRuntime, line: &str) -> io::Result<Vec<String>> {
+    let mut words = Vec::new(rt.alloc());
+    for word in line.split(' ') {
+        words.push(String::from_str(rt.alloc(), word)?)?;
     }
-    names.sort()?;
-    Ok(names)
+    Ok(words)
 }
 
-fn add_names(rt: &HostRuntime, text: &mut Vec<u8>, dir: &str) -> io::Result<()> {
-    let names = names_in(rt, dir)?;
-    for name in &names {
-        add_word(text, dir)?;
-        end_line(text, name.as_bytes())?;
+// A line is a command's words, and behind ` < ` the file that it reads.
+fn command_of(rt: &HostRuntime, line: &str) -> io::Result<Command> {
+    let (words, input) = match line.split_once(" < ") {
+        Some((words, name)) => (words, fs::read(rt, name)?),
+        None => (line, Vec::new(rt.alloc())),
+    };
+    let words = words_of(rt, words)?;
+    Ok(Command { words, input })
+}
+
+fn try_line(rt: &HostRuntime, line: &str) -> io::Result<()> {
+    let mut text = String::from_str(rt.alloc(), line)?;
+    let command = command_of(rt, line)?;
+    try_command(rt, &command, &mut text)?;
+    rt.stdout().write_all(text.as_str().as_bytes())
+}
+
+fn try_lines(rt: &HostRuntime) -> io::Result<()> {
+    fs::create_dir_all(rt, "now/root/var/lib")?;
+    fs::create_dir_all(rt, "now/repo")?;
+    let lines = fs::read_to_string(rt, "commands")?;
+    for line in lines.lines() {
+        try_line(rt, line)?;
     }
     Ok(())
 }
 
-fn kind_of(metadata: &Metadata) -> &'static str {
-    if metadata.is_dir() {
-        "directory"
-    } else if metadata.is_file() {
-        "file"
-    } else {
-        "other"
-    }
-}
-
-// Adds the last four octal digits of a mode, and the line's end.
-fn add_mode(text: &mut Vec<u8>, mode: u32) -> io::Result<()> {
-    for place in [512u32, 64, 8, 1] {
-        let digit = (mode / place % 8) as u8;
-        text.push(b'0' + digit)?;
-    }
-    Ok(text.push(b'\n')?)
-}
-
-fn add_node(rt: &HostRuntime, text: &mut Vec<u8>, path: &str) -> io::Result<()> {
-    let metadata = fs::symlink_metadata(rt, path)?;
-    add_word(text, path)?;
-    add_word(text, kind_of(&metadata))?;
-    add_mode(text, metadata.permissions().mode())
-}
-
-fn add_bytes(rt: &HostRuntime, text: &mut Vec<u8>, path: &str) -> io::Result<()> {
-    let bytes = fs::read(rt, path)?;
-    add_word(text, path)?;
-    end_line(text, bytes.as_slice())
-}
-
-fn look(rt: &HostRuntime) -> io::Result<Vec<u8>> {
-    let mut text = Vec::new(rt.alloc());
-    add_names(rt, &mut text, "root")?;
-    add_names(rt, &mut text, "root/etc")?;
-    add_node(rt, &mut text, "root/etc")?;
-    add_node(rt, &mut text, "root/etc/foo")?;
-    add_bytes(rt, &mut text, "root/etc/foo")?;
-    Ok(text)
-}
-
 fn show(rt: &HostRuntime) -> io::Result<()> {
     let text = look(rt)?;
-    rt.stdout().write_all(text.as_slice())
+    rt.stdout().write_all(text.as_slice())?;
+    try_lines(rt)
 }
 
 fn main(rt: HostRuntime) -> ExitCode {

@@ -1,0 +1,154 @@
+//! What a run asks of the host's files, and what of it isn't kept yet.
+use crate::standing::is_cleared;
+use std::alloc::Global;
+use std::cell::{Cell, RefCell};
+use std::collections::BTreeMap;
+use std::io::{self, Error, ErrorKind};
+
+/// Places by the numbers of their nodes, so that what is moved stays the same.
+pub type Unkept = BTreeMap<u64, String>;
+
+/// The calls of a run, one of which may fail, and the nodes that were changed and not synced since.
+#[derive(Drop)]
+pub struct Record {
+    alloc: Global,
+    fails_at: u64,
+    calls: Cell<u64>,
+    waits: Cell<u64>,
+    has_failed_sync: Cell<bool>,
+    unkept: RefCell<Unkept>,
+    uncovered: RefCell<Vec<String>>,
+    // Whether there was no memory for what a sync left out.
+    is_lacking: Cell<bool>,
+}
+
+impl Record {
+    /// Nothing was called yet. The call of this number fails; none does for 0.
+    pub fn new(alloc: Global, fails_at: u64) -> Self {
+        Record {
+            alloc,
+            fails_at,
+            calls: Cell::new(0),
+            waits: Cell::new(0),
+            has_failed_sync: Cell::new(false),
+            unkept: RefCell::new(Unkept::new(alloc)),
+            uncovered: RefCell::new(Vec::new(alloc)),
+            is_lacking: Cell::new(false),
+        }
+    }
+
+    /// How many calls were made.
+    pub fn calls(&self) -> u64 {
+        self.calls.get()
+    }
+
+    /// How many of them waited for the disk.
+    pub fn waits(&self) -> u64 {
+        self.waits.get()
+    }
+
+    /// Whether the call that was to fail was made.
+    pub fn has_failed(&self) -> bool {
+        self.fails_at != 0 && self.calls.get() >= self.fails_at
+    }
+
+    /// Whether it was a wait for the disk.
+    pub fn has_failed_sync(&self) -> bool {
+        self.has_failed_sync.get()
+    }
+
+    /// Counts a call, which may be the one that fails.
+    pub fn count(&self) -> io::Result<()> {
+        let calls = self.calls.get().saturating_add(1);
+        self.calls.set(calls);
+        if calls == self.fails_at {
+            return Err(Error::from(ErrorKind::StorageFull));
+        }
+        Ok(())
+    }
+
+    /// Counts a wait for the disk, behind which the node is kept.
+    pub fn count_wait(&self, node: u64) -> io::Result<()> {
+        self.waits.set(self.waits.get().saturating_add(1));
+        let counted = self.count();
+        if counted.is_err() {
+            self.has_failed_sync.set(true);
+            return counted;
+        }
+        self.drop_node(node)
+    }
+
+    /// The node at this place was changed.
+    pub fn mark(&self, node: u64, place: &str) -> io::Result<()> {
+        let mut unkept = self.unkept.try_borrow_mut()?;
+        let place = String::from_str(self.alloc, place)?;
+        unkept.insert(node, place)?;
+        Ok(())
+    }
+
+    /// The node is kept, or is gone.
+    pub fn drop_node(&self, node: u64) -> io::Result<()> {
+        let mut unkept = self.unkept.try_borrow_mut()?;
+        unkept.remove(&node);
+        Ok(())
+    }
+
+    /// Behind a sync that ended well: what is still to be kept should be none, and is remembered.
+    pub fn judge(&self) {
+        if self.note_unkept().is_err() {
+            self.is_lacking.set(true);
+        }
+    }
+
+    fn note_unkept(&self) -> io::Result<()> {
+        let unkept = self.unkept.try_borrow()?;
+        let mut uncovered = self.uncovered.try_borrow_mut()?;
+        for place in unkept.values() {
+            uncovered.push(String::from_str(self.alloc, place.as_str())?)?;
+        }
+        Ok(())
+    }
+
+    /// The places that a sync left out, one behind another.
+    pub fn uncovered(&self) -> io::Result<String> {
+        if self.is_lacking.get() {
+            return Err(Error::from(ErrorKind::OutOfMemory));
+        }
+        let mut text = String::new(self.alloc);
+        let uncovered = self.uncovered.try_borrow()?;
+        for place in uncovered.iter() {
+            text.push(' ')?;
+            text.push_str(place.as_str())?;
+        }
+        Ok(text)
+    }
+
+    /// Takes over what an earlier run left unkept.
+    pub fn inherit(&self, earlier: &Record) -> io::Result<()> {
+        let unkept = earlier.unkept.try_borrow()?;
+        for (node, place) in unkept.iter() {
+            self.mark(*node, place.as_str())?;
+        }
+        Ok(())
+    }
+
+    /// How many names aren't kept on which a further run relies.
+    pub fn relied_on(&self) -> io::Result<u64> {
+        let unkept = self.unkept.try_borrow()?;
+        let mut count = 0u64;
+        for place in unkept.values() {
+            if is_relied_on(place.as_str()) {
+                count = count.saturating_add(1);
+            }
+        }
+        Ok(count)
+    }
+}
+
+// Whether a run relies on what stands at a place: all but what is only cleared and written anew.
+fn is_relied_on(place: &str) -> bool {
+    match place.split_once('/') {
+        Some((_, path)) => !is_cleared(path),
+        None => true,
+    }
+}

@@ -1,0 +1,267 @@
+//! Files of the host that record each call, and let one fail. Waits for the disk are recorded alone.
+use crate::record::Record;
+use std::alloc::Allocator;
+use std::cell::Cell;
+use std::fs::{File, Files, Metadata, OpenFile, OpenOptions, Permissions};
+use std::io::{self, Error, ErrorKind, Read, Seek, SeekFrom, Write};
+use std::os::unix::fs::MetadataExt;
+use std::path::PathBuf;
+
+/// The host's files, with a record of what is asked of them.
+#[derive(Drop)]
+pub struct Recorded<'a> {
+    rt: &'a HostRuntime,
+    record: &'a Record,
+}
+
+/// An open file of them.
+#[derive(Drop)]
+pub struct RecordedFile<'a> {
+    file: File,
+    node: u64,
+    place: String,
+    record: &'a Record,
+    // Whether it was made by this handle and nothing was written yet.
+    is_new: Cell<bool>,
+    // Whether its first byte, a zero, is still to be written: a file that is cut to nothing at once is never written, since the host
+    // would begin to write it out, which takes a hundred times as long as all else here.
+    holds_zero: Cell<bool>,
+}
+
+// The directory in which the last name of a place stands.
+fn parent_of(place: &str) -> &str {
+    match place.rsplit_once('/') {
+        Some((parent, _)) => parent,
+        None => ".",
+    }
+}
+
+impl<'a> Recorded<'a> {
+    pub fn new(rt: &'a HostRuntime, record: &'a Record) -> Self {
+        Recorded { rt, record }
+    }
+
+    // The node at a place was changed.
+    fn mark(&self, place: &str) -> io::Result<()> {
+        let node = self.rt.symlink_metadata(place)?.ino();
+        self.record.mark(node, place)
+    }
+
+    // A name was made or taken away.
+    fn mark_name(&self, place: &str) -> io::Result<()> {
+        self.mark(parent_of(place))
+    }
+
+    // The node at a place, where one stands.
+    fn node_at(&self, place: &str) -> Option<u64> {
+        match self.rt.symlink_metadata(place) {
+            Ok(metadata) => Some(metadata.ino()),
+            Err(_) => None,
+        }
+    }
+
+    // A node that stood at a place stands there no more.
+    fn end_removal(&self, node: Option<u64>, place: &str) -> io::Result<()> {
+        if let Some(node) = node {
+            self.record.drop_node(node)?;
+        }
+        self.mark_name(place)
+    }
+}
+
+impl<'a> Files for Recorded<'a> {
+    type File = RecordedFile<'a>;
+
+    type Dir = <HostRuntime as Files>::Dir;
+
+    fn open_file(&self, how: &OpenOptions, path: &str) -> io::Result<RecordedFile<'a>> {
+        self.record.count()?;
+        let file = self.rt.open_file(how, path)?;
+        let node = file.metadata()?.ino();
+        if how.asks_create() || how.asks_create_new() {
+            self.record.mark(node, path)?;
+            self.mark_name(path)?;
+        }
+        Ok(RecordedFile {
+            file,
+            node,
+            place: String::from_str(self.rt.alloc(), path)?,
+            record: self.record,
+            is_new: Cell::new(how.asks_create_new()),
+            holds_zero: Cell::new(false),
+        })
+    }
+
+    fn open_dir(&self, path: &str) -> io::Result<<HostRuntime as Files>::Dir> {
+        self.record.count()?;
+        self.rt.open_dir(path)
+    }
+
+    fn metadata(&self, path: &str) -> io::Result<Metadata> {
+        self.record.count()?;
+        self.rt.metadata(path)
+    }
+
+    fn symlink_metadata(&self, path: &str) -> io::Result<Metadata> {
+        self.record.count()?;
+        self.rt.symlink_metadata(path)
+    }
+
+    fn copy(&self, _from: &str, _to: &str) -> io::Result<u64> {
+        Err(Error::from(ErrorKind::Unsupported))
+    }
+
+    fn rename(&self, from: &str, to: &str) -> io::Result<()> {
+        self.record.count()?;
+        let replaced = self.node_at(to);
+        self.rt.rename(from, to)?;
+        self.mark_name(from)?;
+        self.end_removal(replaced, to)
+    }
+
+    fn remove_file(&self, path: &str) -> io::Result<()> {
+        self.record.count()?;
+        let node = self.node_at(path);
+        self.rt.remove_file(path)?;
+        self.end_removal(node, path)
+    }
+
+    fn create_dir(&self, path: &str) -> io::Result<()> {
+        self.record.count()?;
+        self.rt.create_dir(path)?;
+        self.mark(path)?;
+        self.mark_name(path)
+    }
+
+    fn create_dir_with_mode(&self, path: &str, mode: u32) -> io::Result<()> {
+        self.record.count()?;
+        self.rt.create_dir_with_mode(path, mode)?;
+        self.mark(path)?;
+        self.mark_name(path)
+    }
+
+    fn remove_dir(&self, path: &str) -> io::Result<()> {
+        self.record.count()?;
+        let node = self.node_at(path);
+        self.rt.remove_dir(path)?;
+        self.end_removal(node, path)
+    }
+
+    fn remove_dir_all<B: Allocator>(&self, _alloc: B, _path: &str) -> io::Result<()> {
+        Err(Error::from(ErrorKind::Unsupported))
+    }
+
+    fn read_link<B: Allocator>(&self, alloc: B, path: &str) -> io::Result<PathBuf<B>> {
+        self.record.count()?;
+        self.rt.read_link(alloc, path)
+    }
+
+    fn set_permissions(&self, path: &str, perm: Permissions) -> io::Result<()> {
+        self.record.count()?;
+        self.rt.set_permissions(path, perm)?;
+        self.mark(path)
+    }
+
+    fn symlink(&self, original: &str, link: &str) -> io::Result<()> {
+        self.record.count()?;
+        self.rt.symlink(original, link)?;
+        self.mark_name(link)
+    }
+}
+
+impl RecordedFile<'_> {
+    fn mark(&self) -> io::Result<()> {
+        self.record.mark(self.node, self.place.as_str())
+    }
+
+    // Writes the byte that was held back, if there is one: a longer file has zeros behind its end.
+    fn put_held(&self) -> io::Result<()> {
+        if self.holds_zero.get() {
+            self.holds_zero.set(false);
+            return self.file.set_len(1);
+        }
+        Ok(())
+    }
+
+    // Whether these are the first bytes of a new file, and a zero that is held back.
+    fn holds_back(&self, buf: &[u8]) -> bool {
+        let is_first = self.is_new.get();
+        self.is_new.set(false);
+        let holds = is_first && matches!(buf, [0]);
+        self.holds_zero.set(holds);
+        holds
+    }
+}
+
+impl Read for RecordedFile<'_> {
+    fn read(&mut self, buf: &mut [u8]) -> io::Result<usize> {
+        self.record.count()?;
+        self.file.read(buf)
+    }
+}
+
+impl Write for RecordedFile<'_> {
+    // Of a write that fails one half is there.
+    fn write(&mut self, buf: &[u8]) -> io::Result<usize> {
+        self.mark()?;
+        if let Err(error) = self.record.count() {
+            let half = buf.len() / 2;
+            self.file.write(&buf[..half])?;
+            return Err(error);
+        }
+        self.put_held()?;
+        if self.holds_back(buf) {
+            return Ok(buf.len());
+        }
+        self.file.write(buf)
+    }
+
+    fn flush(&mut self) -> io::Result<()> {
+        self.file.flush()
+    }
+}
+
+impl Seek for RecordedFile<'_> {
+    fn seek(&mut self, to: SeekFrom) -> io::Result<u64> {
+        self.record.count()?;
+        self.file.seek(to)
+    }
+}
+
+impl OpenFile for RecordedFile<'_> {
+    fn metadata(&self) -> io::Result<Metadata> {
+        self.record.count()?;
+        self.put_held()?;
+        self.file.metadata()
+    }
+
+    fn set_len(&self, size: u64) -> io::Result<()> {
+        let counted = self.record.count();
+        if counted.is_err() {
+            self.put_held()?;
+            return counted;
+        }
+        self.mark()?;
+        if size == 0 && self.holds_zero.get() {
+            self.holds_zero.set(false);
+            return Ok(());
+        }
+        self.put_held()?;
+        self.file.set_len(size)
+    }
+
+    fn sync_all(&self) -> io::Result<()> {
+        self.record.count_wait(self.node)
+    }
+
+    // It may keep less than all, so it counts as none that keeps anything.
+    fn sync_data(&self) -> io::Result<()> {
+        self.record.count()
+    }
+
+    fn set_permissions(&self, perm: Permissions) -> io::Result<()> {
+        self.record.count()?;
+        self.mark()?;
+        self.file.set_permissions(perm)
+    }
+}

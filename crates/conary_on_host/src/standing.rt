@@ -1,0 +1,202 @@
+//! What stands below a directory of the host.
+use std::collections::BTreeMap;
+use std::fs::{self, Files};
+use std::io;
+use std::os::unix::fs::{PermissionsExt, symlink};
+
+// The bits of a mode that say who may do what.
+const PERMISSION_BITS: u32 = 0o7777;
+
+/// The kind, the mode, and the bytes or the target of what stands at each path below a directory.
+pub type Standing = BTreeMap<String, Vec<u8>>;
+
+// A name below a directory.
+fn join(rt: &HostRuntime, dir: &str, name: &str) -> io::Result<String> {
+    let mut place = String::from_str(rt.alloc(), dir)?;
+    place.push('/')?;
+    place.push_str(name)?;
+    Ok(place)
+}
+
+// The place of a path below a directory, which is "" for the directory itself.
+fn place_of(rt: &HostRuntime, dir: &str, path: &str) -> io::Result<String> {
+    let mut place = String::from_str(rt.alloc(), dir)?;
+    place.push_str(path)?;
+    Ok(place)
+}
+
+// Adds the paths of what stands in a directory.
+fn add_children(
+    rt: &HostRuntime,
+    place: &str,
+    path: &str,
+    paths: &mut Vec<String>,
+) -> io::Result<()> {
+    if !fs::symlink_metadata(rt, place)?.is_dir() {
+        return Ok(());
+    }
+    for entry in fs::read_dir(rt, place)? {
+        let entry = entry?;
+        paths.push(join(rt, path, entry.file_name())?)?;
+    }
+    Ok(())
+}
+
+// The paths of all that stands below a directory, each directory before what is in it.
+fn paths_below(rt: &HostRuntime, dir: &str) -> io::Result<Vec<String>> {
+    let mut paths = Vec::new(rt.alloc());
+    paths.push(String::new(rt.alloc()))?;
+    for at in 0..usize::MAX {
+        let Some(path) = paths.get(at) else {
+            break;
+        };
+        let path = String::from_str(rt.alloc(), path.as_str())?;
+        let place = place_of(rt, dir, path.as_str())?;
+        add_children(rt, place.as_str(), path.as_str(), &mut paths)?;
+    }
+    Ok(paths)
+}
+
+fn node_at(rt: &HostRuntime, place: &str) -> io::Result<Vec<u8>> {
+    let metadata = fs::symlink_metadata(rt, place)?;
+    let mut node = Vec::new(rt.alloc());
+    if metadata.is_symlink() {
+        node.push(b'l')?;
+        let target = rt.read_link(rt.alloc(), place)?;
+        node.extend_from_slice(target.as_str().as_bytes())?;
+        return Ok(node);
+    }
+    let mode = metadata.permissions().mode() & PERMISSION_BITS;
+    node.extend_from_slice(&mode.to_be_bytes())?;
+    if metadata.is_file() {
+        node.push(b'f')?;
+        node.extend_from_slice(fs::read(rt, place)?.as_slice())?;
+    }
+    Ok(node)
+}
+
+/// What stands below a directory.
+pub fn standing(rt: &HostRuntime, dir: &str) -> io::Result<Standing> {
+    let mut found = BTreeMap::new(rt.alloc());
+    for path in paths_below(rt, dir)? {
+        let place = place_of(rt, dir, path.as_str())?;
+        let node = node_at(rt, place.as_str())?;
+        found.insert(path, node)?;
+    }
+    Ok(found)
+}
+
+fn copy_node(rt: &HostRuntime, from: &str, to: &str) -> io::Result<()> {
+    let metadata = fs::symlink_metadata(rt, from)?;
+    if metadata.is_symlink() {
+        let target = rt.read_link(rt.alloc(), from)?;
+        return symlink(rt, target.as_str(), to);
+    }
+    if metadata.is_dir() {
+        fs::create_dir(rt, to)?;
+    } else {
+        fs::copy(rt, from, to)?;
+    }
+    fs::set_permissions(rt, to, metadata.permissions())
+}
+
+/// Copies a directory with all below it to another name, in place of what stands there.
+pub fn copy_all(rt: &HostRuntime, from: &str, to: &str) -> io::Result<()> {
+    if fs::exists(rt, to)? {
+        fs::remove_dir_all(rt, to)?;
+    }
+    for path in paths_below(rt, from)? {
+        let old = place_of(rt, from, path.as_str())?;
+        let new = place_of(rt, to, path.as_str())?;
+        copy_node(rt, old.as_str(), new.as_str())?;
+    }
+    Ok(())
+}
+
+// The first name of a path behind this directory.
+fn name_in<'a>(path: &'a str, dir: &str) -> Option<&'a str> {
+    let rest = path.strip_prefix(dir)?;
+    if rest.is_empty() {
+        return Some("");
+    }
+    let rest = rest.strip_prefix("/")?;
+    match rest.split_once('/') {
+        Some((name, _)) => Some(name),
+        None => Some(rest),
+    }
+}
+
+// The name of a path in one of the two private directories, which is "" for the directory itself.
+fn private_name(path: &str) -> Option<&str> {
+    match name_in(path, "/root/var/lib/conarydb") {
+        Some(name) => Some(name),
+        None => name_in(path, "/repo/conaryrepo"),
+    }
+}
+
+/// Whether a path, here without its first slash, is one that is only cleared and written anew: a staged file, the work name, or
+/// a content that may be left.
+pub fn is_cleared(path: &str) -> bool {
+    let name = match name_in(path, "root/var/lib/conarydb") {
+        Some(name) => name,
+        None => name_in(path, "repo/conaryrepo").unwrap_or(""),
+    };
+    matches!(name, "w" | "p" | "c") || name.starts_with("s.")
+}
+
+/// Whether a path is a private directory, or one of the journal's own names in it, or below it.
+pub fn is_own(path: &str) -> bool {
+    matches!(private_name(path), Some("" | "gate" | "log" | "w" | "p"))
+}
+
+/// Whether a path may be left by a job or a commit that never came to be: a content that was saved or brought, or its directory.
+pub fn may_be_left(path: &str) -> bool {
+    match private_name(path) {
+        Some(name) => name == "c" || name.starts_with("s."),
+        None => false,
+    }
+}
+
+// The number of the job of which a private name holds the record or the saved contents.
+fn number_of<'a>(path: &'a str, kind: &str) -> Option<&'a str> {
+    private_name(path)?.strip_prefix(kind)
+}
+
+fn has_record(standing: &Standing, number: &str) -> bool {
+    for path in standing.keys() {
+        if number_of(path.as_str(), "r.") == Some(number) {
+            return true;
+        }
+    }
+    false
+}
+
+// Whether what stands at a path counts: it is none of the journal's own names, and no content that was saved for a job that was
+// taken back.
+fn counts(standing: &Standing, path: &str) -> bool {
+    match number_of(path, "s.") {
+        Some(number) => has_record(standing, number),
+        None => !is_own(path),
+    }
+}
+
+// Whether all of one that counts stands in the other in the same way.
+fn holds_all(found: &Standing, wanted: &Standing) -> bool {
+    for (path, node) in wanted.iter() {
+        if counts(wanted, path.as_str()) && found.get(path.as_str()) != Some(node) {
+            return false;
+        }
+    }
+    true
+}
+
+/// Whether what was found is what is wanted, and beside it only what may be left.
+pub fn agrees(found: &Standing, wanted: &Standing) -> bool {
+    for path in found.keys() {
+        let path = path.as_str();
+        if !is_own(path) && !may_be_left(path) && wanted.get(path).is_none() {
+            return false;
+        }
+    }
+    holds_all(found, wanted)
+}
