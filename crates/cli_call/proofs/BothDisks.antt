@@ -12,9 +12,7 @@ use Rattle.cli_call.specs.Opening.{Opens, no_test}
 use Rattle.cli_call.specs.RootOpening.{OpensSystem}
 use Rattle.cli_call.specs.Stops.{root_result, repository_result}
 use Rattle.cli_call.specs.Stores.{repository_store}
-
-same_failure : {X : Type 0} {f e : Failure} → ◌≡◌ {A = Result X Failure} (Err f) (Err e) → f ≡ e
-same_failure h = cc h
+use Rattle.cli_call.proofs.RootResults.{same_failure}
 
 same_value : {X : Type 0} {a b : X} → ◌≡◌ {A = Result X Failure} (Ok a) (Ok b) → a ≡ b
 same_value h = cc h

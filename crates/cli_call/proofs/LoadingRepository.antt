@@ -12,7 +12,7 @@ use Rattle.repo_load.specs.Files.{HoldsCatalogue}
 use Rattle.repo_load.specs.Looks.{Looks}
 use Rattle.cli_call.specs.Opening.{IsOpen, Opens, OpeningStops, no_test}
 use Rattle.system_core.specs.Recovered.{RecoversAt, IsKept}
-use Rattle.cli_call.specs.StoreLaws.{nothing_done}
+use Rattle.cli_call.proofs.StoreLaws.{nothing_done}
 use Rattle.cli_call.specs.Stores.{repository_store}
 use Rattle.cli_call.proofs.OpeningDisks.{is_open, opens_loaded, recovered_on}
 

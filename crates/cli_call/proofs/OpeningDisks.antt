@@ -15,7 +15,7 @@ use Rattle.system_core.specs.tree-disk.Unfailed.{UnlessFailed, unfailed_then, un
 use Rattle.system_core.specs.tree-journal.Recovery.{is_committed, RecoversTo, at_rest, by_log, RecoversAsThen, IsRecovered, IsDamagedAt}
 use Rattle.system_core.specs.tree-journal.Recovering.{IsVisibleIn}
 use Rattle.system_core.specs.tree-journal.Staging.{outcome}
-use Rattle.cli_call.specs.CommandLaws.{read_shown}
+use Rattle.cli_call.proofs.CommandLaws.{read_shown}
 use Rattle.cli_call.specs.Opening.{IsOpen, Opens, OpeningStops}
 use Rattle.system_core.specs.Recovered.{RecoversAt, RecoveryStops, RecoversToNone, IsKept, RefusesLog}
 use Rattle.cli_call.specs.Store.{Store}

@@ -134,10 +134,7 @@ module _ {D : Type 0} {disk : DiskModel D} (old new : D) where
       (λ log. kept_untouched log.kept)
       (λ file. kept_at_rest (Err (stop.Damaged path)) ready told file.rests.flag_clear (λ x rec q out. file.stores x rec q (not_own q out)))
       (ready.stops told)
-  is_kept (Err stop.Failed) ready told decided = absurd decided
-  is_kept (Err stop.Memory) ready told decided = absurd decided
-  is_kept (Err stop.FarFailed) ready told decided = absurd decided
-  is_kept (Err (stop.FarDamaged path)) ready told decided = absurd decided
+  is_kept _ ready told decided = absurd decided
 
   -- ---- why it isn't opened
 

@@ -19,11 +19,6 @@ within_limit input = if nat_lt input_limit (length input) then Err (TooLarge Inp
 abbrev pub left_after_reading : List ℕ → List ℕ
 left_after_reading input = drop (input_limit + 1) input
 
--- the input is read once the fixed directories stand
-abbrev pub left_by : Result (Unit {0}) Refusal → List ℕ → List ℕ
-left_by (Ok _) input = left_after_reading input
-left_by (Err r) input = input
-
 -- What was read is within the limit; or there are bytes that the limit refuses so.
 abbrev pub IsOfSome : Result (List ℕ) Failure → Type 0
 IsOfSome (Ok bytes) = within_limit bytes ≡ Ok bytes

@@ -15,7 +15,8 @@ use Rattle.system_core.specs.tree-journal.Recovery.{is_committed, RecoversTo, Re
 use Rattle.system_core.specs.Recovered.{HasDamagedLog, RecoversToNone, IsKept, IsPathRefusal, RefusesLog}
 use Rattle.cli_call.specs.Store.{Store, HasDamageAtOpening, IsSettled}
 
--- A disk that was opened: it rests, a crash leaves just what it reads, it stores the same as all that it recovered to, and this is what was read of it.
+-- A disk that was opened: it rests, a crash leaves just what it reads, it stores the same as all that it recovered to, and this is
+-- what was read of it.
 pub record IsOpen {D X V : Type 0} (store : Store X) (disk : DiskModel D) (tests : Tree → Result (Unit {0}) Refusal) (IsRead : Tree → V → Type 0) (old new : D) (value : V) : Type 0 where
   pub settled : IsSettled disk store.base new
   pub fixed : tests (disk.reads old) ≡ Ok tt

@@ -24,5 +24,5 @@ pub use opening::open_disks;
 pub use reporting::report;
 pub use stops::{on_repository, on_root};
 pub use system_core::{change_set, cny_base, content_store, tree_disk, trove_parts, trove_stream};
-pub use texts::{joined, text_of_path};
+pub use texts::joined;
 pub use writing::write_answer;

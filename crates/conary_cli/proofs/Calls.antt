@@ -6,7 +6,7 @@ use Rattle.cli_call.specs.tree-disk.Disk.{DiskModel, IsDisk}
 use Rattle.cli_call.specs.declared.failure.Failure.{Failure}
 use Rattle.cli_call.specs.declared.failure.Failure.TheVariants as failure
 use Rattle.cli_call.specs.Call.{CallState, RunsOpen}
-use Rattle.cli_call.specs.CallLaws.{memory_call, whole_call}
+use Rattle.cli_call.proofs.CallLaws.{memory_call, whole_call}
 use Rattle.cli_call.specs.Line.{Moment, RunsLine}
 use Rattle.cli_call.specs.Reading.{ReadsGiven}
 use Rattle.cli_call.specs.Report.{End, Reports, status_of}
@@ -44,11 +44,7 @@ no_words repo_disk root_laws before (Ok c) failure.Usage reads = absurd (cc read
 no_words repo_disk root_laws before (Err f) failure.Usage reads = (refl, inl (same_end f _ reads))
 no_words repo_disk root_laws before (Ok c) (failure.Refused r) reads = absurd (cc reads)
 no_words repo_disk root_laws before (Err f) (failure.Refused r) reads = (refl, inl (same_end f _ reads))
-no_words repo_disk root_laws before words failure.InputFault reads = absurd reads
-no_words repo_disk root_laws before words failure.OutputFault reads = absurd reads
-no_words repo_disk root_laws before words failure.RootFault reads = absurd reads
-no_words repo_disk root_laws before words failure.RepositoryFault reads = absurd reads
-no_words repo_disk root_laws before words (failure.Damaged path) reads = absurd reads
+no_words repo_disk root_laws before words _ reads = absurd reads
 
 -- the whole
 pub whole_words : {T P : Type 0} {root_disk : DiskModel T} {repo_disk : DiskModel P} → IsDisk root_disk → IsDisk repo_disk → IsStore repository_store → InputLaws → (before now : CallState T P) (err err' : SinkState) (status : ℕ) (end : End) (words : Result Command Failure)
@@ -92,13 +88,7 @@ some_words root_laws repo_laws store_laws laws words before now err err' status 
 
 small_status : (e : Failure) → status_of (Err e) ≤ 8
 small_status failure.Usage = omega arith
-small_status (failure.Refused r) = omega arith
-small_status failure.InputFault = omega arith
-small_status failure.OutputFault = omega arith
-small_status failure.RootFault = omega arith
-small_status failure.RepositoryFault = omega arith
-small_status failure.Memory = omega arith
-small_status (failure.Damaged path) = omega arith
+small_status _ = omega arith
 
 -- no status is above 8
 pub known_status : (end : End) (err err' : SinkState) (status : ℕ) → Reports end err err' status → status ≤ 8

@@ -1,4 +1,3 @@
-pub mod Passing
 pub mod ShowEnds
 pub mod FormEnds
 pub mod RecordEnds

@@ -1,5 +1,5 @@
 -- No damaged record is passed over by a whole call.
-use Rattle.std.proofs.Common.{◌≡◌, ℕ, ◌≤◌, Bool, false, List, Result, Ok, Err, refl, sym, ap, ◌∙◌, subst, inl, inr, ⊎_elim, arith}
+use Rattle.std.proofs.Common.{◌≡◌, ℕ, ◌≤◌, Bool, false, List, Result, Ok, Err, refl, sym, ◌∙◌, subst, inl, inr, ⊎_elim, arith}
 use Rattle.std.specs.Prelude.{◌⊎◌, IsTrue}
 use Rattle.cli_call.specs.cny-base.declared.refusal.Refusal.{Refusal}
 use Rattle.cli_call.specs.cny-base.declared.stop.Stop.{Stop}
@@ -10,8 +10,8 @@ use Rattle.cli_call.specs.tree-disk.Disk.{DiskModel, IsDisk}
 use Rattle.cli_call.specs.tree-disk.Tree.{Tree}
 use Rattle.cli_call.specs.declared.failure.Failure.{Failure}
 use Rattle.cli_call.specs.declared.failure.Failure.TheVariants as failure
-use Rattle.cli_call.specs.Call.{CallState, NotOpened, OpensRepository, OpensRoot, StopsAtRepository, StopsAtRoot}
-use Rattle.cli_call.specs.CallFacts.{not_opened}
+use Rattle.cli_call.specs.Call.{CallState, NotOpened, OpensRepository, OpensRoot}
+use Rattle.cli_call.proofs.CallFacts.{not_opened}
 use Rattle.cli_call.specs.Line.{Wrote}
 use Rattle.cli_call.specs.Reading.{ReadsGiven}
 use Rattle.cli_call.specs.Report.{End, Reports, Tells, status_of}
@@ -31,13 +31,7 @@ none_read c d x db r is none first = subst (λ (b : Command). EndsWhole b x db r
     at : (q : Result (List ℕ) Failure) → EndsWhole d x db q
     at (Ok text) = none
     at (Err (failure.Refused why)) = first
-    at (Err failure.Usage) = tt
-    at (Err failure.InputFault) = tt
-    at (Err failure.OutputFault) = tt
-    at (Err failure.RootFault) = tt
-    at (Err failure.RepositoryFault) = tt
-    at (Err failure.Memory) = tt
-    at (Err (failure.Damaged path)) = tt
+    at _ = tt
 
 -- ---- from the command to the line
 
@@ -46,23 +40,11 @@ pub written_whole : (c : Command) (x : Tree) (db : Db) (answered : Result (List 
 written_whole c x db (Err e) before now end wrote whole = subst (λ (r : End). EndsWhole c x db r) (sym wrote.0) (as_end e whole)
   where
     as_end : (f : Failure) → EndsWhole {A = List ℕ} c x db (Err f) → EndsWhole {A = Unit {0}} c x db (Err f)
-    as_end failure.Usage h = tt
     as_end (failure.Refused r) h = h
-    as_end failure.InputFault h = tt
-    as_end failure.OutputFault h = tt
-    as_end failure.RootFault h = tt
-    as_end failure.RepositoryFault h = tt
-    as_end failure.Memory h = tt
-    as_end (failure.Damaged path) h = tt
+    as_end _ h = tt
 written_whole c x db (Ok text) before now (Ok done) wrote whole = whole
-written_whole c x db (Ok text) before now (Err failure.Usage) wrote whole = tt
 written_whole c x db (Ok text) before now (Err (failure.Refused r)) wrote whole = absurd wrote
-written_whole c x db (Ok text) before now (Err failure.InputFault) wrote whole = tt
-written_whole c x db (Ok text) before now (Err failure.OutputFault) wrote whole = tt
-written_whole c x db (Ok text) before now (Err failure.RootFault) wrote whole = tt
-written_whole c x db (Ok text) before now (Err failure.RepositoryFault) wrote whole = tt
-written_whole c x db (Ok text) before now (Err failure.Memory) wrote whole = tt
-written_whole c x db (Ok text) before now (Err (failure.Damaged path)) wrote whole = tt
+written_whole c x db (Ok text) before now _ wrote whole = tt
 
 -- ---- the input
 
@@ -77,13 +59,7 @@ first_none _ x db takes r is reads path damaged = damaged
 -- it wasn't read
 pub unread_whole : {old new : SourceState} (c : Command) (x : Tree) (db : Db) (takes : Bool) (e : Failure) → takes ≡ (meaning c).takes_input → ReadsGiven takes old new (Err e) → EndsWhole {A = Unit {0}} c x db (Err e)
 unread_whole c x db takes (failure.Refused r) is reads = first_none c x db takes r is reads
-unread_whole c x db takes failure.Usage is reads = tt
-unread_whole c x db takes failure.InputFault is reads = tt
-unread_whole c x db takes failure.OutputFault is reads = tt
-unread_whole c x db takes failure.RootFault is reads = tt
-unread_whole c x db takes failure.RepositoryFault is reads = tt
-unread_whole c x db takes failure.Memory is reads = tt
-unread_whole c x db takes (failure.Damaged path) is reads = tt
+unread_whole c x db takes _ is reads = tt
 
 -- ---- the whole call
 
@@ -110,10 +86,7 @@ module _ {T P : Type 0} {root_disk : DiskModel T} {repo_disk : DiskModel P} wher
         (λ dir. inl (record { refusal = q; missing = dir; unread = unread; refused = refused_as r q is refused }))
         (opens.stops.told told).cause
     at_root r stop.Failed is opens unread refused told = absurd (cc is)
-    at_root r stop.Memory is opens unread refused told = absurd (cc is)
-    at_root r (stop.Damaged path) is opens unread refused told = absurd (cc is)
-    at_root r stop.FarFailed is opens unread refused told = absurd (cc is)
-    at_root r (stop.FarDamaged path) is opens unread refused told = absurd (cc is)
+    at_root r _ is opens unread refused told = absurd (cc is)
 
     -- the repository wasn't
     at_repository : (r : Refusal) (e : Stop) → failure.Refused r ≡ repository_failure e → OpensRepository root_disk repo_disk before.repo now.repo (Err e) → now.input ≡ before.input → IsRefused root_disk repo_disk r before now err err' status
@@ -126,10 +99,7 @@ module _ {T P : Type 0} {root_disk : DiskModel T} {repo_disk : DiskModel P} wher
       refused = refused_as r q is refused;
     })
     at_repository r stop.Failed is opens unread refused = absurd (cc is)
-    at_repository r stop.Memory is opens unread refused = absurd (cc is)
-    at_repository r (stop.Damaged path) is opens unread refused = absurd (cc is)
-    at_repository r stop.FarFailed is opens unread refused = absurd (cc is)
-    at_repository r (stop.FarDamaged path) is opens unread refused = absurd (cc is)
+    at_repository r _ is opens unread refused = absurd (cc is)
 
     same_failure : (r : Refusal) (f : Failure) → ◌≡◌ {A = End} (Err (failure.Refused r)) (Err f) → ◌≡◌ {A = Failure} (failure.Refused r) f
     same_failure r f is = cc is
@@ -170,14 +140,9 @@ module _ {T P : Type 0} {root_disk : DiskModel T} {repo_disk : DiskModel P} wher
     records_whole c (Err failure.Usage) ends (inl tells) le told = high c failure.Usage tells (λ small. omega (arith, small)) le told
     records_whole c (Err failure.Usage) ends (inr want) le told = let is : status ≡ 7 = want.1.answered in absurd (omega (arith, is, le))
     records_whole c (Err failure.InputFault) ends (inl tells) le told = high c failure.InputFault tells (λ small. omega (arith, small)) le told
-    records_whole c (Err failure.InputFault) ends (inr want) le told = absurd want.0
     records_whole c (Err failure.OutputFault) ends (inl tells) le told = high c failure.OutputFault tells (λ small. omega (arith, small)) le told
-    records_whole c (Err failure.OutputFault) ends (inr want) le told = absurd want.0
     records_whole c (Err failure.RootFault) ends (inl tells) le told = high c failure.RootFault tells (λ small. omega (arith, small)) le told
-    records_whole c (Err failure.RootFault) ends (inr want) le told = absurd want.0
     records_whole c (Err failure.RepositoryFault) ends (inl tells) le told = high c failure.RepositoryFault tells (λ small. omega (arith, small)) le told
-    records_whole c (Err failure.RepositoryFault) ends (inr want) le told = absurd want.0
     records_whole c (Err failure.Memory) ends (inl tells) le told = high c failure.Memory tells (λ small. omega (arith, small)) le told
-    records_whole c (Err failure.Memory) ends (inr want) le told = absurd want.0
     records_whole c (Err (failure.Damaged path)) ends (inl tells) le told = high c (failure.Damaged path) tells (λ small. omega (arith, small)) le told
-    records_whole c (Err (failure.Damaged path)) ends (inr want) le told = absurd want.0
+    records_whole c _ ends (inr want) le told = absurd want.0

@@ -1,5 +1,5 @@
 -- What `rollback` restores, by how its call ended.
-use Rattle.std.proofs.Common.{◌≡◌, inl, inr, ⊎_elim, ℕ, true, false, List, ◌∷◌, ◌++◌, Option, Some, None, Result, Ok, Err, All, Contains, sym, ◌∙◌, ap, subst}
+use Rattle.std.proofs.Common.{◌≡◌, inl, inr, ⊎_elim, ℕ, false, List, ◌∷◌, ◌++◌, Option, Some, None, Result, Ok, Err, All, Contains, ◌∙◌, ap, subst}
 use Rattle.std.specs.FinMap.{get}
 use Rattle.cli_call.specs.cny-base.Reserved.{is_reserved}
 use Rattle.cli_call.specs.cny-base.declared.refusal.Refusal.{Refusal}

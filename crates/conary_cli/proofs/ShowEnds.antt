@@ -10,14 +10,14 @@ use Rattle.cny_report.specs.Changes.{change_text}
 use Rattle.cli_call.specs.declared.failure.Failure.{Failure}
 use Rattle.cli_call.specs.declared.failure.Failure.TheVariants as failure
 use Rattle.cli_call.specs.Alone.{PerformsAlone}
-use Rattle.cli_call.specs.AloneLaws.{AnswersAlone, alone_reading}
+use Rattle.cli_call.proofs.AloneLaws.{AnswersAlone, alone_reading}
 use Rattle.cli_call.specs.Command.{Disks, AreReady, Performs}
-use Rattle.cli_call.specs.CommandLaws.{none_read, performs_reading}
+use Rattle.cli_call.proofs.CommandLaws.{none_read, performs_reading}
 use Rattle.cli_call.specs.Failures.{failure_of_fault}
-use Rattle.cli_call.specs.RootLaws.{root_laws}
+use Rattle.cli_call.proofs.RootLaws.{root_laws}
 use Rattle.cli_call.specs.State.{nothing}
 use Rattle.cli_call.specs.Store.{IsStore}
-use Rattle.cli_call.specs.StoreLaws.{nothing_done}
+use Rattle.cli_call.proofs.StoreLaws.{nothing_done}
 use Rattle.cli_call.specs.Stores.{repository_store}
 use Rattle.conary_cli.specs.ShowChangeSet.{show_change_set}
 

@@ -1,5 +1,5 @@
 -- A command that was performed after both disks were only read.
-use Rattle.std.proofs.Common.{◌≡◌, ◌≤◌, ℕ, List, Result, Ok, Err, ap, ◌∙◌, inl, subst, arith}
+use Rattle.std.proofs.Common.{◌≡◌, ◌≤◌, ℕ, List, Result, Err, ap, ◌∙◌, inl, subst, arith}
 use Rattle.std.specs.Prelude.{IsTrue}
 use Rattle.std.specs.FinMap.{get}
 use Rattle.cli_call.specs.cny-base.declared.refusal.Refusal.{Refusal}
@@ -14,12 +14,12 @@ use Rattle.cli_call.specs.tree-disk.Unfailed.{unfailed_then, unfailed_weaker}
 use Rattle.cli_call.specs.declared.failure.Failure.{Failure}
 use Rattle.cli_call.specs.declared.failure.Failure.TheVariants as failure
 use Rattle.cli_call.specs.Command.{Disks, Goes, HasCause, IsShown, Performs, PerformsFrom, StandsFor}
-use Rattle.cli_call.specs.CommandLaws.{AreRead, performs_from_more, read_shown}
+use Rattle.cli_call.proofs.CommandLaws.{AreRead, performs_from_more, read_shown}
 use Rattle.cli_call.specs.Report.{End}
-use Rattle.cli_call.specs.RootLaws.{root_laws}
+use Rattle.cli_call.proofs.RootLaws.{root_laws}
 use Rattle.cli_call.specs.State.{Effect, Meaning, State}
 use Rattle.cli_call.specs.Store.{IsStore, RestsAt, Store}
-use Rattle.cli_call.specs.StoreLaws.{rest_lives, rest_read_on}
+use Rattle.cli_call.proofs.StoreLaws.{rest_lives, rest_read_on}
 use Rattle.cli_call.specs.Stores.{repository_store}
 
 -- what a disk went through, from an earlier moment since which it was only read
@@ -36,15 +36,9 @@ shown_since IsOutcome s before now t same shown = subst (λ (u : Tree). IsShown 
 
 module _ {T P : Type 0} {root_disk : DiskModel T} {repo_disk : DiskModel P} where
   cause_since : (old mid new : Disks T P) (result : Result (List ℕ) Failure) → AreRead root_disk repo_disk old mid → HasCause root_disk repo_disk mid new result → HasCause root_disk repo_disk old new result
-  cause_since old mid new (Ok text) read cause = tt
-  cause_since old mid new (Err (failure.Refused r)) read cause = tt
   cause_since old mid new (Err failure.RootFault) read cause = rose_before (root_disk.faults old.root) (root_disk.faults mid.root) (root_disk.faults new.root) read.root_later cause
   cause_since old mid new (Err failure.RepositoryFault) read cause = rose_before (repo_disk.faults old.repo) (repo_disk.faults mid.repo) (repo_disk.faults new.repo) read.repo_later cause
-  cause_since old mid new (Err failure.Memory) read cause = tt
-  cause_since old mid new (Err (failure.Damaged path)) read cause = cause
-  cause_since old mid new (Err failure.Usage) read cause = absurd cause
-  cause_since old mid new (Err failure.InputFault) read cause = absurd cause
-  cause_since old mid new (Err failure.OutputFault) read cause = absurd cause
+  cause_since old mid new _ read cause = cause
 
   module _ (root_disk_laws : IsDisk root_disk) (repo_disk_laws : IsDisk repo_disk) (store_laws : IsStore repository_store) (old mid new : Disks T P) (read : AreRead root_disk repo_disk old mid) (result : Result (List ℕ) Failure) where
     -- the state still stands

@@ -1,18 +1,16 @@
 -- How a commit of a change set ends, from what the repository's own function says.
-use Rattle.std.proofs.Common.{◌≡◌, ◌⊎◌, inl, inr, ⊎_elim, ℕ, ◌≤◌, true, false, IsTrue, List, Result, Ok, Err, IfErr, refl, sym, ap, ◌∙◌, subst, arith}
+use Rattle.std.proofs.Common.{◌≡◌, ◌⊎◌, inl, inr, ⊎_elim, ℕ, ◌≤◌, false, IsTrue, List, Result, Ok, Err, IfErr, refl, sym, ap, ◌∙◌, subst, arith}
 use Rattle.std.proofs.lemmas.Bool.{cases_Bool}
 use Rattle.std.specs.Prelude.{IfOk}
 use Rattle.cli_call.specs.cny-base.declared.refusal.Refusal.{Refusal}
 use Rattle.cli_call.specs.cny-base.declared.stop.Stop.{Stop}
 use Rattle.cli_call.specs.cny-base.declared.stop.Stop.TheVariants as stop
 use Rattle.cli_call.specs.trove-parts.declared.id.TroveId.{TroveId}
-use Rattle.cli_call.specs.trove-stream.declared.parts.TroveParts.{TroveParts}
 use Rattle.cli_call.specs.tree-disk.Tree.{Name, Tree}
 use Rattle.cli_call.specs.tree-disk.Disk.{DiskModel, IsDisk, HasRead}
 use Rattle.cli_call.specs.tree-disk.Clear.{is_within}
 use Rattle.cli_call.specs.tree-disk.Confined.{Among, Confined, IsUnsynced}
 use Rattle.cli_call.specs.tree-disk.ConfinedLaws.{leaves_weaker}
-use Rattle.cli_call.specs.journal-log.Own.{gate}
 use Rattle.cli_call.specs.tree-journal.Recovery.{is_committed}
 use Rattle.cli_call.specs.change-set.declared.change.ChangeSet.{ChangeSet}
 use Rattle.cli_call.specs.content-store.Contents.{ContentMap}
@@ -21,21 +19,22 @@ use Rattle.repo_load.specs.Files.{repository_base, HoldsCatalogue, StoresReposit
 use Rattle.repo_load.specs.State.{catalogue_of, troves_of, RepositoryState}
 use Rattle.repo_load.specs.Contents.{IsDamagedContent}
 use Rattle.repository.specs.Outcome as outcome
-use Rattle.repository.specs.Outcome.{committed_contents, AtEveryMoment, EndsSo, HasMoments, IsAtRest, IsDamagedSource, IsDone, StopsSo}
-use Rattle.repository.specs.Steps.{after_commit, ids_of, IsOldOrNew, IsStep, RecoversToEither, RecoversToRepository}
+use Rattle.repository.specs.Outcome.{committed_contents, AtEveryMoment, EndsSo, HasMoments, IsDone}
+use Rattle.repository.specs.Steps.{after_commit, IsOldOrNew, IsStep, RecoversToEither, RecoversToRepository}
 use Rattle.repository.specs.Tests.{IsRefused, Passes}
 use Rattle.cny_report.specs.Troves.{committed_text}
 use Rattle.cli_call.specs.declared.failure.Failure.{Failure}
 use Rattle.cli_call.specs.declared.failure.Failure.TheVariants as failure
-use Rattle.cli_call.specs.Command.{Disks, AreReady, Answers, ChangesNothing, Goes, HasCause, IsLoaded, Performs, StandsFor, end_of}
-use Rattle.cli_call.specs.CommandLaws.{ChangesRepository, goes_read, performs_on_repository}
+use Rattle.cli_call.specs.Command.{Disks, AreReady, Answers, ChangesNothing, Goes, HasCause, Performs, StandsFor, end_of}
+use Rattle.cli_call.proofs.CommandLaws.{goes_read, performs_on_repository}
 use Rattle.cli_call.specs.Report.{status_of}
-use Rattle.cli_call.specs.RootLaws.{root_laws}
-use Rattle.cli_call.specs.State.{State, IsNext, Takes, after}
+use Rattle.cli_call.proofs.RootLaws.{root_laws}
+use Rattle.cli_call.specs.State.{State, IsNext, Takes}
 use Rattle.cli_call.specs.Stops.{repository_failure, repository_result}
-use Rattle.cli_call.specs.Store.{HasDamagedFile, IsSettled, IsStore, OneOf, Recovers, RestsAt}
+use Rattle.cli_call.specs.Store.{HasDamagedFile, IsSettled, IsStore, OneOf, Recovers}
 use Rattle.cli_call.specs.Stores.{repository_store}
-use Rattle.repo_commands.specs.Commit.{commit_of, committed, Commits, IsCommitted}
+use Rattle.cli_call.proofs.StoreLaws.{read_settled}
+use Rattle.repo_commands.specs.Commit.{commit_of, committed, Commits}
 
 -- the laws that are called upon
 pub record CommitLaws : Type 0 where
@@ -165,15 +164,9 @@ module _ {T P : Type 0} {root_disk : DiskModel T} {repo_disk : DiskModel P} (roo
   same_read : {A : Type 0} → HasRead repo_disk old.repo new.repo A → HasRead repo_disk old.repo new.repo (Unit {0})
   same_read read = record { answer = tt; same = read.same; time = read.time }
 
-  read_settled : {A : Type 0} → IsTrue repo_disk.tells → HasRead repo_disk old.repo new.repo A → IsSettled repo_disk repository_store.base new.repo
-  read_settled told read = record {
-    flag_clear = ap (is_committed repository_store.base) read.same.reads ∙ (ready.repo told).settled.flag_clear;
-    synced = λ p. read.same.unsynced p ∙ (ready.repo told).settled.synced p;
-  }
-
   refused_so : (refusal : Refusal) → Committing repo_disk set old.opened.catalogue c' old.repo new.repo (Err (stop.Refused refusal)) → Performs root_disk repo_disk (commit_of set) input old new (Err (failure.Refused refusal))
   refused_so refusal done = performs_on_repository root_disk_laws root_laws (commit_of set) input old new (Err (failure.Refused refusal)) ready root_same done.later done.within tt
-      (λ le told. read_settled told (done.ends told).0)
+      (λ le told. read_settled (done.ends told).0 (ready.repo told).settled.flag_clear (ready.repo told).settled.synced)
       (λ none told. (done.ends told).0.same.reads)
       (λ told s stands.
       let read = (done.ends told).0 in record {
@@ -204,7 +197,7 @@ module _ {T P : Type 0} {root_disk : DiskModel T} {repo_disk : DiskModel P} (roo
       let read = (done.ends told).0 in
       let source = read.answer in
       let back : repo_disk.reads old.repo ≡ repo_disk.reads new.repo = sym read.same.reads in record {
-        flag_clear = (read_settled told read).flag_clear;
+        flag_clear = ap (is_committed repository_store.base) read.same.reads ∙ (ready.repo told).settled.flag_clear;
         damaged = inr (inl (record {
           catalogue = old.opened.catalogue;
           holds = subst (λ (t : Tree). HoldsCatalogue t old.opened.catalogue) back (ready.repo told).catalogue;

@@ -3,43 +3,30 @@ use Rattle.std.proofs.Common.{◌≡◌, inl, inr, ℕ, Bool, IsTrue, List, Resu
 use Rattle.cli_call.specs.cny-base.declared.refusal.Fault.{Fault}
 use Rattle.cli_call.specs.cny-base.declared.refusal.Fault.TheVariants as fault
 use Rattle.cli_call.specs.cny-base.declared.refusal.Refusal.{Refusal}
-use Rattle.cli_call.specs.tree-disk.Tree.{Tree}
 use Rattle.cli_call.specs.tree-disk.Disk.{DiskModel, IsDisk}
 use Rattle.cli_call.specs.trove-stream.declared.parts.TroveParts.{TroveParts}
 use Rattle.cli_call.specs.change-set.declared.change.ChangeSet.{ChangeSet}
 use Rattle.cny_manifest.specs.declared.made.Made.{Made}
 use Rattle.cny_manifest.specs.FirstFault.{IsFaultOf}
 use Rattle.cny_manifest.specs.Makes.{Makes}
-use Rattle.repo_index.specs.Catalogue.{CatalogueParts}
-use Rattle.repo_load.specs.Files.{HoldsCatalogue, StoresRepository}
-use Rattle.repo_load.specs.State.{catalogue_of, troves_of, RepositoryState}
+use Rattle.repo_load.specs.State.{troves_of}
 use Rattle.repo_index.specs.Steps.{IsErrOrMemory}
 use Rattle.cli_call.specs.declared.failure.Failure.{Failure}
-use Rattle.cli_call.specs.declared.failure.Failure.TheVariants as failure
 use Rattle.cli_call.specs.Command.{Disks, AreReady, Performs, StandsFor}
-use Rattle.cli_call.specs.CommandLaws.{none_read, performs_from_more, performs_reading}
+use Rattle.cli_call.proofs.CommandLaws.{none_read, performs_from_more}
 use Rattle.cli_call.specs.Failures.{failure_of_fault}
-use Rattle.cli_call.specs.RootLaws.{root_laws}
-use Rattle.cli_call.specs.State.{Effect, Meaning, State}
+use Rattle.cli_call.specs.State.{State}
 use Rattle.cli_call.specs.Store.{IsStore}
 use Rattle.cli_call.specs.Stores.{repository_store}
 use Rattle.repo_commands.specs.Commit.{commit_of}
 use Rattle.repo_commands.specs.Cook.{cook, cooked_set, CommitsSet}
-
--- what is loaded is the catalogue of the state
-abbrev pub CatalogueIs : Type 0
-CatalogueIs = (x : Tree) (r : RepositoryState) (c : CatalogueParts) → StoresRepository x r → HoldsCatalogue x c → c ≡ catalogue_of r.commits
+use Rattle.repo_commands.proofs.ReadingEnds.{CatalogueIs, fault_ends, troves_are}
 
 module _ {T P : Type 0} {root_disk : DiskModel T} {repo_disk : DiskModel P} (root_disk_laws : IsDisk root_disk) (repo_disk_laws : IsDisk repo_disk) (store_laws : IsStore repository_store) (law : CatalogueIs) (next : Bool) (input : List ℕ)
     (old : Disks T P) (ready : AreReady root_disk repo_disk old) where
-  troves_are : IsTrue repo_disk.tells → (s : State) → StandsFor root_disk repo_disk old s → old.opened.catalogue.troves ≡ troves_of s.repository.commits
-  troves_are told s stands = ap (λ (c : CatalogueParts). c.troves) (law (repo_disk.reads old.repo) s.repository old.opened.catalogue stands.repo.stored (ready.repo told).catalogue)
-
   -- a refusal before the commit, or want of memory
   stopped : (f : Fault) → ((r : Refusal) → f ≡ fault.Refused r → IsTrue repo_disk.tells → (s : State) → StandsFor root_disk repo_disk old s → (cook next).IsOutcome s input (Err r)) → Performs root_disk repo_disk (cook next) input old old (Err (failure_of_fault f))
-  stopped (fault.Refused r) refuses = performs_reading root_disk_laws repo_disk_laws root_laws store_laws (cook next) input old old ready (none_read root_disk_laws repo_disk_laws old old refl refl) (Err (failure.Refused r)) tt
-      (λ root repo s stands. refuses r refl repo s stands)
-  stopped fault.Memory refuses = performs_reading root_disk_laws repo_disk_laws root_laws store_laws (cook next) input old old ready (none_read root_disk_laws repo_disk_laws old old refl refl) (Err failure.Memory) tt tt
+  stopped f refuses = fault_ends root_disk_laws repo_disk_laws store_laws (cook next) input old old ready (none_read root_disk_laws repo_disk_laws old old refl refl) f (λ r same root repo s stands. refuses r same repo s stands)
 
   -- the input is no manifest
   pub not_read : (f : Fault) → IsFaultOf input f → Performs root_disk repo_disk (cook next) input old old (Err (failure_of_fault f))
@@ -53,7 +40,7 @@ module _ {T P : Type 0} {root_disk : DiskModel T} {repo_disk : DiskModel P} (roo
       makes = makes;
       is =
           let err : cooked_set next old.opened.catalogue.troves made ≡ Err r = subst (IsErrOrMemory (cooked_set next old.opened.catalogue.troves made)) same is in
-          let of : cooked_set next (troves_of s.repository.commits) made ≡ Err r = ap (λ (l : List TroveParts). cooked_set next l made) (sym (troves_are told s stands)) ∙ err in
+          let of : cooked_set next (troves_of s.repository.commits) made ≡ Err r = ap (λ (l : List TroveParts). cooked_set next l made) (sym (troves_are law old ready told s stands)) ∙ err in
           subst (λ (made_so : Result ChangeSet Refusal). CommitsSet s.repository made_so (Err r)) (sym of) refl;
     }))
 
@@ -67,7 +54,7 @@ module _ {T P : Type 0} {root_disk : DiskModel T} {repo_disk : DiskModel P} (roo
       same = done.same;
       within = done.within;
       told = λ root repo s stands.
-          let of : cooked_set next (troves_of s.repository.commits) made ≡ Ok set = ap (λ (l : List TroveParts). cooked_set next l made) (sym (troves_are repo s stands)) ∙ is in
+          let of : cooked_set next (troves_of s.repository.commits) made ≡ Ok set = ap (λ (l : List TroveParts). cooked_set next l made) (sym (troves_are law old ready repo s stands)) ∙ is in
           performs_from_more (λ outcome commits. inl (record { made = made; makes = makes; is = subst (λ (made_so : Result ChangeSet Refusal). CommitsSet s.repository made_so outcome) (sym of) commits }))
           s old new result (done.told root repo s stands);
     }

@@ -1,5 +1,5 @@
 -- Troves with another version record the same contents.
-use Rattle.std.proofs.Common.{◌≡◌, ℕ, ◌||◌, Bool, true, false, IsTrue, List, [], ◌∷◌, length, map, All, Option, Some, None, Result, Ok, Err, refl, sym, ap, subst}
+use Rattle.std.proofs.Common.{◌≡◌, ℕ, ◌||◌, Bool, true, false, IsTrue, List, [], ◌∷◌, map, Option, Some, None, Result, Ok, refl, sym, ap, subst}
 use Rattle.std.specs.List.{list_any}
 use Rattle.cli_call.specs.cny-base.declared.refusal.Fault.{Fault}
 use Rattle.cli_call.specs.cny-base.declared.refusal.Fault.TheVariants as fault
@@ -9,7 +9,7 @@ use Rattle.cli_call.specs.trove-stream.declared.parts.TroveParts.{TroveParts}
 use Rattle.cli_call.specs.change-set.declared.change.Carried.{Carried}
 use Rattle.cli_call.specs.change-set.declared.change.Part.TheVariants.{Whole}
 use Rattle.cli_call.specs.change-set.ChangeSet.{has_record, HasContents}
-use Rattle.repo_index.specs.Next.{next_refusal, next_troves, next_version, trove_with, unless_refused}
+use Rattle.repo_index.specs.Next.{next_refusal, next_version, trove_with, unless_refused}
 use Rattle.repo_index.specs.Steps.{IsErrOrMemory}
 use Rattle.repo_commands.specs.Cook.{cooked_troves, set_of, set_of_result}
 

@@ -1,5 +1,3 @@
-pub mod Lines
-pub mod Passing
 pub mod ListingEnds
 pub mod SetFaults
 pub mod CommitEnds

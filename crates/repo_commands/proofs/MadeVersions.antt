@@ -1,5 +1,5 @@
 -- The troves that a manifest makes have one version.
-use Rattle.std.proofs.Common.{◌≡◌, ℕ, List, [], ◌∷◌, map, All, refl, sym, subst}
+use Rattle.std.proofs.Common.{◌≡◌, ℕ, List, [], ◌∷◌, map, refl, sym, subst}
 use Rattle.std.proofs.lemmas.List.Elements.{All-map, All-from_recursion, recursion_from_All}
 use Rattle.cli_call.specs.cny-base.Name.{kind_of_name}
 use Rattle.cli_call.specs.cny-base.declared.name.NameKind.{NameKind}

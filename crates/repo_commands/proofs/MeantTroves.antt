@@ -1,5 +1,5 @@
 -- How the tests of a specification end.
-use Rattle.std.proofs.Common.{List, [], ◌∷◌, Result, Ok, Err, refl, inl, inr, arith}
+use Rattle.std.proofs.Common.{List, [], ◌∷◌, Result, Ok, Err, refl, inl, inr}
 use Rattle.std.specs.List.Sorted.{IsStrictlySortedBy}
 use Rattle.cli_call.specs.cny-base.declared.refusal.Fault.{Fault}
 use Rattle.cli_call.specs.cny-base.declared.refusal.Fault.TheVariants as fault
@@ -10,7 +10,6 @@ use Rattle.trove_spec.specs.declared.config.Config.{Config}
 use Rattle.trove_spec.specs.Expansion.{IsUnexpanded}
 use Rattle.trove_spec.specs.Resolve.{IsUnresolved}
 use Rattle.cli_call.specs.trove-stream.Installed.{IsRising}
-use Rattle.repository.specs.Between.{AreCommitted}
 use Rattle.repo_commands.specs.declared.given.GivenSpec.{GivenSpec}
 use Rattle.repo_commands.specs.AndThen.{AndThen, EndsAs}
 use Rattle.repo_commands.specs.Meant.{Means, Reaches}
@@ -32,9 +31,6 @@ first_fails Test Rest fault.Memory ends = tt
 pub rest_fails : {A B : Type 0} (Test : Result A Refusal → Type 0) (Rest : A → Result B Refusal → Type 0) (x : A) (f : Fault) → Test (Ok x) → EndsAs (Rest x) (Err f) → EndsAs (AndThen Test Rest) (Err f)
 rest_fails Test Rest x (fault.Refused refused) found ends = inl (record { value = x; found = found; rest = ends })
 rest_fails Test Rest x fault.Memory found ends = tt
-
-pub none_committed : (troves : List TroveParts) → AreCommitted troves []
-none_committed troves t h = let within = h.1 in absurd (omega (arith, within))
 
 pub none_rise : IsRising []
 unfolding IsStrictlySortedBy

@@ -1,5 +1,5 @@
 -- How `shadow` and `branch` end.
-use Rattle.std.proofs.Common.{◌≡◌, ◌<◌, ℕ, List, [], length, map, All, Result, Ok, Err, refl, inl, inr, subst, arith}
+use Rattle.std.proofs.Common.{◌≡◌, ℕ, List, [], map, Result, Ok, Err, refl, inl, inr, subst}
 use Rattle.std.specs.Prelude.{IsTrue}
 use Rattle.std.proofs.lemmas.List.Elements.{All-nil}
 use Rattle.std.specs.List.Sorted.{IsStrictlySortedBy}
@@ -22,7 +22,7 @@ use Rattle.trove_spec.specs.RootConfig.{HasConfig, ReadsConfig}
 use Rattle.cli_call.specs.declared.failure.Failure.{Failure}
 use Rattle.cli_call.specs.declared.opened.Opened.{Opened}
 use Rattle.cli_call.specs.Command.{Disks, disks, AreReady, Performs, StandsFor}
-use Rattle.cli_call.specs.CommandLaws.{AreRead}
+use Rattle.cli_call.proofs.CommandLaws.{AreRead}
 use Rattle.cli_call.specs.Failures.{failure_of_fault}
 use Rattle.cli_call.specs.State.{tree_of, Effect, State}
 use Rattle.cli_call.specs.Store.{IsStore}

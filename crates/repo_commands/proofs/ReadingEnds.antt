@@ -26,13 +26,13 @@ use Rattle.cli_call.specs.declared.failure.Failure.{Failure}
 use Rattle.cli_call.specs.declared.failure.Failure.TheVariants as failure
 use Rattle.cli_call.specs.declared.opened.Opened.{Opened}
 use Rattle.cli_call.specs.Command.{Disks, disks, AreReady, Performs, StandsFor}
-use Rattle.cli_call.specs.CommandLaws.{AreRead, performs_reading}
+use Rattle.cli_call.proofs.CommandLaws.{AreRead, performs_reading}
 use Rattle.cli_call.specs.Failures.{failure_of_fault}
-use Rattle.cli_call.specs.RootLaws.{root_laws, stored_outside}
+use Rattle.cli_call.proofs.RootLaws.{root_laws, stored_outside}
 use Rattle.cli_call.specs.State.{tree_of, Meaning, State}
 use Rattle.cli_call.specs.Stops.{root_result}
 use Rattle.cli_call.specs.Store.{IsStore}
-use Rattle.cli_call.specs.StoreLaws.{nothing_done}
+use Rattle.cli_call.proofs.StoreLaws.{nothing_done}
 use Rattle.cli_call.specs.Stores.{repository_store, root_store}
 
 -- what is loaded is the catalogue of the state

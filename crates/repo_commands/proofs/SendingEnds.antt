@@ -21,9 +21,9 @@ use Rattle.trove_spec.specs.RootConfig.{HasConfig, ReadsConfig}
 use Rattle.cli_call.specs.declared.failure.Failure.TheVariants as failure
 use Rattle.cli_call.specs.declared.opened.Opened.{Opened}
 use Rattle.cli_call.specs.Command.{disks, AreReady, Performs, StandsFor}
-use Rattle.cli_call.specs.CommandLaws.{AreRead, performs_reading}
+use Rattle.cli_call.proofs.CommandLaws.{AreRead, performs_reading}
 use Rattle.cli_call.specs.Failures.{failure_of_fault}
-use Rattle.cli_call.specs.RootLaws.{root_laws}
+use Rattle.cli_call.proofs.RootLaws.{root_laws}
 use Rattle.cli_call.specs.State.{nothing, tree_of, Effect, State}
 use Rattle.cli_call.specs.Stops.{repository_result}
 use Rattle.cli_call.specs.Store.{HasDamagedFile, IsStore}

@@ -1,5 +1,5 @@
 -- What `commit` means.
-use Rattle.std.specs.Prelude.{◌≡◌, ℕ, true, List, Result, Ok, Err}
+use Rattle.std.specs.Prelude.{◌≡◌, true, List, Result, Ok, Err}
 use Rattle.cli_call.specs.cny-base.declared.refusal.Refusal.{Refusal}
 use Rattle.cli_call.specs.trove-stream.declared.parts.TroveParts.{TroveParts}
 use Rattle.cli_call.specs.change-set.declared.change.ChangeSet.{ChangeSet}
@@ -7,7 +7,7 @@ use Rattle.repo_load.specs.State.{catalogue_of, RepositoryState}
 use Rattle.repository.specs.Steps.{after_commit, ids_of}
 use Rattle.repository.specs.Tests.{IsRefused, Passes}
 use Rattle.cny_report.specs.Troves.{committed_text}
-use Rattle.cli_call.specs.State.{on_repository, Effect, Meaning, State}
+use Rattle.cli_call.specs.State.{on_repository, Effect, Meaning}
 use Rattle.repo_commands.specs.SetInput.{OfChangeSet}
 
 -- these troves are committed with the contents of a change set, and told

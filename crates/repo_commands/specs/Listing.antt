@@ -1,7 +1,5 @@
 -- What `rq` means.
 use Rattle.std.specs.Prelude.{◌≡◌, ℕ, false, List, [], ◌∷◌, Option, Some, None, Result, Ok, Err, IfOk}
-use Rattle.cli_call.specs.cny-base.declared.refusal.Fault.{Fault}
-use Rattle.cli_call.specs.cny-base.declared.refusal.Fault.TheVariants as fault
 use Rattle.cli_call.specs.cny-base.declared.refusal.Refusal.{Refusal}
 use Rattle.cli_call.specs.cny-base.declared.refusal.Refusal.TheVariants as refusal
 use Rattle.cli_call.specs.cny-base.declared.text.OutOfMemory.{OutOfMemory}
@@ -9,7 +7,8 @@ use Rattle.cli_call.specs.trove-stream.declared.parts.TroveParts.{TroveParts}
 use Rattle.repo_index.specs.Catalogue.{named}
 use Rattle.repo_load.specs.State.{troves_of}
 use Rattle.cny_report.specs.Troves.{troves_text}
-use Rattle.cli_call.specs.State.{nothing, Effect, Meaning}
+use Rattle.cli_call.specs.Answer.{answer}
+use Rattle.cli_call.specs.State.{Effect, Meaning}
 
 -- the line of a trove, if there is one
 abbrev pub line_of : Option TroveParts → List ℕ
@@ -19,10 +18,6 @@ line_of (Some trove) = troves_text (trove ∷ [])
 -- the text is that of the troves
 abbrev pub IsTextOf : List TroveParts → Result (List ℕ) OutOfMemory → Type 0
 IsTextOf troves result = IfOk result (λ text. text ≡ troves_text troves)
-
--- nothing changes, and these bytes are answered
-abbrev pub answer : List ℕ → Effect
-answer text = record { change = nothing; out = text }
 
 -- a line for each of the troves of a name; there is one at least
 abbrev pub listed_of : List ℕ → List TroveParts → Result Effect Refusal
@@ -36,9 +31,3 @@ listed (Some name) troves = listed_of name (named name troves)
 
 abbrev pub list_committed : Option (List ℕ) → Meaning
 list_committed name = record { takes_input = false; IsOutcome = λ s input outcome. outcome ≡ listed name (troves_of s.repository.commits) }
-
--- such an outcome was answered, or memory ran out
-abbrev pub Lists : Result Effect Refusal → Result (List ℕ) Fault → Type 0
-Lists outcome (Ok text) = outcome ≡ Ok (answer text)
-Lists outcome (Err (fault.Refused r)) = outcome ≡ Err r
-Lists outcome (Err fault.Memory) = Unit {0}

@@ -1,5 +1,5 @@
 -- What `shadow` and `branch` mean.
-use Rattle.std.specs.Prelude.{◌≡◌, false, List, [], map, Result, Ok, Err}
+use Rattle.std.specs.Prelude.{false, List, [], map, Result, Ok, Err}
 use Rattle.cli_call.specs.cny-base.declared.refusal.Refusal.{Refusal}
 use Rattle.cny_version.specs.Label.{LabelParts}
 use Rattle.cli_call.specs.trove-parts.declared.id.TroveId.{TroveId}

@@ -3,9 +3,10 @@ ghost use Rattle.std.specs.Prelude.{◌≡◌, ◌++◌, List, ℕ, OnOk, string
 ghost use Rattle.std.specs.Option.{option_copied};
 ghost use Rattle.repo_index.specs.Catalogue.{named};
 ghost use Rattle.repo_index.specs.Places.{troves_at};
+ghost use Rattle.cli_call.specs.Answer.{AnswersSo};
 ghost use Rattle.cli_call.specs.Command.{disks, AreReady, Performs};
 ghost use Rattle.repo_commands.specs.Listing as spec;
-ghost use Rattle.repo_commands.specs.Listing.{line_of, listed, IsTextOf, Lists};
+ghost use Rattle.repo_commands.specs.Listing.{line_of, listed, IsTextOf};
 
 use cli_call::cny_base::{Fault, Name, OutOfMemory, Refusal, Text};
 use cli_call::tree_disk::TreeDisk;
@@ -43,7 +44,7 @@ fn text_at(alloc: Global, catalogue: &Catalogue, places: &[usize]) -> Result<Tex
 
 // A line for each trove of a name, of which there is one at least.
 fn list_named(alloc: Global, catalogue: &Catalogue, name: &Name) -> Result<Text, Fault>
-    ensures { Lists (spec.listed_of name.now (named name.now catalogue.now.troves)) result }
+    ensures { AnswersSo (spec.listed_of name.now (named name.now catalogue.now.troves)) result }
 {
     let text = text_at(alloc, catalogue, catalogue.by_name(name))?;
     if text.get().is_empty() {
@@ -55,7 +56,7 @@ fn list_named(alloc: Global, catalogue: &Catalogue, name: &Name) -> Result<Text,
 }
 
 fn list(alloc: Global, catalogue: &Catalogue, name: &Option<Name>) -> Result<Text, Fault>
-    ensures { Lists (listed name.now catalogue.now.troves) result }
+    ensures { AnswersSo (listed name.now catalogue.now.troves) result }
 {
     match name {
         None => Ok(troves_text(alloc, catalogue.troves())?),

@@ -11,7 +11,7 @@ use Rattle.repo_commands.specs.change-set.Contents.{IfRefused}
 use Rattle.repo_commands.specs.change-set.declared.change.ChangeSet.{ChangeSet}
 use Rattle.update_job.specs.Made.{AreMade, IsFirstRefused}
 use Rattle.cli_call.specs.Command.{Disks, AreReady, StandsFor}
-use Rattle.cli_call.specs.RootDatabase.{OneDatabase, held_database}
+use Rattle.cli_call.proofs.RootDatabase.{OneDatabase, held_database}
 use Rattle.cli_call.specs.State.{Effect, State}
 use Rattle.root_commands.specs.Update.{UpdatesBy, UpdatesTo}
 

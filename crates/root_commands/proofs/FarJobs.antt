@@ -6,7 +6,7 @@ use Rattle.repo_commands.specs.cny-base.declared.options.Options.{Options}
 use Rattle.repo_commands.specs.cny-base.declared.stop.Stop.{Stop}
 use Rattle.repo_commands.specs.cny-base.declared.stop.Stop.TheVariants as stop
 use Rattle.repo_commands.specs.tree-disk.Tree.{Name, Tree}
-use Rattle.repo_commands.specs.tree-disk.Disk.{DiskModel, IsDisk, HasRead}
+use Rattle.repo_commands.specs.tree-disk.Disk.{DiskModel, IsDisk}
 use Rattle.repo_commands.specs.tree-disk.Clear.{is_within}
 use Rattle.repo_commands.specs.tree-disk.Confined.{Among}
 use Rattle.repo_commands.specs.tree-disk.ConfinedLaws.{confined_read}
@@ -32,17 +32,19 @@ use Rattle.cny_report.specs.Jobs.{changes_text}
 use Rattle.cli_call.specs.declared.failure.Failure.{Failure}
 use Rattle.cli_call.specs.declared.failure.Failure.TheVariants as failure
 use Rattle.cli_call.specs.declared.opened.Opened.{Opened}
-use Rattle.cli_call.specs.ChangingRoot.{ChangesRoot}
+use Rattle.cli_call.proofs.ChangingRoot.{ChangesRoot}
 use Rattle.cli_call.specs.Command.{disks, AreReady, ChangesNothing, HasCause, Performs, StandsFor, end_of}
-use Rattle.cli_call.specs.CommandLaws.{goes_read}
+use Rattle.cli_call.proofs.CommandLaws.{goes_read}
 use Rattle.cli_call.specs.Report.{status_of}
-use Rattle.cli_call.specs.RootDatabase.{OneDatabase, one_format}
+use Rattle.cli_call.proofs.RootDatabase.{OneDatabase, one_format}
 use Rattle.cli_call.specs.State.{Meaning, RootState, State}
 use Rattle.cli_call.specs.Stops.{root_failure, root_result}
 use Rattle.cli_call.specs.Store.{HasDamagedFile, IsSettled, IsStore}
 use Rattle.cli_call.specs.Stores.{repository_store, root_store}
+use Rattle.cli_call.proofs.StoreLaws.{read_settled}
+use Rattle.cli_call.proofs.RootResults.{root_ok, same_failure}
 use Rattle.root_commands.specs.Update.{answers_of, update_to, UpdatesTo}
-use Rattle.root_commands.proofs.SpecifiedEnds.{ReadsAtRefusal, ok_by, same_failure}
+use Rattle.root_commands.proofs.SpecifiedEnds.{ReadsAtRefusal}
 use Rattle.root_commands.proofs.JobStates as states
 use Rattle.root_commands.proofs.JobStates.{IsUndamaged}
 use Rattle.root_commands.proofs.MoreAnswers.{ends_more}
@@ -99,16 +101,12 @@ module _ {T P : Type 0} {root_disk : DiskModel T} {repo_disk : DiskModel P} (roo
     ends r ran = ends_more carried options (let contents = repo_contents repo_disk in contents.answers far) (answers_of s.repository.contents) answered s.root root_disk (to_updated s.root.installed troves) root root' opened'.db r (ran.ends root_told s.root stores)
 
     whole : (e : Stop) → Runs (Err e) → IsUndamaged e
-    whole (stop.Refused why) ran = tt
-    whole stop.Failed ran = tt
-    whole stop.Memory ran = tt
-    whole (stop.Damaged path) ran = tt
-    whole stop.FarFailed ran = tt
     whole (stop.FarDamaged path) ran =
         let found = ran.causes told in
         let at = found.1.damaged in
         laws.contents (repo_disk.reads repo) s.repository at.name path stands.repo.stored
         (subst (λ (t : List TroveParts). IsDamagedContent t at.name (repo_disk.reads repo) path) same_troves at.damaged)
+    whole _ ran = tt
 
     abbrev Changes : Result (List ℕ) Failure → Type 0
     Changes f = ChangesRoot root_disk (UpdatesTo options carried troves s) s root root' f
@@ -153,19 +151,9 @@ module _ {T P : Type 0} {root_disk : DiskModel T} {repo_disk : DiskModel P} (roo
   caused stop.FarFailed ran = ran.causes
   caused (stop.FarDamaged path) ran = inr (damaged_file path ran)
 
-  settled_read : HasRead root_disk root root' (Unit {0}) → IsTrue root_disk.tells → IsSettled root_disk root_store.base root'
-  settled_read read told = record {
-    flag_clear = ap (is_committed root_store.base) read.same.reads ∙ (ready.root told).flag_clear;
-    synced = λ p. read.same.unsynced p ∙ (ready.root told).synced p;
-  }
-
   settles : (e : Stop) → Runs (Err e) → status_of (Err (root_failure e)) ≤ 4 → IsTrue root_disk.tells → IsSettled root_disk root_store.base root'
-  settles (stop.Refused why) ran le told = settled_read (ran.refused told) told
-  settles stop.Failed ran le told = absurd (omega (arith, le))
-  settles stop.Memory ran le told = absurd (omega (arith, le))
-  settles (stop.Damaged path) ran le told = absurd (omega (arith, le))
-  settles stop.FarFailed ran le told = absurd (omega (arith, le))
-  settles (stop.FarDamaged path) ran le told = absurd (omega (arith, le))
+  settles (stop.Refused why) ran le told = read_settled (ran.refused told) (ready.root told).flag_clear (ready.root told).synced
+  settles _ ran le told = absurd (omega (arith, le))
 
   keeps : (e : Stop) → Runs (Err e) → ChangesNothing (Err (root_failure e)) → IsTrue root_disk.tells → root_disk.reads root' ≡ root_disk.reads root
   keeps (stop.Refused why) ran none told = let read = ran.refused told in read.same.reads
@@ -191,10 +179,7 @@ module _ {T P : Type 0} {root_disk : DiskModel T} {repo_disk : DiskModel P} (roo
     cause = cause;
     rest = λ le. record {
       root = rest le;
-      repo = λ told. record {
-        flag_clear = ap (is_committed repository_store.base) (searched.same told).same.reads ∙ (ready.repo told).settled.flag_clear;
-        synced = λ p. (searched.same told).same.unsynced p ∙ (ready.repo told).settled.synced p;
-      };
+      repo = λ told. read_settled (searched.same told) (ready.repo told).settled.flag_clear (ready.repo told).settled.synced;
     };
     same = λ none. record { root = keep none; repo = λ told. (searched.same told).same.reads };
     within = λ told. confined_read repo_disk_laws (Among (is_within repository_base)) (searched.same told);
@@ -211,17 +196,17 @@ module _ {T P : Type 0} {root_disk : DiskModel T} {repo_disk : DiskModel P} (roo
 
   pub failed_performs : (r : Result Done Stop) (f : Failure) → root_result r ≡ Err f → Runs r → Performed (Err f)
   failed_performs (Ok made) f is ran = absurd (cc is)
-  failed_performs (Err e) f is ran = subst (λ (x : Failure). Performed (Err x)) (same_failure (root_failure e) f is)
+  failed_performs (Err e) f is ran = subst (λ (x : Failure). Performed (Err x)) (same_failure {X = Done} is)
       (performed_by (Err (root_failure e)) ran.searched ran.later (caused e ran) (settles e ran) (keeps e ran) (λ root_told told s stands. stopped root_told told s stands e ran))
 
   pub memory_performs : (r : Result Done Stop) (made : Done) → root_result r ≡ Ok made → Runs r → Performed (Err failure.Memory)
   memory_performs r made is ran =
-      let now : Runs (Ok made) = subst Runs (ok_by r made is) ran in
+      let now : Runs (Ok made) = subst Runs (root_ok r made is) ran in
       performed_by (Err failure.Memory) now.searched now.later tt (λ le told. absurd (omega (arith, le))) (λ none told. absurd none) (λ root_told told s stands. untold_text root_told told s stands made now)
 
   pub told_performs : (r : Result Done Stop) (made : Done) (text : List ℕ) → root_result r ≡ Ok made → Runs r → text ≡ changes_text made.changes → Performed (Ok text)
   told_performs r made text is ran text_is =
-      let now : Runs (Ok made) = subst Runs (ok_by r made is) ran in
+      let now : Runs (Ok made) = subst Runs (root_ok r made is) ran in
       performed_by (Ok text) now.searched now.later tt (λ le told. settled_done made now told) (λ none told. absurd none) (λ root_told told s stands. told_text root_told told s stands made text text_is now)
 
 -- ---- the same disks under other names

@@ -22,14 +22,14 @@ use Rattle.cli_call.specs.declared.failure.Failure.{Failure}
 use Rattle.cli_call.specs.declared.failure.Failure.TheVariants as failure
 use Rattle.cli_call.specs.declared.opened.Opened.{Opened}
 use Rattle.cli_call.specs.Command.{disks, AreReady, HasCause, Performs, StandsFor}
-use Rattle.cli_call.specs.CommandLaws.{AnswersReading, AreRead, performs_reading}
-use Rattle.cli_call.specs.RootDatabase.{OneDatabase}
-use Rattle.cli_call.specs.RootLaws.{root_laws}
+use Rattle.cli_call.proofs.CommandLaws.{AnswersReading, AreRead, performs_reading}
+use Rattle.cli_call.proofs.RootDatabase.{OneDatabase}
+use Rattle.cli_call.proofs.RootLaws.{root_laws}
 use Rattle.cli_call.specs.State.{State}
 use Rattle.cli_call.specs.Stops.{root_failure, root_result}
 use Rattle.cli_call.specs.Store.{HasDamagedFile, IsStore}
 use Rattle.cli_call.specs.Stores.{repository_store}
-use Rattle.root_commands.specs.Answer.{answer}
+use Rattle.cli_call.specs.Answer.{answer}
 use Rattle.root_commands.specs.Verifying.{verify_fully}
 use Rattle.root_commands.proofs.Answering.{installed_are}
 use Rattle.root_commands.proofs.VerifyEnds.{found_of_system, Searched}

@@ -2,7 +2,6 @@
 use Rattle.std.proofs.Common.{◌≡◌, ℕ, List, [], ◌∷◌, ◌++◌, map, Option, Some, None, Result, Ok, Err, IfErr, All, refl, sym, ap, ◌∙◌, subst, inl, inr, arith}
 use Rattle.std.specs.Option.{option_or}
 use Rattle.std.proofs.lemmas.List.Elements.{All-head, All-tail, All-weaker}
-use Rattle.repo_commands.specs.cny-base.Count.{Rose}
 use Rattle.repo_commands.specs.cny-base.declared.options.Options.{Options}
 use Rattle.repo_commands.specs.cny-base.declared.refusal.Fault.{Fault}
 use Rattle.repo_commands.specs.cny-base.declared.refusal.Fault.TheVariants as fault
@@ -26,15 +25,16 @@ use Rattle.system_core.specs.declared.done.Done.{Done}
 use Rattle.system_core.specs.Steps.{HasCause, HasOwnCause}
 use Rattle.cli_call.specs.declared.opened.Opened.{Opened}
 use Rattle.cli_call.specs.Alone.{PerformsAlone}
-use Rattle.cli_call.specs.AloneLaws.{AnswersAlone}
+use Rattle.cli_call.proofs.AloneLaws.{AnswersAlone}
 use Rattle.cli_call.specs.Command as command
 use Rattle.cli_call.specs.Command.{disks, AreReady, Performs}
 use Rattle.cli_call.specs.Failures.{failure_of_fault}
-use Rattle.cli_call.specs.ReadingRoot.{read_alone, read_performed}
+use Rattle.cli_call.proofs.ReadingRoot.{read_alone, read_performed}
 use Rattle.cli_call.specs.State.{Effect, State}
 use Rattle.cli_call.specs.Store.{IsStore}
-use Rattle.cli_call.specs.StoreLaws.{nothing_done}
+use Rattle.cli_call.proofs.StoreLaws.{nothing_done}
 use Rattle.cli_call.specs.Stores.{repository_store}
+use Rattle.root_commands.proofs.VerifyEnds.{none_rose}
 use Rattle.update_job.specs.Allowed.{AreAllowed, IsAllowed, IsFirstReserved}
 use Rattle.root_commands.specs.Install.{first_reserved, install, install_made, InstallsMade, UnlessReserved}
 
@@ -58,9 +58,6 @@ reserved_at (u ∷ front) t behind path allowed some =
     none_first u (front ++ t ∷ behind) (All-head IsAllowed u front allowed) ∙ reserved_at front t behind path (All-tail IsAllowed u front allowed) some
 
 -- ---- no contents behind
-
-none_rose : Rose 0 0 → ⊥
-none_rose rose = omega (arith, rose)
 
 own_cause : (far far' : NoContents) (rose : Type 0) (e : Stop) → HasCause (empty_contents {C = NoContents}) far far' rose e → HasOwnCause rose e
 own_cause far far' rose stop.Failed h = h

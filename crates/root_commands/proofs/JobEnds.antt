@@ -24,14 +24,14 @@ use Rattle.system_core.proofs.NewestStored.{OneRecord, job_record}
 use Rattle.cny_report.specs.declared.note.Note.{Note}
 use Rattle.cli_call.specs.declared.failure.Failure.{Failure}
 use Rattle.cli_call.specs.declared.opened.Opened.{Opened}
-use Rattle.cli_call.specs.AloneLaws.{AnswersAlone}
+use Rattle.cli_call.proofs.AloneLaws.{AnswersAlone}
 use Rattle.cli_call.specs.Command.{disks, AreReady, HasCause}
-use Rattle.cli_call.specs.RootDatabase.{OneDatabase, held_database}
+use Rattle.cli_call.proofs.RootDatabase.{OneDatabase, held_database}
 use Rattle.cli_call.specs.State.{RootState}
 use Rattle.cli_call.specs.Stops.{root_result}
 use Rattle.cli_call.specs.Store.{HasDamagedFile}
 use Rattle.cli_call.specs.Stores.{root_store}
-use Rattle.root_commands.specs.Answer.{answer}
+use Rattle.cli_call.specs.Answer.{answer}
 use Rattle.root_commands.specs.Jobs.{AreNotesOf, list_jobs}
 use Rattle.root_commands.specs.Noting.{AreNoted, AreToldBy}
 
@@ -169,10 +169,6 @@ module _ {T P : Type 0} (root_disk : DiskModel T) (repo_disk : DiskModel P) (law
     are = notes_of law one (root_disk.reads root) opened.db s.root (ready.root told).holds rests.stored jobs is.notes (are told) is.noted;
     effect_is = ap answer is.text_is;
   }
-
-pub found_is : (r : Result (List Undone) Stop) (jobs : List Undone) → root_result r ≡ Ok jobs → r ≡ Ok jobs
-found_is (Ok x) jobs is = cc is
-found_is (Err e) jobs is = absurd (cc is)
 
 pub read_of : {T A : Type 0} (root_disk : DiskModel T) (root root' : T) → Reads root_disk root root' A → IsTrue root_disk.tells → HasRead root_disk root root' (Unit {0})
 read_of root_disk root root' value told = let h = value told in record { answer = tt; same = h.same; time = h.time }

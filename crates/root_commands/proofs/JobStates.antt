@@ -29,15 +29,15 @@ use Rattle.system_core.specs.Steps.{Ends, EndsWith, IsDone, IsOnTheWay, changed,
 use Rattle.cny_report.specs.Jobs.{changes_text}
 use Rattle.cli_call.specs.declared.failure.Failure.{Failure}
 use Rattle.cli_call.specs.declared.failure.Failure.TheVariants as failure
-use Rattle.cli_call.specs.ChangingRoot.{ChangesRoot, of_either}
+use Rattle.cli_call.proofs.ChangingRoot.{ChangesRoot, of_either}
 use Rattle.cli_call.specs.Command.{Answers, end_of}
-use Rattle.cli_call.specs.CommandLaws.{goes_read, read_shown}
+use Rattle.cli_call.proofs.CommandLaws.{goes_read, read_shown}
 use Rattle.cli_call.specs.Report.{status_of}
-use Rattle.cli_call.specs.RootLaws.{root_laws}
+use Rattle.cli_call.proofs.RootLaws.{root_laws}
 use Rattle.cli_call.specs.State.{nothing, on_root, Effect, RootState, State, Takes}
 use Rattle.cli_call.specs.Stops.{root_failure}
 use Rattle.cli_call.specs.Store.{RestsAt}
-use Rattle.cli_call.specs.StoreLaws.{settled_rests}
+use Rattle.cli_call.proofs.StoreLaws.{settled_rests}
 use Rattle.cli_call.specs.Stores.{root_store}
 use Rattle.root_commands.specs.JobOutcome.{JobOutcome}
 

@@ -1,4 +1,3 @@
-pub mod Passing
 pub mod Answering
 pub mod Verified
 pub mod VerifyEnds

@@ -28,11 +28,11 @@ use Rattle.local_db.proofs.Writes.{contains_first, contains_rest}
 use Rattle.update_job.proofs.Elements.{contains_at}
 use Rattle.cli_call.specs.declared.failure.Failure.{Failure}
 use Rattle.cli_call.specs.declared.opened.Opened.{Opened}
-use Rattle.cli_call.specs.AloneLaws.{AnswersAlone}
+use Rattle.cli_call.proofs.AloneLaws.{AnswersAlone}
 use Rattle.cli_call.specs.Command.{disks, AreReady, HasCause}
 use Rattle.cli_call.specs.Failures.{failure_of_fault}
-use Rattle.cli_call.specs.RootDatabase.{OneDatabase, held_database}
-use Rattle.cli_call.specs.RootLaws.{stored_outside}
+use Rattle.cli_call.proofs.RootDatabase.{OneDatabase, held_database}
+use Rattle.cli_call.proofs.RootLaws.{stored_outside}
 use Rattle.cli_call.specs.State.{State, tree_of}
 use Rattle.cli_call.specs.Stops.{root_result}
 use Rattle.cli_call.specs.Store.{RestsAt}

@@ -1,5 +1,5 @@
 -- A damaged record isn't passed over.
-use Rattle.std.proofs.Common.{◌≡◌, ⊎_elim, Bool, false, ℕ, zero, suc, ◌+◌, ◌-◌, ◌<◌, ◌≤◌, List, [], ◌∷◌, ◌++◌, length, Option, None, Some, Result, Ok, Err, IfOk, IfErr, All, refl, sym, ap, ◌∙◌, subst, inl, inr, arith, length-append}
+use Rattle.std.proofs.Common.{◌≡◌, ⊎_elim, Bool, false, ℕ, zero, suc, ◌+◌, ◌-◌, ◌<◌, ◌≤◌, List, [], ◌∷◌, ◌++◌, length, Option, Some, Result, Ok, Err, IfOk, IfErr, All, refl, sym, ap, ◌∙◌, subst, inl, inr, arith, length-append}
 use Rattle.std.specs.Prelude.{◌⊎◌, IsTrue}
 use Rattle.std.proofs.lemmas.List.Elements.{All-contains}
 use Rattle.repo_commands.specs.cny-base.declared.refusal.Refusal.{Refusal}
@@ -201,11 +201,7 @@ module _ (one : OneRecord) (x : Tree) (db : Db) (number : ℕ) (step : Back) (is
 -- all jobs told
 list_stop : (told : Bool) (x : Tree) (db : Db) (count n : ℕ) (after : List TroveParts) (rose : Type 0) (e : Stop) → IsAllStop told x count n after rose e → ListsWhole {A = List ℕ} x db (Err (root_failure e))
 list_stop told x db count n after rose (stop.Refused why) h = absurd h
-list_stop told x db count n after rose stop.Failed h = tt
-list_stop told x db count n after rose stop.Memory h = tt
-list_stop told x db count n after rose (stop.Damaged path) h = tt
-list_stop told x db count n after rose stop.FarFailed h = tt
-list_stop told x db count n after rose (stop.FarDamaged path) h = tt
+list_stop told x db count n after rose _ h = tt
 
 pub list_failed : (told : Bool) (x : Tree) (db : Db) (count n : ℕ) (after : List TroveParts) (rose : Type 0) (r : Result (List Undone) Stop) (f : Failure) → root_result r ≡ Err f → IfErr r (IsAllStop told x count n after rose) → ListsWhole {A = List ℕ} x db (Err f)
 list_failed told x db count n after rose (Ok jobs) f is h = absurd (cc is)
@@ -218,11 +214,7 @@ module _ {T : Type 0} (root_disk : DiskModel T) (root root' : T) (db db' : Db) (
 
   back_stop : (e : Stop) → StopsTo root_disk db (last_job number db) root root' e → Whole (Err (root_failure e))
   back_stop (stop.Refused why) h = several_refused one root_disk.tells (root_disk.reads root) db (last_job number db) told why h.answer
-  back_stop stop.Failed h = tt
-  back_stop stop.Memory h = tt
-  back_stop (stop.Damaged path) h = tt
-  back_stop stop.FarFailed h = tt
-  back_stop (stop.FarDamaged path) h = tt
+  back_stop _ h = tt
 
   stop_at : (r : Result ℕ Stop) (f : Failure) → root_result r ≡ Err f → IfErr r (StopsTo root_disk db (last_job number db) root root') → Whole (Err f)
   stop_at (Ok n) f is h = absurd (cc is)

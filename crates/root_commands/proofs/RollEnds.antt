@@ -24,7 +24,7 @@ use Rattle.cli_call.specs.declared.failure.Failure.TheVariants as failure
 use Rattle.cli_call.specs.declared.opened.Opened.{Opened}
 use Rattle.cli_call.specs.Alone.{PerformsAlone}
 use Rattle.cli_call.specs.Command.{disks, AreReady, LeavesName, Performs}
-use Rattle.cli_call.specs.RootDatabase.{OneDatabase, held_database}
+use Rattle.cli_call.proofs.RootDatabase.{OneDatabase, held_database}
 use Rattle.cli_call.specs.State.{RootState}
 use Rattle.cli_call.specs.Stops.{root_result}
 use Rattle.cli_call.specs.Store.{IsSettled, IsStore}
@@ -139,13 +139,9 @@ module _ {T : Type 0} (root_disk : DiskModel T) (root root' : T) (opened opened'
   }
 
   ends_all : (s : RootState) (r : Result ℕ Stop) → EndsTo s (number_of s) opened'.db r → EndsBack (Tells s) (Refuses s) r
-  ends_all s (Ok n) h = h
-  ends_all s (Err (stop.Refused why)) h = h
   ends_all s (Err stop.Failed) h = tt
   ends_all s (Err stop.Memory) h = tt
-  ends_all s (Err (stop.Damaged path)) h = h
-  ends_all s (Err stop.FarFailed) h = h
-  ends_all s (Err (stop.FarDamaged path)) h = h
+  ends_all s _ h = h
 
   rests_all : (r : Result ℕ Stop) → IfOk r (HasTakenBackTo root_disk opened.db opened'.db last root root') → OnOk r (IsSettled root_disk root_store.base root')
   rests_all (Ok n) h = record { flag_clear = h.put.flag_clear; synced = h.put.synced }
@@ -154,10 +150,7 @@ module _ {T : Type 0} (root_disk : DiskModel T) (root root' : T) (opened opened'
   stops_each : (e : Stop) → StopsTo root_disk opened.db last root root' e → StopsBack root_disk IsDamage root root' e
   stops_each (stop.Refused why) h = record { answer = tt; same = h.same; time = h.time }
   stops_each (stop.Damaged path) h = h
-  stops_each stop.Failed h = tt
-  stops_each stop.Memory h = tt
-  stops_each stop.FarFailed h = tt
-  stops_each (stop.FarDamaged path) h = tt
+  stops_each _ h = tt
 
   stops_all : (r : Result ℕ Stop) → IfErr r (StopsTo root_disk opened.db last root root') → IfErr r (StopsBack root_disk IsDamage root root')
   stops_all (Ok n) h = tt

@@ -1,12 +1,11 @@
 -- How a command ends that is a job without contents behind it.
-use Rattle.std.proofs.Common.{◌≡◌, ◌≤◌, ℕ, false, List, Result, Ok, Err, OnOk, IfErr, refl, sym, ap, ◌∙◌, subst, arith}
+use Rattle.std.proofs.Common.{◌≡◌, ◌≤◌, ℕ, false, List, Result, Ok, Err, OnOk, IfErr, refl, sym, subst, arith}
 use Rattle.std.specs.Prelude.{IsTrue}
 use Rattle.repo_commands.specs.cny-base.Count.{Rose}
 use Rattle.repo_commands.specs.cny-base.declared.refusal.Refusal.{Refusal}
 use Rattle.repo_commands.specs.cny-base.declared.stop.Stop.{Stop}
 use Rattle.repo_commands.specs.cny-base.declared.stop.Stop.TheVariants as stop
 use Rattle.repo_commands.specs.tree-disk.Disk.{DiskModel, IsDisk, HasRead}
-use Rattle.repo_commands.specs.tree-journal.Recovery.{is_committed}
 use Rattle.local_db.specs.declared.db.Db.{Db}
 use Rattle.local_db.specs.declared.format.Format.TheVariants.{Two}
 use Rattle.local_db.specs.Stores.{StoresIn}
@@ -21,25 +20,19 @@ use Rattle.cli_call.specs.declared.failure.Failure.{Failure}
 use Rattle.cli_call.specs.declared.failure.Failure.TheVariants as failure
 use Rattle.cli_call.specs.declared.opened.Opened.{Opened}
 use Rattle.cli_call.specs.Alone.{PerformsAlone}
-use Rattle.cli_call.specs.ChangingRoot.{ChangesRoot, alone_on_root, performs_on_root}
+use Rattle.cli_call.proofs.ChangingRoot.{ChangesRoot, alone_on_root, performs_on_root}
 use Rattle.cli_call.specs.Command.{disks, AreReady, ChangesNothing as KeepsAll, HasCause, Performs, end_of}
 use Rattle.cli_call.specs.Report.{status_of}
-use Rattle.cli_call.specs.RootDatabase.{OneDatabase, one_format}
+use Rattle.cli_call.proofs.RootDatabase.{OneDatabase, one_format}
 use Rattle.cli_call.specs.State.{Effect, Meaning, RootState, State}
 use Rattle.cli_call.specs.Stops.{root_failure, root_result}
 use Rattle.cli_call.specs.Store.{IsSettled, IsStore, RestsAt}
-use Rattle.cli_call.specs.StoreLaws.{nothing_done}
+use Rattle.cli_call.proofs.StoreLaws.{nothing_done, read_settled}
 use Rattle.cli_call.specs.Stores.{root_store, repository_store}
+use Rattle.cli_call.proofs.RootResults.{root_ok, same_failure}
 use Rattle.root_commands.specs.JobOutcome.{JobOutcome}
 use Rattle.root_commands.proofs.JobStates as states
 use Rattle.root_commands.proofs.JobStates.{IsUndamaged}
-
-pub same_failure : (e f : Failure) → ◌≡◌ {A = Result Done Failure} (Err e) (Err f) → e ≡ f
-same_failure e f is = cc is
-
-pub ok_by : (r : Result Done Stop) (made : Done) → root_result r ≡ Ok made → r ≡ Ok made
-ok_by (Ok m) made is = cc is
-ok_by (Err e) made is = absurd (cc is)
 
 -- what a refusal leaves, or a stop at a damaged content, on each root
 abbrev pub ReadsAtRefusal : {D : Type 0} → DiskModel D → D → D → Stop → Type 0
@@ -56,11 +49,8 @@ module _ {D : Type 0} {disk : DiskModel D} (laws : IsDisk disk) (from : Sources)
 
   read_at : (e : Stop) → AnswersCall disk from step db old new now (Err e) → IsTrue disk.tells → ReadsAtRefusal disk old new e
   read_at (stop.Refused why) answers told = refused_read why answers told
-  read_at stop.Failed answers told = tt
-  read_at stop.Memory answers told = tt
-  read_at (stop.Damaged path) answers told = tt
-  read_at stop.FarFailed answers told = tt
   read_at (stop.FarDamaged path) answers told = answers.1 told
+  read_at _ answers told = tt
 
   pub reads_refused : (r : Result Done Stop) → AnswersCall disk from step db old new now r → IsTrue disk.tells → IfErr r (ReadsAtRefusal disk old new)
   reads_refused (Ok made) answers told = tt
@@ -68,12 +58,8 @@ module _ {D : Type 0} {disk : DiskModel D} (laws : IsDisk disk) (from : Sources)
 
 -- no content lies behind it
 own_undamaged : (rose : Type 0) (e : Stop) → HasOwnCause rose e → IsUndamaged e
-own_undamaged rose (stop.Refused why) cause = tt
-own_undamaged rose stop.Failed cause = tt
-own_undamaged rose stop.Memory cause = tt
-own_undamaged rose (stop.Damaged path) cause = tt
-own_undamaged rose stop.FarFailed cause = tt
 own_undamaged rose (stop.FarDamaged path) cause = cause
+own_undamaged rose _ cause = tt
 
 -- a job ran: by each system that the root stores, and on each root
 pub record Ran {T : Type 0} (root_disk : DiskModel T) (from : Sources) (step : RootState → ListStep) (root root' : T) (now : Db) (r : Result Done Stop) : Type 0 where
@@ -116,19 +102,9 @@ module _ {T P : Type 0} {root_disk : DiskModel T} (root_disk_laws : IsDisk root_
   caused stop.FarFailed ran = absurd ran.causes
   caused (stop.FarDamaged path) ran = absurd ran.causes
 
-  settled_read : HasRead root_disk root root' (Unit {0}) → IsTrue root_disk.tells → IsSettled root_disk root_store.base root'
-  settled_read read told = record {
-    flag_clear = ap (is_committed root_store.base) read.same.reads ∙ (ready.root told).flag_clear;
-    synced = λ p. read.same.unsynced p ∙ (ready.root told).synced p;
-  }
-
   settles : (e : Stop) → Runs (Err e) → status_of (Err (root_failure e)) ≤ 4 → IsTrue root_disk.tells → IsSettled root_disk root_store.base root'
-  settles (stop.Refused why) ran le told = settled_read (ran.refused told) told
-  settles stop.Failed ran le told = absurd (omega (arith, le))
-  settles stop.Memory ran le told = absurd (omega (arith, le))
-  settles (stop.Damaged path) ran le told = absurd (omega (arith, le))
-  settles stop.FarFailed ran le told = absurd (omega (arith, le))
-  settles (stop.FarDamaged path) ran le told = absurd (omega (arith, le))
+  settles (stop.Refused why) ran le told = read_settled (ran.refused told) (ready.root told).flag_clear (ready.root told).synced
+  settles _ ran le told = absurd (omega (arith, le))
 
   keeps : (e : Stop) → Runs (Err e) → KeepsAll (Err (root_failure e)) → IsTrue root_disk.tells → root_disk.reads root' ≡ root_disk.reads root
   keeps (stop.Refused why) ran none told = let read = ran.refused told in read.same.reads
@@ -161,13 +137,13 @@ module _ {T P : Type 0} {root_disk : DiskModel T} (root_disk_laws : IsDisk root_
 
     pub failed_alone : (r : Result Done Stop) (f : Failure) → root_result r ≡ Err f → Runs r → Alone (Err f)
     failed_alone (Ok made) f is ran = absurd (cc is)
-    failed_alone (Err e) f is ran = subst (λ (x : Failure). Alone (Err x)) (same_failure (root_failure e) f is) (alone_by (Err (root_failure e)) (λ told s rests. stopped told s rests e ran))
+    failed_alone (Err e) f is ran = subst (λ (x : Failure). Alone (Err x)) (same_failure {X = Done} is) (alone_by (Err (root_failure e)) (λ told s rests. stopped told s rests e ran))
 
     pub memory_alone : (r : Result Done Stop) (made : Done) → root_result r ≡ Ok made → Runs r → Alone (Err failure.Memory)
-    memory_alone r made is ran = alone_by (Err failure.Memory) (λ told s rests. untold_text told s rests made (subst Runs (ok_by r made is) ran))
+    memory_alone r made is ran = alone_by (Err failure.Memory) (λ told s rests. untold_text told s rests made (subst Runs (root_ok r made is) ran))
 
     pub told_alone : (r : Result Done Stop) (made : Done) (text : List ℕ) → root_result r ≡ Ok made → Runs r → text ≡ changes_text made.changes → Alone (Ok text)
-    told_alone r made text is ran text_is = alone_by (Ok text) (λ told s rests. told_text told s rests made text text_is (subst Runs (ok_by r made is) ran))
+    told_alone r made text is ran text_is = alone_by (Ok text) (λ told s rests. told_text told s rests made text text_is (subst Runs (root_ok r made is) ran))
 
     module _ (repo_disk_laws : IsDisk repo_disk) (repo_laws : IsStore repository_store) where
       performed_by : (f : Result (List ℕ) Failure) → Changes f → root_disk.faults root ≤ root_disk.faults root' → HasCause root_disk repo_disk (disks root repo opened) (disks root' repo opened') f
@@ -177,15 +153,15 @@ module _ {T P : Type 0} {root_disk : DiskModel T} (root_disk_laws : IsDisk root_
 
       pub failed_performs : (r : Result Done Stop) (f : Failure) → root_result r ≡ Err f → Runs r → Performed (Err f)
       failed_performs (Ok made) f is ran = absurd (cc is)
-      failed_performs (Err e) f is ran = subst (λ (x : Failure). Performed (Err x)) (same_failure (root_failure e) f is)
+      failed_performs (Err e) f is ran = subst (λ (x : Failure). Performed (Err x)) (same_failure {X = Done} is)
           (performed_by (Err (root_failure e)) (λ told s rests. stopped told s rests e ran) ran.later (caused e ran) (settles e ran) (keeps e ran))
 
       pub memory_performs : (r : Result Done Stop) (made : Done) → root_result r ≡ Ok made → Runs r → Performed (Err failure.Memory)
       memory_performs r made is ran =
-          let now : Runs (Ok made) = subst Runs (ok_by r made is) ran in
+          let now : Runs (Ok made) = subst Runs (root_ok r made is) ran in
           performed_by (Err failure.Memory) (λ told s rests. untold_text told s rests made now) now.later tt (λ le told. absurd (omega (arith, le))) (λ none told. absurd none)
 
       pub told_performs : (r : Result Done Stop) (made : Done) (text : List ℕ) → root_result r ≡ Ok made → Runs r → text ≡ changes_text made.changes → Performed (Ok text)
       told_performs r made text is ran text_is =
-          let now : Runs (Ok made) = subst Runs (ok_by r made is) ran in
+          let now : Runs (Ok made) = subst Runs (root_ok r made is) ran in
           performed_by (Ok text) (λ told s rests. told_text told s rests made text text_is now) now.later tt (λ le told. settled_done made now told) (λ none told. absurd none)

@@ -1,5 +1,5 @@
 -- How a command ends that takes jobs back.
-use Rattle.std.proofs.Common.{◌≡◌, ◌≤◌, ℕ, List, Result, Ok, Err, OnOk, IfErr, refl, sym, ap, ◌∙◌, subst, inl, inr, ⊎_elim, arith}
+use Rattle.std.proofs.Common.{◌≡◌, ◌≤◌, ℕ, List, Result, Ok, Err, OnOk, IfErr, refl, sym, ap, subst, inl, inr, ⊎_elim, arith}
 use Rattle.std.specs.Prelude.{◌⊎◌, false, IsTrue}
 use Rattle.std.specs.FinMap.{get}
 use Rattle.repo_commands.specs.cny-base.Count.{Rose}
@@ -10,7 +10,6 @@ use Rattle.repo_commands.specs.tree-disk.Tree.{Name, Tree}
 use Rattle.repo_commands.specs.tree-disk.Disk.{DiskModel, IsDisk, HasRead}
 use Rattle.repo_commands.specs.tree-disk.ConfinedLaws.{leaves_weaker}
 use Rattle.repo_commands.specs.tree-disk.Unfailed.{unfailed_weaker}
-use Rattle.repo_commands.specs.tree-journal.Recovery.{is_committed}
 use Rattle.local_db.specs.declared.db.Db.{Db}
 use Rattle.local_db.specs.declared.format.Format.TheVariants.{Two}
 use Rattle.local_db.specs.SystemState.{is_listed}
@@ -20,25 +19,19 @@ use Rattle.cli_call.specs.declared.failure.Failure.{Failure}
 use Rattle.cli_call.specs.declared.failure.Failure.TheVariants as failure
 use Rattle.cli_call.specs.declared.opened.Opened.{Opened}
 use Rattle.cli_call.specs.Alone.{PerformsAlone}
-use Rattle.cli_call.specs.ChangingRoot.{ChangesRoot, alone_on_root, of_either, performs_on_root}
+use Rattle.cli_call.proofs.ChangingRoot.{ChangesRoot, alone_on_root, of_either, performs_on_root}
 use Rattle.cli_call.specs.Command.{disks, Answers, AreReady, ChangesNothing, HasCause, LeavesName, Performs, end_of}
-use Rattle.cli_call.specs.CommandLaws.{goes_read, read_shown}
+use Rattle.cli_call.proofs.CommandLaws.{goes_read, read_shown}
 use Rattle.cli_call.specs.Report.{status_of}
-use Rattle.cli_call.specs.RootDatabase.{OneDatabase, one_format}
-use Rattle.cli_call.specs.RootLaws.{root_laws}
+use Rattle.cli_call.proofs.RootDatabase.{OneDatabase, one_format}
+use Rattle.cli_call.proofs.RootLaws.{root_laws}
 use Rattle.cli_call.specs.State.{on_root, Effect, Meaning, RootState, State, Takes}
 use Rattle.cli_call.specs.Stops.{root_failure, root_result}
 use Rattle.cli_call.specs.Store.{HasDamagedFile, IsSettled, IsStore, RestsAt}
-use Rattle.cli_call.specs.StoreLaws.{settled_rests}
+use Rattle.cli_call.proofs.StoreLaws.{read_settled, settled_rests}
 use Rattle.cli_call.specs.Stores.{root_store, repository_store, HasDamagedJob, StoresNone}
+use Rattle.cli_call.proofs.RootResults.{root_ok, same_failure}
 use Rattle.root_commands.specs.RollingBack.{IsBack}
-
-same_failure : (e f : Failure) → ◌≡◌ {A = Result ℕ Failure} (Err e) (Err f) → e ≡ f
-same_failure e f is = cc is
-
-ok_by : (r : Result ℕ Stop) (n : ℕ) → root_result r ≡ Ok n → r ≡ Ok n
-ok_by (Ok m) n is = cc is
-ok_by (Err e) n is = absurd (cc is)
 
 -- how it ends by a system: with what is answered to it, or with a refusal
 abbrev pub EndsBack : {N : Type 0} → (N → Type 0) → (Refusal → Type 0) → Result N Stop → Type 0
@@ -185,19 +178,9 @@ module _ {T P : Type 0} {root_disk : DiskModel T} (root_disk_laws : IsDisk root_
     caused stop.FarFailed done = absurd done.causes
     caused (stop.FarDamaged path) done = absurd done.causes
 
-    settled_read : HasRead root_disk root root' (Unit {0}) → IsTrue root_disk.tells → IsSettled root_disk root_store.base root'
-    settled_read read told = record {
-      flag_clear = ap (is_committed root_store.base) read.same.reads ∙ (ready.root told).flag_clear;
-      synced = λ p. read.same.unsynced p ∙ (ready.root told).synced p;
-    }
-
     settles : (e : Stop) → Took (Err e) → status_of (Err (root_failure e)) ≤ 4 → IsTrue root_disk.tells → IsSettled root_disk root_store.base root'
-    settles (stop.Refused why) done le told = settled_read (done.stops told) told
-    settles stop.Failed done le told = absurd (omega (arith, le))
-    settles stop.Memory done le told = absurd (omega (arith, le))
-    settles (stop.Damaged path) done le told = absurd (omega (arith, le))
-    settles stop.FarFailed done le told = absurd (omega (arith, le))
-    settles (stop.FarDamaged path) done le told = absurd (omega (arith, le))
+    settles (stop.Refused why) done le told = read_settled (done.stops told) (ready.root told).flag_clear (ready.root told).synced
+    settles _ done le told = absurd (omega (arith, le))
 
     keeps : (e : Stop) → Took (Err e) → ChangesNothing (Err (root_failure e)) → IsTrue root_disk.tells → root_disk.reads root' ≡ root_disk.reads root
     keeps (stop.Refused why) done none told = let read = done.stops told in read.same.reads
@@ -227,13 +210,13 @@ module _ {T P : Type 0} {root_disk : DiskModel T} (root_disk_laws : IsDisk root_
 
       pub failed_alone : (r : Result ℕ Stop) (f : Failure) → root_result r ≡ Err f → Took r → Alone (Err f)
       failed_alone (Ok n) f is took = absurd (cc is)
-      failed_alone (Err e) f is took = subst (λ (x : Failure). Alone (Err x)) (same_failure (root_failure e) f is) (alone_by (Err (root_failure e)) (λ told s rests. stopped told s rests e took))
+      failed_alone (Err e) f is took = subst (λ (x : Failure). Alone (Err x)) (same_failure {X = ℕ} is) (alone_by (Err (root_failure e)) (λ told s rests. stopped told s rests e took))
 
       pub memory_alone : (r : Result ℕ Stop) (n : ℕ) → root_result r ≡ Ok n → Took r → Alone (Err failure.Memory)
-      memory_alone r n is took = alone_by (Err failure.Memory) (λ told s rests. untold_text told s rests n (subst Took (ok_by r n is) took))
+      memory_alone r n is took = alone_by (Err failure.Memory) (λ told s rests. untold_text told s rests n (subst Took (root_ok r n is) took))
 
       pub told_alone : (r : Result ℕ Stop) (n : ℕ) (text : List ℕ) → root_result r ≡ Ok n → Took r → (IsTrue root_disk.tells → (s : RootState) → StoresIn Two (root_disk.reads root) s → Tells s n → text ≡ text_of s) → Alone (Ok text)
-      told_alone r n text is took text_is = alone_by (Ok text) (λ told s rests. told_text told s rests n text (subst Took (ok_by r n is) took) (text_is told s.root (stores told s rests)))
+      told_alone r n text is took text_is = alone_by (Ok text) (λ told s rests. told_text told s rests n text (subst Took (root_ok r n is) took) (text_is told s.root (stores told s rests)))
 
       module _ (repo_disk_laws : IsDisk repo_disk) (repo_laws : IsStore repository_store) where
         done_by : (f : Result (List ℕ) Failure) → Changed f → root_disk.faults root ≤ root_disk.faults root' → Caused f → (status_of (end_of f) ≤ 4 → IsTrue root_disk.tells → IsSettled root_disk root_store.base root')
@@ -242,15 +225,15 @@ module _ {T P : Type 0} {root_disk : DiskModel T} (root_disk_laws : IsDisk root_
 
         pub failed_performs : (r : Result ℕ Stop) (f : Failure) → root_result r ≡ Err f → Took r → Done (Err f)
         failed_performs (Ok n) f is took = absurd (cc is)
-        failed_performs (Err e) f is took = subst (λ (x : Failure). Done (Err x)) (same_failure (root_failure e) f is)
+        failed_performs (Err e) f is took = subst (λ (x : Failure). Done (Err x)) (same_failure {X = ℕ} is)
             (done_by (Err (root_failure e)) (λ told s rests. stopped told s rests e took) took.later (caused e took) (settles e took) (keeps e took))
 
         pub memory_performs : (r : Result ℕ Stop) (n : ℕ) → root_result r ≡ Ok n → Took r → Done (Err failure.Memory)
         memory_performs r n is took =
-            let now : Took (Ok n) = subst Took (ok_by r n is) took in
+            let now : Took (Ok n) = subst Took (root_ok r n is) took in
             done_by (Err failure.Memory) (λ told s rests. untold_text told s rests n now) now.later tt (λ le told. absurd (omega (arith, le))) (λ none told. absurd none)
 
         pub told_performs : (r : Result ℕ Stop) (n : ℕ) (text : List ℕ) → root_result r ≡ Ok n → Took r → (IsTrue root_disk.tells → (s : RootState) → StoresIn Two (root_disk.reads root) s → Tells s n → text ≡ text_of s) → Done (Ok text)
         told_performs r n text is took text_is =
-            let now : Took (Ok n) = subst Took (ok_by r n is) took in
+            let now : Took (Ok n) = subst Took (root_ok r n is) took in
             done_by (Ok text) (λ told s rests. told_text told s rests n text now (text_is told s.root (stores told s rests))) now.later tt (λ le told. now.rests told) (λ none told. absurd none)

@@ -15,15 +15,15 @@ use Rattle.root_edits.specs.Verify.{asked, records, verified, IsVerified, LacksO
 use Rattle.cny_report.specs.Verified.{verified_text}
 use Rattle.cli_call.specs.declared.failure.Failure.{Failure}
 use Rattle.cli_call.specs.declared.opened.Opened.{Opened}
-use Rattle.cli_call.specs.AloneLaws.{AnswersAlone}
+use Rattle.cli_call.proofs.AloneLaws.{AnswersAlone}
 use Rattle.cli_call.specs.Command.{disks, AreReady, Disks, HasCause}
-use Rattle.cli_call.specs.RootDatabase.{OneDatabase, held_database}
-use Rattle.cli_call.specs.RootLaws.{stored_outside}
+use Rattle.cli_call.proofs.RootDatabase.{OneDatabase, held_database}
+use Rattle.cli_call.proofs.RootLaws.{stored_outside}
 use Rattle.cli_call.specs.State.{State, tree_of}
 use Rattle.cli_call.specs.Stops.{root_result}
 use Rattle.cli_call.specs.Store.{RestsAt}
 use Rattle.cli_call.specs.Stores.{root_store}
-use Rattle.root_commands.specs.Answer.{answer}
+use Rattle.cli_call.specs.Answer.{answer}
 use Rattle.root_commands.specs.Verifying.{no_contents, verify_installed}
 use Rattle.root_commands.proofs.Answering.{installed_are}
 use Rattle.root_commands.proofs.Verified.{asked_outer, verified_same}
@@ -41,7 +41,7 @@ found_of_system root_disk repo_disk law m ready told names map s rests =
     ap (λ (l : List TroveParts). verified map (root_disk.reads m.root) (asked names l)) held.list
     ∙ verified_same map (root_disk.reads m.root) (tree_of s.root) (stored_outside (root_disk.reads m.root) s.root rests.stored) (asked names s.root.installed) (asked_outer names s.root.installed held.stores.system.list)
 
-none_rose : Rose 0 0 → ⊥
+pub none_rose : Rose 0 0 → ⊥
 none_rose rose = omega (arith, rose)
 
 module _ {T P : Type 0} (root_disk : DiskModel T) (repo_disk : DiskModel P) (law : OneDatabase) (names : List (List ℕ)) (input : List ℕ) (root root' : T) (repo : P) (opened : Opened) (ready : AreReady root_disk repo_disk (disks root repo opened)) (far far' : NoContents) where
@@ -75,7 +75,3 @@ module _ {T P : Type 0} (root_disk : DiskModel T) (repo_disk : DiskModel P) (law
       subst (λ (l : List TroveParts). AreInstalled l names) (installed_are law (disks root repo opened) ready told s rests) installed,
       ap answer (is ∙ ap verified_text (by_system told s rests)),
     )
-
-pub found_is : (r : Result Verified Stop) (found : Verified) → root_result r ≡ Ok found → r ≡ Ok found
-found_is (Ok x) found is = cc is
-found_is (Err e) found is = absurd (cc is)

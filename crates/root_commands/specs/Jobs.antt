@@ -7,7 +7,7 @@ use Rattle.update_job.specs.Changes.{AreChanges}
 use Rattle.cny_report.specs.declared.note.Note.{Note}
 use Rattle.cny_report.specs.Jobs.{undos_text}
 use Rattle.cli_call.specs.State.{Effect, Meaning, RootState}
-use Rattle.root_commands.specs.Answer.{answer}
+use Rattle.cli_call.specs.Answer.{answer}
 
 -- what is told of a job, by the list after it: its number, how it changed the list, and how many paths it changed
 pub record IsNoteOf (after : List TroveParts) (o : StackItem) (note : Note) : Type 0 where

@@ -1,4 +1,3 @@
-pub mod Answer
 pub mod Listing
 pub mod Verifying
 pub mod RollingBack

@@ -7,7 +7,7 @@ use Rattle.repo_commands.specs.trove-stream.Installed.{trove_of}
 use Rattle.cny_report.specs.Records.{trove_text}
 use Rattle.cny_report.specs.Troves.{troves_text}
 use Rattle.cli_call.specs.State.{Effect, Meaning}
-use Rattle.root_commands.specs.Answer.{answer}
+use Rattle.cli_call.specs.Answer.{answer}
 
 -- what the trove records, if there is one
 abbrev pub described_of : List ℕ → Option TroveParts → Result Effect Refusal

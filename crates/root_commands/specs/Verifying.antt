@@ -6,7 +6,7 @@ use Rattle.update_job.specs.Lists.{AreInstalled, IsNotInstalled}
 use Rattle.root_edits.specs.Verify.{asked, verified}
 use Rattle.cny_report.specs.Verified.{verified_text}
 use Rattle.cli_call.specs.State.{tree_of, Effect, Meaning, RootState}
-use Rattle.root_commands.specs.Answer.{answer}
+use Rattle.cli_call.specs.Answer.{answer}
 
 -- no content is known
 abbrev pub no_contents : ContentMap

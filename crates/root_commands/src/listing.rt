@@ -1,8 +1,8 @@
 //! The command that lists installed troves.
 ghost use Rattle.std.specs.Prelude.{List, ℕ};
 ghost use Rattle.cli_call.specs.Alone.{PerformsAlone};
+ghost use Rattle.cli_call.specs.Answer.{AnswersSo};
 ghost use Rattle.cli_call.specs.Command.{disks, AreReady, Performs};
-ghost use Rattle.root_commands.specs.Answer.{AnswersSo};
 ghost use Rattle.root_commands.specs.Listing as spec;
 ghost use Rattle.root_commands.specs.Listing.{listed};
 

@@ -5,7 +5,7 @@ use Rattle.system_core.specs.Recovered.{RecoversAt}
 use Rattle.cli_call.specs.Stores.{repository_store}
 use Rattle.cli_call.proofs.OpeningDisks.{opens_stopped}
 use Rattle.cli_call.proofs.LoadingRepository.{loaded_opens}
-use Rattle.cli_call.specs.StoreLaws.{nothing_done}
+use Rattle.cli_call.proofs.StoreLaws.{nothing_done}
 use Rattle.cli_call.proofs.Passing.{err_is}
 use Rattle.cli_call.proofs.opening.open_repository.Goals as goal
 

@@ -1,9 +1,9 @@
 use Rattle.std.proofs.Common.{refl, inl, inr}
 use Rattle.cli_call.specs.Call.{call_state, RunsCall}
-use Rattle.cli_call.specs.CallLaws.{opened_ready}
+use Rattle.cli_call.proofs.CallLaws.{opened_ready}
 use Rattle.conary_cli.specs.Commands.{meaning, is_of_root}
 use Rattle.conary_cli.specs.Records.{EndsOpened}
-use Rattle.conary_cli.proofs.Passing.{err_is}
+use Rattle.cli_call.proofs.Passing.{err_is}
 use Rattle.conary_cli.proofs.program.run_call.Goals as goal
 
 pub returns-in_err-opened-clause-runs : goal.returns-in_err-opened-clause-runs

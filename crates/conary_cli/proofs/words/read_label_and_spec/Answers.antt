@@ -1,6 +1,7 @@
 use Rattle.std.proofs.Common.{[], ◌∷◌}
 use Rattle.conary_cli.specs.Words.{IsGiven, IsLabelWord, IsMove, ReadsOnly}
-use Rattle.conary_cli.proofs.Reading.{err_is, passed_on}
+use Rattle.cli_call.proofs.Passing.{err_is}
+use Rattle.conary_cli.proofs.Reading.{passed_on}
 use Rattle.conary_cli.proofs.WordEnds.{label_part, move_only, spec_part}
 use Rattle.conary_cli.proofs.words.read_label_and_spec.Goals as goal
 

@@ -1,7 +1,8 @@
 use Rattle.std.proofs.Common.{sym, ◌∙◌}
 use Rattle.trove_spec.specs.Spec.{IsSpecText}
 use Rattle.conary_cli.specs.Words.{IsGiven, ReadsOnly}
-use Rattle.conary_cli.proofs.Reading.{err_is, passed_on}
+use Rattle.cli_call.proofs.Passing.{err_is}
+use Rattle.conary_cli.proofs.Reading.{passed_on}
 use Rattle.conary_cli.proofs.WordEnds.{given_only, given_part, no_given}
 use Rattle.conary_cli.proofs.words.read_spec.Goals as goal
 

@@ -1,6 +1,7 @@
 use Rattle.std.proofs.Common.{[], ◌∷◌}
 use Rattle.conary_cli.specs.Words.{IsGiven, IsSend, ReadsOnly}
-use Rattle.conary_cli.proofs.Reading.{err_is, passed_on}
+use Rattle.cli_call.proofs.Passing.{err_is}
+use Rattle.conary_cli.proofs.Reading.{passed_on}
 use Rattle.conary_cli.proofs.WordEnds.{whole_only, whole_part}
 use Rattle.conary_cli.proofs.words.read_whole.Goals as goal
 

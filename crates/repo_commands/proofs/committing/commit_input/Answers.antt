@@ -1,9 +1,9 @@
 use Rattle.std.proofs.Common.{inl, inr, refl}
 use Rattle.cli_call.specs.Command.{disks, Performs}
-use Rattle.cli_call.specs.CommandLaws.{performs_more}
+use Rattle.cli_call.proofs.CommandLaws.{performs_more}
 use Rattle.cli_call.specs.Failures.{failure_of_fault}
 use Rattle.repo_commands.specs.Commit.{commit, commit_of}
-use Rattle.repo_commands.proofs.Passing.{err_is}
+use Rattle.cli_call.proofs.Passing.{err_is}
 use Rattle.repo_commands.proofs.SetFaults.{no_set}
 use Rattle.repo_commands.proofs.committing.commit_input.Goals as goal
 

@@ -1,4 +1,4 @@
-use Rattle.std.proofs.Common.{◌≡◌, List, map, Result, Ok, sym, ap, subst, ◌∙◌}
+use Rattle.std.proofs.Common.{List, Result, Ok, sym, ap, subst, ◌∙◌}
 use Rattle.std.specs.Prelude.{IfErr}
 use Rattle.cli_call.specs.change-set.declared.change.ChangeSet.{ChangeSet}
 use Rattle.cli_call.specs.change-set.declared.change.Part.{Part}
@@ -7,7 +7,7 @@ use Rattle.cli_call.specs.cny-base.declared.refusal.Fault.{Fault}
 use Rattle.repo_index.specs.Steps.{IsErrOrMemory}
 use Rattle.repo_commands.specs.Cook.{cooked_set, cooked_troves, set_of_result}
 use Rattle.repo_commands.proofs.KeptContents.{cooked_contents, set_refused}
-use Rattle.repo_commands.proofs.Passing.{err_is}
+use Rattle.cli_call.proofs.Passing.{err_is}
 use Rattle.repo_commands.proofs.cooking.cooked_set.Goals as goal
 
 pub returns-in_err-troves-clause-fault : goal.returns-in_err-troves-clause-fault

@@ -2,7 +2,7 @@ use Rattle.std.proofs.Common.{inl}
 use Rattle.repo_commands.specs.AndThen.{EndsAs}
 use Rattle.repo_commands.specs.Meant.{Expands, Means, Reaches}
 use Rattle.repo_commands.proofs.MeantTroves.{first_fails, rest_fails}
-use Rattle.repo_commands.proofs.Passing.{err_is}
+use Rattle.cli_call.proofs.Passing.{err_is}
 use Rattle.repo_commands.proofs.expanding.expansion.Goals as goal
 
 pub returns-in_err-root-clause-ends : goal.returns-in_err-root-clause-ends

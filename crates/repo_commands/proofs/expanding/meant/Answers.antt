@@ -3,7 +3,7 @@ use Rattle.trove_spec.specs.Resolve.{IsUnresolved}
 use Rattle.repo_commands.specs.AndThen.{EndsAs}
 use Rattle.repo_commands.specs.Meant.{Means}
 use Rattle.repo_commands.proofs.MeantTroves.{unresolved}
-use Rattle.repo_commands.proofs.Passing.{err_is}
+use Rattle.cli_call.proofs.Passing.{err_is}
 use Rattle.repo_commands.proofs.expanding.meant.Goals as goal
 
 pub returns-in_err-id : goal.returns-in_err-id

@@ -4,7 +4,7 @@ use Rattle.trove_spec.specs.Expansion.{IsExpansion, IsUnexpanded}
 use Rattle.repo_commands.specs.AndThen.{EndsAs}
 use Rattle.repo_commands.specs.Meant.{Reaches}
 use Rattle.repo_commands.proofs.MeantTroves.{unreached}
-use Rattle.repo_commands.proofs.Passing.{err_is}
+use Rattle.cli_call.proofs.Passing.{err_is}
 use Rattle.repo_commands.proofs.expanding.reached.Goals as goal
 
 pub returns-in_err-troves-clause-ends : goal.returns-in_err-troves-clause-ends

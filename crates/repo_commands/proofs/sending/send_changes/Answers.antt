@@ -5,7 +5,7 @@ use Rattle.repository.specs.Between.{AreCommitted}
 use Rattle.cli_call.specs.Command.{disks, Performs}
 use Rattle.cli_call.specs.Failures.{failure_of_fault}
 use Rattle.repo_commands.specs.Sending.{changeset, SendsFrom}
-use Rattle.repo_commands.proofs.Passing.{err_is}
+use Rattle.cli_call.proofs.Passing.{err_is}
 use Rattle.repo_commands.proofs.ReadingEnds.{config_made, config_stopped}
 use Rattle.repo_commands.proofs.SendingEnds.{fresh_fails, old_fails, refused_config, sent_ends, SendingLaws}
 use Rattle.repo_commands.proofs.sending.send_changes.Goals as goal

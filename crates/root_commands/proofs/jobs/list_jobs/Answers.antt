@@ -6,13 +6,14 @@ use Rattle.rollback_stack.specs.Numbers.{job_count}
 use Rattle.rollback_stack.specs.Reading.{AreNotes}
 use Rattle.cli_call.specs.Alone.{PerformsAlone}
 use Rattle.cli_call.specs.Command.{disks, Performs}
-use Rattle.cli_call.specs.ReadingRoot.{read_alone, read_performed}
+use Rattle.cli_call.proofs.ReadingRoot.{read_alone, read_performed}
 use Rattle.cli_call.specs.declared.failure.Failure.TheVariants as failure
 use Rattle.root_commands.specs.Jobs as spec
 use Rattle.root_commands.specs.Noting.{AreToldBy}
 use Rattle.root_commands.specs.Records.{ListsWhole}
-use Rattle.root_commands.proofs.JobEnds.{failed_ends, found_ends, found_is, read_of}
-use Rattle.root_commands.proofs.Passing.{err_is}
+use Rattle.root_commands.proofs.JobEnds.{failed_ends, found_ends, read_of}
+use Rattle.cli_call.proofs.Passing.{err_is}
+use Rattle.cli_call.proofs.RootResults.{root_ok}
 use Rattle.root_commands.proofs.RecordEnds.{list_failed, told_whole}
 use Rattle.root_commands.proofs.jobs.list_jobs.Goals as goal
 
@@ -44,7 +45,7 @@ returns-clause-performs g c = λ input.
     let root' = c.all.new.disk in
     let opened = c.args.opened.now in
     let read = read_of disk root root' c.all.ensures.value in
-    let is = found_is c.all.result c.in_ok-jobs.jobs (sym c.on_root.ensures ∙ c.in_ok-jobs.was) in
+    let is = root_ok c.all.result c.in_ok-jobs.jobs (sym c.on_root.ensures ∙ c.in_ok-jobs.was) in
     let ends = found_ends disk g.P.TreeDisk.disk c.distinct_databases.ensures.unique c.one_record.ensures.one input root root' c.args.repo.now opened c.requires (λ told. (read told).same.reads) c.in_ok-jobs.jobs c.in_ok-told.field-0
     (λ told. subst (λ (r : Result (List Undone) Stop). IfOk r (AreNotes (disk.reads root) (job_count opened.db.oldest opened.db.newest) opened.db.newest opened.db.installed)) is (c.all.ensures.value told).answer)
     (subst (λ (l : List Undone). AreToldBy l c.in_ok-told.field-0) c.get.ensures c.in_ok-told.ensures) in
@@ -78,7 +79,7 @@ returns-clause-alone g c = λ input.
     let root' = c.all.new.disk in
     let opened = c.args.opened.now in
     let read = read_of disk root root' c.all.ensures.value in
-    let is = found_is c.all.result c.in_ok-jobs.jobs (sym c.on_root.ensures ∙ c.in_ok-jobs.was) in
+    let is = root_ok c.all.result c.in_ok-jobs.jobs (sym c.on_root.ensures ∙ c.in_ok-jobs.was) in
     let ends = found_ends disk g.P.TreeDisk.disk c.distinct_databases.ensures.unique c.one_record.ensures.one input root root' c.args.repo.now opened c.requires (λ told. (read told).same.reads) c.in_ok-jobs.jobs c.in_ok-told.field-0
     (λ told. subst (λ (r : Result (List Undone) Stop). IfOk r (AreNotes (disk.reads root) (job_count opened.db.oldest opened.db.newest) opened.db.newest opened.db.installed)) is (c.all.ensures.value told).answer)
     (subst (λ (l : List Undone). AreToldBy l c.in_ok-told.field-0) c.get.ensures c.in_ok-told.ensures) in
@@ -100,6 +101,6 @@ returns-clause-records g c told =
     let disk = g.T.TreeDisk.disk in
     let root = c.args.root.now in
     let db = c.args.opened.now.db in
-    let is = found_is c.all.result c.in_ok-jobs.jobs (sym c.on_root.ensures ∙ c.in_ok-jobs.was) in
+    let is = root_ok c.all.result c.in_ok-jobs.jobs (sym c.on_root.ensures ∙ c.in_ok-jobs.was) in
     told_whole c.one_record.ensures.one (disk.reads root) db c.in_ok-jobs.jobs
     (subst (λ (r : Result (List Undone) Stop). IfOk r (AreNotes (disk.reads root) (job_count db.oldest db.newest) db.newest db.installed)) is (c.all.ensures.value told).answer)

@@ -5,7 +5,7 @@ use Rattle.cli_call.specs.declared.failure.Failure.TheVariants as failure
 use Rattle.cli_call.specs.declared.opened.Opened.{Opened}
 use Rattle.root_commands.specs.Records.{TakesBackWhole}
 use Rattle.root_commands.specs.RollingBack as spec
-use Rattle.root_commands.proofs.Passing.{err_is}
+use Rattle.cli_call.proofs.Passing.{err_is}
 use Rattle.root_commands.proofs.RecordEnds.{back_done, back_failed}
 use Rattle.root_commands.proofs.RollEnds.{alone_failed, alone_memory, alone_told, performs_failed, performs_memory, performs_told}
 use Rattle.root_commands.proofs.rolling_back.roll_back.Goals as goal

@@ -2,7 +2,7 @@ use Rattle.std.proofs.Common.{List, ◌+◌, arith, subst, sym, take}
 use Rattle.repo_commands.specs.trove-parts.declared.id.TroveId.{TroveId}
 use Rattle.repo_commands.specs.AndThen.{EndsAs}
 use Rattle.root_commands.specs.UpdateSpecs.{AreMeant, MeanAll}
-use Rattle.root_commands.proofs.Passing.{err_is}
+use Rattle.cli_call.proofs.Passing.{err_is}
 use Rattle.root_commands.proofs.SpecEnds.{first_unmeant, meant_more}
 use Rattle.root_commands.proofs.specified.all_meant.Goals as goal
 

@@ -1,6 +1,6 @@
 use Rattle.repo_commands.specs.AndThen.{EndsAs}
 use Rattle.root_commands.specs.UpdateSpecs.{ReachAll}
-use Rattle.root_commands.proofs.Passing.{err_is}
+use Rattle.cli_call.proofs.Passing.{err_is}
 use Rattle.root_commands.proofs.SpecEnds.{reached_allowed, unreached}
 use Rattle.root_commands.proofs.specified.all_reached.Goals as goal
 

@@ -8,7 +8,7 @@ use Rattle.repo_commands.proofs.ReadingEnds.{config_made, config_stopped, fault_
 use Rattle.system_core.proofs.CallLaws.{no_carried}
 use Rattle.root_commands.specs.Update as update
 use Rattle.root_commands.specs.UpdateSpecs as spec
-use Rattle.root_commands.proofs.Passing.{err_is}
+use Rattle.cli_call.proofs.Passing.{err_is}
 use Rattle.root_commands.proofs.SpecEnds.{all_updated, none_meant, none_reached, refused_as}
 use Rattle.root_commands.proofs.specified.update_specs.Goals as goal
 

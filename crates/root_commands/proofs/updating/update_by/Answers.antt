@@ -1,12 +1,12 @@
 use Rattle.std.proofs.Common.{refl}
 use Rattle.cli_call.specs.Command.{disks, Performs}
-use Rattle.cli_call.specs.CommandLaws.{none_read}
+use Rattle.cli_call.proofs.CommandLaws.{none_read}
 use Rattle.cli_call.specs.Failures.{failure_of_fault}
 use Rattle.repo_commands.proofs.AfterReading.{performs_since}
 use Rattle.repo_commands.proofs.ReadingEnds.{fault_ends}
 use Rattle.root_commands.specs.Update as spec
 use Rattle.root_commands.proofs.ComingEnds.{set_made, set_refused}
-use Rattle.root_commands.proofs.Passing.{err_is}
+use Rattle.cli_call.proofs.Passing.{err_is}
 use Rattle.root_commands.proofs.updating.update_by.Goals as goal
 
 pub returns-in_err-troves : goal.returns-in_err-troves

@@ -7,9 +7,10 @@ use Rattle.cli_call.specs.Alone.{PerformsAlone}
 use Rattle.cli_call.specs.Command.{disks, Performs}
 use Rattle.cli_call.specs.declared.failure.Failure.TheVariants as failure
 use Rattle.root_commands.specs.Verifying as spec
-use Rattle.root_commands.proofs.Passing.{err_is}
-use Rattle.cli_call.specs.ReadingRoot.{read_alone, read_performed}
-use Rattle.root_commands.proofs.VerifyEnds.{failed_ends, found_ends, found_is}
+use Rattle.cli_call.proofs.Passing.{err_is}
+use Rattle.cli_call.proofs.ReadingRoot.{read_alone, read_performed}
+use Rattle.cli_call.proofs.RootResults.{root_ok}
+use Rattle.root_commands.proofs.VerifyEnds.{failed_ends, found_ends}
 use Rattle.root_commands.proofs.verifying.verify_installed.Goals as goal
 
 pub returns-in_err-found-clause-performs : goal.returns-in_err-found-clause-performs
@@ -45,7 +46,7 @@ returns-in_err-verified_text-clause-alone g c = λ input.
 pub returns-clause-performs : goal.returns-clause-performs
 returns-clause-performs g c = λ input.
     let names = c.args.names.now in
-    let is = found_is c.verify.result c.in_ok-found.found (sym c.on_root.ensures ∙ c.in_ok-found.was) in
+    let is = root_ok c.verify.result c.in_ok-found.found (sym c.on_root.ensures ∙ c.in_ok-found.was) in
     let ends = found_ends g.T.TreeDisk.disk g.P.TreeDisk.disk c.distinct_databases.ensures.unique names input c.args.root.now c.verify.new.root c.args.repo.now c.args.opened.now c.requires _ _ c.in_ok-found.found
     (λ map told none. subst (λ (r : Result Verified Stop). IfOk r (λ found. found ≡ verified map (g.T.TreeDisk.disk.reads c.args.root.now) (asked names c.args.opened.now.db.installed))) is (c.verify.ensures.mapped map told none))
     (subst (λ (r : Result Verified Stop). OnOk r (AreInstalled c.args.opened.now.db.installed names)) is c.verify.ensures.installed)
@@ -56,7 +57,7 @@ returns-clause-performs g c = λ input.
 pub returns-clause-alone : goal.returns-clause-alone
 returns-clause-alone g c = λ input.
     let names = c.args.names.now in
-    let is = found_is c.verify.result c.in_ok-found.found (sym c.on_root.ensures ∙ c.in_ok-found.was) in
+    let is = root_ok c.verify.result c.in_ok-found.found (sym c.on_root.ensures ∙ c.in_ok-found.was) in
     let ends = found_ends g.T.TreeDisk.disk g.P.TreeDisk.disk c.distinct_databases.ensures.unique names input c.args.root.now c.verify.new.root c.args.repo.now c.args.opened.now c.requires _ _ c.in_ok-found.found
     (λ map told none. subst (λ (r : Result Verified Stop). IfOk r (λ found. found ≡ verified map (g.T.TreeDisk.disk.reads c.args.root.now) (asked names c.args.opened.now.db.installed))) is (c.verify.ensures.mapped map told none))
     (subst (λ (r : Result Verified Stop). OnOk r (AreInstalled c.args.opened.now.db.installed names)) is c.verify.ensures.installed)

@@ -6,13 +6,13 @@ use Rattle.cli_call.specs.declared.failure.Failure.{Failure}
 use Rattle.cli_call.specs.declared.failure.Failure.TheVariants as failure
 use Rattle.cli_call.specs.declared.opened.Opened.{Opened}
 use Rattle.cli_call.specs.Alone.{PerformsAlone}
-use Rattle.cli_call.specs.AloneLaws.{AnswersAlone, alone_reading}
+use Rattle.cli_call.proofs.AloneLaws.{AnswersAlone, alone_reading}
 use Rattle.cli_call.specs.Command.{disks, AreReady, HasCause, Performs}
-use Rattle.cli_call.specs.CommandLaws.{AnswersReading, AreRead, performs_reading}
-use Rattle.cli_call.specs.RootLaws.{root_laws}
+use Rattle.cli_call.proofs.CommandLaws.{AnswersReading, AreRead, performs_reading}
+use Rattle.cli_call.proofs.RootLaws.{root_laws}
 use Rattle.cli_call.specs.State.{Meaning}
 use Rattle.cli_call.specs.Store.{IsStore}
-use Rattle.cli_call.specs.StoreLaws.{nothing_done}
+use Rattle.cli_call.proofs.StoreLaws.{nothing_done}
 use Rattle.cli_call.specs.Stores.{repository_store}
 
 module _ {T P : Type 0} {root_disk : DiskModel T} (repo_disk : DiskModel P) (root_disk_laws : IsDisk root_disk) (root root' : T) (repo : P) (opened : Opened) (m : Meaning) (input : List ℕ)
@@ -24,10 +24,7 @@ module _ {T P : Type 0} {root_disk : DiskModel T} (repo_disk : DiskModel P) (roo
   on_both (Err failure.RootFault) h = tt
   on_both (Err failure.Memory) h = tt
   on_both (Err (failure.Damaged path)) h = λ told repo_told s stands. h told s stands.root
-  on_both (Err failure.RepositoryFault) h = absurd h
-  on_both (Err failure.Usage) h = absurd h
-  on_both (Err failure.InputFault) h = absurd h
-  on_both (Err failure.OutputFault) h = absurd h
+  on_both _ h = absurd h
 
   pub read_alone : PerformsAlone root_disk repo_disk m input (disks root repo opened) (disks root' repo opened) result
   read_alone = alone_reading repo_disk root_disk_laws root_laws m input (disks root repo opened) (disks root' repo opened) result refl read answers

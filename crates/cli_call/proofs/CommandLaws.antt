@@ -1,5 +1,5 @@
 -- The clause of a command's own function, where it only reads the disks.
-use Rattle.std.proofs.Common.{◌≡◌, ◌≤◌, ℕ, List, Result, Ok, Err, refl, sym, ap, ◌∙◌, subst, inl, inr, arith}
+use Rattle.std.proofs.Common.{◌≡◌, ◌≤◌, ℕ, List, Result, Ok, Err, refl, sym, ap, subst, inl, inr, arith}
 use Rattle.std.specs.Prelude.{IsTrue}
 use Rattle.std.specs.FinMap.{get}
 use Rattle.system_core.specs.cny-base.declared.refusal.Refusal.{Refusal}
@@ -11,7 +11,6 @@ use Rattle.system_core.specs.tree-disk.ConfinedLaws.{confined_read, leaves_weake
 use Rattle.system_core.specs.tree-disk.Laws.{same_tree}
 use Rattle.system_core.specs.tree-disk.Steps.{no_name}
 use Rattle.system_core.specs.tree-disk.Unfailed.{UnlessFailed, unfailed_confined, unfailed_weaker}
-use Rattle.system_core.specs.tree-journal.Recovery.{is_committed}
 use Rattle.repo_load.specs.Files.{repository_base}
 use Rattle.cli_call.specs.declared.failure.Failure.{Failure}
 use Rattle.cli_call.specs.declared.failure.Failure.TheVariants as failure
@@ -21,7 +20,7 @@ use Rattle.repo_load.specs.State.{RepositoryState}
 use Rattle.cli_call.specs.State.{State, nothing, Effect, IsNext, Meaning, Takes}
 use Rattle.cli_call.specs.Store.{Store, IsSettled, IsStore, RestsAt}
 use Rattle.cli_call.specs.Stores.{root_store, repository_store}
-use Rattle.cli_call.specs.StoreLaws.{nothing_done, rest_reads, rest_read_on, rest_lives}
+use Rattle.cli_call.proofs.StoreLaws.{nothing_done, read_settled, rest_lives, rest_read_on, rest_reads}
 
 -- a call that only reads shows one tree
 pub read_shown : {D : Type 0} {disk : DiskModel D} → IsDisk disk → {old new : D} {Answer : Type 0} → HasRead disk old new Answer → UnlessFailed disk old new (λ t. t ≡ disk.reads old)
@@ -40,13 +39,11 @@ module _ {T P : Type 0} (root_disk : DiskModel T) (repo_disk : DiskModel P) wher
   abbrev pub AnswersReading : Meaning → List ℕ → Disks T P → Result (List ℕ) Failure → Type 0
   AnswersReading m input old (Ok text) = IsTrue root_disk.tells → IsTrue repo_disk.tells → (s : State) → StandsFor root_disk repo_disk old s → m.IsOutcome s input (Ok (record { change = nothing; out = text }))
   AnswersReading m input old (Err (failure.Refused r)) = IsTrue root_disk.tells → IsTrue repo_disk.tells → (s : State) → StandsFor root_disk repo_disk old s → m.IsOutcome s input (Err r)
+  AnswersReading m input old (Err (failure.Damaged path)) = IsTrue root_disk.tells → IsTrue repo_disk.tells → (s : State) → StandsFor root_disk repo_disk old s → ⊥
   AnswersReading m input old (Err failure.RootFault) = Unit {0}
   AnswersReading m input old (Err failure.RepositoryFault) = Unit {0}
   AnswersReading m input old (Err failure.Memory) = Unit {0}
-  AnswersReading m input old (Err (failure.Damaged path)) = IsTrue root_disk.tells → IsTrue repo_disk.tells → (s : State) → StandsFor root_disk repo_disk old s → ⊥
-  AnswersReading m input old (Err failure.Usage) = ⊥
-  AnswersReading m input old (Err failure.InputFault) = ⊥
-  AnswersReading m input old (Err failure.OutputFault) = ⊥
+  AnswersReading m input old _ = ⊥
 
   -- both disks were only read
   pub record AreRead (old new : Disks T P) : Type 0 where
@@ -68,14 +65,8 @@ module _ {T P : Type 0} {root_disk : DiskModel T} {repo_disk : DiskModel P} (roo
   module _ (root_store_laws : IsStore root_store) (repo_store_laws : IsStore repository_store) (m : Meaning) (input : List ℕ) (old new : Disks T P) (ready : AreReady root_disk repo_disk old) (read : AreRead root_disk repo_disk old new) where
     rest_on : Rest root_disk repo_disk new
     rest_on = record {
-      root = λ told. record {
-        flag_clear = ap (is_committed root_store.base) (read.root told).same.reads ∙ (ready.root told).flag_clear;
-        synced = λ p. (read.root told).same.unsynced p ∙ (ready.root told).synced p;
-      };
-      repo = λ told. record {
-        flag_clear = ap (is_committed repository_store.base) (read.repo told).same.reads ∙ (ready.repo told).settled.flag_clear;
-        synced = λ p. (read.repo told).same.unsynced p ∙ (ready.repo told).settled.synced p;
-      };
+      root = λ told. read_settled (read.root told) (ready.root told).flag_clear (ready.root told).synced;
+      repo = λ told. read_settled (read.repo told) (ready.repo told).settled.flag_clear (ready.repo told).settled.synced;
     }
 
     same_on : ReadsSame root_disk repo_disk old new
@@ -84,13 +75,11 @@ module _ {T P : Type 0} {root_disk : DiskModel T} {repo_disk : DiskModel P} (roo
     answers_reading : (s : State) → IsTrue root_disk.tells → IsTrue repo_disk.tells → StandsFor root_disk repo_disk old s → (result : Result (List ℕ) Failure) → AnswersReading root_disk repo_disk m input old result → Answers (m.IsOutcome s input) s s result
     answers_reading s root repo stands (Ok text) h = record { effect = record { change = nothing; out = text }; is = h root repo s stands; leads = refl; bytes = refl }
     answers_reading s root repo stands (Err (failure.Refused r)) h = (h root repo s stands, refl)
+    answers_reading s root repo stands (Err (failure.Damaged path)) h = absurd (h root repo s stands)
     answers_reading s root repo stands (Err failure.RootFault) h = inl refl
     answers_reading s root repo stands (Err failure.RepositoryFault) h = inl refl
     answers_reading s root repo stands (Err failure.Memory) h = inl refl
-    answers_reading s root repo stands (Err (failure.Damaged path)) h = absurd (h root repo s stands)
-    answers_reading s root repo stands (Err failure.Usage) h = absurd h
-    answers_reading s root repo stands (Err failure.InputFault) h = absurd h
-    answers_reading s root repo stands (Err failure.OutputFault) h = absurd h
+    answers_reading s root repo stands _ h = absurd h
 
     pub performs_reading : (result : Result (List ℕ) Failure) → HasCause root_disk repo_disk old new result → AnswersReading root_disk repo_disk m input old result → Performs root_disk repo_disk m input old new result
     performs_reading result cause answers = record {
@@ -132,10 +121,7 @@ module _ {T P : Type 0} {root_disk : DiskModel T} {repo_disk : DiskModel P} (roo
         repo_later = later;
         cause = cause;
         rest = λ le. record {
-          root = λ told. record {
-            flag_clear = ap (is_committed root_store.base) read.same.reads ∙ (ready.root told).flag_clear;
-            synced = λ p. read.same.unsynced p ∙ (ready.root told).synced p;
-          };
+          root = λ told. read_settled read (ready.root told).flag_clear (ready.root told).synced;
           repo = settles le;
         };
         same = λ none. record { root = λ told. read.same.reads; repo = keeps none };
@@ -169,10 +155,7 @@ module _ {One Two : Result Effect Refusal → Type 0} (more : (outcome : Result 
   answers_more s next (Err failure.RootFault) h = next_more h
   answers_more s next (Err failure.RepositoryFault) h = next_more h
   answers_more s next (Err failure.Memory) h = next_more h
-  answers_more s next (Err (failure.Damaged path)) h = h
-  answers_more s next (Err failure.Usage) h = h
-  answers_more s next (Err failure.InputFault) h = h
-  answers_more s next (Err failure.OutputFault) h = h
+  answers_more s next _ h = h
 
   pub shown_more : (s : State) (before t : Tree) → IsShown One s before t → IsShown Two s before t
   shown_more s before t (inl same) = inl same

@@ -14,20 +14,20 @@ use Rattle.local_db.specs.declared.db.Db.{Db}
 use Rattle.cli_call.specs.declared.failure.Failure.{Failure}
 use Rattle.cli_call.specs.declared.opened.Opened.{Opened}
 use Rattle.cli_call.specs.Call.{CallState, OpensRoot, OpensRepository, AreOpened, NotOpened}
-use Rattle.cli_call.specs.CallEnds.{HasEffect, CallEnds, small, next_any, no_root_effect, no_repo_effect, no_unread_effect, outcome_of, dir_missing, run_ends, shown_so, unread_ends}
+use Rattle.cli_call.proofs.CallEnds.{HasEffect, CallEnds, small, next_any, no_root_effect, no_repo_effect, no_unread_effect, outcome_of, dir_missing, run_ends, shown_so, unread_ends}
 use Rattle.cli_call.specs.Command.{disks, KeepsOthers, IsShown}
 use Rattle.system_core.specs.FixedDirs.{fixed_dirs}
-use Rattle.cli_call.specs.InputLaws.{some_is}
+use Rattle.cli_call.proofs.InputLaws.{some_is}
 use Rattle.cli_call.specs.Line.{Moment, RunsLine}
 use Rattle.cli_call.specs.Reading.{given, Gives, ReadsGiven}
 use Rattle.system_core.specs.Recovered.{IsKept}
 use Rattle.cli_call.specs.Report.{End, status_of}
-use Rattle.cli_call.specs.RootLaws.{root_laws, state_dirs, opened_root_rests}
+use Rattle.cli_call.proofs.RootLaws.{root_laws, state_dirs, opened_root_rests}
 use Rattle.cli_call.specs.RootOpening.{IsRootOpen}
 use Rattle.cli_call.specs.State.{State, Meaning, tree_of, IsNext}
 use Rattle.cli_call.specs.Stops.{root_failure, repository_failure}
 use Rattle.cli_call.specs.Store.{Recovers, OneOf, IsEntryOr, RestsAt}
-use Rattle.cli_call.specs.StoreLaws.{never_blocked, never_damaged, rest_reads, kept_so, none_yet}
+use Rattle.cli_call.proofs.StoreLaws.{never_blocked, never_damaged, rest_reads, kept_so, none_yet}
 use Rattle.cli_call.specs.Stores.{root_store, repository_store}
 use Rattle.cli_call.specs.WholeCall.{Outcome, left_when, left_of, LivesRoot, ShowsCall, IsOpenedOnly}
 

@@ -5,7 +5,7 @@ use Rattle.std.proofs.lemmas.List.Elements.{All-contains}
 use Rattle.system_core.specs.cny-base.declared.refusal.Refusal.{Refusal}
 use Rattle.system_core.specs.tree-disk.Tree.{Name, Tree}
 use Rattle.system_core.specs.tree-disk.Disk.{DiskModel, IsDisk, IsImageOf, HasRead}
-use Rattle.system_core.specs.tree-disk.Confined.{LeavesOnly}
+use Rattle.system_core.specs.tree-disk.Confined.{IsSynced, LeavesOnly}
 use Rattle.system_core.specs.tree-disk.ConfinedLaws.{leaves_step}
 use Rattle.system_core.specs.tree-disk.Moments.{same_images, same_start, time_start}
 use Rattle.system_core.specs.journal-log.declared.put.Put.{Put}
@@ -23,6 +23,13 @@ nothing_done {disk = disk} laws d = record { answer = tt; same = same_start disk
 
 pub kept_so : (base : Name) (tree : Tree) → IsKept base tree tree
 kept_so base tree = record { still = λ recovered r. r; same = λ clear. refl }
+
+-- what was at rest is so where it was only read
+pub read_settled : {D A : Type 0} {disk : DiskModel D} {base : Name} {old new : D} → HasRead disk old new A → is_committed base (disk.reads old) ≡ false → IsSynced disk old → IsSettled disk base new
+read_settled {base = base} read clear synced = record {
+  flag_clear = ap (is_committed base) read.same.reads ∙ clear;
+  synced = λ p. read.same.unsynced p ∙ synced p;
+}
 
 pub none_yet : {D : Type 0} {disk : DiskModel D} → IsDisk disk → (base : Name) (d : D) → LeavesOnly disk d d (RecoversAsThen disk base d)
 none_yet laws base d = record {

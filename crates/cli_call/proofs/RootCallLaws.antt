@@ -10,12 +10,12 @@ use Rattle.system_core.specs.tree-disk.Disk.{DiskModel}
 use Rattle.cli_call.specs.declared.failure.Failure.{Failure}
 use Rattle.cli_call.specs.declared.failure.Failure.TheVariants as failure
 use Rattle.cli_call.specs.Call.{CallState, OpensRepository}
-use Rattle.cli_call.specs.CallFacts.{CallFacts}
-use Rattle.cli_call.specs.CallKnown.{KnownAlone}
+use Rattle.cli_call.proofs.CallFacts.{CallFacts}
+use Rattle.cli_call.proofs.CallKnown.{KnownAlone}
 use Rattle.cli_call.specs.Opening.{MeetsDamage}
 use Rattle.system_core.specs.Recovered.{IsPathRefusal, RefusesLog}
 use Rattle.cli_call.specs.Report.{End, status_of, Tells, Reports}
-use Rattle.cli_call.specs.RootStates.{CallOnRoot}
+use Rattle.cli_call.proofs.RootStates.{CallOnRoot}
 use Rattle.cli_call.specs.State.{State, Effect, Meaning, after}
 use Rattle.cli_call.specs.Stops.{repository_failure}
 use Rattle.cli_call.specs.Store.{RestsAt}
@@ -100,12 +100,8 @@ module _ {T P : Type 0} (root_disk : DiskModel T) (repo_disk : DiskModel P) (m :
   -- ---- status 4
 
   not_output : (e : Stop) → ◌≡◌ {A = End} (Err failure.OutputFault) (Err (repository_failure e)) → ⊥
-  not_output (stop.Refused r) is = cc is
   not_output stop.Failed is = cc is
-  not_output stop.Memory is = cc is
-  not_output (stop.Damaged path) is = cc is
-  not_output stop.FarFailed is = cc is
-  not_output (stop.FarDamaged path) is = cc is
+  not_output _ is = cc is
 
   abbrev Stands : State → Type 0
   Stands s = (e : Effect) × Outcome m s input (Ok e) × StandsAfter root_disk repo_disk s e now × AppendsPart before.out.written now.out.written e.out

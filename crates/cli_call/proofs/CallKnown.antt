@@ -4,13 +4,13 @@ use Rattle.std.specs.Prelude.{IsTrue}
 use Rattle.system_core.specs.tree-disk.Disk.{DiskModel, IsDisk}
 use Rattle.cli_call.specs.declared.opened.Opened.{Opened}
 use Rattle.cli_call.specs.Call.{CallState, AreOpened, StopsReading, RunsWith, RunsOpen, NotOpened, RunsCall}
-use Rattle.cli_call.specs.CallStates.{CallFrom, from_unopened, from_unread, from_run}
+use Rattle.cli_call.proofs.CallStates.{CallFrom, from_unopened, from_unread, from_run}
 use Rattle.cli_call.specs.Command.{disks}
-use Rattle.cli_call.specs.InputLaws.{any_input, read_input_of}
+use Rattle.cli_call.proofs.InputLaws.{any_input, read_input_of}
 use Rattle.cli_call.specs.Line.{Moment}
 use Rattle.cli_call.specs.Reading.{given, Gives, IsInput}
 use Rattle.cli_call.specs.Report.{End}
-use Rattle.cli_call.specs.RootStates.{CallOnRoot, root_unopened, root_unread, root_run, unopened_only, opened_only}
+use Rattle.cli_call.proofs.RootStates.{CallOnRoot, root_unopened, root_unread, root_run, unopened_only, opened_only}
 use Rattle.cli_call.specs.State.{Meaning}
 use Rattle.cli_call.specs.Store.{IsStore}
 use Rattle.cli_call.specs.Stores.{repository_store}

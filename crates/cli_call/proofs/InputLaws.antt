@@ -50,11 +50,7 @@ untaken before now (Ok bytes) reads = record { input = []; is = λ on. absurd (c
 untaken before now (Err (failure.Refused r)) reads = absurd ((reads.untaken refl).2 r refl)
 untaken before now (Err failure.InputFault) reads = record { input = []; is = λ on. absurd (cc on); gives = tt }
 untaken before now (Err failure.Memory) reads = record { input = []; is = λ on. absurd (cc on); gives = tt }
-untaken before now (Err failure.Usage) reads = absurd reads.cause
-untaken before now (Err failure.OutputFault) reads = absurd reads.cause
-untaken before now (Err failure.RootFault) reads = absurd reads.cause
-untaken before now (Err failure.RepositoryFault) reads = absurd reads.cause
-untaken before now (Err (failure.Damaged path)) reads = absurd reads.cause
+untaken before now _ reads = absurd reads.cause
 
 -- it isn't told
 untold : (before : SourceState) (result : Result (List ℕ) Failure) → before.left ≡ None → IsOfSome result → ReadInput true before result
@@ -62,11 +58,7 @@ untold before (Ok bytes) none some = record { input = bytes; is = untold_is true
 untold before (Err (failure.Refused r)) none some = record { input = some.0; is = untold_is true before some.0 none; gives = some.1 }
 untold before (Err failure.InputFault) none some = record { input = []; is = untold_is true before [] none; gives = tt }
 untold before (Err failure.Memory) none some = record { input = []; is = untold_is true before [] none; gives = tt }
-untold before (Err failure.Usage) none some = absurd some
-untold before (Err failure.OutputFault) none some = absurd some
-untold before (Err failure.RootFault) none some = absurd some
-untold before (Err failure.RepositoryFault) none some = absurd some
-untold before (Err (failure.Damaged path)) none some = absurd some
+untold before _ none some = absurd some
 
 -- it is told
 told_gives : (input : List ℕ) (now : SourceState) (result : Result (List ℕ) Failure) → ReadFrom true input now result → Gives true input result
@@ -74,11 +66,7 @@ told_gives input now (Ok bytes) from = from.0
 told_gives input now (Err (failure.Refused r)) from = from.0
 told_gives input now (Err failure.InputFault) from = tt
 told_gives input now (Err failure.Memory) from = tt
-told_gives input now (Err failure.Usage) from = absurd from
-told_gives input now (Err failure.OutputFault) from = absurd from
-told_gives input now (Err failure.RootFault) from = absurd from
-told_gives input now (Err failure.RepositoryFault) from = absurd from
-told_gives input now (Err (failure.Damaged path)) from = absurd from
+told_gives input now _ from = absurd from
 
 taken : (before now : SourceState) (result : Result (List ℕ) Failure) → ReadsGiven true before now result → (left : Option (List ℕ)) → before.left ≡ left → ReadInput true before result
 taken before now result reads None none = untold before result none (reads.some refl)

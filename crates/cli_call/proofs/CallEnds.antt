@@ -10,9 +10,9 @@ use Rattle.cli_call.specs.declared.failure.Failure.{Failure}
 use Rattle.cli_call.specs.declared.failure.Failure.TheVariants as failure
 use Rattle.cli_call.specs.Command.{IsShown}
 use Rattle.system_core.specs.FixedDirs.{fixed_dirs}
-use Rattle.cli_call.specs.InputLaws.{left_err, left_ok, some_so}
+use Rattle.cli_call.proofs.InputLaws.{left_err, left_ok, some_so}
 use Rattle.cli_call.specs.Line.{Ends}
-use Rattle.cli_call.specs.LineLaws.{takes_so}
+use Rattle.cli_call.proofs.LineLaws.{takes_so}
 use Rattle.cli_call.specs.Reading.{given, left_by, Gives, ReadsGiven}
 use Rattle.cli_call.specs.Report.{End, status_of}
 use Rattle.cli_call.specs.State.{State, Effect, Meaning, tree_of, Takes, IsNext, Then}
@@ -34,46 +34,25 @@ CallEnds IsOutcome s next before now (Err failure.OutputFault) = Takes IsOutcome
 CallEnds IsOutcome s next before now (Err failure.RootFault) = IsNext IsOutcome s next
 CallEnds IsOutcome s next before now (Err failure.RepositoryFault) = IsNext IsOutcome s next
 CallEnds IsOutcome s next before now (Err failure.Memory) = IsNext IsOutcome s next
-CallEnds IsOutcome s next before now (Err failure.Usage) = ⊥
-CallEnds IsOutcome s next before now (Err (failure.Damaged path)) = ⊥
+CallEnds IsOutcome s next before now _ = ⊥
 
 -- a status up to 4 comes then
 pub small : (end : End) → HasEffect end → status_of end ≤ 4
 small (Ok x) h = omega arith
 small (Err failure.OutputFault) h = omega arith
-small (Err (failure.Refused r)) h = absurd h
-small (Err failure.InputFault) h = absurd h
-small (Err failure.Memory) h = absurd h
-small (Err failure.Usage) h = absurd h
-small (Err failure.RootFault) h = absurd h
-small (Err failure.RepositoryFault) h = absurd h
-small (Err (failure.Damaged path)) h = absurd h
+small _ h = absurd h
 
 pub no_root_effect : (e : Stop) → HasEffect (Err (root_failure e)) → ⊥
 no_root_effect stop.Failed h = h
-no_root_effect stop.Memory h = h
-no_root_effect (stop.Refused r) h = h
-no_root_effect (stop.Damaged path) h = h
-no_root_effect stop.FarFailed h = h
-no_root_effect (stop.FarDamaged path) h = h
+no_root_effect _ h = h
 
 pub no_repo_effect : (e : Stop) → HasEffect (Err (repository_failure e)) → ⊥
 no_repo_effect stop.Failed h = h
-no_repo_effect stop.Memory h = h
-no_repo_effect (stop.Refused r) h = h
-no_repo_effect (stop.Damaged path) h = h
-no_repo_effect stop.FarFailed h = h
-no_repo_effect (stop.FarDamaged path) h = h
+no_repo_effect _ h = h
 
 pub no_unread_effect : {takes : Bool} {before now : SourceState} (e : Failure) → ReadsGiven takes before now (Err e) → HasEffect (Err e) → ⊥
 no_unread_effect failure.OutputFault reads h = reads.cause
-no_unread_effect (failure.Refused r) reads h = h
-no_unread_effect failure.InputFault reads h = h
-no_unread_effect failure.Memory reads h = h
-no_unread_effect failure.Usage reads h = h
-no_unread_effect failure.RootFault reads h = h
-no_unread_effect failure.RepositoryFault reads h = h
-no_unread_effect (failure.Damaged path) reads h = h
+no_unread_effect _ reads h = h
 
 -- the state before or after, however it ended
 pub next_any : (IsOutcome : Result Effect Refusal → Type 0) (s next : State) (before now : SinkState) (end : End) → CallEnds IsOutcome s next before now end → IsNext IsOutcome s next
@@ -84,8 +63,7 @@ next_any IsOutcome s next before now (Err failure.OutputFault) h = inr (takes_so
 next_any IsOutcome s next before now (Err failure.RootFault) h = h
 next_any IsOutcome s next before now (Err failure.RepositoryFault) h = h
 next_any IsOutcome s next before now (Err failure.Memory) h = h
-next_any IsOutcome s next before now (Err failure.Usage) h = absurd h
-next_any IsOutcome s next before now (Err (failure.Damaged path)) h = absurd h
+next_any IsOutcome s next before now _ h = absurd h
 
 -- ---- outcomes
 
@@ -114,11 +92,7 @@ module _ (m : Meaning) (s : State) (input : List ℕ) (fixed : fixed_dirs (tree_
   unread_ends out out' (failure.Refused r) reads gives = (not_given m s input r fixed gives, refl)
   unread_ends out out' failure.InputFault reads gives = refl
   unread_ends out out' failure.Memory reads gives = inl refl
-  unread_ends out out' failure.Usage reads gives = absurd reads.cause
-  unread_ends out out' failure.OutputFault reads gives = absurd reads.cause
-  unread_ends out out' failure.RootFault reads gives = absurd reads.cause
-  unread_ends out out' failure.RepositoryFault reads gives = absurd reads.cause
-  unread_ends out out' (failure.Damaged path) reads gives = absurd reads.cause
+  unread_ends out out' _ reads gives = absurd reads.cause
 
   -- the command was performed
 
@@ -139,9 +113,7 @@ module _ (m : Meaning) (s : State) (input : List ℕ) (fixed : fixed_dirs (tree_
     run_ends before now next (Err failure.RootFault) h = next_outcome h.0
     run_ends before now next (Err failure.RepositoryFault) h = next_outcome h.0
     run_ends before now next (Err failure.Memory) h = next_outcome h.0
-    run_ends before now next (Err failure.Usage) h = absurd h
-    run_ends before now next (Err failure.InputFault) h = absurd h
-    run_ends before now next (Err (failure.Damaged path)) h = absurd h
+    run_ends before now next _ h = absurd h
 
     pub shown_so : {tree : Tree} (t : Tree) → IsShown (m.IsOutcome s bytes) s tree t → IsShown (Outcome m s input) s tree t
     shown_so t h = ⊎_elim (λ same. inl same) (λ e. inr (e.0, to_outcome (Ok e.0) e.1, e.2)) h
@@ -156,11 +128,7 @@ module _ (m : Meaning) (s : State) (fixed : fixed_dirs (tree_of s.root) ≡ Ok t
   unread_left {before} {now} (failure.Refused r) reads le = some_so before.left (λ input h. left_open now.left input h) (left_err m.takes_input before now r reads)
   unread_left failure.InputFault reads le = absurd (omega (arith, le))
   unread_left failure.Memory reads le = absurd (omega (arith, le))
-  unread_left failure.Usage reads le = absurd reads.cause
-  unread_left failure.OutputFault reads le = absurd reads.cause
-  unread_left failure.RootFault reads le = absurd reads.cause
-  unread_left failure.RepositoryFault reads le = absurd reads.cause
-  unread_left (failure.Damaged path) reads le = absurd reads.cause
+  unread_left _ reads le = absurd reads.cause
 
   pub read_left : {before now : SourceState} (bytes : List ℕ) → ReadsGiven m.takes_input before now (Ok bytes) → IfSome before.left (λ input. now.left ≡ Some (left_of m s input))
   read_left {before} {now} bytes reads = some_so before.left (λ input h. left_open now.left input h) (left_ok m.takes_input before now bytes reads)

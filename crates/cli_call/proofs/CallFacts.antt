@@ -22,7 +22,7 @@ use Rattle.cli_call.specs.Call.{CallState, OpensRoot, OpensRepository, AreOpened
 use Rattle.cli_call.specs.Command.{disks, ChangesNothing}
 use Rattle.system_core.specs.FixedDirs.{fixed_dirs}
 use Rattle.cli_call.specs.Line.{Moment, LineCause, RunsLine}
-use Rattle.cli_call.specs.LineLaws.{keeps_still}
+use Rattle.cli_call.proofs.LineLaws.{keeps_still}
 use Rattle.cli_call.specs.Reading.{ReadsGiven}
 use Rattle.system_core.specs.Recovered.{RecoversToNone, IsKept, IsPathRefusal, RefusesLog}
 use Rattle.cli_call.specs.Report.{End, status_of}
@@ -30,7 +30,7 @@ use Rattle.cli_call.specs.RootOpening.{IsRootKept}
 use Rattle.cli_call.specs.State.{Meaning}
 use Rattle.cli_call.specs.Stops.{root_failure, repository_failure}
 use Rattle.cli_call.specs.Store.{IsSettled}
-use Rattle.cli_call.specs.StoreLaws.{kept_so}
+use Rattle.cli_call.proofs.StoreLaws.{kept_so}
 use Rattle.cli_call.specs.Stores.{root_store, repository_store}
 use Rattle.local_db.specs.declared.db.Db.{Db}
 use Rattle.cli_call.specs.WholeCall.{AreKept, RecoversToCatalogue, RestOpened, IsDamage, OnlyRead}
@@ -201,11 +201,7 @@ module _ {T P : Type 0} {root_disk : DiskModel T} {repo_disk : DiskModel P} (roo
     unread_cause m (failure.Refused r) reads silent = keeps_still before.out now.out silent
     unread_cause m failure.InputFault reads silent = (reads.cause, keeps_still before.out now.out silent)
     unread_cause m failure.Memory reads silent = keeps_still before.out now.out silent
-    unread_cause m failure.Usage reads silent = absurd reads.cause
-    unread_cause m failure.OutputFault reads silent = absurd reads.cause
-    unread_cause m failure.RootFault reads silent = absurd reads.cause
-    unread_cause m failure.RepositoryFault reads silent = absurd reads.cause
-    unread_cause m (failure.Damaged path) reads silent = absurd reads.cause
+    unread_cause m _ reads silent = absurd reads.cause
 
     loaded_repo : IsTrue repo_disk.tells → RecoversToCatalogue (repo_disk.reads before.repo)
     loaded_repo told = let is = opens.opens.opened told in record {
@@ -245,14 +241,11 @@ module _ {T P : Type 0} {root_disk : DiskModel T} {repo_disk : DiskModel P} (roo
 
     run_cause : (end : End) → LineCause root_disk repo_disk mid last end → CallCause root_disk repo_disk before now end
     run_cause (Ok x) h = tt
-    run_cause (Err (failure.Refused r)) h = h
-    run_cause (Err failure.OutputFault) h = h
     run_cause (Err failure.RootFault) h = (rose_before (root_disk.faults before.root) (root_disk.faults root) (root_disk.faults now.root) opens.opens_root.later h.0, h.1)
     run_cause (Err failure.RepositoryFault) h = (rose_before (repo_disk.faults before.repo) (repo_disk.faults repo) (repo_disk.faults now.repo) opens.opens.later h.0, h.1)
-    run_cause (Err failure.Memory) h = h
     run_cause (Err (failure.Damaged path)) h = (inr h.0, h.1)
-    run_cause (Err failure.Usage) h = absurd h
     run_cause (Err failure.InputFault) h = absurd h
+    run_cause _ h = h
 
     run_facts : (of_root : Bool) (m : Meaning) (bytes : List ℕ) (end : End) → RunsLine root_disk repo_disk of_root m bytes mid last end → CallFacts root_disk repo_disk before now end
     run_facts of_root m bytes end runs = record {

@@ -1,5 +1,5 @@
 -- The clauses of a command that changes the root alone, from what the root went through from each state that it stored.
-use Rattle.std.proofs.Common.{◌≡◌, ◌≤◌, ℕ, List, Result, refl, sym, ap, ◌∙◌, subst, inl, inr, ⊎_elim, arith}
+use Rattle.std.proofs.Common.{◌≡◌, ◌≤◌, ℕ, List, Result, refl, sym, ap, subst, inl, inr, ⊎_elim, arith}
 use Rattle.std.specs.Prelude.{IsTrue}
 use Rattle.system_core.specs.cny-base.declared.refusal.Refusal.{Refusal}
 use Rattle.system_core.specs.tree-disk.Tree.{Tree}
@@ -8,18 +8,17 @@ use Rattle.system_core.specs.tree-disk.Clear.{is_within}
 use Rattle.system_core.specs.tree-disk.Confined.{Among, Confined}
 use Rattle.system_core.specs.tree-disk.ConfinedLaws.{confined_start}
 use Rattle.system_core.specs.tree-disk.Unfailed.{UnlessFailed}
-use Rattle.system_core.specs.tree-journal.Recovery.{is_committed}
 use Rattle.repo_load.specs.Files.{repository_base}
 use Rattle.local_db.specs.Stores.{RecoversToSystem}
 use Rattle.system_core.specs.RootWriting.{RecoversToEither}
 use Rattle.cli_call.specs.declared.failure.Failure.{Failure}
 use Rattle.cli_call.specs.Alone.{PerformsAlone}
 use Rattle.cli_call.specs.Command.{Disks, AreReady, ChangesNothing, HasCause, Goes, Answers, KeepsOthers, IsShown, Performs, end_of}
-use Rattle.cli_call.specs.CommandLaws.{goes_read}
+use Rattle.cli_call.proofs.CommandLaws.{goes_read}
 use Rattle.cli_call.specs.Report.{status_of}
 use Rattle.cli_call.specs.State.{RootState, State, Effect, Meaning}
 use Rattle.cli_call.specs.Store.{IsStore, IsSettled, OneOf, Recovers, RestsAt}
-use Rattle.cli_call.specs.StoreLaws.{nothing_done}
+use Rattle.cli_call.proofs.StoreLaws.{nothing_done, read_settled}
 use Rattle.cli_call.specs.Stores.{root_store, repository_store}
 
 -- What the root went through from a state that it stored, and what was answered.
@@ -65,10 +64,7 @@ module _ {T P : Type 0} {root_disk : DiskModel T} (repo_disk : DiskModel P) (m :
       cause = cause;
       rest = λ le. record {
         root = settles le;
-        repo = λ told. record {
-          flag_clear = ap (is_committed repository_store.base) read_repo.same.reads ∙ (ready.repo told).settled.flag_clear;
-          synced = λ p. read_repo.same.unsynced p ∙ (ready.repo told).settled.synced p;
-        };
+        repo = λ told. read_settled read_repo (ready.repo told).settled.flag_clear (ready.repo told).settled.synced;
       };
       same = λ none. record { root = keeps none; repo = λ told. read_repo.same.reads };
       within = λ told. subst (λ (d : P). Confined repo_disk (Among (is_within repository_base)) old.repo d) (sym same_repo) (confined_start repo_disk_laws (Among (is_within repository_base)) old.repo);

@@ -10,7 +10,7 @@ use Rattle.cli_call.specs.declared.failure.Failure.{Failure}
 use Rattle.cli_call.specs.declared.failure.Failure.TheVariants as failure
 use Rattle.cli_call.specs.Alone.{PerformsAlone}
 use Rattle.cli_call.specs.Command.{Disks, Answers, end_of}
-use Rattle.cli_call.specs.CommandLaws.{answers_more, goes_read, read_shown, shown_more}
+use Rattle.cli_call.proofs.CommandLaws.{answers_more, goes_read, read_shown, shown_more}
 use Rattle.cli_call.specs.State.{State, nothing, Effect, Meaning}
 use Rattle.cli_call.specs.Store.{IsStore, RestsAt}
 use Rattle.cli_call.specs.Stores.{root_store}
@@ -21,11 +21,8 @@ AnswersAlone root_disk m input root (Ok text) = IsTrue root_disk.tells → (s : 
 AnswersAlone root_disk m input root (Err (failure.Refused r)) = IsTrue root_disk.tells → (s : State) → RestsAt root_store root_disk root s.root → m.IsOutcome s input (Err r)
 AnswersAlone root_disk m input root (Err failure.RootFault) = Unit {0}
 AnswersAlone root_disk m input root (Err failure.Memory) = Unit {0}
-AnswersAlone root_disk m input root (Err failure.RepositoryFault) = ⊥
 AnswersAlone root_disk m input root (Err (failure.Damaged path)) = IsTrue root_disk.tells → (s : State) → RestsAt root_store root_disk root s.root → ⊥
-AnswersAlone root_disk m input root (Err failure.Usage) = ⊥
-AnswersAlone root_disk m input root (Err failure.InputFault) = ⊥
-AnswersAlone root_disk m input root (Err failure.OutputFault) = ⊥
+AnswersAlone root_disk m input root _ = ⊥
 
 module _ {T P : Type 0} {root_disk : DiskModel T} (repo_disk : DiskModel P) (root_laws : IsDisk root_disk) (root_store_laws : IsStore root_store) (m : Meaning) (input : List ℕ) (old new : Disks T P) where
   answers_alone : (s : State) → IsTrue root_disk.tells → RestsAt root_store root_disk old.root s.root → (result : Result (List ℕ) Failure) → AnswersAlone root_disk m input old.root result → Answers (m.IsOutcome s input) s s result
@@ -33,11 +30,8 @@ module _ {T P : Type 0} {root_disk : DiskModel T} (repo_disk : DiskModel P) (roo
   answers_alone s told rests (Err (failure.Refused r)) h = (h told s rests, refl)
   answers_alone s told rests (Err failure.RootFault) h = inl refl
   answers_alone s told rests (Err failure.Memory) h = inl refl
-  answers_alone s told rests (Err failure.RepositoryFault) h = absurd h
   answers_alone s told rests (Err (failure.Damaged path)) h = absurd (h told s rests)
-  answers_alone s told rests (Err failure.Usage) h = absurd h
-  answers_alone s told rests (Err failure.InputFault) h = absurd h
-  answers_alone s told rests (Err failure.OutputFault) h = absurd h
+  answers_alone s told rests _ h = absurd h
 
   pub alone_reading : (result : Result (List ℕ) Failure) → new.repo ≡ old.repo → (IsTrue root_disk.tells → HasRead root_disk old.root new.root (Unit {0})) → AnswersAlone root_disk m input old.root result → PerformsAlone root_disk repo_disk m input old new result
   alone_reading result same read answers = record {

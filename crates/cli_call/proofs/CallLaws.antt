@@ -18,20 +18,20 @@ use Rattle.cli_call.specs.declared.failure.Failure.TheVariants as failure
 use Rattle.cli_call.specs.declared.opened.Opened.{Opened}
 use Rattle.cli_call.specs.Command.{disks, AreReady}
 use Rattle.cli_call.specs.Call.{CallState, AreOpened, RunsCall}
-use Rattle.cli_call.specs.CallFacts.{SettlesSo, CallFacts, call_facts}
-use Rattle.cli_call.specs.CallEnds.{CallEnds, next_any}
-use Rattle.cli_call.specs.CallKnown.{call_known}
-use Rattle.cli_call.specs.CallStates.{CallFrom}
+use Rattle.cli_call.proofs.CallFacts.{SettlesSo, CallFacts, call_facts}
+use Rattle.cli_call.proofs.CallEnds.{CallEnds, next_any}
+use Rattle.cli_call.proofs.CallKnown.{call_known}
+use Rattle.cli_call.proofs.CallStates.{CallFrom}
 use Rattle.cli_call.specs.Input.{input_limit, within_limit, left_after_reading}
-use Rattle.cli_call.specs.InputLaws.{some_so}
+use Rattle.cli_call.proofs.InputLaws.{some_so}
 use Rattle.cli_call.specs.Reading.{ReadsGiven}
 use Rattle.cli_call.specs.Report.{End, status_of, Tells, Reports}
-use Rattle.cli_call.specs.RootCallLaws.{root_call}
+use Rattle.cli_call.proofs.RootCallLaws.{root_call}
 use Rattle.cli_call.specs.State.{State, Effect, Meaning, tree_of}
-use Rattle.cli_call.specs.RootLaws.{reached_dirs}
+use Rattle.cli_call.proofs.RootLaws.{reached_dirs}
 use Rattle.cli_call.specs.RootOpening.{ShowsBetween}
 use Rattle.cli_call.specs.Store.{IsStore}
-use Rattle.cli_call.specs.StoreLaws.{as_state, nothing_done, none_yet}
+use Rattle.cli_call.proofs.StoreLaws.{as_state, nothing_done, none_yet}
 use Rattle.cli_call.specs.Stores.{root_store, repository_store}
 use Rattle.cli_call.specs.WholeCall.{Outcome, FromStates, RestBoth, IsRefused, Answers, LiveBoth, Settles, HasInputFault, HasOutputFault, IsCutShort, IsCut, HasRootFault, HasRepositoryFault, HasDamage, NoFaults, IsCallOf, ErrorLine}
 
@@ -39,13 +39,7 @@ use Rattle.cli_call.specs.WholeCall.{Outcome, FromStates, RestBoth, IsRefused, A
 
 err_not_zero : (e : Failure) → status_of (Err e) ≡ 0 → ⊥
 err_not_zero failure.Usage h = omega (arith, h)
-err_not_zero (failure.Refused r) h = omega (arith, h)
-err_not_zero failure.InputFault h = omega (arith, h)
-err_not_zero failure.OutputFault h = omega (arith, h)
-err_not_zero failure.RootFault h = omega (arith, h)
-err_not_zero failure.RepositoryFault h = omega (arith, h)
-err_not_zero failure.Memory h = omega (arith, h)
-err_not_zero (failure.Damaged path) h = omega (arith, h)
+err_not_zero _ h = omega (arith, h)
 
 zero_ok : (end : End) (err err' : SinkState) (status : ℕ) → Reports end err err' status → status ≡ 0 → end ≡ Ok tt
 zero_ok (Ok x) err err' status h is = refl
@@ -65,15 +59,9 @@ reported (Err e) err err' status (inr want) = inr (failure.Memory, want.1)
 
 -- no file is damaged where the disks recover to states
 end_undamaged : (IsOutcome : Result Effect Refusal → Type 0) (s next : State) (before now : SinkState) (end : End) → CallEnds IsOutcome s next before now end → status_of end ≤ 7
-end_undamaged IsOutcome s next before now (Ok x) h = omega arith
-end_undamaged IsOutcome s next before now (Err (failure.Refused r)) h = omega arith
-end_undamaged IsOutcome s next before now (Err failure.InputFault) h = omega arith
-end_undamaged IsOutcome s next before now (Err failure.OutputFault) h = omega arith
-end_undamaged IsOutcome s next before now (Err failure.RootFault) h = omega arith
-end_undamaged IsOutcome s next before now (Err failure.RepositoryFault) h = omega arith
-end_undamaged IsOutcome s next before now (Err failure.Memory) h = omega arith
 end_undamaged IsOutcome s next before now (Err failure.Usage) h = absurd h
 end_undamaged IsOutcome s next before now (Err (failure.Damaged path)) h = absurd h
+end_undamaged IsOutcome s next before now _ h = omega arith
 
 status_undamaged : (end : End) (err err' : SinkState) (status : ℕ) → Reports end err err' status → status_of end ≤ 7 → status ≡ 8 → ⊥
 status_undamaged (Ok x) err err' status h le eight = let none : status ≡ 0 = h.0 in omega (arith, none, eight)
@@ -194,12 +182,7 @@ module _ {T P : Type 0} (root_disk : DiskModel T) (repo_disk : DiskModel P) (m :
   call_end (Err (failure.Damaged path)) facts from (inl tells) = damaged tells.answered (record { path = path; damage = facts.cause.0; kept = facts.kept tt; out = facts.cause.1; line = tells })
   call_end (Err failure.Usage) facts from (inl tells) = absurd facts.cause
   call_end (Err failure.Usage) facts from (inr want) = absurd facts.cause
-  call_end (Err failure.InputFault) facts from (inr want) = absurd want.0
-  call_end (Err failure.OutputFault) facts from (inr want) = absurd want.0
-  call_end (Err failure.RootFault) facts from (inr want) = absurd want.0
-  call_end (Err failure.RepositoryFault) facts from (inr want) = absurd want.0
-  call_end (Err failure.Memory) facts from (inr want) = absurd want.0
-  call_end (Err (failure.Damaged path)) facts from (inr want) = absurd want.0
+  call_end _ facts from (inr want) = absurd want.0
 
   -- ---- what each status says
 

@@ -12,18 +12,18 @@ use Rattle.local_db.specs.declared.db.Db.{Db}
 use Rattle.cli_call.specs.declared.failure.Failure.{Failure}
 use Rattle.cli_call.specs.declared.opened.Opened.{Opened}
 use Rattle.cli_call.specs.Call.{CallState, OpensRoot, OpensRepository, AreOpened, NotOpened}
-use Rattle.cli_call.specs.CallEnds.{HasEffect, CallEnds, small, no_root_effect, no_repo_effect, no_unread_effect, outcome_of, read_left, run_ends, shown_so, unread_ends, unread_left}
+use Rattle.cli_call.proofs.CallEnds.{HasEffect, CallEnds, small, no_root_effect, no_repo_effect, no_unread_effect, outcome_of, read_left, run_ends, shown_so, unread_ends, unread_left}
 use Rattle.cli_call.specs.Command.{disks, KeepsOthers, IsShown}
 use Rattle.system_core.specs.FixedDirs.{fixed_dirs}
 use Rattle.cli_call.specs.Line.{Moment, RunsLine}
 use Rattle.cli_call.specs.Reading.{given, Gives, ReadsGiven}
 use Rattle.cli_call.specs.Report.{End, status_of}
-use Rattle.cli_call.specs.RootLaws.{root_laws, opened_root_rests}
-use Rattle.cli_call.specs.RootStates.{fixed_state, root_ends, root_left}
+use Rattle.cli_call.proofs.RootLaws.{root_laws, opened_root_rests}
+use Rattle.cli_call.proofs.RootStates.{fixed_state, root_ends, root_left}
 use Rattle.cli_call.specs.State.{State, Meaning, tree_of, OneDisk}
 use Rattle.cli_call.specs.Stops.{root_failure, repository_failure}
 use Rattle.cli_call.specs.Store.{IsStore, Recovers, OneOf, IsEntryOr, RestsAt}
-use Rattle.cli_call.specs.StoreLaws.{none_yet, never_blocked, never_damaged, rest_reads, opened_rests, kept_recovers}
+use Rattle.cli_call.proofs.StoreLaws.{none_yet, never_blocked, never_damaged, rest_reads, opened_rests, kept_recovers}
 use Rattle.cli_call.specs.Stores.{root_store, repository_store}
 use Rattle.cli_call.specs.WholeCall.{Outcome, left_of, RecoversBoth, RestBoth, LivesRoot, LivesRepository, ShowsCall}
 

@@ -1,8 +1,8 @@
 -- Commands that answer bytes and change nothing.
 use Rattle.std.specs.Prelude.{◌≡◌, ℕ, List, Result, Ok, Err}
-use Rattle.repo_commands.specs.cny-base.declared.refusal.Fault.{Fault}
-use Rattle.repo_commands.specs.cny-base.declared.refusal.Fault.TheVariants as fault
-use Rattle.repo_commands.specs.cny-base.declared.refusal.Refusal.{Refusal}
+use Rattle.system_core.specs.cny-base.declared.refusal.Fault.{Fault}
+use Rattle.system_core.specs.cny-base.declared.refusal.Fault.TheVariants as fault
+use Rattle.system_core.specs.cny-base.declared.refusal.Refusal.{Refusal}
 use Rattle.cli_call.specs.State.{nothing, Effect}
 
 -- nothing changes, and these bytes are answered

@@ -14,7 +14,7 @@ use Rattle.system_core.specs.FixedPaths.{directory_path}
 use Rattle.cli_call.specs.RootOpening.{IsRootOpen, RecoversOutside}
 use Rattle.cli_call.specs.State.{RootState, tree_of}
 use Rattle.cli_call.specs.Store.{IsStore, Recovers, RestsAt}
-use Rattle.cli_call.specs.StoreLaws.{settled_rests}
+use Rattle.cli_call.proofs.StoreLaws.{settled_rests}
 use Rattle.cli_call.specs.Stores.{root_store}
 
 pub root_laws : IsStore root_store

@@ -1,0 +1,52 @@
+-- How a command ends that answers from what was opened, and reads nothing more.
+use Rattle.std.proofs.Common.{◌≡◌, ℕ, List, Result, Ok, Err, refl}
+use Rattle.std.specs.Prelude.{IsTrue}
+use Rattle.system_core.specs.cny-base.declared.refusal.Fault.{Fault}
+use Rattle.system_core.specs.cny-base.declared.refusal.Fault.TheVariants as fault
+use Rattle.system_core.specs.cny-base.declared.refusal.Refusal.{Refusal}
+use Rattle.system_core.specs.tree-disk.Disk.{DiskModel, IsDisk}
+use Rattle.cli_call.specs.declared.failure.Failure.{Failure}
+use Rattle.cli_call.specs.Alone.{PerformsAlone}
+use Rattle.cli_call.specs.Answer.{AnswersSo}
+use Rattle.cli_call.specs.Command.{Disks, AreReady, HasCause, Performs, StandsFor}
+use Rattle.cli_call.specs.Failures.{failure_of_fault}
+use Rattle.cli_call.specs.State.{Effect, Meaning, State}
+use Rattle.cli_call.specs.Store.{IsStore, RestsAt}
+use Rattle.cli_call.specs.Stores.{root_store, repository_store}
+use Rattle.cli_call.proofs.AloneLaws.{AnswersAlone, alone_reading}
+use Rattle.cli_call.proofs.CommandLaws.{AnswersReading, none_read, performs_reading}
+use Rattle.cli_call.proofs.RootLaws.{root_laws}
+use Rattle.cli_call.proofs.StoreLaws.{nothing_done}
+
+-- the answer to a fault
+abbrev pub result_of : Result (List ℕ) Fault → Result (List ℕ) Failure
+result_of (Ok text) = Ok text
+result_of (Err f) = Err (failure_of_fault f)
+
+-- by what the outcome is on each state that both disks store
+module _ {T P : Type 0} {root_disk : DiskModel T} {repo_disk : DiskModel P} (root_disk_laws : IsDisk root_disk) (repo_disk_laws : IsDisk repo_disk) (store_laws : IsStore repository_store) (meaning : Meaning) (input : List ℕ)
+    (m : Disks T P) (ready : AreReady root_disk repo_disk m) (outcome : Result Effect Refusal)
+    (means : IsTrue root_disk.tells → IsTrue repo_disk.tells → (s : State) → StandsFor root_disk repo_disk m s → (o : Result Effect Refusal) → outcome ≡ o → meaning.IsOutcome s input o) where
+  answers : (r : Result (List ℕ) Fault) → AnswersSo outcome r → AnswersReading root_disk repo_disk meaning input m (result_of r)
+  answers (Ok text) is = λ root repo s stands. means root repo s stands _ is
+  answers (Err (fault.Refused why)) is = λ root repo s stands. means root repo s stands _ is
+  answers (Err fault.Memory) is = tt
+
+  cause : (r : Result (List ℕ) Fault) → HasCause root_disk repo_disk m m (result_of r)
+  cause (Ok text) = tt
+  cause (Err (fault.Refused why)) = tt
+  cause (Err fault.Memory) = tt
+
+  pub answered : (r : Result (List ℕ) Fault) → AnswersSo outcome r → Performs root_disk repo_disk meaning input m m (result_of r)
+  answered r is = performs_reading root_disk_laws repo_disk_laws root_laws store_laws meaning input m m ready (none_read root_disk_laws repo_disk_laws m m refl refl) (result_of r) (cause r) (answers r is)
+
+-- by what it is on each system that the root stores, whatever the repository's disk tells or stores
+module _ {T P : Type 0} {root_disk : DiskModel T} (repo_disk : DiskModel P) (root_disk_laws : IsDisk root_disk) (meaning : Meaning) (input : List ℕ) (m : Disks T P) (outcome : Result Effect Refusal)
+    (means : IsTrue root_disk.tells → (s : State) → RestsAt root_store root_disk m.root s.root → (o : Result Effect Refusal) → outcome ≡ o → meaning.IsOutcome s input o) where
+  answers_alone : (r : Result (List ℕ) Fault) → AnswersSo outcome r → AnswersAlone root_disk meaning input m.root (result_of r)
+  answers_alone (Ok text) is = λ told s rests. means told s rests _ is
+  answers_alone (Err (fault.Refused why)) is = λ told s rests. means told s rests _ is
+  answers_alone (Err fault.Memory) is = tt
+
+  pub answered_alone : (r : Result (List ℕ) Fault) → AnswersSo outcome r → PerformsAlone root_disk repo_disk meaning input m m (result_of r)
+  answered_alone r is = alone_reading repo_disk root_disk_laws root_laws meaning input m m (result_of r) refl (λ told. nothing_done root_disk_laws m.root) (answers_alone r is)

@@ -1,0 +1,102 @@
+-- A command with what it writes, from what its own function did and from what was written.
+use Rattle.std.proofs.Common.{◌≡◌, ◌≤◌, ℕ, Bool, true, List, Option, Some, None, Result, Ok, Err, refl, sym, subst, inr, arith}
+use Rattle.std.specs.Io.KnownBytes.{Appends, Keeps}
+use Rattle.system_core.specs.cny-base.declared.refusal.Refusal.{Refusal}
+use Rattle.cny_flow.specs.Flow.{SinkState, AppendsPart}
+use Rattle.system_core.specs.tree-disk.Disk.{DiskModel}
+use Rattle.cli_call.specs.declared.failure.Failure.{Failure}
+use Rattle.cli_call.specs.declared.failure.Failure.TheVariants as failure
+use Rattle.cli_call.specs.Alone.{PerformsAlone}
+use Rattle.cli_call.specs.Command.{Disks, ChangesNothing, HasCause, Goes, Answers, Performs, end_of}
+use Rattle.cli_call.specs.Line.{Moment, Writes, Ends, LineCause, RunsLine}
+use Rattle.cli_call.specs.Report.{End, status_of}
+use Rattle.cli_call.specs.State.{State, Effect, Meaning, Takes}
+use Rattle.cli_call.specs.Store.{Store}
+
+pub keeps_same : (a : Option (List ℕ)) → Keeps a a
+keeps_same None = tt
+keeps_same (Some x) = refl
+
+pub keeps_still : (before now : SinkState) → now ≡ before → Keeps before.written now.written
+keeps_still before now same = subst (λ (o : SinkState). Keeps before.written o.written) (sym same) (keeps_same before.written)
+
+pub takes_so : {IsOutcome : Result Effect Refusal → Type 0} {s next : State} {P Q : List ℕ → Type 0} → ((bytes : List ℕ) → P bytes → Q bytes) → Takes IsOutcome s next P → Takes IsOutcome s next Q
+takes_so f t = record { effect = t.effect; is = t.is; leads = t.leads; bytes = f t.effect.out t.bytes }
+
+goes_on : {D X : Type 0} {store : Store X} {disk : DiskModel D} {x y : X} {old new : D} (first then : End) → (status_of then ≤ 4 → status_of first ≤ 4) → Goes store disk x y old new first → Goes store disk x y old new then
+goes_on first then fewer goes = record { images = goes.images; rests = λ le. goes.rests (fewer le); reads = goes.reads }
+
+abbrev with_out : {T P : Type 0} → Disks T P → SinkState → Moment T P
+with_out d out = record { at = d; out = out }
+
+-- what an error of a command is as the end of a line
+error_ends : (IsOutcome : Result Effect Refusal → Type 0) (s next : State) (before now : SinkState) (e : Failure) → Keeps before.written now.written → Answers IsOutcome s next (Err e) → Ends IsOutcome s next before now (Err e)
+error_ends IsOutcome s next before now (failure.Refused r) keeps h = (h.0, h.1, keeps)
+error_ends IsOutcome s next before now failure.RootFault keeps h = (h, keeps)
+error_ends IsOutcome s next before now failure.RepositoryFault keeps h = (h, keeps)
+error_ends IsOutcome s next before now failure.Memory keeps h = (h, keeps)
+error_ends IsOutcome s next before now _ keeps h = absurd h
+
+error_cause : {T P : Type 0} (root_disk : DiskModel T) (repo_disk : DiskModel P) (old new : Disks T P) (before now : SinkState) (e : Failure) → Keeps before.written now.written → HasCause root_disk repo_disk old new (Err e) → LineCause root_disk repo_disk (with_out old before) (with_out new now) (Err e)
+error_cause root_disk repo_disk old new before now (failure.Refused r) keeps h = keeps
+error_cause root_disk repo_disk old new before now failure.Memory keeps h = keeps
+error_cause root_disk repo_disk old new before now (failure.Damaged path) keeps h = (h, keeps)
+error_cause root_disk repo_disk old new before now failure.RootFault keeps h = (h, keeps)
+error_cause root_disk repo_disk old new before now failure.RepositoryFault keeps h = (h, keeps)
+error_cause root_disk repo_disk old new before now _ keeps h = absurd h
+
+module _ {T P : Type 0} {root_disk : DiskModel T} {repo_disk : DiskModel P} {m : Meaning} {input : List ℕ} {old new : Disks T P} (before now : SinkState) (of_root : Bool) where
+  -- a line ended as its command did, or by the write: what the command did is what the line did
+  line_ends : (result : Result (List ℕ) Failure) (end : End) → before.faults ≤ now.faults → LineCause root_disk repo_disk (with_out old before) (with_out new now) end
+      → (status_of end ≤ 4 → status_of (end_of result) ≤ 4) → (ChangesNothing end → ChangesNothing (end_of result))
+      → ((s next : State) → Answers (m.IsOutcome s input) s next result → Ends (m.IsOutcome s input) s next before now end)
+      → Performs root_disk repo_disk m input old new result → (of_root ≡ true → PerformsAlone root_disk repo_disk m input old new result)
+      → RunsLine root_disk repo_disk of_root m input (with_out old before) (with_out new now) end
+  line_ends result end later cause fewer nothing ends performs alone = record {
+    root_later = performs.root_later;
+    repo_later = performs.repo_later;
+    out_later = later;
+    cause = cause;
+    rest = λ le. performs.rest (fewer le);
+    same = λ none. performs.same (nothing none);
+    within = performs.within;
+    told = λ root repo s stands. let f = performs.told root repo s stands in record {
+      next = f.next;
+      ends = ends s f.next f.answers;
+      apart = f.apart;
+      root = goes_on (end_of result) end fewer f.root;
+      repo = goes_on (end_of result) end fewer f.repo;
+      outside = f.outside;
+      seen = f.seen;
+    };
+    alone = λ is. let a = alone is in record {
+      repo = a.repo;
+      told = λ told s rests. let f = a.told told s rests in record {
+        next = f.next;
+        ends = ends s f.next f.answers;
+        stays = f.stays;
+        root = goes_on (end_of result) end fewer f.root;
+        outside = f.outside;
+        seen = f.seen;
+      };
+    };
+  }
+
+  error_line : (e : Failure) → before.faults ≤ now.faults → now ≡ before → Performs root_disk repo_disk m input old new (Err e) → (of_root ≡ true → PerformsAlone root_disk repo_disk m input old new (Err e))
+      → RunsLine root_disk repo_disk of_root m input (with_out old before) (with_out new now) (Err e)
+  error_line e later same performs alone =
+      let keeps = keeps_still before now same in
+      line_ends (Err e) (Err e) later (error_cause root_disk repo_disk old new before now e keeps performs.cause) (λ le. le) (λ none. none)
+      (λ s next answers. error_ends (m.IsOutcome s input) s next before now e keeps answers) performs alone
+
+  -- the whole line
+  pub line_written : (result : Result (List ℕ) Failure) (end : End) → Performs root_disk repo_disk m input old new result → (of_root ≡ true → PerformsAlone root_disk repo_disk m input old new result) → Writes result before now end
+      → RunsLine root_disk repo_disk of_root m input (with_out old before) (with_out new now) end
+  line_written (Err e) end performs alone writes = subst (λ (x : End). RunsLine root_disk repo_disk of_root m input (with_out old before) (with_out new now) x) (sym writes.wrote.0) (error_line e writes.later writes.wrote.1 performs alone)
+  line_written (Ok text) (Ok x) performs alone writes = line_ends (Ok text) (Ok x) writes.later tt (λ le. le) (λ none. none)
+      (λ s next answers. takes_so (λ bytes is. subst (λ b. Appends before.written now.written b) (sym is) writes.wrote) answers) performs alone
+  line_written (Ok text) (Err failure.OutputFault) performs alone writes = line_ends (Ok text) (Err failure.OutputFault) writes.later writes.wrote.0 (λ le. omega arith) (λ none. none)
+      (λ s next answers. takes_so (λ bytes is. subst (λ b. AppendsPart before.written now.written b) (sym is) writes.wrote.1) answers) performs alone
+  line_written (Ok text) (Err failure.Memory) performs alone writes = line_ends (Ok text) (Err failure.Memory) writes.later writes.wrote (λ le. absurd (omega (arith, le))) (λ none. none)
+      (λ s next answers. (inr (takes_so (λ bytes is. tt) answers), writes.wrote)) performs alone
+  line_written (Ok text) _ performs alone writes = absurd writes.wrote
