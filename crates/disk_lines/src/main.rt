@@ -1,6 +1,6 @@
 //! Answers calls on a disk in memory, on a content store over it, on write sets and their logs, and on the journal. A line of standard
 //! input is the name of a call and its arguments, a tab before each; the line of standard output with its number is what the call
-//! answers. Input and wanted output come from tools/disk_lines.py, which is made from the rules of docs/ alone.
+//! answers. Input and wanted output come from tools/lines/disk_lines.py, which is made from the rules of docs/ alone.
 //!
 //! The calls of a disk and of the content store are steps of a script: each goes on where the one before left the disk. All others stand
 //! for themselves.

@@ -2,7 +2,7 @@
 //! what updates and erasures make of installed lists, on local changes, and on fingerprints, plans, their write sets and
 //! verifications over trees in memory. A line of standard input is the name of a call and its arguments, a tab before each; the line
 //! of standard output with its number is what the call answers. A catalogue, which is empty at first, and a closure, which is of no
-//! troves at first, go on from line to line. Input and wanted output come from tools/list_lines.py, which is made from the rules
+//! troves at first, go on from line to line. Input and wanted output come from tools/lines/list_lines.py, which is made from the rules
 //! alone.
 #![tactic(auto)]
 

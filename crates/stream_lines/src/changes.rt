@@ -10,15 +10,14 @@ use cny_report::trove_stream::{
     Installed, RelTrove, Trove, Troves, decode, decode_rel, encode, encode_rel,
 };
 use line_words::Answer;
-use std::alloc::Global;
 use update_job::{applied, check_allowed};
 
 // More bytes are answered by their number and their SHA-1.
 const MOST_SHOWN: usize = 400;
 
 // The trove with this stream.
-fn trove_of(alloc: Global, answer: &mut Answer, bytes: &[u8]) -> Option<Trove> {
-    let read = decode(alloc, bytes);
+fn trove_of(answer: &mut Answer, bytes: &[u8]) -> Option<Trove> {
+    let read = decode(answer.alloc(), bytes);
     if let Err(TextFault::Bad) = read {
         answer.text("unreadable");
         return None;
@@ -26,23 +25,23 @@ fn trove_of(alloc: Global, answer: &mut Answer, bytes: &[u8]) -> Option<Trove> {
     answer.kept(read)
 }
 
-fn push_trove(alloc: Global, answer: &mut Answer, trove: &Trove) {
+fn push_trove(answer: &mut Answer, trove: &Trove) {
     let mut out = behind(answer, b"");
-    answer.kept(encode(alloc, trove, &mut out));
+    answer.kept(encode(answer.alloc(), trove, &mut out));
     push_shown(answer, out.get(), MOST_SHOWN);
 }
 
 // What a relative trove makes of a trove, or the refusal.
-fn push_applied(alloc: Global, answer: &mut Answer, old: &Trove, rel: &RelTrove) {
-    match apply(alloc, old, rel) {
-        Ok(fresh) => push_trove(alloc, answer, &fresh),
+fn push_applied(answer: &mut Answer, old: &Trove, rel: &RelTrove) {
+    match apply(answer.alloc(), old, rel) {
+        Ok(fresh) => push_trove(answer, &fresh),
         Err(fault) => answer.refused(&fault),
     }
 }
 
-fn push_relative(alloc: Global, answer: &mut Answer, rel: &RelTrove) {
+fn push_relative(answer: &mut Answer, rel: &RelTrove) {
     let mut out = behind(answer, b"");
-    answer.kept(encode_rel(alloc, rel, &mut out));
+    answer.kept(encode_rel(answer.alloc(), rel, &mut out));
     push_shown(answer, out.get(), MOST_SHOWN);
 }
 
@@ -58,19 +57,19 @@ pub enum Asked {
 }
 
 // The relative trove between two of one name and two ids.
-fn between(alloc: Global, answer: &mut Answer, old: &Trove, fresh: &Trove) -> Option<RelTrove> {
+fn between(answer: &mut Answer, old: &Trove, fresh: &Trove) -> Option<RelTrove> {
     old.id().is_valid();
     fresh.id().is_valid();
     if old.id().name != fresh.id().name || old.id() == fresh.id() {
         answer.text("unreadable");
         return None;
     }
-    answer.kept(relative(alloc, old, fresh))
+    answer.kept(relative(answer.alloc(), old, fresh))
 }
 
 // The number of the names that `to_send` gives, and the names one behind the other.
-fn push_sent(alloc: Global, answer: &mut Answer, old: Option<&Trove>, fresh: &Trove) {
-    if let Some(names) = answer.kept(to_send(alloc, old, fresh)) {
+fn push_sent(answer: &mut Answer, old: Option<&Trove>, fresh: &Trove) {
+    if let Some(names) = answer.kept(to_send(answer.alloc(), old, fresh)) {
         let mut out = behind(answer, b"");
         for name in names.get() {
             answer.kept(out.push_slice(name.as_slice()));
@@ -81,38 +80,38 @@ fn push_sent(alloc: Global, answer: &mut Answer, old: Option<&Trove>, fresh: &Tr
     }
 }
 
-fn push_between(alloc: Global, answer: &mut Answer, asked: Asked, old: &Trove, fresh: &Trove) {
+fn push_between(answer: &mut Answer, asked: Asked, old: &Trove, fresh: &Trove) {
     if let Asked::Sent = asked {
-        push_sent(alloc, answer, Some(old), fresh);
-    } else if let Some(rel) = between(alloc, answer, old, fresh) {
+        push_sent(answer, Some(old), fresh);
+    } else if let Some(rel) = between(answer, old, fresh) {
         match asked {
-            Asked::Relative => push_relative(alloc, answer, &rel),
-            _ => push_applied(alloc, answer, old, &rel),
+            Asked::Relative => push_relative(answer, &rel),
+            _ => push_applied(answer, old, &rel),
         }
     }
 }
 
 /// What is asked of the troves with these streams.
-pub fn of_two(alloc: Global, answer: &mut Answer, asked: Asked, old: &[u8], fresh: &[u8]) {
-    if let Some(old) = trove_of(alloc, answer, old) {
-        if let Some(fresh) = trove_of(alloc, answer, fresh) {
-            push_between(alloc, answer, asked, &old, &fresh);
+pub fn of_two(answer: &mut Answer, asked: Asked, old: &[u8], fresh: &[u8]) {
+    if let Some(old) = trove_of(answer, old) {
+        if let Some(fresh) = trove_of(answer, fresh) {
+            push_between(answer, asked, &old, &fresh);
         }
     }
 }
 
 /// What `to_send` gives of the trove with this stream where there is no old one.
-pub fn of_new(alloc: Global, answer: &mut Answer, fresh: &[u8]) {
-    if let Some(fresh) = trove_of(alloc, answer, fresh) {
-        push_sent(alloc, answer, None, &fresh);
+pub fn of_new(answer: &mut Answer, fresh: &[u8]) {
+    if let Some(fresh) = trove_of(answer, fresh) {
+        push_sent(answer, None, &fresh);
     }
 }
 
 /// The stream of what `apply` makes of a trove, or the refusal.
-pub fn of_relative(alloc: Global, answer: &mut Answer, old: &[u8], rel: &[u8]) {
-    if let Some(old) = trove_of(alloc, answer, old) {
-        match decode_rel(alloc, rel) {
-            Ok(rel) => push_applied(alloc, answer, &old, &rel),
+pub fn of_relative(answer: &mut Answer, old: &[u8], rel: &[u8]) {
+    if let Some(old) = trove_of(answer, old) {
+        match decode_rel(answer.alloc(), rel) {
+            Ok(rel) => push_applied(answer, &old, &rel),
             Err(TextFault::Bad) => answer.text("unreadable"),
             Err(TextFault::Memory) => answer.memory(),
         }
@@ -121,8 +120,8 @@ pub fn of_relative(alloc: Global, answer: &mut Answer, old: &[u8], rel: &[u8]) {
 
 // ---- troves that come with a change set
 
-fn set_of(alloc: Global, answer: &mut Answer, bytes: &[u8]) -> Option<ChangeSet> {
-    match decode_set(alloc, bytes) {
+fn set_of(answer: &mut Answer, bytes: &[u8]) -> Option<ChangeSet> {
+    match decode_set(answer.alloc(), bytes) {
         Ok(set) => Some(set),
         Err(Fault::Refused(_)) => {
             answer.text("unreadable");
@@ -147,8 +146,8 @@ fn add_whole(answer: &mut Answer, troves: &mut Vec<Trove>, part: &Part) -> bool 
 }
 
 // The troves of a change set that has no relative ones.
-fn whole_of(alloc: Global, answer: &mut Answer, parts: &[Part]) -> Option<Vec<Trove>> {
-    let mut troves = Vec::new(alloc);
+fn whole_of(answer: &mut Answer, parts: &[Part]) -> Option<Vec<Trove>> {
+    let mut troves = Vec::new(answer.alloc());
     for part in parts {
         if !add_whole(answer, &mut troves, part) {
             answer.text("unreadable");
@@ -158,15 +157,15 @@ fn whole_of(alloc: Global, answer: &mut Answer, parts: &[Part]) -> Option<Vec<Tr
     Some(troves)
 }
 
-fn wholes_of(alloc: Global, answer: &mut Answer, bytes: &[u8]) -> Option<Vec<Trove>> {
-    match set_of(alloc, answer, bytes) {
-        Some(set) => whole_of(alloc, answer, set.parts.get()),
+fn wholes_of(answer: &mut Answer, bytes: &[u8]) -> Option<Vec<Trove>> {
+    match set_of(answer, bytes) {
+        Some(set) => whole_of(answer, set.parts.get()),
         None => None,
     }
 }
 
-fn installed_of(alloc: Global, answer: &mut Answer, bytes: &[u8]) -> Option<Installed> {
-    let troves = wholes_of(alloc, answer, bytes)?;
+fn installed_of(answer: &mut Answer, bytes: &[u8]) -> Option<Installed> {
+    let troves = wholes_of(answer, bytes)?;
     let installed = Installed::new(troves);
     if installed.is_none() {
         answer.text("unreadable");
@@ -175,35 +174,35 @@ fn installed_of(alloc: Global, answer: &mut Answer, bytes: &[u8]) -> Option<Inst
 }
 
 // The number of the troves, and the stream of each.
-fn push_troves(alloc: Global, answer: &mut Answer, troves: &Troves) {
+fn push_troves(answer: &mut Answer, troves: &Troves) {
     answer.number(troves.get().len() as u64);
     for trove in troves.get() {
         answer.text(" ");
-        push_trove(alloc, answer, trove);
+        push_trove(answer, trove);
     }
 }
 
-fn push_parts(alloc: Global, answer: &mut Answer, installed: &Installed, parts: &[Part]) {
-    match applied(alloc, installed, parts) {
-        Ok(troves) => push_troves(alloc, answer, &troves),
+fn push_parts(answer: &mut Answer, installed: &Installed, parts: &[Part]) {
+    match applied(answer.alloc(), installed, parts) {
+        Ok(troves) => push_troves(answer, &troves),
         Err(fault) => answer.refused(&fault),
     }
 }
 
 /// The streams of what `applied` makes of the troves of a change set, which are the installed ones, by the parts of another,
 /// or the refusal.
-pub fn over_installed(alloc: Global, answer: &mut Answer, installed: &[u8], change: &[u8]) {
-    if let Some(installed) = installed_of(alloc, answer, installed) {
-        if let Some(change) = set_of(alloc, answer, change) {
-            push_parts(alloc, answer, &installed, change.parts.get());
+pub fn over_installed(answer: &mut Answer, installed: &[u8], change: &[u8]) {
+    if let Some(installed) = installed_of(answer, installed) {
+        if let Some(change) = set_of(answer, change) {
+            push_parts(answer, &installed, change.parts.get());
         }
     }
 }
 
 /// What `check_allowed` answers of the troves of a change set.
-pub fn allowed(alloc: Global, answer: &mut Answer, change: &[u8]) {
-    if let Some(troves) = wholes_of(alloc, answer, change) {
-        match check_allowed(alloc, troves.as_slice()) {
+pub fn allowed(answer: &mut Answer, change: &[u8]) {
+    if let Some(troves) = wholes_of(answer, change) {
+        match check_allowed(answer.alloc(), troves.as_slice()) {
             Ok(()) => answer.text("ok"),
             Err(fault) => answer.refused(&fault),
         }

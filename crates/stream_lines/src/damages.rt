@@ -28,8 +28,8 @@ fn answer_of(alloc: Global, kind: &str, bytes: &[u8]) -> Answer {
         "trove_full" => told(&mut answer, decode_full(alloc, bytes)),
         "relative" => told(&mut answer, decode_rel(alloc, bytes)),
         "relative_full" => told(&mut answer, decode_rel_full(alloc, bytes)),
-        "set" => sets::read(alloc, &mut answer, bytes),
-        "manifest" => manifest(alloc, &mut answer, bytes, LONGEST),
+        "set" => sets::read(&mut answer, bytes),
+        "manifest" => manifest(&mut answer, bytes, LONGEST),
         _ => answer.unreadable(),
     }
     answer
@@ -44,11 +44,11 @@ fn ends_run(given: &[Answer]) -> bool {
 }
 
 // The runs of equal answers: the lowest and the highest number, and the answer.
-fn push_runs(alloc: Global, answer: &mut Answer, given: &[Answer]) {
+fn push_runs(answer: &mut Answer, given: &[Answer]) {
     let mut low = 0;
     for number in 0..given.len() {
         if ends_run(&given[number..]) {
-            answer.formatted(format!(in alloc; "{low}..{number}: "));
+            answer.formatted(format!(in answer.alloc(); "{low}..{number}: "));
             answer.add(&given[number]);
             answer.text("; ");
             low = number + 1;
@@ -57,22 +57,21 @@ fn push_runs(alloc: Global, answer: &mut Answer, given: &[Answer]) {
 }
 
 // Adds what the reader of a kind answers.
-fn add(alloc: Global, answer: &mut Answer, given: &mut Vec<Answer>, kind: &str, bytes: &[u8]) {
-    answer.kept(given.push(answer_of(alloc, kind, bytes)));
+fn add(answer: &mut Answer, given: &mut Vec<Answer>, kind: &str, bytes: &[u8]) {
+    answer.kept(given.push(answer_of(answer.alloc(), kind, bytes)));
 }
 
 /// What the reader of a kind answers for each beginning of these bytes, the whole of them too.
-pub fn beginnings(alloc: Global, answer: &mut Answer, kind: &str, bytes: &[u8]) {
-    let mut given = Vec::new(alloc);
+pub fn beginnings(answer: &mut Answer, kind: &str, bytes: &[u8]) {
+    let mut given = Vec::new(answer.alloc());
     for len in 0..=bytes.len() {
-        add(alloc, answer, &mut given, kind, &bytes[..len]);
+        add(answer, &mut given, kind, &bytes[..len]);
     }
-    push_runs(alloc, answer, given.as_slice());
+    push_runs(answer, given.as_slice());
 }
 
 // The same where the byte at a place has another value.
 fn add_changed(
-    alloc: Global,
     answer: &mut Answer,
     given: &mut Vec<Answer>,
     kind: &str,
@@ -80,32 +79,32 @@ fn add_changed(
     place: usize,
     value: u8,
 ) {
-    if let Ok(mut bytes) = Vec::from_slice(alloc, bytes) {
+    if let Ok(mut bytes) = Vec::from_slice(answer.alloc(), bytes) {
         if let Some(byte) = bytes.get_mut(place) {
             *byte = value;
         }
-        add(alloc, answer, given, kind, bytes.as_slice());
+        add(answer, given, kind, bytes.as_slice());
     } else {
         answer.memory();
     }
 }
 
 /// What the reader of a kind answers for each value of the byte at a place.
-pub fn changes(alloc: Global, answer: &mut Answer, kind: &str, bytes: &[u8], place: usize) {
-    let mut given = Vec::new(alloc);
+pub fn changes(answer: &mut Answer, kind: &str, bytes: &[u8], place: usize) {
+    let mut given = Vec::new(answer.alloc());
     for value in 0..=u8::MAX {
-        add_changed(alloc, answer, &mut given, kind, bytes, place, value);
+        add_changed(answer, &mut given, kind, bytes, place, value);
     }
-    push_runs(alloc, answer, given.as_slice());
+    push_runs(answer, given.as_slice());
 }
 
 /// What the reader of a kind answers for each place of bytes at which the byte has one of these values.
-pub fn changes_to(alloc: Global, answer: &mut Answer, kind: &str, bytes: &[u8], values: &[u8]) {
-    let mut given = Vec::new(alloc);
+pub fn changes_to(answer: &mut Answer, kind: &str, bytes: &[u8], values: &[u8]) {
+    let mut given = Vec::new(answer.alloc());
     for value in values {
         for place in 0..bytes.len() {
-            add_changed(alloc, answer, &mut given, kind, bytes, place, *value);
+            add_changed(answer, &mut given, kind, bytes, place, *value);
         }
     }
-    push_runs(alloc, answer, given.as_slice());
+    push_runs(answer, given.as_slice());
 }

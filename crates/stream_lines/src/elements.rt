@@ -1,7 +1,8 @@
 //! The elements of a trove's lists: how each is read from the value of an item, shown, and written again.
+use crate::again::behind;
 use crate::records::{have_spellings, push_record};
 use cny_dep::Dep;
-use cny_report::cny_base::{Bytes, OutOfMemory, Path, TextFault, next_str};
+use cny_report::cny_base::{Bytes, Path, TextFault, next_str};
 use cny_report::file_stream::{Encoding, decode};
 use cny_report::trove_parts::{FileAt, TroveId, next_id, put_deps, put_files, put_paths, put_refs};
 use cny_stream::next_item;
@@ -17,16 +18,10 @@ pub trait Element: Drop {
     fn read(alloc: Global, value: &[u8]) -> Result<Self, TextFault>;
 
     /// Appends its text.
-    fn show(&self, alloc: Global, answer: &mut Answer);
+    fn show(&self, answer: &mut Answer);
 
-    /// Appends the items of elements; nothing where they have none.
-    fn put(
-        alloc: Global,
-        encoding: Encoding,
-        out: &mut Bytes,
-        tag: u8,
-        list: &[Self],
-    ) -> Result<(), OutOfMemory>;
+    /// The items of elements behind an `x`, which stands alone where they have none.
+    fn written(answer: &mut Answer, encoding: Encoding, tag: u8, list: &[Self]) -> Bytes;
 }
 
 impl Element for FileAt {
@@ -39,23 +34,18 @@ impl Element for FileAt {
         }
     }
 
-    fn show(&self, alloc: Global, answer: &mut Answer) {
+    fn show(&self, answer: &mut Answer) {
         answer.text(self.path.text());
         answer.text(" ");
-        push_record(alloc, answer, &self.rec);
+        push_record(answer, &self.rec);
     }
 
-    fn put(
-        alloc: Global,
-        encoding: Encoding,
-        out: &mut Bytes,
-        tag: u8,
-        list: &[Self],
-    ) -> Result<(), OutOfMemory> {
-        if !have_spellings(list) {
-            return Ok(());
+    fn written(answer: &mut Answer, encoding: Encoding, tag: u8, list: &[Self]) -> Bytes {
+        let mut out = behind(answer, b"x");
+        if have_spellings(list) {
+            answer.kept(put_files(answer.alloc(), encoding, &mut out, tag, list));
         }
-        put_files(alloc, encoding, out, tag, list)
+        out
     }
 }
 
@@ -67,18 +57,14 @@ impl Element for TroveId {
         }
     }
 
-    fn show(&self, alloc: Global, answer: &mut Answer) {
+    fn show(&self, answer: &mut Answer) {
         answer.id(self);
     }
 
-    fn put(
-        alloc: Global,
-        _: Encoding,
-        out: &mut Bytes,
-        tag: u8,
-        list: &[Self],
-    ) -> Result<(), OutOfMemory> {
-        put_refs(alloc, out, tag, list)
+    fn written(answer: &mut Answer, _: Encoding, tag: u8, list: &[Self]) -> Bytes {
+        let mut out = behind(answer, b"x");
+        answer.kept(put_refs(answer.alloc(), &mut out, tag, list));
+        out
     }
 }
 
@@ -90,18 +76,14 @@ impl Element for Dep {
         }
     }
 
-    fn show(&self, _: Global, answer: &mut Answer) {
+    fn show(&self, answer: &mut Answer) {
         answer.text(self.text());
     }
 
-    fn put(
-        alloc: Global,
-        _: Encoding,
-        out: &mut Bytes,
-        tag: u8,
-        list: &[Self],
-    ) -> Result<(), OutOfMemory> {
-        put_deps(alloc, out, tag, list)
+    fn written(answer: &mut Answer, _: Encoding, tag: u8, list: &[Self]) -> Bytes {
+        let mut out = behind(answer, b"x");
+        answer.kept(put_deps(answer.alloc(), &mut out, tag, list));
+        out
     }
 }
 
@@ -110,47 +92,43 @@ impl Element for Path {
         Path::read_bytes(alloc, value)
     }
 
-    fn show(&self, _: Global, answer: &mut Answer) {
+    fn show(&self, answer: &mut Answer) {
         answer.text(self.text());
     }
 
-    fn put(
-        alloc: Global,
-        _: Encoding,
-        out: &mut Bytes,
-        tag: u8,
-        list: &[Self],
-    ) -> Result<(), OutOfMemory> {
-        put_paths(alloc, out, tag, list)
+    fn written(answer: &mut Answer, _: Encoding, tag: u8, list: &[Self]) -> Bytes {
+        let mut out = behind(answer, b"x");
+        answer.kept(put_paths(answer.alloc(), &mut out, tag, list));
+        out
     }
 }
 
 /// Appends a field: how many elements there are, and the first of them.
-pub fn push_list<T: Element>(alloc: Global, answer: &mut Answer, list: &[T]) {
+pub fn push_list<T: Element>(answer: &mut Answer, list: &[T]) {
     answer.text("\t");
     answer.number(list.len() as u64);
     for element in list.iter().take(SHOWN) {
         answer.text("; ");
-        element.show(alloc, answer);
+        element.show(answer);
     }
 }
 
 // Appends the element with this value.
-fn push_element<T: Element>(alloc: Global, answer: &mut Answer, list: &mut Vec<T>, value: &[u8]) {
-    if let Some(element) = answer.kept(T::read(alloc, value)) {
+fn push_element<T: Element>(answer: &mut Answer, list: &mut Vec<T>, value: &[u8]) {
+    if let Some(element) = answer.kept(T::read(answer.alloc(), value)) {
         answer.kept(list.push(element));
     }
 }
 
 /// The elements of items of a tag, in the order given.
-pub fn elements<T: Element>(alloc: Global, answer: &mut Answer, bytes: &[u8], tag: u8) -> Vec<T> {
-    let mut list = Vec::new(alloc);
+pub fn elements<T: Element>(answer: &mut Answer, bytes: &[u8], tag: u8) -> Vec<T> {
+    let mut list = Vec::new(answer.alloc());
     let mut at = 0;
     for _ in 0..bytes.len() {
         if at < bytes.len() {
             match next_item(bytes, at, &[tag]) {
                 Ok(item) => {
-                    push_element(alloc, answer, &mut list, &bytes[item.from..item.to]);
+                    push_element(answer, &mut list, &bytes[item.from..item.to]);
                     at = item.to;
                 }
                 Err(_) => {

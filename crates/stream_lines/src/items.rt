@@ -6,7 +6,6 @@ use crate::again::{behind, push_shown};
 use cny_report::cny_base::{Bytes, OutOfMemory};
 use cny_stream::{OpenItem, close_item, next_item, open_item, put_item};
 use line_words::Answer;
-use std::alloc::Global;
 
 // ---- items that are written
 
@@ -38,9 +37,10 @@ fn fits_open(out: &Bytes, at: usize) -> bool
 
 impl Writer {
     fn put(&mut self, tag: u8, value: &[u8]) {
-        if value.len() <= u32::MAX as usize {
-            self.notes.kept(put_item(&mut self.out, tag, value));
+        if value.len() > u32::MAX as usize {
+            return self.notes.unreadable();
         }
+        self.notes.kept(put_item(&mut self.out, tag, value));
     }
 
     fn more(&mut self, bytes: &[u8]) {
@@ -48,10 +48,12 @@ impl Writer {
     }
 
     // Begins an item inside the last one that was begun, and notes where it stands, and its tag.
-    fn begin(&mut self, alloc: Global, tag: u8) {
+    fn begin(&mut self, tag: u8) {
         if let Some(begun) = self.notes.kept(open_item(&mut self.out, tag)) {
-            self.notes
-                .formatted(format!(in alloc; "{} tag {}; ", begun.at, begun.tag));
+            self.notes.formatted(format!(in self.notes.alloc();
+                "{} tag {}; ",
+                begun.at, begun.tag
+            ));
             self.notes.kept(self.open.push(begun));
         }
     }
@@ -71,10 +73,10 @@ impl Writer {
 
     // A step: `p`, a tag and a value for an item that is put whole; `o` and a tag for one that is begun; `b` and bytes that
     // are appended; `c` for the end of an item whose value was put; `f` for that of one whose value failed for want of memory.
-    fn step(&mut self, alloc: Global, words: &[u8]) {
+    fn step(&mut self, words: &[u8]) {
         match words {
             [b'p', tag, value @ ..] => self.put(*tag, value),
-            [b'o', tag] => self.begin(alloc, *tag),
+            [b'o', tag] => self.begin(*tag),
             [b'b', bytes @ ..] => self.more(bytes),
             [b'c'] => self.end(Ok(())),
             [b'f'] => self.end(Err(OutOfMemory)),
@@ -84,14 +86,14 @@ impl Writer {
 }
 
 /// Steps behind other bytes: what stands then, and a note of each item that was begun or ended.
-pub fn written(alloc: Global, answer: &mut Answer, front: &[u8], steps: &[Bytes]) {
+pub fn written(answer: &mut Answer, front: &[u8], steps: &[Bytes]) {
     let mut writer = Writer {
         out: behind(answer, front),
-        open: Vec::new(alloc),
+        open: Vec::new(answer.alloc()),
         notes: answer.apart(),
     };
     for words in steps {
-        writer.step(alloc, words.get());
+        writer.step(words.get());
     }
     push_shown(answer, writer.out.get(), 500);
     answer.text("\t");
@@ -101,16 +103,16 @@ pub fn written(alloc: Global, answer: &mut Answer, front: &[u8], steps: &[Bytes]
 // ---- items that are read
 
 /// `next_item` of bytes at a place with these tags.
-pub fn next(alloc: Global, answer: &mut Answer, bytes: &[u8], at: usize, tags: &[u8]) {
+pub fn next(answer: &mut Answer, bytes: &[u8], at: usize, tags: &[u8]) {
     if at > bytes.len() {
         answer.unreadable();
         return;
     }
     match next_item(bytes, at, tags) {
-        Ok(item) => answer.formatted(format!(in alloc;
+        Ok(item) => answer.formatted(format!(in answer.alloc();
             "tag {} from {} to {}",
             item.tag, item.from, item.to
         )),
-        Err(place) => answer.formatted(format!(in alloc; "fault at {place}")),
+        Err(place) => answer.formatted(format!(in answer.alloc(); "fault at {place}")),
     }
 }

@@ -10,7 +10,6 @@ use cny_report::trove_parts::{
     take_id_item, take_paths, take_refs,
 };
 use line_words::{Answer, Line};
-use std::alloc::Global;
 
 // ---- lists in streams
 
@@ -35,7 +34,6 @@ fn bytes_to<'a>(answer: &mut Answer, asked: Asked<'a>, to: usize) -> &'a [u8] {
 
 // The end of a list, the list, and how it is written again.
 fn push_taken<T: Element>(
-    alloc: Global,
     answer: &mut Answer,
     encoding: Encoding,
     asked: Asked<'_>,
@@ -43,16 +41,14 @@ fn push_taken<T: Element>(
     list: &[T],
 ) {
     answer.number(to as u64);
-    push_list(alloc, answer, list);
-    let mut out = behind(answer, b"x");
-    answer.kept(T::put(alloc, encoding, &mut out, asked.tag, list));
+    push_list(answer, list);
+    let out = T::written(answer, encoding, asked.tag, list);
     let wanted = bytes_to(answer, asked, to);
     push_compared(answer, out.get(), wanted);
 }
 
 // The same of a copy of the list.
 fn push_copied<T: Element + Copies>(
-    alloc: Global,
     answer: &mut Answer,
     encoding: Encoding,
     asked: Asked<'_>,
@@ -60,98 +56,73 @@ fn push_copied<T: Element + Copies>(
     list: &ListOf<T>,
 ) {
     if let Some(copy) = answer.kept(list.copy()) {
-        push_taken(alloc, answer, encoding, asked, to, copy.get());
+        push_taken(answer, encoding, asked, to, copy.get());
     }
 }
 
-fn files(alloc: Global, answer: &mut Answer, encoding: Encoding, asked: Asked<'_>) {
-    let found = take_files(
-        alloc,
-        encoding,
-        asked.bytes,
-        asked.at,
-        asked.tag,
-        asked.limit,
-    );
+fn files(answer: &mut Answer, encoding: Encoding, asked: Asked<'_>) {
+    let (alloc, limit) = (answer.alloc(), asked.limit);
+    let found = take_files(alloc, encoding, asked.bytes, asked.at, asked.tag, limit);
     if let Some(found) = unless_bad(answer, found) {
-        push_copied(alloc, answer, encoding, asked, found.to, &found.files);
+        push_copied(answer, encoding, asked, found.to, &found.files);
     }
 }
 
-fn refs(alloc: Global, answer: &mut Answer, asked: Asked<'_>) {
+fn refs(answer: &mut Answer, asked: Asked<'_>) {
+    let alloc = answer.alloc();
     let found = take_refs(alloc, asked.bytes, asked.at, asked.tag, asked.limit);
     if let Some(found) = unless_bad(answer, found) {
-        push_copied(
-            alloc,
-            answer,
-            Encoding::Compact,
-            asked,
-            found.to,
-            &found.refs,
-        );
+        push_copied(answer, Encoding::Compact, asked, found.to, &found.refs);
     }
 }
 
-fn deps(alloc: Global, answer: &mut Answer, asked: Asked<'_>) {
+fn deps(answer: &mut Answer, asked: Asked<'_>) {
+    let alloc = answer.alloc();
     let found = take_deps(alloc, asked.bytes, asked.at, asked.tag, asked.limit);
     if let Some(found) = unless_bad(answer, found) {
-        push_copied(
-            alloc,
-            answer,
-            Encoding::Compact,
-            asked,
-            found.to,
-            &found.deps,
-        );
+        push_copied(answer, Encoding::Compact, asked, found.to, &found.deps);
     }
 }
 
-fn paths(alloc: Global, answer: &mut Answer, asked: Asked<'_>) {
-    let found = take_paths(alloc, asked.bytes, asked.at, asked.tag);
+fn paths(answer: &mut Answer, asked: Asked<'_>) {
+    let found = take_paths(answer.alloc(), asked.bytes, asked.at, asked.tag);
     if let Some(found) = unless_bad(answer, found) {
-        push_copied(
-            alloc,
-            answer,
-            Encoding::Compact,
-            asked,
-            found.to,
-            &found.paths,
-        );
+        push_copied(answer, Encoding::Compact, asked, found.to, &found.paths);
     }
 }
 
 // The end of the id, the id, and how it is written again.
-fn push_id(alloc: Global, answer: &mut Answer, asked: Asked<'_>, to: usize, id: &TroveId) {
+fn push_id(answer: &mut Answer, asked: Asked<'_>, to: usize, id: &TroveId) {
     answer.number(to as u64);
     answer.text("\t");
     answer.id(id);
     let mut out = behind(answer, b"x");
-    answer.kept(put_id_item(alloc, &mut out, asked.tag, id));
+    answer.kept(put_id_item(answer.alloc(), &mut out, asked.tag, id));
     let wanted = bytes_to(answer, asked, to);
     push_compared(answer, out.get(), wanted);
 }
 
-fn id_item(alloc: Global, answer: &mut Answer, asked: Asked<'_>) {
-    let found = take_id_item(alloc, asked.bytes, asked.at, asked.tag);
+fn id_item(answer: &mut Answer, asked: Asked<'_>) {
+    let found = take_id_item(answer.alloc(), asked.bytes, asked.at, asked.tag);
     if let Some(found) = unless_bad(answer, found) {
-        push_id(alloc, answer, asked, found.to, &found.id);
+        push_id(answer, asked, found.to, &found.id);
     }
 }
 
-fn of_kind(alloc: Global, answer: &mut Answer, kind: &str, asked: Asked<'_>) {
+fn of_kind(answer: &mut Answer, kind: &str, asked: Asked<'_>) {
     match kind {
-        "files" => files(alloc, answer, Encoding::Compact, asked),
-        "files_full" => files(alloc, answer, Encoding::Explicit, asked),
-        "refs" => refs(alloc, answer, asked),
-        "deps" => deps(alloc, answer, asked),
-        "paths" => paths(alloc, answer, asked),
-        _ => id_item(alloc, answer, asked),
+        "files" => files(answer, Encoding::Compact, asked),
+        "files_full" => files(answer, Encoding::Explicit, asked),
+        "refs" => refs(answer, asked),
+        "deps" => deps(answer, asked),
+        "paths" => paths(answer, asked),
+        _ => id_item(answer, asked),
     }
 }
 
 /// What `take_files` and its kin find in bytes at a place with a tag and, if there is a fourth argument, a limit: the end, the
 /// list, and how a copy of it is written again.
-pub fn taken(alloc: Global, answer: &mut Answer, line: &mut Line) {
+pub fn taken(answer: &mut Answer, line: &mut Line) {
     let at = line.small(1) as usize;
     let limit = if line.len() < 4 {
         None
@@ -161,7 +132,6 @@ pub fn taken(alloc: Global, answer: &mut Answer, line: &mut Line) {
     let bytes = line.bytes(0);
     match line.bytes(2) {
         [tag] if at <= bytes.len() => of_kind(
-            alloc,
             answer,
             line.name(),
             Asked {
@@ -178,26 +148,26 @@ pub fn taken(alloc: Global, answer: &mut Answer, line: &mut Line) {
 // ---- lists in any order
 
 /// `are_files` of the files of items.
-pub fn are_files_of(alloc: Global, answer: &mut Answer, bytes: &[u8]) {
-    let files = elements::<FileAt>(alloc, answer, bytes, 4);
+pub fn are_files_of(answer: &mut Answer, bytes: &[u8]) {
+    let files = elements::<FileAt>(answer, bytes, 4);
     answer.holds(are_files(files.as_slice()));
 }
 
 /// `are_refs` of the ids of items.
-pub fn are_refs_of(alloc: Global, answer: &mut Answer, bytes: &[u8]) {
-    let refs = elements(alloc, answer, bytes, 5);
+pub fn are_refs_of(answer: &mut Answer, bytes: &[u8]) {
+    let refs = elements(answer, bytes, 5);
     answer.holds(are_refs(refs.as_slice()));
 }
 
 /// `are_deps` of the dependencies of items.
-pub fn are_deps_of(alloc: Global, answer: &mut Answer, bytes: &[u8]) {
-    let deps = elements(alloc, answer, bytes, 6);
+pub fn are_deps_of(answer: &mut Answer, bytes: &[u8]) {
+    let deps = elements(answer, bytes, 6);
     answer.holds(are_deps(deps.as_slice()));
 }
 
 /// `are_paths` of the paths of items.
-pub fn are_paths_of(alloc: Global, answer: &mut Answer, bytes: &[u8]) {
-    let paths = elements::<Path>(alloc, answer, bytes, 0x23);
+pub fn are_paths_of(answer: &mut Answer, bytes: &[u8]) {
+    let paths = elements::<Path>(answer, bytes, 0x23);
     answer.holds(are_paths(paths.as_slice()));
 }
 
@@ -218,9 +188,9 @@ fn push_sized(answer: &mut Answer, path: Path, owner: Owner, size: u32, name: [u
 }
 
 /// `are_files` of one file of a size.
-pub fn sized_file(alloc: Global, answer: &mut Answer, size: u32, name: [u8; 20]) {
-    if let Some(path) = answer.kept(Path::read(alloc, "/a")) {
-        if let Some(owner) = answer.kept(Owner::new(alloc, "root", "root")) {
+pub fn sized_file(answer: &mut Answer, size: u32, name: [u8; 20]) {
+    if let Some(path) = answer.kept(Path::read(answer.alloc(), "/a")) {
+        if let Some(owner) = answer.kept(Owner::new(answer.alloc(), "root", "root")) {
             push_sized(answer, path, owner, size, name);
         }
     }

@@ -1,6 +1,6 @@
 //! Answers vectors of streams, of what relative troves and change sets do, and of manifests. Each line of standard input has a
 //! call and its arguments, with a tab between two; the line of standard output with its number is what the call answers. Both
-//! come from tools/stream_lines.py, which is made from the rules of the formats alone.
+//! come from tools/lines/stream_lines.py, which is made from the rules of the formats alone.
 #![tactic(auto)]
 
 mod again;
@@ -25,61 +25,58 @@ use std::io;
 
 // Calls on items, and on records in one or both encodings.
 fn of_records(line: &mut Line, answer: &mut Answer) {
-    let alloc = line.alloc();
     match line.name() {
         "items" => {
             let steps = line.rest::<Bytes>(1);
-            items::written(alloc, answer, line.bytes(0), steps.as_slice());
+            items::written(answer, line.bytes(0), steps.as_slice());
         }
         "next_item" => {
             let at = line.small(1) as usize;
-            items::next(alloc, answer, line.bytes(0), at, line.bytes(2));
+            items::next(answer, line.bytes(0), at, line.bytes(2));
         }
-        "record" => records::record(alloc, answer, Encoding::Compact, line.bytes(0)),
-        "record_full" => records::record(alloc, answer, Encoding::Explicit, line.bytes(0)),
-        "owner" => records::owner(alloc, answer, line.text(0), line.text(1)),
-        "make_record" => records::make(alloc, answer, line),
-        "same_record" => records::same(alloc, answer, line.bytes(0), line.bytes(1)),
-        "refusal" => refusals::text(alloc, answer, line),
+        "record" => records::record(answer, Encoding::Compact, line.bytes(0)),
+        "record_full" => records::record(answer, Encoding::Explicit, line.bytes(0)),
+        "owner" => records::owner(answer, line.text(0), line.text(1)),
+        "make_record" => records::make(answer, line),
+        "same_record" => records::same(answer, line.bytes(0), line.bytes(1)),
+        "refusal" => refusals::text(answer, line),
         _ => of_lists(line, answer),
     }
 }
 
 // Calls on the lists of a trove.
 fn of_lists(line: &mut Line, answer: &mut Answer) {
-    let alloc = line.alloc();
     match line.name() {
         "files" | "files_full" | "refs" | "deps" | "paths" | "id_item" => {
-            lists::taken(alloc, answer, line)
+            lists::taken(answer, line)
         }
-        "are_files" => lists::are_files_of(alloc, answer, line.bytes(0)),
-        "are_refs" => lists::are_refs_of(alloc, answer, line.bytes(0)),
-        "are_deps" => lists::are_deps_of(alloc, answer, line.bytes(0)),
-        "are_paths" => lists::are_paths_of(alloc, answer, line.bytes(0)),
-        "sized_file" => lists::sized_file(alloc, answer, line.small(0), line.digest(1)),
+        "are_files" => lists::are_files_of(answer, line.bytes(0)),
+        "are_refs" => lists::are_refs_of(answer, line.bytes(0)),
+        "are_deps" => lists::are_deps_of(answer, line.bytes(0)),
+        "are_paths" => lists::are_paths_of(answer, line.bytes(0)),
+        "sized_file" => lists::sized_file(answer, line.small(0), line.digest(1)),
         _ => answer.unreadable(),
     }
 }
 
 // Calls on troves, relative troves and change sets.
 fn of_troves(line: &mut Line, answer: &mut Answer) {
-    let alloc = line.alloc();
     match line.name() {
-        "trove" => troves::trove(alloc, answer, false, line.bytes(0)),
-        "trove_full" => troves::trove(alloc, answer, true, line.bytes(0)),
-        "make_trove" => troves::make(alloc, answer, line),
-        "check" => troves::checked(alloc, answer, line.bytes(0)),
+        "trove" => troves::trove(answer, false, line.bytes(0)),
+        "trove_full" => troves::trove(answer, true, line.bytes(0)),
+        "make_trove" => troves::make(answer, line),
+        "check" => troves::checked(answer, line.bytes(0)),
         "troves_text" => {
             let troves = line.rest::<Trove>(0);
-            troves::text(alloc, answer, troves.as_slice());
+            troves::text(answer, troves.as_slice());
         }
-        "relative" => relatives::relative(alloc, answer, false, line.bytes(0)),
-        "relative_full" => relatives::relative(alloc, answer, true, line.bytes(0)),
-        "make_relative" => relatives::make(alloc, answer, line),
-        "set" => sets::set(alloc, answer, line.bytes(0)),
+        "relative" => relatives::relative(answer, false, line.bytes(0)),
+        "relative_full" => relatives::relative(answer, true, line.bytes(0)),
+        "make_relative" => relatives::make(answer, line),
+        "set" => sets::set(answer, line.bytes(0)),
         "joined" => {
             let streams = line.rest::<Bytes>(0);
-            sets::joined(alloc, answer, streams.as_slice());
+            sets::joined(answer, streams.as_slice());
         }
         _ => of_records(line, answer),
     }
@@ -87,35 +84,33 @@ fn of_troves(line: &mut Line, answer: &mut Answer) {
 
 // Calls of what leads from a trove to another, and of what comes with a change set.
 fn of_changes(line: &mut Line, answer: &mut Answer) {
-    let alloc = line.alloc();
     match line.name() {
         "relative_of" => {
-            changes::of_two(alloc, answer, Asked::Relative, line.bytes(0), line.bytes(1));
+            changes::of_two(answer, Asked::Relative, line.bytes(0), line.bytes(1));
         }
-        "round" => changes::of_two(alloc, answer, Asked::Round, line.bytes(0), line.bytes(1)),
-        "to_send" => changes::of_two(alloc, answer, Asked::Sent, line.bytes(0), line.bytes(1)),
-        "all_to_send" => changes::of_new(alloc, answer, line.bytes(0)),
-        "apply" => changes::of_relative(alloc, answer, line.bytes(0), line.bytes(1)),
-        "applied" => changes::over_installed(alloc, answer, line.bytes(0), line.bytes(1)),
-        "allowed" => changes::allowed(alloc, answer, line.bytes(0)),
+        "round" => changes::of_two(answer, Asked::Round, line.bytes(0), line.bytes(1)),
+        "to_send" => changes::of_two(answer, Asked::Sent, line.bytes(0), line.bytes(1)),
+        "all_to_send" => changes::of_new(answer, line.bytes(0)),
+        "apply" => changes::of_relative(answer, line.bytes(0), line.bytes(1)),
+        "applied" => changes::over_installed(answer, line.bytes(0), line.bytes(1)),
+        "allowed" => changes::allowed(answer, line.bytes(0)),
         _ => of_troves(line, answer),
     }
 }
 
 // Calls on manifests, and on damaged bytes.
 fn of_manifests(line: &mut Line, answer: &mut Answer) {
-    let alloc = line.alloc();
     match line.name() {
-        "manifest" => manifests::manifest(alloc, answer, line.bytes(0), manifests::LONGEST),
+        "manifest" => manifests::manifest(answer, line.bytes(0), manifests::LONGEST),
         "dir_component" => manifests::component(answer, line, true),
         "component" => manifests::component(answer, line, false),
-        "beginnings" => damages::beginnings(alloc, answer, line.text(0), line.bytes(1)),
+        "beginnings" => damages::beginnings(answer, line.text(0), line.bytes(1)),
         "changes" => {
             let place = line.small(2) as usize;
-            damages::changes(alloc, answer, line.text(0), line.bytes(1), place);
+            damages::changes(answer, line.text(0), line.bytes(1), place);
         }
         "changes_to" => {
-            damages::changes_to(alloc, answer, line.text(0), line.bytes(1), line.bytes(2));
+            damages::changes_to(answer, line.text(0), line.bytes(1), line.bytes(2));
         }
         _ => of_changes(line, answer),
     }

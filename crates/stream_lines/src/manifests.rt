@@ -9,7 +9,6 @@ use cny_report::file_stream::{FileRec, Owner};
 use cny_report::trove_parts::{FileAt, TroveId};
 use cny_report::trove_stream::Trove;
 use line_words::{Answer, Line};
-use std::alloc::Global;
 
 /// A longer text is told by its digest.
 pub const LONGEST: usize = 4_000;
@@ -27,16 +26,16 @@ fn push_deps(answer: &mut Answer, front: &str, deps: &[Dep]) {
 }
 
 // The mode and the names of an owner.
-fn push_owned(alloc: Global, answer: &mut Answer, mode: Mode, owner: &Owner) {
+fn push_owned(answer: &mut Answer, mode: Mode, owner: &Owner) {
     let (user, group, bits) = (owner.user(), owner.group(), mode.bits());
-    answer.formatted(format!(in alloc; "{bits} {user}:{group} "));
+    answer.formatted(format!(in answer.alloc(); "{bits} {user}:{group} "));
 }
 
-fn push_file(alloc: Global, answer: &mut Answer, file: &FileAt) {
+fn push_file(answer: &mut Answer, file: &FileAt) {
     match &file.rec {
         FileRec::Dir { mode, owner } => {
             answer.text("; dir ");
-            push_owned(alloc, answer, *mode, owner);
+            push_owned(answer, *mode, owner);
             answer.text(file.path.text());
         }
         FileRec::File {
@@ -47,9 +46,9 @@ fn push_file(alloc: Global, answer: &mut Answer, file: &FileAt) {
             name,
         } => {
             answer.text("; file ");
-            push_owned(alloc, answer, *mode, owner);
+            push_owned(answer, *mode, owner);
             push_flags(answer, *flags);
-            answer.formatted(format!(in alloc; " {size} "));
+            answer.formatted(format!(in answer.alloc(); " {size} "));
             answer.hex(name.as_slice());
             answer.text(" ");
             answer.text(file.path.text());
@@ -63,7 +62,7 @@ fn push_file(alloc: Global, answer: &mut Answer, file: &FileAt) {
     }
 }
 
-fn push_trove(alloc: Global, answer: &mut Answer, trove: &Trove) {
+fn push_trove(answer: &mut Answer, trove: &Trove) {
     push_id(answer, "; trove ", trove.id());
     for id in trove.refs() {
         push_id(answer, "; ref ", id);
@@ -71,7 +70,7 @@ fn push_trove(alloc: Global, answer: &mut Answer, trove: &Trove) {
     push_deps(answer, "; requires ", trove.requires_());
     push_deps(answer, "; provides ", trove.provides());
     for file in trove.files() {
-        push_file(alloc, answer, file);
+        push_file(answer, file);
     }
 }
 
@@ -82,10 +81,10 @@ fn push_content(answer: &mut Answer, content: &Carried) {
     answer.number(content.bytes.get().len() as u64);
 }
 
-fn push_made(alloc: Global, answer: &mut Answer, made: &Made) {
+fn push_made(answer: &mut Answer, made: &Made) {
     answer.text("ok");
     for trove in made.troves.get() {
-        push_trove(alloc, answer, trove);
+        push_trove(answer, trove);
     }
     for content in made.contents.get() {
         push_content(answer, content);
@@ -93,17 +92,17 @@ fn push_made(alloc: Global, answer: &mut Answer, made: &Made) {
 }
 
 /// What a manifest makes, as a text or the digest of a longer one, or why it is refused.
-pub fn manifest(alloc: Global, answer: &mut Answer, bytes: &[u8], longest: usize) {
-    match read(alloc, bytes) {
-        Ok(made) => push_copied(alloc, answer, &made, longest),
+pub fn manifest(answer: &mut Answer, bytes: &[u8], longest: usize) {
+    match read(answer.alloc(), bytes) {
+        Ok(made) => push_copied(answer, &made, longest),
         Err(fault) => answer.refused(&fault),
     }
 }
 
-fn push_copied(alloc: Global, answer: &mut Answer, made: &Made, longest: usize) {
+fn push_copied(answer: &mut Answer, made: &Made, longest: usize) {
     if let Some(copy) = answer.kept(made.copy()) {
         let mut text = answer.apart();
-        push_made(alloc, &mut text, &copy);
+        push_made(&mut text, &copy);
         push_short(answer, &text, longest);
     }
 }

@@ -10,7 +10,6 @@ use cny_report::file_stream::{
 };
 use cny_report::trove_parts::FileAt;
 use line_words::{Answer, Line};
-use std::alloc::Global;
 
 // Whether the size of a file's contents is within its limit, as `encode` asks for.
 fn has_spelling(rec: &FileRec) -> bool
@@ -36,10 +35,10 @@ pub fn have_spellings(files: &[FileAt]) -> bool
 }
 
 // The mode and the owner.
-fn push_owned(alloc: Global, answer: &mut Answer, mode: Mode, owner: &Owner) {
+fn push_owned(answer: &mut Answer, mode: Mode, owner: &Owner) {
     answer.mode(mode);
     let (user, group) = (owner.user(), owner.group());
-    answer.formatted(format!(in alloc; " {user} {group}"));
+    answer.formatted(format!(in answer.alloc(); " {user} {group}"));
 }
 
 /// Appends a letter for each flag, or a dash.
@@ -50,11 +49,11 @@ pub fn push_flags(answer: &mut Answer, flags: Flags) {
 }
 
 /// Appends the fields of a record.
-pub fn push_record(alloc: Global, answer: &mut Answer, rec: &FileRec) {
+pub fn push_record(answer: &mut Answer, rec: &FileRec) {
     match rec {
         FileRec::Dir { mode, owner } => {
             answer.text("dir ");
-            push_owned(alloc, answer, *mode, owner);
+            push_owned(answer, *mode, owner);
         }
         FileRec::File {
             mode,
@@ -64,10 +63,10 @@ pub fn push_record(alloc: Global, answer: &mut Answer, rec: &FileRec) {
             name,
         } => {
             answer.text("file ");
-            push_owned(alloc, answer, *mode, owner);
+            push_owned(answer, *mode, owner);
             answer.text(" ");
             push_flags(answer, *flags);
-            answer.formatted(format!(in alloc; " {size} "));
+            answer.formatted(format!(in answer.alloc(); " {size} "));
             answer.hex(name.as_slice());
         }
         FileRec::Link { target } => {
@@ -78,37 +77,31 @@ pub fn push_record(alloc: Global, answer: &mut Answer, rec: &FileRec) {
 }
 
 // The fields of a record, and its id.
-fn push_record_and_id(alloc: Global, answer: &mut Answer, rec: &FileRec)
+fn push_record_and_id(answer: &mut Answer, rec: &FileRec)
     requires { FitsSize rec.now }
 {
-    push_record(alloc, answer, rec);
+    push_record(answer, rec);
     answer.text("\t");
-    match file_id(alloc, rec) {
+    match file_id(answer.alloc(), rec) {
         Ok(id) => answer.hex(id.as_slice()),
         Err(_) => answer.memory(),
     }
 }
 
 // The bytes of a record, behind these.
-fn written(
-    alloc: Global,
-    answer: &mut Answer,
-    encoding: Encoding,
-    rec: &FileRec,
-    front: &[u8],
-) -> Bytes
+fn written(answer: &mut Answer, encoding: Encoding, rec: &FileRec, front: &[u8]) -> Bytes
     requires { FitsSize rec.now }
 {
     let mut out = behind(answer, front);
-    answer.kept(encode_as(alloc, encoding, rec, &mut out));
+    answer.kept(encode_as(answer.alloc(), encoding, rec, &mut out));
     out
 }
 
 // The fields of a record and its id, and whether it is written as these bytes.
-fn push_again(alloc: Global, answer: &mut Answer, encoding: Encoding, rec: &FileRec, bytes: &[u8]) {
+fn push_again(answer: &mut Answer, encoding: Encoding, rec: &FileRec, bytes: &[u8]) {
     if has_spelling(rec) {
-        push_record_and_id(alloc, answer, rec);
-        let out = written(alloc, answer, encoding, rec, b"x");
+        push_record_and_id(answer, rec);
+        let out = written(answer, encoding, rec, b"x");
         push_compared(answer, out.get(), bytes);
     } else {
         answer.unreadable();
@@ -116,9 +109,9 @@ fn push_again(alloc: Global, answer: &mut Answer, encoding: Encoding, rec: &File
 }
 
 /// `decode_as` of bytes: the record's fields and its id, and how a copy of it is written again.
-pub fn record(alloc: Global, answer: &mut Answer, encoding: Encoding, bytes: &[u8]) {
-    if let Some(rec) = unless_bad(answer, copy_of(decode_as(alloc, encoding, bytes))) {
-        push_again(alloc, answer, encoding, &rec, bytes);
+pub fn record(answer: &mut Answer, encoding: Encoding, bytes: &[u8]) {
+    if let Some(rec) = unless_bad(answer, copy_of(decode_as(answer.alloc(), encoding, bytes))) {
+        push_again(answer, encoding, &rec, bytes);
     }
 }
 
@@ -151,11 +144,11 @@ fn owned_record(line: &mut Line, owner: Owner) -> FileRec {
 }
 
 // The fields of a record, its id, and its bytes in both encodings.
-fn push_made(alloc: Global, answer: &mut Answer, rec: &FileRec) {
+fn push_made(answer: &mut Answer, rec: &FileRec) {
     if has_spelling(rec) {
-        push_record_and_id(alloc, answer, rec);
+        push_record_and_id(answer, rec);
         for encoding in [Encoding::Compact, Encoding::Explicit] {
-            let bytes = written(alloc, answer, encoding, rec, b"");
+            let bytes = written(answer, encoding, rec, b"");
             answer.text("\t");
             answer.hex(bytes.get());
         }
@@ -164,37 +157,37 @@ fn push_made(alloc: Global, answer: &mut Answer, rec: &FileRec) {
     }
 }
 
-fn make_link(alloc: Global, answer: &mut Answer, line: &mut Line) {
+fn make_link(answer: &mut Answer, line: &mut Line) {
     if let Some(target) = line.target(1) {
-        push_made(alloc, answer, &FileRec::Link { target });
+        push_made(answer, &FileRec::Link { target });
     }
 }
 
 /// A record with these fields: the fields, its id, and its bytes in both encodings.
-pub fn make(alloc: Global, answer: &mut Answer, line: &mut Line) {
+pub fn make(answer: &mut Answer, line: &mut Line) {
     if line.text(0) == "link" {
-        make_link(alloc, answer, line);
+        make_link(answer, line);
     } else {
-        let owner = Owner::new(alloc, line.text(2), line.text(3));
+        let owner = Owner::new(answer.alloc(), line.text(2), line.text(3));
         if let Some(owner) = unless_bad(answer, owner) {
             let rec = owned_record(line, owner);
-            push_made(alloc, answer, &rec);
+            push_made(answer, &rec);
         }
     }
 }
 
 /// `==` of two records in the explicit encoding.
-pub fn same(alloc: Global, answer: &mut Answer, first: &[u8], second: &[u8]) {
-    if let Some(first) = answer.kept(decode_full(alloc, first)) {
-        if let Some(second) = answer.kept(decode_full(alloc, second)) {
+pub fn same(answer: &mut Answer, first: &[u8], second: &[u8]) {
+    if let Some(first) = answer.kept(decode_full(answer.alloc(), first)) {
+        if let Some(second) = answer.kept(decode_full(answer.alloc(), second)) {
             answer.holds(first == second);
         }
     }
 }
 
 /// `Owner::new` of a user and a group: a copy of it, and whether it is root.
-pub fn owner(alloc: Global, answer: &mut Answer, user: &str, group: &str) {
-    if let Some(owner) = unless_bad(answer, copy_of(Owner::new(alloc, user, group))) {
+pub fn owner(answer: &mut Answer, user: &str, group: &str) {
+    if let Some(owner) = unless_bad(answer, copy_of(Owner::new(answer.alloc(), user, group))) {
         answer.text(owner.user());
         answer.field(owner.group());
         answer.holds(owner.is_root());

@@ -2,7 +2,6 @@
 use cny_report::cny_base::{Copies, Refusal, Text, What};
 use cny_report::refusal_text;
 use line_words::{Answer, Line};
-use std::alloc::Global;
 
 fn what_of(line: &mut Line, place: usize) -> What {
     match line.text(place) {
@@ -75,46 +74,46 @@ fn named(word: &str, text: Text) -> Option<Refusal> {
 }
 
 // A text of its own; an empty one where memory runs out, which the answer remembers.
-fn owned(alloc: Global, answer: &mut Answer, text: &str) -> Text {
-    match Text::new(alloc, text) {
+fn owned(answer: &mut Answer, text: &str) -> Text {
+    match Text::new(answer.alloc(), text) {
         Ok(text) => text,
         Err(_) => {
             answer.memory();
-            Text::from_string(String::new(alloc))
+            Text::from_string(String::new(answer.alloc()))
         }
     }
 }
 
 // A refusal of several texts, or of one.
-fn of_texts(alloc: Global, answer: &mut Answer, line: &mut Line) -> Option<Refusal> {
-    let first = owned(alloc, answer, line.text(1));
+fn of_texts(answer: &mut Answer, line: &mut Line) -> Option<Refusal> {
+    let first = owned(answer, line.text(1));
     match line.text(0) {
         "Unmet" => Some(Refusal::Unmet {
             name: first,
-            dep: owned(alloc, answer, line.text(2)),
+            dep: owned(answer, line.text(2)),
         }),
         "Owned" => Some(Refusal::Owned {
             path: first,
-            first: owned(alloc, answer, line.text(2)),
-            second: owned(alloc, answer, line.text(3)),
+            first: owned(answer, line.text(2)),
+            second: owned(answer, line.text(3)),
         }),
         word => named(word, first),
     }
 }
 
 // `refusal_text` of a copy.
-fn push_copied(alloc: Global, answer: &mut Answer, refusal: &Refusal) {
+fn push_copied(answer: &mut Answer, refusal: &Refusal) {
     if let Some(copy) = answer.kept(refusal.copy()) {
-        answer.made(refusal_text(alloc, &copy));
+        answer.made(refusal_text(answer.alloc(), &copy));
     }
 }
 
 /// `refusal_text` of a copy of a refusal.
-pub fn text(alloc: Global, answer: &mut Answer, line: &mut Line) {
+pub fn text(answer: &mut Answer, line: &mut Line) {
     if let Some(refusal) = plain(line) {
-        push_copied(alloc, answer, &refusal);
-    } else if let Some(refusal) = of_texts(alloc, answer, line) {
-        push_copied(alloc, answer, &refusal);
+        push_copied(answer, &refusal);
+    } else if let Some(refusal) = of_texts(answer, line) {
+        push_copied(answer, &refusal);
     } else {
         line.unreadable();
     }

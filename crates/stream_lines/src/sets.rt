@@ -16,9 +16,9 @@ fn copied(alloc: Global, bytes: &[u8]) -> Result<ChangeSet, Fault>
 }
 
 // The description of a change set.
-fn push_text(alloc: Global, answer: &mut Answer, set: &ChangeSet) {
+fn push_text(answer: &mut Answer, set: &ChangeSet) {
     answer.text("ok\t");
-    if let Some(text) = answer.kept(change_text(alloc, set)) {
+    if let Some(text) = answer.kept(change_text(answer.alloc(), set)) {
         push_lines(answer, text.get());
     }
 }
@@ -30,12 +30,12 @@ fn push_again(answer: &mut Answer, again: &Bytes, wanted: &[u8]) {
     push_compared(answer, out.get(), wanted);
 }
 
-fn push_set(alloc: Global, answer: &mut Answer, set: &ChangeSet, bytes: &[u8])
+fn push_set(answer: &mut Answer, set: &ChangeSet, bytes: &[u8])
     requires { HasContents set.now }
 {
-    match encode(alloc, set) {
+    match encode(answer.alloc(), set) {
         Ok(again) => {
-            push_text(alloc, answer, set);
+            push_text(answer, set);
             push_again(answer, &again, bytes);
         }
         Err(fault) => answer.refused(&fault),
@@ -43,9 +43,9 @@ fn push_set(alloc: Global, answer: &mut Answer, set: &ChangeSet, bytes: &[u8])
 }
 
 /// `decode` of bytes: the change set's description, and how a copy of it is written again; or the refusal.
-pub fn set(alloc: Global, answer: &mut Answer, bytes: &[u8]) {
-    match copied(alloc, bytes) {
-        Ok(set) => push_set(alloc, answer, &set, bytes),
+pub fn set(answer: &mut Answer, bytes: &[u8]) {
+    match copied(answer.alloc(), bytes) {
+        Ok(set) => push_set(answer, &set, bytes),
         Err(fault) => answer.refused(&fault),
     }
 }
@@ -72,16 +72,16 @@ fn joined_bytes(alloc: Global, streams: &[Bytes]) -> Result<Bytes, Fault> {
 }
 
 /// `encode` of the parts of change sets: the digest of the stream, or the refusal.
-pub fn joined(alloc: Global, answer: &mut Answer, streams: &[Bytes]) {
-    match joined_bytes(alloc, streams) {
+pub fn joined(answer: &mut Answer, streams: &[Bytes]) {
+    match joined_bytes(answer.alloc(), streams) {
         Ok(bytes) => push_digest(answer, bytes.get()),
         Err(fault) => answer.refused(&fault),
     }
 }
 
 /// `ok`, or the text of the refusal of these bytes.
-pub fn read(alloc: Global, answer: &mut Answer, bytes: &[u8]) {
-    match decode(alloc, bytes) {
+pub fn read(answer: &mut Answer, bytes: &[u8]) {
+    match decode(answer.alloc(), bytes) {
         Ok(_) => answer.text("ok"),
         Err(fault) => answer.refused(&fault),
     }

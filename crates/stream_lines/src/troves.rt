@@ -8,54 +8,53 @@ use cny_report::trove_stream::{
 };
 use cny_report::troves_text;
 use line_words::{Answer, Line};
-use std::alloc::Global;
 
 // The id and the lists of a trove.
-fn push_trove(alloc: Global, answer: &mut Answer, trove: &Trove) {
+fn push_trove(answer: &mut Answer, trove: &Trove) {
     answer.id(trove.id());
-    push_list(alloc, answer, trove.files());
-    push_list(alloc, answer, trove.refs());
-    push_list(alloc, answer, trove.requires_());
-    push_list(alloc, answer, trove.provides());
+    push_list(answer, trove.files());
+    push_list(answer, trove.refs());
+    push_list(answer, trove.requires_());
+    push_list(answer, trove.provides());
 }
 
 // The stream of a trove in one of the two encodings, behind an `x`.
-fn written(alloc: Global, answer: &mut Answer, full: bool, trove: &Trove) -> Bytes {
+fn written(answer: &mut Answer, full: bool, trove: &Trove) -> Bytes {
     let mut out = behind(answer, b"x");
     let put = if full {
-        encode_full(alloc, trove, &mut out)
+        encode_full(answer.alloc(), trove, &mut out)
     } else {
-        encode(alloc, trove, &mut out)
+        encode(answer.alloc(), trove, &mut out)
     };
     answer.kept(put);
     out
 }
 
 /// `decode` of bytes, or `decode_full`: the trove, and how a copy of it is written again.
-pub fn trove(alloc: Global, answer: &mut Answer, full: bool, bytes: &[u8]) {
+pub fn trove(answer: &mut Answer, full: bool, bytes: &[u8]) {
     let read = if full {
-        decode_full(alloc, bytes)
+        decode_full(answer.alloc(), bytes)
     } else {
-        decode(alloc, bytes)
+        decode(answer.alloc(), bytes)
     };
     if let Some(trove) = unless_bad(answer, copy_of(read)) {
-        push_trove(alloc, answer, &trove);
-        let out = written(alloc, answer, full, &trove);
+        push_trove(answer, &trove);
+        let out = written(answer, full, &trove);
         push_compared(answer, out.get(), bytes);
     }
 }
 
 // Items of files, references, requirements and provides, in any order.
-fn trove_of(alloc: Global, answer: &mut Answer, id: TroveId, line: &mut Line) -> Option<Trove> {
-    let files = Files::new(elements(alloc, answer, line.bytes(1), 4));
-    let refs = Refs::new(elements(alloc, answer, line.bytes(2), 5));
-    let required = Deps::new(elements(alloc, answer, line.bytes(3), 6));
-    let provided = Deps::new(elements(alloc, answer, line.bytes(4), 7));
+fn trove_of(answer: &mut Answer, id: TroveId, line: &mut Line) -> Option<Trove> {
+    let files = Files::new(elements(answer, line.bytes(1), 4));
+    let refs = Refs::new(elements(answer, line.bytes(2), 5));
+    let required = Deps::new(elements(answer, line.bytes(3), 6));
+    let provided = Deps::new(elements(answer, line.bytes(4), 7));
     unless_bad(answer, Trove::make(id, files, refs, required, provided))
 }
 
 // The trove, made again of its parts, and the digests of its two streams behind an `x`.
-fn push_made(alloc: Global, answer: &mut Answer, trove: Trove) {
+fn push_made(answer: &mut Answer, trove: Trove) {
     let parts = trove.into_parts();
     let again = Trove::make(
         parts.id,
@@ -65,9 +64,9 @@ fn push_made(alloc: Global, answer: &mut Answer, trove: Trove) {
         parts.provides,
     );
     if let Some(trove) = unless_bad(answer, again) {
-        push_trove(alloc, answer, &trove);
+        push_trove(answer, &trove);
         for full in [false, true] {
-            let out = written(alloc, answer, full, &trove);
+            let out = written(answer, full, &trove);
             answer.text("\t");
             push_digest(answer, out.get());
         }
@@ -76,18 +75,18 @@ fn push_made(alloc: Global, answer: &mut Answer, trove: Trove) {
 
 /// `Trove::make` of the text of an id, and of items of files, references, requirements and provides in any order: the trove,
 /// made again of its parts, and the digests of its two streams behind an `x`.
-pub fn make(alloc: Global, answer: &mut Answer, line: &mut Line) {
-    if let Some(id) = answer.kept(read_id(alloc, line.text(0))) {
-        if let Some(trove) = trove_of(alloc, answer, id, line) {
-            push_made(alloc, answer, trove);
+pub fn make(answer: &mut Answer, line: &mut Line) {
+    if let Some(id) = answer.kept(read_id(answer.alloc(), line.text(0))) {
+        if let Some(trove) = trove_of(answer, id, line) {
+            push_made(answer, trove);
         }
     }
 }
 
 /// `check` of the trove with this stream.
-pub fn checked(alloc: Global, answer: &mut Answer, bytes: &[u8]) {
-    if let Some(trove) = answer.kept(decode(alloc, bytes)) {
-        match check(alloc, &trove) {
+pub fn checked(answer: &mut Answer, bytes: &[u8]) {
+    if let Some(trove) = answer.kept(decode(answer.alloc(), bytes)) {
+        match check(answer.alloc(), &trove) {
             Ok(()) => answer.text("ok"),
             Err(fault) => answer.refused(&fault),
         }
@@ -95,8 +94,8 @@ pub fn checked(alloc: Global, answer: &mut Answer, bytes: &[u8]) {
 }
 
 /// `troves_text` of the troves with these streams.
-pub fn text(alloc: Global, answer: &mut Answer, troves: &[Trove]) {
-    if let Some(text) = answer.kept(troves_text(alloc, troves)) {
+pub fn text(answer: &mut Answer, troves: &[Trove]) {
+    if let Some(text) = answer.kept(troves_text(answer.alloc(), troves)) {
         push_lines(answer, text.get());
     }
 }

@@ -1,6 +1,6 @@
 //! Answers calls on texts, on the texts that commands write, and on the lowest libraries. A line of standard input is the name of a
 //! call and its arguments, with a tab before each; the line of standard output with its number is what the call answers.
-//! Input and wanted output come from tools/text_lines.py, which is made from the rules of the formats alone.
+//! Input and wanted output come from tools/lines/text_lines.py, which is made from the rules of the formats alone.
 #![tactic(auto)]
 
 mod copies;
@@ -10,7 +10,6 @@ mod flows;
 mod ids;
 mod jobs;
 mod lanes;
-mod orders;
 mod schedules;
 mod texts;
 mod troves;
@@ -19,23 +18,38 @@ mod versions;
 use cny_dep::Dep;
 use cny_flavor::Flavor;
 use cny_report::cny_base::{Name, Path, Target, Text, is_word, read_octal};
+use cny_report::trove_parts::TroveId;
 use cny_version::{Label, Version};
-use line_words::{Answer, Calls, Line, answer_all};
+use line_words::{Answer, Calls, Line, Value, answer_all};
 use std::io;
+
+// Whether the values of the first two arguments are equal.
+fn equality<T: Value + Eq>(line: &mut Line, answer: &mut Answer) {
+    if let (Some(first), Some(second)) = (line.value::<T>(0), line.value::<T>(1)) {
+        answer.equality(first == second);
+    }
+}
+
+// Their order.
+fn order<T: Value + Ord>(line: &mut Line, answer: &mut Answer) {
+    if let (Some(first), Some(second)) = (line.value::<T>(0), line.value::<T>(1)) {
+        answer.order(first.cmp(&second), first == second);
+    }
+}
 
 // Calls on names, words, paths and targets.
 fn name_call(line: &mut Line, answer: &mut Answer) {
     match line.name() {
         "word" => answer.holds(is_word(line.bytes(0))),
         "name" => line.reads_copy(answer, Name::read, texts::name),
-        "name_order" => line.two(answer, orders::name_order),
+        "name_order" => order::<Name>(line, answer),
         "path" => line.reads_copy(answer, Path::read, texts::path),
-        "path_order" => line.two(answer, orders::path_order),
+        "path_order" => order::<Path>(line, answer),
         "forbidden" => line.one(answer, texts::forbidden),
         "ends" => texts::ends(line.text(0), answer),
         "join" => texts::join(line, answer),
         "target" => line.reads_copy(answer, Target::read, texts::target),
-        "target_equality" => line.two(answer, orders::target_equality),
+        "target_equality" => equality::<Target>(line, answer),
         _ => number_call(line, answer),
     }
 }
@@ -81,10 +95,10 @@ fn copy_call(line: &mut Line, answer: &mut Answer) {
 fn version_call(line: &mut Line, answer: &mut Answer) {
     match line.name() {
         "label" => line.reads(answer, Label::read, versions::label),
-        "label_equality" => line.two(answer, orders::label_equality),
+        "label_equality" => equality::<Label>(line, answer),
         "version" => line.reads(answer, Version::read, versions::version),
         "whole_version" => line.reads(answer, Version::read_whole, versions::version),
-        "version_equality" => line.two(answer, orders::version_equality),
+        "version_equality" => equality::<Version>(line, answer),
         "shadow" => line.two(answer, versions::shadow),
         "branch" => line.two(answer, versions::branch),
         "revise" => line.two(answer, versions::revise),
@@ -100,17 +114,17 @@ fn part_call(line: &mut Line, answer: &mut Answer) {
         "flavor" => line.reads_copy(answer, Flavor::read, flavors::flavor),
         "whole_flavor" => line.reads_copy(answer, Flavor::read_whole, flavors::flavor),
         "empty_flavor" => flavors::empty(answer),
-        "flavor_equality" => line.two(answer, orders::flavor_equality),
+        "flavor_equality" => equality::<Flavor>(line, answer),
         "score" => line.two(answer, flavors::scored),
         "dep" => line.reads_copy(answer, Dep::read, deps::dep),
         "whole_dep" => line.reads_copy(answer, Dep::read_whole, deps::dep),
         "of_trove" => line.one(answer, deps::of_trove),
         "class" => deps::class(line.text(0), answer),
         "satisfies" => line.two(answer, deps::satisfied),
-        "dep_order" => line.two(answer, orders::dep_order),
+        "dep_order" => order::<Dep>(line, answer),
         "id" => line.reads_copy(answer, ids::read, ids::id),
         "next_id" => ids::next(line.bytes(0), line.number(1), answer),
-        "id_order" => line.two(answer, orders::id_order),
+        "id_order" => order::<TroveId>(line, answer),
         _ => version_call(line, answer),
     }
 }

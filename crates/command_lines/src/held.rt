@@ -2,23 +2,17 @@
 use line_words::{Answer, Quiet};
 use repo_index::Catalogue;
 use repo_load::{base_path, content, load};
-use repository::cny_base::Path;
 use repository::file_stream::FileRec;
 use repository::trove_parts::FileAt;
 use std::alloc::Global;
 use tree_journal::recover;
-
-// Whether a content is there.
-fn is_there(alloc: Global, disk: &mut Quiet, catalogue: &Catalogue, name: &[u8; 20]) -> bool {
-    matches!(content(alloc, disk, catalogue, name), Ok(Some(_)))
-}
 
 // How many of the contents that these files record are there.
 fn count_contents(alloc: Global, disk: &mut Quiet, catalogue: &Catalogue, files: &[FileAt]) -> u64 {
     let mut count: u64 = 0;
     for file in files {
         if let FileRec::File { name, .. } = &file.rec {
-            if is_there(alloc, disk, catalogue, name) {
+            if matches!(content(alloc, disk, catalogue, name), Ok(Some(_))) {
                 count = count.saturating_add(1);
             }
         }
@@ -41,28 +35,22 @@ pub fn told_sizes(catalogue: &Catalogue, answer: &mut Answer) {
     answer.number(catalogue.troves().len() as u64);
 }
 
-fn told_catalogue(disk: &mut Quiet, catalogue: &Catalogue, answer: &mut Answer) {
-    told_sizes(catalogue, answer);
-    answer.text(" ");
-    answer.number(count_all(answer.alloc(), disk, catalogue));
-}
-
 fn told_loaded(disk: &mut Quiet, answer: &mut Answer) {
     match load(answer.alloc(), disk) {
-        Ok(catalogue) => told_catalogue(disk, &catalogue, answer),
+        Ok(catalogue) => {
+            told_sizes(&catalogue, answer);
+            answer.text(" ");
+            answer.number(count_all(answer.alloc(), disk, &catalogue));
+        }
         Err(stop) => answer.stop(&stop),
     }
-}
-
-fn recovers(alloc: Global, disk: &mut Quiet, base: &Path) -> bool {
-    recover(alloc, disk, base).is_ok()
 }
 
 /// What a disk holds once it is recovered: how many commits and troves, and how many records of files whose contents stand.
 pub fn told_held(disk: &mut Quiet, answer: &mut Answer) {
     let base = base_path(answer.alloc());
     if let Some(base) = answer.kept(base) {
-        if recovers(answer.alloc(), disk, &base) {
+        if recover(answer.alloc(), disk, &base).is_ok() {
             told_loaded(disk, answer);
         } else {
             answer.text("not recovered");

@@ -2,11 +2,28 @@
 use content_store::Contents;
 use line_words::{Answer, Line, Quiet};
 use repo_index::Catalogue;
-use repo_load::{Counts, RepoContents, content, counts, load};
+use repo_load::{RepoContents, content, counts, load};
 use repository::cny_base::{Bytes, Stop};
 
-// How many commits a catalogue has, and the ids of its troves.
-fn told_catalogue(catalogue: &Catalogue, answer: &mut Answer) {
+/// Calls with the disk of the first argument, of which the call of this number fails, and the catalogue that it stores; or tells why
+/// there is none.
+pub fn on_repository<F: FnOnce(&mut Quiet, &mut Catalogue, &mut Line, &mut Answer)>(
+    failing: u64,
+    line: &mut Line,
+    answer: &mut Answer,
+    call: F,
+)
+    requires { F.IsAlwaysCallable call }
+{
+    if let Some(mut disk) = line.disk(0, failing) {
+        match load(answer.alloc(), &mut disk) {
+            Ok(mut catalogue) => call(&mut disk, &mut catalogue, line, answer),
+            Err(stop) => answer.stopped(&stop),
+        }
+    }
+}
+
+fn loaded_on(_: &mut Quiet, catalogue: &mut Catalogue, _: &mut Line, answer: &mut Answer) {
     answer.field("ok");
     answer.field_number(u64::from(catalogue.commits()));
     for trove in catalogue.troves() {
@@ -15,50 +32,26 @@ fn told_catalogue(catalogue: &Catalogue, answer: &mut Answer) {
     }
 }
 
-/// The catalogue of a disk; with a further argument the first call of the disk fails.
+/// How many commits the catalogue of a disk has, and the ids of its troves; with a further argument the first call of the disk fails.
 pub fn loaded(line: &mut Line, answer: &mut Answer) {
-    let failing = u64::from(line.has(1));
-    if let Some(mut disk) = line.disk(0, failing) {
-        match load(answer.alloc(), &mut disk) {
-            Ok(catalogue) => told_catalogue(&catalogue, answer),
-            Err(stop) => answer.stopped(&stop),
-        }
-    }
-}
-
-/// Calls with the disk of the first argument and the catalogue that it stores, or tells why there is none.
-pub fn on_repository<F: FnOnce(&mut Quiet, &mut Catalogue, &mut Line, &mut Answer)>(
-    line: &mut Line,
-    answer: &mut Answer,
-    call: F,
-)
-    requires { F.IsAlwaysCallable call }
-{
-    if let Some(mut disk) = line.disk(0, 0) {
-        match load(answer.alloc(), &mut disk) {
-            Ok(mut catalogue) => call(&mut disk, &mut catalogue, line, answer),
-            Err(stop) => answer.stopped(&stop),
-        }
-    }
-}
-
-fn told_counts(counts: &Counts, answer: &mut Answer) {
-    answer.field("ok");
-    for count in counts.get() {
-        answer.field_number(*count);
-    }
+    on_repository(u64::from(line.has(1)), line, answer, loaded_on);
 }
 
 fn counts_on(disk: &mut Quiet, catalogue: &mut Catalogue, _: &mut Line, answer: &mut Answer) {
     match counts(answer.alloc(), disk, catalogue) {
-        Ok(counts) => told_counts(&counts, answer),
+        Ok(counts) => {
+            answer.field("ok");
+            for count in counts.get() {
+                answer.field_number(*count);
+            }
+        }
         Err(stop) => answer.stopped(&stop),
     }
 }
 
 /// How many troves each commit has.
 pub fn counted(line: &mut Line, answer: &mut Answer) {
-    on_repository(line, answer, counts_on);
+    on_repository(0, line, answer, counts_on);
 }
 
 // A content, or none.
@@ -81,7 +74,7 @@ fn content_on(disk: &mut Quiet, catalogue: &mut Catalogue, line: &mut Line, answ
 
 /// The content of a name.
 pub fn content_of(line: &mut Line, answer: &mut Answer) {
-    on_repository(line, answer, content_on);
+    on_repository(0, line, answer, content_on);
 }
 
 fn found_in(disk: &mut Quiet, catalogue: &Catalogue, name: &[u8; 20], answer: &mut Answer) {
@@ -101,5 +94,5 @@ fn source_on(_: &mut Quiet, catalogue: &mut Catalogue, line: &mut Line, answer: 
 /// The content of a name as a source of contents gives it; with a further argument the first call of the disk fails after the
 /// catalogue was loaded.
 pub fn source_of(line: &mut Line, answer: &mut Answer) {
-    on_repository(line, answer, source_on);
+    on_repository(0, line, answer, source_on);
 }

@@ -61,16 +61,16 @@ fn told_set(set: &ChangeSet, answer: &mut Answer)
     }
 }
 
+// Tells the set between troves of these ids.
 fn set_of(
     disk: &mut Quiet,
     catalogue: &Catalogue,
-    old: &Installed,
-    fresh: &Installed,
+    old: &[TroveId],
+    fresh: &[TroveId],
     answer: &mut Answer,
-)
-    requires old_committed { AreCommitted catalogue.now.troves old.now }
-    requires fresh_committed { AreCommitted catalogue.now.troves fresh.now }
-{
+) -> Result<(), Stop> {
+    let old = committed(answer.alloc(), catalogue, old)?;
+    let fresh = committed(answer.alloc(), catalogue, fresh)?;
     match between(
         answer.alloc(),
         disk,
@@ -81,38 +81,20 @@ fn set_of(
         Ok(set) => told_set(&set, answer),
         Err(stop) => answer.stopped(&stop),
     }
-}
-
-// The set between troves of these ids.
-fn set_of_ids(
-    disk: &mut Quiet,
-    catalogue: &Catalogue,
-    old: &[TroveId],
-    fresh: &[TroveId],
-    answer: &mut Answer,
-) {
-    let old = committed(answer.alloc(), catalogue, old);
-    let fresh = committed(answer.alloc(), catalogue, fresh);
-    match old {
-        Ok(old) => match fresh {
-            Ok(fresh) => set_of(disk, catalogue, &old, &fresh, answer),
-            Err(stop) => answer.note(stop),
-        },
-        Err(stop) => answer.note(stop),
-    }
+    Ok(())
 }
 
 fn set_on(_: &mut Quiet, catalogue: &mut Catalogue, line: &mut Line, answer: &mut Answer) {
     let failing = u64::from(line.has(3));
     if let Some(mut disk) = line.disk(0, failing) {
-        let old = line.list::<TroveId>(1);
-        let fresh = line.list::<TroveId>(2);
-        set_of_ids(&mut disk, catalogue, &old, &fresh, answer);
+        let (old, fresh) = (line.list::<TroveId>(1), line.list::<TroveId>(2));
+        let told = set_of(&mut disk, catalogue, &old, &fresh, answer);
+        answer.kept(told);
     }
 }
 
 /// The stream of the change set from the troves of some ids to those of others; with a further argument the first call of the disk
 /// fails after the catalogue was loaded.
 pub fn set_between(line: &mut Line, answer: &mut Answer) {
-    on_repository(line, answer, set_on);
+    on_repository(0, line, answer, set_on);
 }

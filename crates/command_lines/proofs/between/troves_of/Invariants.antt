@@ -1,5 +1,5 @@
 use Rattle.repository.specs.Between.{AreCommitted}
-use Rattle.repository_lines.proofs.between.troves_of.Given as goal
+use Rattle.command_lines.proofs.between.troves_of.Given as goal
 
 abbrev pub invariant-loop-id : goal.invariant-loop-id
 invariant-loop-id l = AreCommitted l.catalogue.troves l.troves.items

@@ -1,7 +1,7 @@
 use Rattle.std.proofs.Common.{List, Contains, subst, ⊎_elim}
 use Rattle.std.proofs.lemmas.List.Elements.{Contains-push_cases}
 use Rattle.repository.specs.trove-stream.declared.parts.TroveParts.{TroveParts}
-use Rattle.repository_lines.proofs.between.troves_of.Goals as goal
+use Rattle.command_lines.proofs.between.troves_of.Goals as goal
 
 pub loop-id-preserved : goal.loop-id-preserved
 loop-id-preserved c = λ t h. ⊎_elim

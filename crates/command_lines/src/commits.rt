@@ -1,5 +1,4 @@
 //! The calls that commit change sets.
-ghost use Rattle.std.specs.Prelude.{IfSome};
 ghost use Rattle.repository.specs.change-set.ChangeSet.{HasContents};
 
 use crate::held::{told_held, told_sizes};
@@ -13,23 +12,6 @@ use repository::trove_parts::TroveId;
 
 // The private directory of a repository.
 const BASE: &str = "/conaryrepo";
-
-// The change set of a stream.
-fn set_of(bytes: &[u8], answer: &mut Answer) -> Option<ChangeSet>
-    ensures { IfSome result HasContents }
-{
-    match decode(answer.alloc(), bytes) {
-        Ok(set) => Some(set),
-        Err(Fault::Memory) => {
-            answer.memory();
-            None
-        }
-        Err(Fault::Refused(_)) => {
-            answer.unreadable();
-            None
-        }
-    }
-}
 
 // Ids, with a blank before each.
 fn told_ids(ids: &[TroveId], answer: &mut Answer) {
@@ -49,15 +31,12 @@ fn commit_set(disk: &mut Quiet, catalogue: &mut Catalogue, set: &ChangeSet, answ
     }
 }
 
-/// Commits the change set of a stream, and tells the answer.
-pub fn commit_bytes(
-    disk: &mut Quiet,
-    catalogue: &mut Catalogue,
-    bytes: &[u8],
-    answer: &mut Answer,
-) {
-    if let Some(set) = set_of(bytes, answer) {
-        commit_set(disk, catalogue, &set, answer);
+// Commits the change set of a stream, and tells the answer.
+fn commit_bytes(disk: &mut Quiet, catalogue: &mut Catalogue, bytes: &[u8], answer: &mut Answer) {
+    match decode(answer.alloc(), bytes) {
+        Ok(set) => commit_set(disk, catalogue, &set, answer),
+        Err(Fault::Memory) => answer.memory(),
+        Err(Fault::Refused(_)) => answer.unreadable(),
     }
 }
 
@@ -75,5 +54,5 @@ fn committed_on(disk: &mut Quiet, catalogue: &mut Catalogue, line: &mut Line, an
 
 /// Commits change sets one after another: the answers, what the catalogue has then, what is loaded again, and what stands.
 pub fn committed(line: &mut Line, answer: &mut Answer) {
-    on_repository(line, answer, committed_on);
+    on_repository(0, line, answer, committed_on);
 }

@@ -1,0 +1,172 @@
+//! What the calls of the program are made over.
+use crate::disks::{Disks, Side};
+use crate::streams::Streams;
+use line_words::tree_memory::MemoryTree;
+use line_words::{Answer, Line, Outcomes, Stop};
+
+// More calls than any command makes of a disk.
+const MANY: u32 = 1000;
+
+/// The disks and the streams, and of the last line `stops` or `faults` the numbers of calls from which on something else came of it.
+#[derive(Drop)]
+pub struct Setting {
+    disks: Disks,
+    streams: Streams,
+    from: String,
+}
+
+// A call over disks of which one stops, and then crashes as a number picks; or, without a number, of which one call fails.
+#[derive(Clone, Copy)]
+struct Sweep<'a> {
+    words: &'a [String],
+    side: Side,
+    pick: Option<u64>,
+}
+
+// The words of a call: the arguments from a place on.
+fn words_from(line: &mut Line, first: usize) -> Vec<String> {
+    let mut words = Vec::new(line.alloc());
+    for place in first..line.len() {
+        let word = String::from_str(line.alloc(), line.text(place));
+        if let Some(word) = line.kept(word) {
+            line.kept(words.push(word));
+        }
+    }
+    words
+}
+
+// `root NODES` or `repo NODES`: puts nodes, or takes away what stands; then all of the disk counts as synced.
+fn put(tree: &mut MemoryTree, line: &mut Line) {
+    for part in line.raw(0).split(';') {
+        if let Some((path, node)) = line.placed_of(part) {
+            let edited = tree.edit(line.alloc(), &path, node);
+            line.kept(edited);
+        }
+    }
+}
+
+impl Setting {
+    /// `disks ROOT_FAILS REPO_FAILS ROOT REPO`: these disks, no input, and no call of a stream that fails.
+    pub fn of(line: &mut Line) -> Option<Setting> {
+        Some(Setting {
+            disks: Disks::of(line)?,
+            streams: Streams::new(line.alloc()),
+            from: String::new(line.alloc()),
+        })
+    }
+
+    // `run WORD..`: the call, and what stands then.
+    fn run(&mut self, line: &mut Line, answer: &mut Answer) {
+        let words = words_from(line, 0);
+        let ran = self.streams.run(&words, &mut self.disks, answer);
+        answer.kept(ran);
+    }
+
+    // `cut DISK CALLS PICK WORD..`: the call over a disk that stops after so many calls, and what a recovery finds behind the crash
+    // that the number picks. What that leaves takes the place of the disks.
+    fn cut(&mut self, line: &mut Line, answer: &mut Answer) {
+        let (side, calls, pick) = (Side::of(line), line.small(1), line.number(2));
+        let words = words_from(line, 3);
+        self.disks.side_mut(side).stop_after(calls);
+        let status = self.streams.call(&words, &mut self.disks, answer);
+        answer.kept(status);
+        self.disks.push_recovered(side, pick, answer);
+        if let Some(left) = answer.kept(self.disks.crash(answer.alloc(), side, pick)) {
+            self.disks = left;
+        }
+    }
+
+    // The call is stopped after so many calls of the disk, and made again over what a crash leaves.
+    fn stopped(&self, sweep: Sweep, pick: u64, calls: u32, said: &mut Answer) -> Result<u8, Stop> {
+        let mut disks = self.disks.crash(said.alloc(), sweep.side, 0)?;
+        disks.side_mut(sweep.side).stop_after(calls);
+        let status = self.streams.call(sweep.words, &mut disks, said)?;
+        disks.push_recovered(sweep.side, pick, said);
+        let mut left = disks.crash(said.alloc(), sweep.side, pick)?;
+        said.field("again ");
+        self.streams.run(sweep.words, &mut left, said)?;
+        Ok(status)
+    }
+
+    // The call is made where one call of the disk fails, and again over what that leaves.
+    fn failed(&self, sweep: Sweep, number: u64, answer: &mut Answer) -> Result<u8, Stop> {
+        let mut disks = self.disks.failing(answer.alloc(), sweep.side, number)?;
+        let status = self.streams.call(sweep.words, &mut disks, answer)?;
+        answer.field("left");
+        answer.nodes(disks.side(sweep.side));
+        disks.push_recovered(sweep.side, 0, answer);
+        answer.field("again ");
+        self.streams.run(sweep.words, &mut disks, answer)?;
+        Ok(status)
+    }
+
+    // What comes of the call, and whether it came to its end, for no disk failed.
+    fn ends(&self, sweep: Sweep, number: u32, answer: &mut Answer) -> bool {
+        let status = match sweep.pick {
+            Some(pick) => self.stopped(sweep, pick, number, answer),
+            None => self.failed(sweep, u64::from(number) + 1, answer),
+        };
+        !matches!(answer.kept(status), Some(5) | Some(6))
+    }
+
+    // What comes of the call where the disk fails after no call, after one and so on, until the call comes to its end: each text that
+    // differs from the one before. Answers the numbers from which on they come.
+    fn swept(&self, sweep: Sweep, line: &mut Line, answer: &mut Answer) -> Answer {
+        let (mut outcomes, mut from) = (Outcomes::new(answer.alloc()), answer.apart());
+        from.text("from");
+        for number in 0..MANY {
+            let mut part = answer.apart();
+            let is_end = self.ends(sweep, number, &mut part);
+            if outcomes.is_new(answer, part.get()) {
+                answer.tab();
+                answer.add(&part);
+                from.text(" ");
+                from.number(u64::from(number));
+            }
+            answer.kept(part.end());
+            if is_end {
+                return from;
+            }
+        }
+        line.unreadable();
+        from
+    }
+
+    // `stops DISK PICK WORD..`: what comes of the call, stopped after each number of calls of the disk, with the crash picked. `faults
+    // DISK WORD..`: the same with each call of the disk failing in turn.
+    fn sweep(&mut self, pick: Option<u64>, first: usize, line: &mut Line, answer: &mut Answer) {
+        let words = words_from(line, first);
+        let (words, side) = (words.as_slice(), Side::of(line));
+        let from = self.swept(Sweep { words, side, pick }, line, answer);
+        if let Some(from) = answer.kept(from.end()) {
+            self.from = from;
+        }
+    }
+
+    // What the calls are given.
+    fn set(&mut self, line: &mut Line, answer: &mut Answer) {
+        answer.text("ok");
+        match line.name() {
+            "root" => put(&mut self.disks.root, line),
+            "repo" => put(&mut self.disks.repo, line),
+            "input" => self.streams.set_input(line),
+            "sinks" => self.streams.set_sinks(line),
+            _ => line.unreadable(),
+        }
+    }
+
+    /// Answers a line.
+    pub fn call(&mut self, line: &mut Line, answer: &mut Answer) {
+        match line.name() {
+            "run" => self.run(line, answer),
+            "cut" => self.cut(line, answer),
+            "stops" => {
+                let pick = line.number(1);
+                self.sweep(Some(pick), 2, line, answer);
+            }
+            "faults" => self.sweep(None, 1, line, answer),
+            "from" => answer.text(self.from.as_str()),
+            _ => self.set(line, answer),
+        }
+    }
+}
