@@ -1,0 +1,275 @@
+"""Cases of repositories for command_lines: what is loaded of a tree, how many troves each commit has, contents, the change set between
+troves, and change sets committed one after another (tools/cases/commits.py). The first argument of each call is the tree of a repository;
+the answers are those of tools/model/repository.py.
+"""
+from hashlib import sha1
+
+from tools.cases.samples import V1 as F1, V2 as F2, content_at, file
+from tools.lines.words import items, standing, term, tree_term
+from tools.model import repository
+from tools.model.repository import BASE, CONTENTS, MAGIC, commit_bytes, commit_path
+from tools.model.streams import ChangeSet, Trove, directory, id_of_text, id_text, item, read_set, regular, set_bytes
+from tools.model.trees import DIR, Damaged, Failed, Refused, Tree
+
+# ---- repositories
+
+
+def on(name, revision):
+    return name + b"=/conary.example.com@ex:devel/" + revision
+
+
+def component(name, revision, files):
+    return Trove(id_of_text(on(name, revision)), [(path, regular(0o644, 0, len(text), sha1(text).digest())) for path, text in files], [], [], [])
+
+
+def collection(name, revision, refs):
+    return Trove(id_of_text(on(name, revision)), [], sorted(map(id_of_text, refs)), [], [])
+
+
+def tree_of(commits, contents, more=()):
+    """The nodes that store these commits and contents, and further nodes."""
+    nodes = {b"/": DIR, BASE: DIR, CONTENTS: DIR}
+    nodes.update((commit_path(number), file(commit_bytes(troves))) for number, troves in enumerate(commits, 1))
+    nodes.update((content_at(text), file(text)) for text in contents)
+    return {**nodes, **dict(more)}
+
+
+def with_node(nodes, path, node):
+    """The nodes with this one at a path, or with none."""
+    others = {other: old for other, old in nodes.items() if other != path}
+    return others if node is None else {**others, path: node}
+
+
+OLD, NEW = b"old\n", b"new\n"
+LINK = ("link", b"elsewhere")
+V1 = component(b"foo:runtime", b"1.0-1-1", [(b"/etc/foo", OLD), (b"/usr/foo", NEW)])
+V2 = component(b"foo:runtime", b"1.1-1-1", [(b"/etc/foo", NEW)])
+EMPTY = component(b"bar:runtime", b"2-1-1", [(b"/bar", b"")])
+PACKAGE = collection(b"foo", b"1.0-1-1", [on(b"foo:runtime", b"1.0-1-1")])
+GROUP = collection(b"group-all", b"1-1-1", [on(b"foo", b"1.0-1-1"), on(b"bar:runtime", b"2-1-1")])
+LOST = collection(b"group-lost", b"1-1-1", [on(b"none:runtime", b"1-1-1")])
+RESERVED = component(b"bad:runtime", b"1-1-1", [(b"/var/lib/conarydb/x", OLD)])
+PINNED = component(b"pin:runtime", b"1-1-1", [(b"/var/lib", OLD)])
+FIXED = Trove(id_of_text(on(b"fix:runtime", b"1-1-1")), [(b"/var/lib", directory(0o755))], [], [], [])
+# One content with another size than that of its record.
+SHORT = Trove(id_of_text(on(b"short:runtime", b"1-1-1")), [(b"/short", regular(0o644, 0, 9, sha1(OLD).digest()))], [], [], [])
+
+WHOLE = [[V1], [PACKAGE, GROUP, EMPTY], [V2]]
+TREE = tree_of(WHOLE, [OLD, NEW, b""])
+
+
+def changed(text, at):
+    return text[:at] + bytes([text[at] ^ 1]) + text[at + 1 :]
+
+
+def trees():
+    """Each tree with which every call is made."""
+    yield {b"/": DIR}
+    yield {b"/": DIR, BASE: file(OLD, 0o644)}
+    yield {b"/": DIR, BASE: DIR}
+    yield TREE
+    # What nothing refers to doesn't count.
+    yield tree_of(WHOLE, [OLD, NEW, b"", b"else"], [(BASE + b"/k.5", file(OLD)), (BASE + b"/k.04", DIR), (BASE + b"/k.0", DIR)])
+    # A reference to a trove that is committed later, or in the same commit.
+    yield tree_of([[GROUP], [EMPTY, PACKAGE], [V1]], [OLD, NEW, b""])
+    yield tree_of([[FIXED]], [])
+    for number in (1, 2, 3):
+        path = commit_path(number)
+        text = TREE[path][2]
+        cuts, places = (1, 7, 8, 12, 13, len(text) // 2, len(text) - 5, len(text) - 1), (0, 8, 9, 14, len(text) - 5, len(text) - 1)
+        texts = [b"", MAGIC, MAGIC + item(0x4F, b""), *(text[:cut] for cut in cuts), *(changed(text, at) for at in places), text + b"\0"]
+        for node in (None, DIR, LINK, *map(file, texts), file(text + item(0x4F, b""))):
+            yield with_node(TREE, path, node)
+    # Cross-checks: an id twice, in one commit and in two; paths that no trove may record; a reference to no trove.
+    yield tree_of([[V1, V1]], [OLD, NEW])
+    yield tree_of([[V1], [V2], [EMPTY, V2]], [OLD, NEW, b""])
+    yield tree_of([[V1], [RESERVED]], [OLD, NEW])
+    yield tree_of([[PINNED], [V1]], [OLD, NEW])
+    yield tree_of([[V1], [LOST], [V2]], [OLD, NEW])
+    yield tree_of([[LOST], [V1], [LOST]], [OLD, NEW])
+    # A file that isn't in its grammar counts before a reference.
+    yield tree_of([[LOST], [V1], [V2]], [OLD, NEW], [(commit_path(3), DIR)])
+    yield tree_of([[GROUP], [V1], [EMPTY]], [OLD, NEW, b""])
+
+
+def damaged_contents():
+    """Trees whose contents are damaged."""
+    for text in (OLD, NEW, b""):
+        path = content_at(text)
+        for node in (None, DIR, LINK, file(text + b"x"), file(text[:-1]), file(b""), file(b"other"), file(text, 0o644)):
+            yield with_node(TREE, path, node)
+    yield with_node(tree_of([[V1]], []), CONTENTS, None)
+    yield with_node(tree_of([[V1]], []), CONTENTS, file(OLD))
+    yield tree_of([[SHORT]], [OLD])
+    yield tree_of([[SHORT], [V1]], [OLD, NEW])
+
+
+NAMES = [sha1(text).digest() for text in (OLD, NEW, b"", b"else")]
+
+# The worked troves: `/etc` with one file, and the next revision with other contents.
+WORKED = tree_of([[F1], [F2]], [b"abc", b"abcd"])
+
+# The same file at other paths and with another mode; the same contents in two troves; a trove that the old ones don't have.
+MOVED = component(b"foo:runtime", b"1.2-1-1", [(b"/etc/bar", OLD), (b"/usr/foo", NEW)])
+MODE = Trove(id_of_text(on(b"foo:runtime", b"1.3-1-1")), [(b"/etc/foo", regular(0o600, 0, 4, sha1(OLD).digest())), (b"/usr/foo", regular(0o644, 1, 4, sha1(NEW).digest()))], [], [], [])
+OTHER = component(b"other:lib", b"1-1-1", [(b"/lib/a", OLD), (b"/lib/b", OLD), (b"/lib/c", b"else")])
+NEXT = collection(b"group-all", b"2-1-1", [on(b"foo:runtime", b"1.1-1-1"), on(b"other:lib", b"1-1-1")])
+NEXT_FOO = collection(b"foo", b"1.1-1-1", [on(b"foo:runtime", b"1.1-1-1")])
+MANY = [[V1], [PACKAGE, GROUP, EMPTY], [V2, NEXT_FOO], [MOVED, MODE], [OTHER, NEXT]]
+MANY_TREE = tree_of(MANY, [OLD, NEW, b"", b"else"])
+# Two records of one name with different sizes, so that no bytes can be sent for both; each alone with the bytes that it asks for.
+LONG = Trove(id_of_text(on(b"long:runtime", b"1-1-1")), [(b"/long", regular(0o644, 0, 4, sha1(OLD).digest()))], [], [], [])
+SIZES = tree_of([[SHORT], [LONG]], [OLD])
+
+
+def lists():
+    """Old and new troves, by rising names, among those of MANY."""
+    yield [], []
+    for trove in (V1, V2, EMPTY, PACKAGE, GROUP, OTHER, MODE):
+        yield [], [trove]
+        yield [trove], []
+        yield [trove], [trove]
+    for old in (V1, V2, MOVED, MODE):
+        for fresh in (V1, V2, MOVED, MODE):
+            yield [old], [fresh]
+            yield [EMPTY, old], [fresh, OTHER]
+    before, after = [EMPTY, PACKAGE, V1, GROUP], [NEXT_FOO, V2, NEXT, OTHER]
+    yield before, after
+    yield after, before
+    yield [], before
+    yield [], after
+    yield before, [EMPTY, NEXT_FOO, V2, GROUP]
+    yield [V1], before
+    yield [V1], after
+    yield [EMPTY], [V1, OTHER]
+
+
+def sets():
+    """Calls of `between`: a tree, the old troves and the new ones."""
+    yield WORKED, [], [F2]
+    yield WORKED, [], [F1]
+    yield WORKED, [F1], [F2]
+    yield WORKED, [F2], [F1]
+    yield WORKED, [], []
+    for old, fresh in lists():
+        yield MANY_TREE, old, fresh
+    # A content that is damaged counts only where it is sent.
+    for text in (OLD, NEW):
+        path = content_at(text)
+        for node in (None, DIR, LINK, file(text + b"x"), file(b"fals"), file(text, 0o644)):
+            tree = with_node(MANY_TREE, path, node)
+            for old, fresh in (([], [V1]), ([], [V2]), ([V1], [V2]), ([V2], [V1]), ([V1], [MODE]), ([V1], [MOVED]), ([V1], [V1, OTHER]), ([V1], [V1])):
+                yield tree, old, fresh
+    yield SIZES, [], [LONG]
+    yield SIZES, [], [SHORT]
+    yield SIZES, [], [LONG, SHORT]
+    yield SIZES, [LONG], [LONG, SHORT]
+
+
+def reading():
+    """The calls that read: a name, a tree, and the further arguments."""
+    for tree in trees():
+        yield "load", tree, []
+        yield "counts", tree, []
+    yield "load", TREE, [FAILS]
+    for tree in [TREE, tree_of([[V1]], [OLD, NEW, b"else"])] + list(damaged_contents()):
+        for name in NAMES:
+            yield "content", tree, [name]
+            yield "source", tree, [name]
+    yield "source", TREE, [NAMES[0], FAILS]
+    yield "source", TREE, [NAMES[3], FAILS]
+    for tree, old, fresh in sets():
+        yield "between", tree, [old, fresh]
+    yield "between", WORKED, [[F1], [F2], FAILS]
+    yield "between", WORKED, [[F1], [F1], FAILS]
+
+
+# ---- lines
+
+# The first call of the disk fails once the catalogue is loaded, of `load` the first of all.
+FAILS = "fails"
+
+
+def argument(value):
+    if isinstance(value, list):
+        return items(id_text(trove.identity).decode() for trove in value)
+    return value if value == FAILS else value.hex()
+
+
+def read(call, nodes, words):
+    """The fields of the answer to a call that reads."""
+    failing = int(words[-1:] == [FAILS])
+    catalogue = repository.load(Tree(nodes, failing=failing if call == "load" else 0))
+    if call == "load":
+        return [len(catalogue.commits), *(id_text(trove.identity).decode() for trove in catalogue.troves)]
+    if call == "counts":
+        return list(map(len, catalogue.commits))
+    if call == "between":
+        found = repository.between(Tree(nodes, failing=failing), catalogue, *words[:2])
+        return [set_bytes(found.parts, found.contents).hex()]
+    found = repository.content_of(Tree(nodes, failing=failing), catalogue, words[0])
+    return None if found is None else [found.hex()]
+
+
+def read_answer(call, nodes, words):
+    far = "far " if call == "source" else ""
+    try:
+        found = read(call, nodes, words)
+    except Damaged as damage:
+        return far + "damaged " + damage.args[0].decode()
+    except Failed:
+        return far + "failed"
+    return "none" if found is None else "\t".join(map(str, ["ok", *found]))
+
+
+def committed(tree, catalogue, text):
+    """What the commit of a change set answers."""
+    try:
+        made = repository.commit(tree, catalogue, ChangeSet(*read_set(text)))
+    except Refused as refusal:
+        return refusal.args[0].decode()
+    except Damaged as damage:
+        return "damaged " + damage.args[0].decode()
+    return " ".join(["ok", *(id_text(one).decode() for one in made)])
+
+
+def counts(catalogue):
+    return f"{len(catalogue.commits)} {len(catalogue.troves)}"
+
+
+def is_there(tree, catalogue, name):
+    try:
+        return repository.content_of(tree, catalogue, name) is not None
+    except Damaged:
+        return False
+
+
+def held(tree):
+    """How many commits and troves a tree has, and how many records of files whose contents are there."""
+    catalogue = repository.load(tree)
+    names = [record.name for trove in catalogue.troves for _, record in trove.files if record.kind == "f"]
+    return f"{counts(catalogue)} {sum(is_there(tree, catalogue, name) for name in names)}"
+
+
+def commit_answer(nodes, texts):
+    tree = Tree(nodes)
+    try:
+        catalogue = repository.load(tree)
+    except Damaged as damage:
+        return "damaged " + damage.args[0].decode()
+    said = [committed(tree, catalogue, text) for text in texts]
+    stored = {path: node for path, node in tree.nodes.items() if not repository.JOURNAL.is_own(path)}
+    return "\t".join([*said, counts(catalogue), held(tree), standing(stored)])
+
+
+def lines():
+    """Each line with its answer."""
+    sizes = [len(read("between", WORKED, ends)[0]) // 2 for ends in (([], [F2]), ([], [F1]), ([F1], [F2]), ([], []))]
+    assert sizes == [169, 168, 207, 13]
+    for call, nodes, words in reading():
+        yield "\t".join([call, tree_term(nodes), *map(argument, words)]), read_answer(call, nodes, words)
+    # They take the troves and trees of this file.
+    from tools.cases import commits
+
+    for nodes, texts in commits.calls():
+        yield "\t".join(["commit", tree_term(nodes), *map(term, texts)]), commit_answer(nodes, texts)

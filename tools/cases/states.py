@@ -1,0 +1,316 @@
+"""Lines of root_lines on databases, rollback records, saved contents and jobs that are taken back: calls, and what they have to answer.
+
+The answers come from tools/model/records.py and tools/model/stacks.py, readings of docs/FORMATS.md that share nothing with the program.
+"""
+import itertools
+from random import Random
+
+from tools.lines.words import bytes_word, node_word, placed, tree_word
+from tools.cases.manifests import SHATTERED
+from tools.model import stacks
+from tools.model.records import (
+    BASE, CAME, DATABASE, DATABASE_END, DATABASE_MAGIC, EMPTY, END, ENTRY, LISTED, MAGIC, NOTHING, NUMBER, NUMBERS, TROVE, TURNED, WAS, Db,
+    Record, content_path, database_bytes, delta_bytes, entry_bytes, four, mark_of, read_database, read_record, record_bytes, saved_path, sha,
+)  # fmt: skip
+from tools.model.relatives import relative_of
+from tools.model.stacks import file
+from tools.model.streams import NotOfForm, Owner, directory, file_of, id_text, item, link, relative_bytes, trove_bytes, trove_of
+from tools.model.texts import Id
+from tools.model.trees import DIR, Damaged, Refused, is_of, parent_of
+
+# The directories in which a root has its files.
+FIXED = {path: DIR for path in (b"/", b"/var", b"/var/lib", BASE)}
+
+
+def line(call, *arguments):
+    return "\t".join([call, *map(str, arguments)])
+
+
+def tree_text(nodes):
+    return tree_word({**FIXED, **nodes})
+
+
+def answered(call, *given):
+    """The answer of a call of the model, or the text of its refusal or damage."""
+    try:
+        return call(*given)
+    except Damaged as damaged:
+        return "damaged " + damaged.args[0].decode()
+    except Refused as refused:
+        return str(refused)
+
+
+# ---- databases
+
+V1, V2 = b"/conary.example.com@ex:devel/1.0-1-1", b"/conary.example.com@ex:devel/2.0-1-1"
+OTHER = Owner(b"web", b"www")
+ABC = file_of(b"abc")
+ETC = (b"/etc", directory(0o755))
+
+
+def trove(name, *files, version=V1):
+    return trove_of(name, version, files)
+
+
+FOO, FOO_2 = (trove(b"foo:runtime", ETC, (b"/etc/foo", file_of(data)), version=version) for version, data in ((V1, b"abc"), (V2, b"abcd")))
+BAR = trove(b"bar:runtime", (b"/etc", directory(0o750)), (b"/etc/bar", link(b"foo")))
+OWNED = trove(b"web:runtime", (b"/etc", directory(0o755, OTHER)), (b"/srv", file_of(b"abc", 0o600, 1, OTHER)))
+PACKAGE = trove_of(b"foo", V1, refs=[Id(b"foo:runtime", V1, b"")])
+
+# The bytes of a database with the one component `foo:runtime`, `/etc` and `/etc/foo`, after one job; written by hand.
+BY_HAND_2 = bytes.fromhex(
+    "434e5944423032 0a 50 00000092 01 0000000b 666f6f3a72756e74696d65"
+    "02 00000024 2f636f6e6172792e6578616d706c652e636f6d4065783a646576656c2f312e302d312d31 03 00000000"
+    "04 00000017 0004 2f657463 02 64 00 01ed 0004 726f6f74 0004 726f6f74"
+    "04 00000033 0008 2f6574632f666f6f 02 66 00 01a4 0004 726f6f74 0004 726f6f74 00000003 a9993e364706816aba3e25717850c26c9cd0d89d"
+    "51 00000008 00000001 00000001 5f 00000000"
+)
+
+# The formats of databases, and what they have: no trove, a component, several, a directory of two troves, a full stack, one that dropped
+# jobs, a name below another one; a fixed directory.
+GOOD = [(2, [], 0, 0), (2, [FOO], 1, 1), (1, [FOO], 1, 1), (2, [BAR, PACKAGE, FOO, OWNED], 7, 9), (1, [BAR, FOO], 3, 3), (2, [FOO], 1, 4_096)]
+GOOD += [(2, [FOO], 4_294_963_200, 4_294_967_295), (2, [PACKAGE, FOO], 1, 2)]
+
+
+def db_text(db):
+    text = database_bytes(2, *db)
+    ids = "".join(" " + id_text(trove.identity).decode() for trove in db.troves)
+    return f"{db.oldest} {db.newest}{ids}\t{len(text)} {sha(text).hex()}"
+
+
+def decode(text):
+    try:
+        return db_text(read_database(text))
+    except NotOfForm:
+        return "bad"
+
+
+def load_line(node):
+    """The database where this stands at its name."""
+    answer = db_text(EMPTY) if node is None else decode(node[2]) if node[0] == "file" else "bad"
+    nodes = {} if node is None else {DATABASE: node}
+    return line("load", 0, tree_text(nodes)), f"damaged {DATABASE.decode()}" if answer == "bad" else answer
+
+
+def decode_line(text):
+    return line("decode", bytes_word(text)), decode(text)
+
+
+def bad():
+    """Bytes that are no database, and some beside them that are one."""
+    one, old = database_bytes(2, [FOO], 1, 1), database_bytes(1, [FOO], 1, 1)
+    magic, end, numbers = DATABASE_MAGIC[2], item(DATABASE_END, b""), item(NUMBERS, four(0) + four(0))
+    yield from [b"", magic, b"CNYDB03\n" + one[8:], b"CNYDB01\n" + one[8:], b"CNYDB02\n" + old[8:]]
+    yield from (one[:cut] for cut in range(1, len(one)))
+    yield from [one + b"\0", one + end, one[:-5] + item(DATABASE_END, b"\0"), one[:-5] + item(0x5E, b"")]
+    # Numbers.
+    for oldest, newest in ((1, 0), (0, 1), (2, 1), (1, 4_097), (4_294_963_199, 4_294_967_295), (4_294_967_295, 0)):
+        yield database_bytes(2, [FOO], oldest, newest)
+    yield from (magic + part + end for part in (item(NUMBERS, four(1)), item(NUMBERS, four(1) + four(1) + b"\0"), b"", numbers + numbers))
+    # Order and names, then owners.
+    later = trove(b"foo:runtime", version=V1.replace(b"1.0", b"1.1"))
+    yield from (database_bytes(2, troves, 1, 1) for troves in ([FOO, BAR], [FOO, FOO], [FOO, later]))
+    yield magic + item(NUMBERS, four(1) + four(1)) + item(TROVE, trove_bytes(FOO, True)) + end
+    yield database_bytes(1, [OWNED], 1, 1)
+    yield magic + item(TROVE, trove_bytes(FOO, False)) + one[-18:]
+    yield DATABASE_MAGIC[1] + item(TROVE, trove_bytes(FOO, True)) + one[-18:]
+    # Paths that no trove may record, and those that two may not.
+    folder, target = directory(0o755), link(b"x")
+    forbidden = [(path, folder) for path in (BASE, DATABASE)] + [(path, target) for path in (b"/", b"/var", b"/var/lib")]
+    yield from (database_bytes(2, [trove(b"a:b", (path, record))], 1, 1) for path, record in forbidden)
+    for record, other in ((ABC, ABC), (ABC, folder), (folder, ABC), (target, target), (target, folder)):
+        yield database_bytes(2, [trove(b"a:b", (b"/p", record)), trove(b"a:c", (b"/p", other))], 1, 1)
+        yield database_bytes(2, [trove(b"a:b", (b"/p", record)), trove(b"a:bb"), trove(b"a:c", (b"/o", ABC), (b"/p", other))], 1, 1)
+    yield database_bytes(2, [trove(name, (b"/p", record)) for name, record in ((b"a:b", folder), (b"a:c", folder), (b"a:d", ABC))], 1, 1)
+    # Each byte of the head changed.
+    yield from (one[:at] + bytes([one[at] ^ 1]) + one[at + 1 :] for at in range(0, 40))
+
+
+def database_lines():
+    yield decode_line(BY_HAND_2)
+    for text in (database_bytes(1, [FOO], 1, 1), BY_HAND_2):
+        yield line("encode", bytes_word(text)), BY_HAND_2.hex()
+    for row in GOOD:
+        yield decode_line(database_bytes(*row))
+        yield load_line(file(database_bytes(*row), 0o600))
+    yield decode_line(database_bytes(2, [trove(b"a:b", (b"/var/lib", directory(0o700)))], 1, 1))
+    yield from map(load_line, (None, ("dir", 0o600), ("link", b"elsewhere")))
+    yield line("load", 1, tree_word(FIXED)), "failed"
+    for text in bad():
+        yield decode_line(text)
+        if len(text) % 16 == 0 or len(text) > 180:
+            yield load_line(file(text, 0o600))
+
+
+# ---- rollback records
+
+# The record of the job that installed the component `foo:runtime` with `/etc` and `/etc/foo`; written by hand.
+RECORD_BY_HAND = bytes.fromhex(
+    "434e5952423032 0a 60 00000004 00000001 64 00000035 000b 666f6f3a72756e74696d65"
+    "0024 2f636f6e6172792e6578616d706c652e636f6d4065783a646576656c2f312e302d312d31 0000"
+    "67 00000008 0004 2f657463 6e 3d 67 0000000c 0008 2f6574632f666f6f 6e 3d 6f 00000000"
+)
+EDITED = ("file", 0o644, 3, sha(b"abX"))
+UPDATE = (TURNED, relative_of(FOO_2, FOO))
+MARKS = [NOTHING, LISTED, ("dir", 0o7777), ("dir", 0), EDITED, ("file", 0, 4_294_967_295, sha(b"abc")), ("link", b"x"), ("link", b"y" * 1_024)]
+
+# Formats, and records that they have.
+RECORDS = [(2, Record(1, [(CAME, FOO.identity)], [(b"/etc", NOTHING, LISTED), (b"/etc/foo", NOTHING, LISTED)]))]
+RECORDS += [(kind, Record(2, [UPDATE], [(b"/etc/foo", EDITED, LISTED)])) for kind in (2, 1)]
+RECORDS += [(1, Record(2, [(WAS, FOO)], [(b"/etc/foo", LISTED, NOTHING)])), (2, Record(2, [(WAS, OWNED)], [])), (2, Record(4_294_967_295, [], []))]
+RECORDS += [(2, Record(0, [(CAME, BAR.identity), (WAS, PACKAGE), (WAS, FOO)], []))]
+RECORDS += [(2, Record(7, [], [(b"/%02d" % at, MARKS[at // 8], MARKS[at % 8]) for at in range(64)]))]
+
+
+def bad_records():
+    """Formats, and bytes that are no record in them."""
+    one, two = RECORD_BY_HAND, record_bytes(RECORDS[1][1], 2)
+    for text in (one, two):
+        yield from ((2, text[:cut]) for cut in range(len(text)))
+        yield from [(1, text), (2, text + b"\0"), (2, text + item(END, b""))]
+    magic, head, end, part = MAGIC[2], MAGIC[2] + item(NUMBER, four(1)), item(END, b""), item(0x61, b"")
+    came, was = delta_bytes((CAME, BAR.identity), 2), delta_bytes((WAS, FOO), 2)
+    etc, foo = (entry_bytes((path, NOTHING, LISTED)) for path in (b"/etc", b"/etc/foo"))
+    # Heads and ends, and the order of deltas and entries.
+    some = [b"CNYRB03\n" + one[8:], b"CNYRA01\n" + one[8:], MAGIC[1] + one[8:], head, magic + end]
+    some += [magic + item(tag, value) + end for tag, value in ((NUMBER, four(1) + b"\0"), (NUMBER, four(1)[1:]), (0x61, four(1)))]
+    some += [head + item(NUMBER, four(1)) + end, head + part + end, head + item(END, b"\0")]
+    some += [head + middle + end for middle in (was + came, came + came, etc + was, foo + etc, foo + foo, came + etc + was)]
+    # Values.
+    relative, full = UPDATE[1], trove_bytes(FOO, True)
+    values = [(CAME, value) for value in (b"", BAR.identity.name, full)]
+    values += [(WAS, value) for value in (b"", trove_bytes(FOO, False), full + b"\0", full[:-1])]
+    values += [(TURNED, relative_bytes(relative, False)), (TURNED, relative_bytes(relative, True)[:-1]), (WAS, relative_bytes(relative, True))]
+    yield from ((2, text) for text in [*some, *(head + item(*value) + end for value in values)])
+    owned = relative_of(FOO_2._replace(identity=OWNED.identity._replace(version=V2)), OWNED)
+    values = [(WAS, full), (WAS, trove_bytes(OWNED, False)), (TURNED, relative_bytes(relative, True)), (TURNED, relative_bytes(owned, False))]
+    yield from ((1, MAGIC[1] + head[8:] + item(*value) + end) for value in values)
+    # Fingerprints and paths.
+    name = sha(b"abc")
+    marks = [b"", b"n", b"nnn", b"=x", b"xn", b"nd\1", b"nd\x10\0", b"nf\1\xa4\0\0\0\3" + name[:-1], b"nf\x10\0\0\0\0\3" + name]
+    marks += [b"nf\1\xa4\0\0\0\3" + name + b"n", b"nl\0\0", b"nl\0\1\1", b"nl\0\2x", b"nl\0\1\x80", b"n="]
+    values = [b"\0\4/etc" + mark for mark in marks] + [path + b"n=" for path in (b"\0\0", b"\0\3etc", b"\0\5/etc/", b"\0\4/et\x80", b"\0")]
+    yield from ((2, head + item(ENTRY, value) + end) for value in values)
+
+
+def delta_text(tag, value):
+    if tag == TURNED:
+        return f"turned {id_text(value.old).decode()} {id_text(value.new).decode()}"
+    return "came " + id_text(value).decode() if tag == CAME else "was " + id_text(value.identity).decode()
+
+
+def record_line(kind, text):
+    try:
+        record = read_record(text, kind)
+        entries = [f"{path.decode()} from {node_word(before)} to {node_word(after)}" for path, before, after in record.entries]
+        answer = "\t".join([str(record.number), *(delta_text(*delta) for delta in record.deltas), *entries])
+    except NotOfForm:
+        answer = "bad"
+    return line("record", kind, bytes_word(text)), answer
+
+
+def record_lines():
+    for kind, text, again in [*((kind, record_bytes(one, kind), record_bytes(one, 2)) for kind, one in RECORDS), (2, RECORD_BY_HAND, RECORD_BY_HAND)]:
+        yield record_line(kind, text)
+        yield line("rewritten", kind, bytes_word(text)), again.hex()
+    yield from (record_line(*one) for one in bad_records())
+
+
+# ---- saved contents
+
+# Two contents of one SHA-1.
+ONE, TWO = SHATTERED
+
+
+def entries_word(job):
+    """The paths of a job, each with what it found there and the fingerprint of what it left."""
+    return ";".join(f"{placed(path, was, bytes_word)}|{node_word(now)}" for path, was, now in job)
+
+
+def stashable_line(*nodes):
+    answer = answered(lambda: stacks.check_stashable(nodes) or "ok")
+    return line("stashable", entries_word([(b"/%02d" % at, node, NOTHING) for at, node in enumerate(nodes)])), answer
+
+
+def old_line(nodes, number, mark):
+    return line("old", 0, tree_text(nodes), number, node_word(mark)), answered(lambda: node_word(stacks.old_node(nodes, number, mark)))
+
+
+def saved_lines():
+    one, two, abc, abx, a, none = map(file, (ONE, TWO, b"abc", b"abX", b"a", b""))
+    target = ("link", b"x")
+    lists = [[], [none], [a, file(b"b")], [a, a], [None, DIR, target, abc, abx, abc], [one, two], [two, DIR, one], [one, one]]
+    lists += [[target, None, one, none, two, one], [file(ONE, 0o600), file(ONE, 0o755)]]
+    yield from (stashable_line(*nodes) for nodes in lists)
+    number, mark = 4_294_967_295, mark_of(abx)
+    place = content_path(number, sha(b"abX"))
+    good = {saved_path(number): DIR, place: file(b"abX", 0o600), content_path(number, sha(b"")): file(b"", 0o777)}
+    for one in (NOTHING, ("dir", 0), ("dir", 0o7777), target, mark, mark_of(file(b"abX", 0o4755)), mark_of(none), mark_of(file(b"other"))):
+        yield from [old_line(good, number, one), old_line({}, 1, one), old_line(good, 1, one)]
+    for node in (DIR, target, none, file(b"abY"), file(b"abXX"), file(b"ab")):
+        yield old_line({**good, place: node}, number, mark)
+    yield old_line(good, number, ("file", 0o644, 4, sha(b"abX")))
+    yield from ((line("old", fails, tree_text(good), number, node_word(mark)), "failed") for fails in (1, 2))
+
+
+# ---- jobs taken back
+
+
+def undo_line(nodes, newest, *jobs, fails=0):
+    """The jobs, the newest first, are lists of a path, what the job found there and the fingerprint of what it left."""
+    return line("undo", fails, tree_text(nodes), newest, *map(entries_word, jobs)), "1\tfailed" if fails else undo({**FIXED, **nodes}, newest, jobs)
+
+
+def undo(nodes, newest, jobs):
+    marks, found = stacks.marks_of(nodes), {}
+    for number, job in zip(range(newest, 0, -1), jobs):
+        changes = [(path, mark_of(was), now) for path, was, now in job]
+        try:
+            marks = stacks.undone(marks, changes)
+        except Refused as why:
+            return f"{number}\t{why}"
+        found.update({path: (number, was) for path, was, _ in changes})
+    return "\t".join(["ok"] + [f"{number} {placed(path, was)}" for path, (number, was) in sorted(found.items())])
+
+
+UNDO_NAMES = [b"/a", b"/a-b", b"/a/x", b"/a/x/y", b"/a.b", b"/a/x-y", b"/ab", b"/ab/x", b"/b", b"/b/x"]
+
+
+def turned(random, tree, count):
+    """The tree with other nodes at some of the names; below what is no directory nothing stands."""
+    tree = dict(tree)
+    for name in random.sample(UNDO_NAMES, count):
+        tree[name] = random.choice([None, None, DIR, DIR, DIR, file(b""), file(b"a"), ("link", b"t")])
+    kept = {}
+    for path in sorted(name for name in tree if tree[name] is not None):
+        if path in FIXED or parent_of(path) == b"/" or is_of(kept.get(parent_of(path)), "dir"):
+            kept[path] = tree[path]
+    return kept
+
+
+def undo_lines():
+    random = Random(12)
+    for case in range(120):
+        tree, jobs = turned(random, FIXED, random.randrange(8)), []
+        for _ in range(random.randrange(1, 4)):
+            later = turned(random, tree, random.randrange(1, 6))
+            paths = sorted(path for path in set(tree) | set(later) if tree.get(path) != later.get(path))
+            jobs.insert(0, [(path, tree.get(path), mark_of(later.get(path))) for path in paths])
+            tree = later
+        tree = turned(random, tree, case % 3) if case % 3 else tree
+        if case % 5 == 4 and jobs[-1]:
+            jobs[-1].pop(random.randrange(len(jobs[-1])))
+        yield undo_line(tree, random.choice([len(jobs), 7, 4_294_967_295]), *jobs)
+    # A job takes names away, and then an edit the directories of some of them.
+    pairs = [(b"/a", b"/a/x"), (b"/ab", b"/ab/x"), (b"/b", b"/b/x")]
+    for case in range(16):
+        gone = [low for at, (_, low) in enumerate(pairs) if case & 1 << at or at == 2]
+        tree = {dir_: DIR for at, (dir_, _) in enumerate(pairs) if not (case >> 1) + case & 1 << at}
+        yield undo_line(tree, 1, [(low, ("link", b"t"), NOTHING) for low in gone])
+    yield from (undo_line({b"/a": DIR}, 1, [(b"/a", None, DIR)], fails=fails) for fails in (1, 2))
+
+
+def lines():
+    assert RECORD_BY_HAND == record_bytes(RECORDS[0][1], 2)
+    assert read_database(BY_HAND_2) == Db([FOO], 1, 1) and BY_HAND_2 == database_bytes(2, [FOO], 1, 1)
+    return itertools.chain(database_lines(), record_lines(), saved_lines(), undo_lines())

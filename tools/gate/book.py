@@ -1,0 +1,62 @@
+#!/usr/bin/env python3
+"""Prints what the documents tell of the crates from the sources: the levels of crates.txt, and the table of crates.
+
+In a document such a part stands between two lines, `<!-- printed by tools/gate/book.py: NAME -->` and `<!-- end -->`.
+
+    tools/gate/book.py            writes each part anew
+    tools/gate/book.py --check    ends with 1 where a part isn't what the sources say, or stands in no document
+"""
+import pathlib
+import re
+import sys
+import textwrap
+
+from crates import named, root_file
+
+DOCUMENTS = ("docs/ARCHITECTURE.md",)
+PART = re.compile(r"(<!-- printed by tools/gate/book\.py: (\w+) -->)\n.*?<!-- end -->", re.DOTALL)
+
+
+def heading(crate):
+    """The first paragraph of the comment with which the crate's root file begins: what it is, and what it promises."""
+    comment = re.match(r"(?://!.*\n)*", root_file(crate).read_text(encoding="utf-8"))[0]
+    return " ".join(line.removeprefix("//!").strip() for line in re.split(r"//!\s*\n", comment)[0].splitlines())
+
+
+def levels():
+    """The crates by the length of the longest chain that ends at each, highest first, those that only test beside them."""
+    level = {}
+    for crate, on in named(keep_all=False).items():
+        level[crate] = 1 + max((level[it] for it in on), default=0)
+    rows = ["```text"]
+    for number in range(max(level.values()), 0, -1):
+        here = [it for it in level if level[it] == number]
+        tests = [it for it in here if re.search(r"_(words|lines)$", it)]
+        text = "  ".join([it for it in here if it not in tests] + ([f"[{' '.join(tests)}]"] if tests else []))
+        rows += [f"{number if not at else '':>3}  {line}" for at, line in enumerate(textwrap.wrap(text, 108, break_on_hyphens=False))]
+    return rows + ["```"]
+
+
+def table():
+    rows = ["| crate | stands on | what it is, and what it promises |", "|---|---|---|"]
+    return rows + [f"| `{crate}` | {', '.join(f'`{it}`' for it in on) or 'nothing'} | {heading(crate)} |" for crate, on in named().items()]
+
+
+PARTS = {"levels": levels, "crates": table}
+
+
+def main(words):
+    texts = {path: path.read_text(encoding="utf-8") for path in map(pathlib.Path, DOCUMENTS)}
+    wrong = [f"no document has the part {name}" for name in PARTS if not any(f": {name} -->" in text for text in texts.values())]
+    for path, old in texts.items():
+        new = PART.sub(lambda match: "\n".join([match[1], *PARTS[match[2]](), "<!-- end -->"]), old)
+        if new != old and words == ["--check"]:
+            wrong.append(f"{path} isn't what the sources say: run tools/gate/book.py")
+        elif new != old:
+            path.write_text(new, encoding="utf-8")
+    print("".join(text + "\n" for text in wrong), end="")
+    return int(bool(wrong))
+
+
+if __name__ == "__main__":
+    sys.exit(main(sys.argv[1:]))

@@ -1,0 +1,93 @@
+#!/usr/bin/env python3
+"""Says by text alone whether each edit still applies: the must-fail edits, and those of edits/, which the gate doesn't try.
+
+An edit is a wrong body of the crate CRATE, `crates/CRATE/must-fail/NAME.edit` or `edits/CRATE/NAME.edit`. Its crate has to stand in
+`crates.txt`, each file that it changes below the `src/` of that crate, and each old text once in its file, as the changes before it
+left that. Each new text is another one. No two edits of a crate have one name. For each edit of the gate edits_shown.txt names a program
+that shows it (edits_show.py), and for no other.
+
+For each that fails a line says why; the last two lines are the counts. It ends with status 1 where one fails, or where the gate has
+more edits or more crates with edits than it may. Usage, at the top of the repository: tools/gate/edits_apply.py
+"""
+import pathlib
+import re
+import sys
+
+from crates import SHOWN, changes_of, crate_of, edits_inside, edits_outside, name_of, named, shown_by
+
+# How many edits the gate may try, and of how many crates.
+EDITS, CRATES = 80, 22
+NAME = re.compile(r"[A-Za-z0-9_-][A-Za-z0-9_.-]*\.edit")
+
+
+def fault_of_change(crate, texts, file, old, new):
+    """Why a change doesn't apply to these texts of files, if it doesn't; where it does, its file has the new text then."""
+    if not file or not old:
+        return "a line `new:` has no line `file:` or `old:` before it"
+    if not file.startswith("src/") or ".." in file.split("/"):
+        return f"{file} isn't below src/"
+    path = pathlib.Path("crates") / crate / file
+    if not path.is_file():
+        return f"there is no file {path}"
+    text = texts.setdefault(file, path.read_text(encoding="utf-8"))
+    if text.count(old) != 1:
+        return f"an old text stands {text.count(old)} times in {path}: {old.strip()[:80]}"
+    if new == old:
+        return f"an old and a new text are the same: {old.strip()[:80]}"
+    texts[file] = text.replace(old, new)
+    return None
+
+
+def fault_of(edit, known):
+    """Why an edit doesn't apply, if it doesn't."""
+    crate = crate_of(edit)
+    if crate not in known:
+        return f"{crate} is no crate of crates.txt"
+    if not NAME.fullmatch(edit.name):
+        return "its name isn't of letters, digits, _, - and . with .edit at its end"
+    texts, changes = {}, list(changes_of(edit))
+    faults = (fault_of_change(crate, texts, *change) for change in changes)
+    return next(filter(None, faults), None) if changes else "it changes nothing"
+
+
+def strays(edits):
+    """What stands where only edits may stand, and is none."""
+    for pattern in ("crates/*/must-fail/**/*", "edits/**/*"):
+        yield from (path for path in sorted(pathlib.Path().glob(pattern)) if path.is_file() and path.suffix != ".md" and path not in edits)
+
+
+def unshown(inside):
+    """What is wrong with edits_shown.txt, where these edits stand in the gate."""
+    shown, names = shown_by(), {name_of(edit) for edit in inside}
+    for name in sorted(names - shown.keys()):
+        yield f"{SHOWN.name} names no program for {name}"
+    for name, (program, _) in shown.items():
+        if name not in names:
+            yield f"{SHOWN.name}: {name} is no edit of the gate"
+        elif not pathlib.Path("crates", program, "stdout").is_file():
+            yield f"{SHOWN.name}: {program} is no program with wanted answers"
+
+
+def main():
+    if len(sys.argv) > 1:
+        sys.exit(__doc__)
+    known, inside, outside = named(), edits_inside(), edits_outside()
+    found = {edit: fault_of(edit, known) for edit in inside + outside}
+    faults = [f"{edit}: {fault}" for edit, fault in found.items() if fault]
+    names = {(crate_of(edit), edit.name) for edit in inside}
+    faults += [f"{edit}: an edit of the gate has its name" for edit in outside if (crate_of(edit), edit.name) in names]
+    faults += [f"{path}: it is no edit of a crate" for path in strays(found)]
+    faults += unshown(inside)
+    of_gate, of_others = ({crate_of(edit) for edit in edits} for edits in (inside, outside))
+    if len(inside) > EDITS:
+        faults.append(f"the gate may have {EDITS} edits")
+    if len(of_gate) > CRATES:
+        faults.append(f"the gate may have edits of {CRATES} crates")
+    print("".join(fault + "\n" for fault in faults), end="")
+    print(f"gate: {len(inside)} edits in {len(of_gate)} crates")
+    print(f"outside: {len(outside)} edits in {len(of_others)} crates")
+    sys.exit(1 if faults else 0)
+
+
+if __name__ == "__main__":
+    main()

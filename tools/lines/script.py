@@ -1,0 +1,192 @@
+"""The lines of command_lines that call the program: what is set up, the calls, and what each has to answer by the model of the program.
+
+Of the lines only those of `cut` and `from` depend on how many calls of its disks a command makes.
+"""
+import re
+
+from tools.lines.words import node_term, shown, standing, term, tree_term
+from tools.model import repository
+from tools.model.by_files import Call
+from tools.model.program import JOURNAL, Streams
+from tools.model.trees import DIR, Damaged, Refused, Tree
+
+JOURNALS = {"root": JOURNAL, "repo": repository.JOURNAL}
+FAULTS = {"root": 5, "repo": 6}
+WHOLLY_LOST = (2**64 - 1, 0x5555555555555555)
+TEXT, LINES = re.compile(rb"(?!0x|=)[ -~]*"), re.compile(rb"(?!0x)([ -~](?<![+*#])|\n(?!0x))*")
+
+# ---- arguments
+
+
+def argument(data):
+    """Bytes as an argument: a short text as it is, lines as terms, others in digits."""
+    if len(data) <= 4096 and TEXT.fullmatch(data):
+        return data.decode()
+    if len(data) <= 4096 and LINES.fullmatch(data):
+        return "=" + "+".join(part for part in re.split("(\n)", data.decode()) if part).replace("\n", "0x0a")
+    return term(data)
+
+
+def words_of(words):
+    return words.split(b" ") if isinstance(words, bytes) else words
+
+
+def edits_word(edits):
+    return ";".join(f"{node_term(node)} {term(path)}" for path, node in edits)
+
+
+# ---- answers
+
+
+def written(stream, data):
+    """The lines of an output, each as a field; what isn't lines as the bytes of a file."""
+    if data.endswith(b"\n"):
+        return "".join(f"\t{stream} {line}" for line in data[:-1].decode().split("\n"))
+    return f"\t{stream} {shown(data)}" if data else ""
+
+
+def told(call):
+    return f"{call.status} taken {call.taken}" + written("out", call.out) + written("err", call.err)
+
+
+def kept(name, tree):
+    nodes = standing(tree.nodes)
+    synced = all(standing(tree.crash(pick).nodes) == nodes for pick in WHOLLY_LOST)
+    return f"\t{name} {'synced' if synced else 'unsynced'}{nodes}"
+
+
+def both(trees):
+    return kept("root", trees["root"]) + kept("repo", trees["repo"])
+
+
+def recovered(side, tree, pick):
+    image = tree.crash(pick)
+    try:
+        found = "committed" if JOURNALS[side].recover(image) else "at rest"
+    except (Refused, Damaged):
+        found = "stuck"
+    return f"\t{found}" + standing({path: node for path, node in image.nodes.items() if not JOURNALS[side].is_own(path)})
+
+
+def crashed(trees, side, pick):
+    return {name: tree.crash(pick if name == side else 0) for name, tree in trees.items()}
+
+
+class Script:
+    """The lines so far, with their answers, what they have set up, and how many cases there are of each name."""
+
+    def __init__(self):
+        self.lines, self.answers, self.cases, self.name = [], [], {}, ""
+
+    def say(self, *fields, answer="ok"):
+        self.lines.append("\t".join(map(str, fields)))
+        self.answers.append(answer)
+
+    # ---- what is set up
+
+    def disks(self, edits=(), repo_edits=(), root_fails=0, repo_fails=0):
+        """A root with `/`, `/var` and `/var/lib`, and a repository with `/` alone, and what the edits put. The calls of these numbers
+        fail. A case of the script's name begins."""
+        self.cases[self.name] = self.cases.get(self.name, 0) + 1
+        self.trees = {"root": Tree(dict.fromkeys((b"/", b"/var", b"/var/lib"), DIR), failing=root_fails), "repo": Tree(failing=repo_fails)}
+        self.streams = Streams()
+        for side, some in (("root", edits), ("repo", repo_edits)):
+            for path, node in some:
+                self.trees[side].edit(path, node)
+        self.say("disks", root_fails, repo_fails, *(tree_term(tree.nodes) for tree in self.trees.values()))
+        return self
+
+    def edit(self, side, edits):
+        for path, node in edits:
+            self.trees[side].edit(path, node)
+        if edits:
+            self.say(side, edits_word(edits))
+        return self
+
+    def input(self, data, most=2**32 - 1, fails=0):
+        self.streams.data, self.streams.most, self.streams.input_fails = data, most, fails
+        self.say("input", most, fails, argument(data))
+        return self
+
+    def sinks(self, out, err):
+        self.streams.out_fails, self.streams.err_fails = out, err
+        self.say("sinks", out, err)
+        return self
+
+    # ---- calls
+
+    def called(self, words, trees):
+        return Call(words, self.streams, trees["root"], trees["repo"])
+
+    def run(self, *words):
+        self.made = self.called(words, self.trees)
+        self.say("run", *map(argument, words), answer=told(self.made) + both(self.trees))
+        return self.made.out
+
+    def fed(self, data, *words):
+        """A call with this input."""
+        self.input(data)
+        return self.run(*words)
+
+    def each(self, words, *inputs):
+        """A call with each of these inputs. The words are a list, or a text with a blank between two."""
+        for data in inputs:
+            self.fed(data, *words_of(words))
+        return self
+
+    def installs(self, *manifests):
+        return self.each(b"install", *manifests)
+
+    def runs(self, *calls):
+        for words in calls:
+            self.run(*words_of(words))
+        return self
+
+    def last_call(self, side, words, kind, path):
+        """The number of the last call of this kind at a path that these words would make of a disk."""
+        trees = self.copies(side)
+        self.called(words, trees)
+        return max(number for number, call in enumerate(trees[side].made, 1) if call == (kind, path))
+
+    def cut(self, side, calls, pick, *words):
+        self.trees[side].left = calls
+        answer = told(self.called(words, self.trees)) + recovered(side, self.trees[side], pick)
+        self.trees = crashed(self.trees, side, pick)
+        self.say("cut", side, calls, pick, *map(argument, words), answer=answer)
+
+    def again(self, words, trees):
+        return "\tagain " + told(self.called(words, trees)) + both(trees)
+
+    def copies(self, side, failing=0):
+        return {name: tree.copy(failing if name == side else 0) for name, tree in self.trees.items()}
+
+    def stopped(self, words, side, pick, calls):
+        trees = self.copies(side)
+        trees[side].left = calls
+        call = self.called(words, trees)
+        text = told(call) + recovered(side, trees[side], pick)
+        return call.status, text + self.again(words, crashed(trees, side, pick))
+
+    def failed(self, words, side, number):
+        trees = self.copies(side, number)
+        call = self.called(words, trees)
+        text = told(call) + "\tleft" + standing(trees[side].nodes) + recovered(side, trees[side], 0)
+        return call.status, text + self.again(words, trees)
+
+    def sweep(self, fields, words, side, outcome):
+        """The outcomes that differ from those before them, and the numbers from which on they come."""
+        texts, numbers, number, status = [], [], 0, FAULTS[side]
+        while status == FAULTS[side]:
+            status, text = outcome(number)
+            if texts[-1:] != [text]:
+                texts.append(text)
+                numbers.append(number)
+            number += 1
+        self.say(*fields, *map(argument, words), answer="\t".join(texts))
+        self.say("from", answer=" ".join(["from", *map(str, numbers)]))
+
+    def stops(self, side, pick, *words):
+        self.sweep(["stops", side, pick], words, side, lambda calls: self.stopped(words, side, pick, calls))
+
+    def faults(self, side, *words):
+        self.sweep(["faults", side], words, side, lambda calls: self.failed(words, side, calls + 1))

@@ -1,0 +1,62 @@
+#!/usr/bin/env python3
+"""Makes the lines of the program stream_lines: calls on streams, relative troves, change sets and manifests, and what they have to
+answer. Usage, at the top:
+
+    python3 -m tools.lines.stream_lines stdin   >crates/stream_lines/stdin     a call and its arguments in each line
+    python3 -m tools.lines.stream_lines stdout  >crates/stream_lines/stdout    what each has to answer
+    python3 -m tools.lines.stream_lines count                                  how many lines and answers there are, by topic
+
+The calls are those of tools/cases/streams.py, tools/cases/relatives.py and tools/cases/manifests.py;
+tools/lines/stream_answers.py says what each has to answer.
+"""
+import re
+import sys
+
+from tools.cases import manifests, relatives, streams
+from tools.lines.stream_answers import answer, answers_in
+from tools.lines.words import Terms, digits, value_bytes
+
+CASES = streams.CASES + relatives.CASES + manifests.CASES
+
+
+def argument_text(argument):
+    if isinstance(argument, Terms):
+        return argument.text()
+    if isinstance(argument, str) and re.fullmatch(r"(?!0x|=)[^\t\n]*", argument):
+        return argument
+    data = value_bytes(argument)
+    return digits(data) if data else ""
+
+
+def answer_to(call, arguments):
+    return answer(call, list(map(value_bytes, arguments)))
+
+
+def check_by_hand():
+    for (call, *arguments), wanted in streams.ITEMS_BY_HAND:
+        if answer_to(call, arguments) != wanted:
+            sys.exit(f"{call} {arguments} is answered {answer_to(call, arguments)!r} and not {wanted!r}")
+
+
+def main(mode):
+    check_by_hand()
+    totals = []
+    for topic, cases in CASES:
+        counts = []
+        for call, *arguments in cases():
+            if mode == "count":
+                counts.append(answers_in(call, list(map(value_bytes, arguments))))
+            else:
+                print(answer_to(call, arguments) if mode == "stdout" else "\t".join([call, *map(argument_text, arguments)]))
+        totals += counts
+        if mode == "count":
+            print(f"{topic}: {len(counts)} lines, {sum(counts)} answers")
+    if mode == "count":
+        print(f"all: {len(totals)} lines, {sum(totals)} answers")
+
+
+if __name__ == "__main__":
+    if len(sys.argv) != 2 or sys.argv[1] not in ("stdin", "stdout", "count"):
+        sys.exit(__doc__)
+    sys.stdout.reconfigure(encoding="utf-8", newline="\n")
+    main(sys.argv[1])

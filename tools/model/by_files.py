@@ -1,0 +1,428 @@
+"""A model of a whole call: the words, the order of all tests, and the commands of a root, `install`, `update`, `erase`, `rollback`, `q`,
+`rblist`, `verify` and `localcs`, made from docs/COMMANDS.md, docs/FORMATS.md and docs/MODEL.md alone. The commands of a repository are
+those of model/program.py.
+
+Nothing is remembered between calls: the database, the records and the saved contents are read from the root's files by
+model/stacks.py. Lists are those of model/lists.py, the table of paths is that of model/plans.py, and disks and journals are those of
+model/trees.py. How many calls of the root a command makes, and in which order, is told here, for the lines `from`.
+"""
+import re
+
+from tools.model import lists, plans, program, repository, stacks
+from tools.model.local_changes import LONGEST, local_changes, local_id, reached
+from tools.model.program import JOURNAL, Ended, is_spec, manifest_of
+from tools.model.records import (
+    BASE, DATABASE, EMPTY, GREATEST_NUMBER, MOST_JOBS, NOTHING, Db, by_name, content_path, database_bytes, mark_of, mark_of_record,
+    read_database, record_bytes, record_of, record_path, saved_path,
+)
+from tools.model.relatives import all_made, check_allowed
+from tools.model.reports import change_lines, finding_line, id_lines, note_text, or_nothing, trove_text
+from tools.model.streams import LARGEST_CONTENT, NotOfForm, different_bytes, is_label, is_name, keep, read_set, set_text, sha
+from tools.model.trees import Damaged, Refused, clear, is_of, make_dir, parent_of, read_whole
+
+PIECE, MOST_BYTES = 65_536, stacks.LIMIT[2]
+
+# ---- the words
+
+PLANNED_COMMANDS = b"batch demo serve mirror sync".split()
+PLANNED_OPTIONS = {b"update": (b"--resolve",)}
+
+# A command takes at most so many names or specifications.
+MOST_NAMES = 64
+
+OPTIONS = {
+    b"cook": (b"--next",), b"install": (b"--replace", b"--keep"), b"update": (b"--replace", b"--keep"), b"erase": (b"--replace",),
+    b"verify": (b"--full",),
+}  # fmt: skip
+WITHOUT_WORDS = b"install cook commit showcs rblist".split()
+
+
+def job_number(word):
+    """The number that `r.N` names; None where the word is none."""
+    digits = re.fullmatch(rb"r\.([1-9][0-9]{0,9})", word)
+    return int(digits[1]) if digits and int(digits[1]) <= GREATEST_NUMBER else None
+
+
+def are_words_of(command, rest):
+    """Whether these words may stand behind the command and its options."""
+    if command in WITHOUT_WORDS:
+        return not rest
+    if command in (b"rq", b"q"):
+        return len(rest) <= 1 and all(map(is_name, rest))
+    if command == b"rollback":
+        return len(rest) <= 1 and all(job_number(word) for word in rest)
+    if command == b"localcs":
+        return len(rest) == 1 and is_name(rest[0])
+    if command in (b"erase", b"verify"):
+        return (command == b"verify" or rest != []) and len(rest) <= MOST_NAMES and all(map(is_name, rest))
+    if command == b"update":
+        return rest == [b"-"] or (rest != [] and len(rest) <= MOST_NAMES and all(map(is_spec, rest)))
+    if command == b"changeset":
+        return len(rest) in (1, 2) and all(map(is_spec, rest))
+    return command in (b"shadow", b"branch") and len(rest) == 2 and is_label(rest[0]) and is_spec(rest[1])
+
+
+def command_of(words):
+    """The command, its options and what stands behind them."""
+    if not words:
+        raise Ended(2, b"")
+    command, rest = words[0], list(words[1:])
+    if command in PLANNED_COMMANDS:
+        raise Refused(b"not built " + command)
+    planned, options = PLANNED_OPTIONS.get(command, ()), []
+    while rest and rest[0] in OPTIONS.get(command, ()) + planned:
+        if rest[0] in planned:
+            raise Refused(b"not built " + rest[0])
+        if rest[0] in options:
+            raise Ended(2, b"")
+        options.append(rest.pop(0))
+    short = len(words) <= program.MOST_WORDS and all(len(word) <= program.LONGEST_WORD for word in words)
+    if not short or not are_words_of(command, rest):
+        raise Ended(2, b"")
+    return command, options, rest
+
+
+# ---- nodes and files
+
+def read_file(tree, path):
+    """A look, and where a file stands its bytes."""
+    node = tree.look(path)
+    if is_of(node, "file"):
+        read_whole(tree, path)
+    return node
+
+
+def mark_at(tree, path):
+    """A look, and where a file stands its bytes in large pieces."""
+    node = tree.look(path)
+    if is_of(node, "file"):
+        read_pieces(tree, path, len(node[2]))
+    return node
+
+
+def read_pieces(tree, path, size):
+    for _ in range(0, size, PIECE):
+        tree.read_at(path)
+
+
+# ---- opening a root that is recovered
+
+
+def write_all(tree, puts):
+    JOURNAL.apply(tree, sorted(puts.items()))
+
+
+def open_database(tree):
+    """The database, once a root of format 1 was brought to format 2."""
+    if tree.look(DATABASE) is not None:
+        read_file(tree, DATABASE)
+    puts = stacks.migrated(tree.nodes)
+    if puts is not None:
+        for path in sorted(puts.keys() - {DATABASE}, key=lambda path: -int(path.rpartition(b".")[2])):
+            read_file(tree, path)
+        write_all(tree, puts)
+    node = read_file(tree, DATABASE)
+    if node is None:
+        return EMPTY
+    try:
+        return Db(*read_database(node[2] if node[0] == "file" else b""))
+    except NotOfForm:
+        raise Damaged(DATABASE) from None
+
+
+# ---- plans
+
+
+def records_of(troves):
+    return {trove.identity.name: dict(trove.files) for trove in troves}
+
+
+class Plan:
+    """What a job makes of the paths that it changes, by the tests of the lists and of the tree, in the order of the calls."""
+
+    def __init__(self, tree, before, after, options):
+        self.tree, self.options = tree, [option.removeprefix(b"--").decode() for option in options]
+        self.old, self.fresh, self.nodes = records_of(before), records_of(after), dict(tree.nodes)
+        plans.check_owned(self.fresh)
+        left, refusal = self.tested(), None
+        try:
+            self.changes = plans.plan_changes(self.nodes, self.old, self.fresh, self.options)
+        except Refused as why:
+            self.changes, refusal = {}, why
+        self.settle(left)
+        self.look_at_parents()
+        if refusal is not None:
+            raise refusal
+
+    def tested(self):
+        """Looks at each path that isn't settled by the lists. Answers the directories that may be left empty."""
+        left = []
+        for path in plans.all_paths(self.old, self.fresh):
+            old, fresh = plans.record(self.old, path), plans.record(self.fresh, path)
+            if path in program.FIXED or mark_of_record(old) == mark_of_record(fresh):
+                continue
+            stands = mark_at(self.tree, path)
+            plans.check_target(path, plans.row(path, old, fresh, stands, False, self.options))
+            if fresh is None and old.kind == "d" and is_of(stands, "dir"):
+                left.append(path)
+        return left
+
+    def settle(self, left):
+        """Lists each directory that may be left empty, but where something comes directly into it."""
+        for path in reversed(left):
+            if not any(want is not None and parent_of(other) == path for other, want in self.changes.items()):
+                self.tree.list(path)
+
+    def look_at_parents(self):
+        def stays_dir(path):
+            return self.changes[path] is not None and self.changes[path].kind == "d"
+
+        for path, want in sorted(self.changes.items()):
+            was, above = self.nodes.get(path), parent_of(path)
+            if want is not None and above in self.changes and not stays_dir(above):
+                continue
+            if want is not None and above not in self.changes and was is None and not is_of(self.tree.look(above), "dir"):
+                continue
+            if is_of(was, "dir") and not stays_dir(path):
+                self.tree.list(path)
+
+
+def is_content(data, record):
+    return data is not None and len(data) == record.size and sha(data) == record.name
+
+
+class Job:
+    """A job on the root of a call, whose contents are carried, found in the repository, or stand at their paths."""
+
+    def __init__(self, call, carried, searched):
+        self.call, self.tree, self.db, self.carried, self.searched = call, call.root, call.db, dict(carried), searched
+
+    def made(self, after, options):
+        """Makes the job, or doesn't where nothing changes; answers the lines of it."""
+        lists.closed(after)
+        plan = Plan(self.tree, self.db.troves, after, options)
+        olds = {path: plan.nodes.get(path) for path in sorted(plan.changes)}
+        wants = {path: self.wanted(path, plan.changes[path], was) for path, was in olds.items()}
+        self.read_olds([path for path in olds if is_of(olds[path], "file")], olds)
+        size = len(database_bytes(2, after, 0, 0))
+        if size > MOST_BYTES:
+            raise Refused(b"too large: database %d" % size)
+        changes = list(lists.changed(self.db.troves, after))
+        if wants or changes:
+            self.write(after, wants, olds)
+        return or_nothing(change_lines(changes))
+
+    def wanted(self, path, record, was):
+        """What is to stand at a path, by what is recorded and what stands."""
+        if record is None or record.kind != "f":
+            return None if record is None else mark_of_record(record)
+        carried = self.carried.get(record.name)
+        if is_content(carried, record):
+            return "file", record.mode, carried
+        found = self.call.found(record.name) if self.searched else None
+        if is_content(found, record):
+            return "file", record.mode, found
+        if is_of(was, "file") and is_content(was[2], record):
+            return "file", record.mode, read_whole(self.tree, path)
+        raise Refused(b"missing content " + record.name.hex().encode())
+
+    def read_olds(self, paths, olds):
+        """What stands at the paths that change: tests of its sizes, and of the names of its bytes."""
+        kept = {}
+        for size in (len(olds[path][2]) for path in paths):
+            if size > LARGEST_CONTENT:
+                raise Refused(b"too large: local %d" % size)
+        for path in paths:
+            read_whole(self.tree, path)
+        for path in paths:
+            keep(kept, olds[path][2])
+
+    def write(self, after, wants, olds):
+        """Saves the old contents, and puts targets, record and database by one write set."""
+        number = self.db.newest + 1
+        if number > GREATEST_NUMBER:
+            raise Refused(b"too large: jobs %d" % GREATEST_NUMBER)
+        oldest = max(self.db.oldest, number - MOST_JOBS + 1, 1)
+        for one in ([oldest - 2] if oldest > 2 else []) + [number]:
+            clear(self.tree, record_path(one))
+            clear(self.tree, saved_path(one))
+        make_dir(self.tree, BASE)
+        for path in sorted(olds):
+            if is_of(olds[path], "file"):
+                self.save(number, olds[path][2])
+        marks = [(path, mark_of(olds[path]), mark_of(wants[path])) for path in sorted(wants)]
+        record = record_bytes(record_of(number, self.db.troves, after, marks), 2)
+        own = {record_path(number): record, DATABASE: database_bytes(2, after, oldest, number)}
+        write_all(self.tree, {**wants, **{path: ("file", 0o644, data) for path, data in own.items()}})
+
+    def save(self, number, data):
+        make_dir(self.tree, saved_path(number))
+        path = content_path(number, sha(data))
+        if self.tree.look(path) is None:
+            self.tree.append(path, data)
+        else:
+            read_pieces(self.tree, path, len(data))
+
+
+# ---- jobs taken back
+
+
+def check_undo(tree, found, changes):
+    """The looks at the paths of a job that is to be taken back, up to its first refusal, which isn't told here."""
+    paths = {path for path, _, _ in changes}
+    for path, was, now in changes:
+        node = found[path] if path in found else mark_of(mark_at(tree, path))
+        if node != now:
+            return
+        if was[0] != "dir" and now[0] == "dir" and is_of(tree.look(path), "dir"):
+            children = tree.list(path)
+            if any(child not in paths and found.get(child) != NOTHING for child in children):
+                return
+    for path, was, _ in changes:
+        above = parent_of(path)
+        if was != NOTHING and above not in paths and above not in found:
+            tree.look(above)
+
+
+def taken_back(tree, db, number):
+    """The writes that take back all jobs from the newest down to a number, and the database after them."""
+    if db.newest and db.oldest <= number <= db.newest:
+        found, after, marks = {}, db.troves, stacks.marks_of(tree.nodes)
+        for one in range(db.newest, number - 1, -1):
+            read_file(tree, record_path(one))
+            job = stacks.read_job(tree.nodes, 2, one, after)
+            check_undo(tree, {path: was for path, (_, was) in found.items()}, job.changes)
+            marks = stacks.undone(marks, job.changes)
+            found.update({path: (one, was) for path, was, _ in job.changes})
+            after = job.before
+        for path, (one, was) in sorted(found.items()):
+            if was == NOTHING:
+                tree.look(path)
+            if was[0] == "file":
+                read_file(tree, content_path(one, was[3]))
+    return stacks.inverse_to(tree.nodes, db, number)
+
+
+# ---- a whole call
+
+
+class Call(program.Call):
+    """A whole call of the program, with the commands of the root as jobs."""
+
+    def perform(self):
+        command, options, rest = command_of(self.words)
+        for path in program.FIXED:
+            if not is_of(self.root.look(path), "dir"):
+                raise Refused(b"parent " + path)
+        JOURNAL.recover(self.root)
+        self.db = open_database(self.root)
+        repository.JOURNAL.recover(self.repo)
+        self.catalogue = repository.load(self.repo)
+        data = self.read_input() if command in program.TAKES_INPUT or (command, rest) == (b"update", [b"-"]) else None
+        return self.answer(command, options, rest, data)
+
+    def answer(self, command, options, rest, data):
+        if command == b"showcs":
+            return set_text(read_set(data))
+        if command == b"rq":
+            return self.list_troves(*rest)
+        if command == b"changeset":
+            return self.change_set(rest)
+        if command in (b"shadow", b"branch"):
+            return self.move(command.decode(), *rest)
+        if command in (b"cook", b"commit"):
+            return self.cook(data, options) if command == b"cook" else self.commit(data)
+        if command == b"install":
+            return self.install(data, options)
+        if command == b"update":
+            return self.update(rest, options) if data is None else self.update_to(data, options)
+        if command == b"erase":
+            return Job(self, [], False).made(lists.erased(self.db.troves, rest), options)
+        if command == b"rollback":
+            return self.roll_back(job_number(rest[0]) if rest else None)
+        if command == b"rblist":
+            return self.jobs()
+        if command == b"q":
+            return self.installed(rest)
+        return self.verify(rest, bool(options)) if command == b"verify" else self.local(rest[0])
+
+    # ---- jobs
+
+    def job_with(self, troves, carried, searched, options):
+        return Job(self, carried, searched).made(lists.updated(self.db.troves, troves), options)
+
+    def install(self, data, options):
+        troves, contents = manifest_of(data)
+        for trove in troves:
+            check_allowed(trove)
+        return self.job_with(troves, contents, False, options)
+
+    def update(self, specs, options):
+        config = self.config()
+        roots = [repository.resolve(self.catalogue, repository.spec_of(text), config) for text in specs]
+        return self.job_with(repository.expand(self.catalogue, *roots), [], True, options)
+
+    def update_to(self, data, options):
+        change = read_set(data)
+        return self.job_with(all_made(change.parts, self.db.troves), change.contents, True, options)
+
+    def found(self, name):
+        """The content of this name in the repository."""
+        return repository.content_of(self.repo, self.catalogue, name)
+
+    def roll_back(self, number):
+        newest = self.db.newest
+        puts, left = taken_back(self.root, self.db, number or newest)
+        write_all(self.root, {**puts, DATABASE: ("file", 0o644, database_bytes(2, *left))})
+        return b"".join(b"rolled back r.%d\n" % one for one in range(newest, (number or newest) - 1, -1))
+
+    # ---- what is only read
+
+    def jobs(self):
+        out, after = b"", self.db.troves
+        for number in range(self.db.newest, self.db.oldest - 1, -1) if self.db.newest else ():
+            read_file(self.root, record_path(number))
+            job = stacks.read_job(self.root.nodes, 2, number, after)
+            out += note_text(number, len(job.changes), lists.changed(job.before, after))
+            after = job.before
+        return out
+
+    def check_installed(self, names):
+        there = by_name(self.db.troves)
+        for name in names:
+            if name not in there:
+                raise Refused(b"not installed " + name)
+        return there
+
+    def installed(self, names):
+        there = self.check_installed(names)
+        return trove_text(there[names[0]]) if names else id_lines(one.identity for one in self.db.troves)
+
+    def verify(self, names, full):
+        self.check_installed(names)
+        files = [file for trove in self.db.troves if not names or trove.identity.name in names for file in trove.files]
+        found = [(self.found_at(path, record, full), path) for path, record in files]
+        found = [finding_line(*one) for one in found if one[0] is not None]
+        return b"".join(found) + b"verified %d paths, %d changed\n" % (len(files), len(found))
+
+    def found_at(self, path, record, full):
+        """What is found at a path: nothing where it is as recorded, a word, or how many bytes differ from the content in the repository."""
+        node = mark_at(self.root, path)
+        if node is None:
+            return "missing"
+        if record.kind == "d" and node[0] == "dir" or mark_of(node) == mark_of_record(record):
+            return None
+        content = self.found(record.name) if full and record.kind == "f" and node[0] == "file" else None
+        if content is None or len(content) != record.size:
+            return "changed"
+        self.root.look(path)
+        read_pieces(self.root, path, min(len(content), len(node[2])))
+        return different_bytes(content, node[2])
+
+    def local(self, name):
+        there = by_name(self.db.troves)
+        troves = reached(there, name)
+        if all(len(local_id(trove.identity).version) <= LONGEST for trove in troves):
+            for path in (path for trove in troves for path, _ in trove.files):
+                read_file(self.root, path)
+        return local_changes(self.root.nodes, there, name)
