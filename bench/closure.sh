@@ -1,30 +1,23 @@
 #!/bin/sh
-# Prints how long it takes to test a list of so many troves with 10 requirements each for closure, and to make 500 changes of one
-# trove each, and 20 that are refused, on the closure of such a list; and the same changes of one more trove, which all others
-# require. The times have the reading of the lines in them, but for the changes, where the time of making the closure and of the
-# first change is taken off.
-# It builds the program list_lines, which proves what isn't proved yet on this machine.
+# How long it takes to test a list of so many troves with 10 requirements each for closure, and to make 500 changes of one trove each, and 20
+# that are refused, on the closure of such a list; and the same changes of one more trove, which all others require. The times have the
+# reading of the lines in them, but for the changes, where the time of making the closure and of the first change is taken off. The least of
+# five processes, the program `list_lines`. It needs Python.
 # Usage: bench/closure.sh [COUNT...]
 set -eu
 . "$(dirname "$0")/lib.sh"
-cd "$top/crates/list_lines"
-if ! rt run >"$work/build.log" 2>&1; then
-    tail -5 "$work/build.log" >&2
-    exit 70
-fi
+build list_lines
+
+answer() {
+    "$program" <"$work/lines" >"$work/answers"
+}
 
 # How many milliseconds the program takes for these lines, the least of five times.
 taken() {
-    python3 "$top/bench/programs/closure/lines.py" "$top/tools" "$@" >"$work/lines"
-    least=
+    python3 "$top/bench/programs/closure/lines.py" "$top" "$@" >"$work/lines"
     for _ in 1 2 3 4 5; do
-        start=$(date +%s%N)
-        out/list_lines <"$work/lines" >"$work/answers"
-        end=$(date +%s%N)
-        time=$(((end - start) / 1000000))
-        [ -n "$least" ] && [ "$least" -le "$time" ] || least=$time
-    done
-    echo "$least"
+        time_of answer
+    done | sort -n | head -1 | cut -d. -f1
 }
 
 [ $# -gt 0 ] || set -- 2000 5000 10000 20000
@@ -33,9 +26,12 @@ for count in "$@"; do
     one=$(taken "$count" 1 0)
     many=$(taken "$count" 501 0)
     refused=$(taken "$count" 1 20)
-    echo "$count troves: tested in $closed ms, 500 changes in $((many - one)) ms, 20 refused ones in $((refused - one)) ms"
+    echo "testing a list of troves with 10 requirements each for closure | $count troves | $closed ms"
+    echo "500 changes of one trove each on its closure | $count troves | $((many - one)) ms"
+    echo "20 changes that are refused | $count troves | $((refused - one)) ms"
     one=$(taken "$count" 1 0 hub)
     many=$(taken "$count" 501 0 hub)
     refused=$(taken "$count" 1 20 hub)
-    echo "of what they all require 500 changes in $((many - one)) ms, 20 refused ones in $((refused - one)) ms"
+    echo "500 changes of one trove that all others require | $count troves | $((many - one)) ms"
+    echo "20 changes of that one that are refused | $count troves | $((refused - one)) ms"
 done

@@ -1,10 +1,11 @@
 #!/bin/sh
-# Times `install` of manifests of 1,000 to 5,000 files of 100 bytes each on the trees in memory, and prints a line for each.
+# How long the program takes to install manifests of so many files of 100 bytes each, 100 in a directory, on the trees in memory; the least of
+# three runs.
 # Usage: bench/install.sh [COUNT...]
 set -eu
 . "$(dirname "$0")/lib.sh"
 
-# A manifest with so many files of 100 bytes, 100 files in a directory.
+# A manifest with so many files.
 manifest() {
     awk -v count="$1" 'BEGIN {
         print "manifest 1"; print "component bench:data"
@@ -19,13 +20,19 @@ manifest() {
     }'
 }
 
+install() {
+    "$top/conary" install <"$work/manifest" >"$work/out"
+    grep -q '^installed bench:data=' "$work/out"
+}
+
+row() {
+    took=$(time_of install) || return
+    echo "installing a manifest of files of 100 bytes, on trees in memory | $count files | $took"
+}
+
 (. "$top/tools/program.sh" && need_proved)
 [ $# -gt 0 ] || set -- 1000 2000 3000 4000 5000
 for count in "$@"; do
     manifest "$count" >"$work/manifest"
-    begin=$(date +%s%N)
-    "$top/conary" install <"$work/manifest" >"$work/out"
-    end=$(date +%s%N)
-    grep -q '^installed bench:data=' "$work/out"
-    echo "$count files: $(((end - begin) / 1000000)) ms"
+    least 3 row
 done

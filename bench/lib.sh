@@ -1,35 +1,87 @@
 # What the benches share. They read this file with `.`; it sets $top, the repository, and $work, a folder that goes at their end.
-# The programs that they build stand in bench/programs, as files that the gate doesn't read.
+#
+# A bench prints rows: what is measured, for which size, how much it took, and its limit where it has one, with ` | ` between them.
+# Where a limit is passed, or a program finds a wrong answer, it ends with another status than 0. bench/all makes docs/COSTS.md of the rows.
+#
+# The programs that benches build stand in bench/programs, as files that the gate of this repository doesn't read, each in a folder with its
+# name; what several of them share stands in bench/programs/parts.
 top=$(CDPATH='' cd "$(dirname "$0")/.." && pwd)
 work=$(mktemp -d)
 trap 'rm -rf "$work"' EXIT
+. "$top/tools/needed_lines.sh"
 
-# copy_program NAME LINE: makes the folder $work a repository of the program NAME and of the crates that it stands on, copied without
-# their must-fail edits. LINE is what follows the name in the program's line of crates.txt. It names the crates that the program's
-# code names; those below them are found in the repository's crates.txt.
-copy_program() {
-    mkdir -p "$work/crates/$1/src"
-    . "$top/tools/needed_lines.sh"
-    needed_lines "$top/crates.txt" "$2" >"$work/crates.txt"
-    for crate in $(cut -d: -f1 "$work/crates.txt"); do
-        mkdir "$work/crates/$crate"
-        for part in src specs proofs; do
-            [ ! -d "$top/crates/$crate/$part" ] || cp -r "$top/crates/$crate/$part" "$work/crates/$crate/"
-        done
+# build_in FOLDER NAME: has the gate prove and build the program NAME of the repository in this folder, with what isn't proved yet on this
+# machine, and sets $program to it.
+build_in() {
+    if ! (cd "$1" && exec rt ci) </dev/null >"$work/build.log" 2>&1; then
+        tail -20 "$work/build.log" >&2
+        exit 70
+    fi
+    program=$1/crates/$2/out/$2
+}
+
+# build NAME: the same for a program of this repository, in a folder of its own.
+build() {
+    mkdir "$work/$1"
+    copy_needed "$work/$1" "$1"
+    build_in "$work/$1" "$1"
+}
+
+# build_bench NAME "CRATES": the same for the program of bench/programs/NAME, whose files name these crates. The modules that its main file
+# declares and that its own folder doesn't have are taken from bench/programs/parts. The gate runs a program once on nothing: without
+# words and lines it is to do nothing.
+build_bench() {
+    mkdir "$work/$1"
+    copy_needed "$work/$1" "$2"
+    echo "$1: $2" >>"$work/$1/crates.txt"
+    mkdir -p "$work/$1/crates/$1/src"
+    for module in main $(sed -n 's/^mod \([a-z_]*\);$/\1/p' "$top/bench/programs/$1/main.rattle"); do
+        file=$top/bench/programs/$1/$module.rattle
+        [ -f "$file" ] || file=$top/bench/programs/parts/$module.rattle
+        cp "$file" "$work/$1/crates/$1/src/$module.rt"
     done
-    echo "$1 $2" >>"$work/crates.txt"
-    for file in "$top/bench/programs/$1"/*.rattle; do
-        cp "$file" "$work/crates/$1/src/$(basename "$file" .rattle).rt"
+    build_in "$work/$1" "$1"
+}
+
+# alone SIZE...: what the program prints of each size, in a process of its own for each.
+alone() {
+    for size in "$@"; do
+        "$program" "$size" || return
     done
 }
 
-# build_program NAME: proves and builds it, with what isn't proved yet on this machine, and goes to its folder, where it is out/NAME.
-# It is run once by that, on the file stdin in its folder where there is one.
-build_program() {
-    cd "$work/crates/$1"
-    [ -f stdin ] || : >stdin
-    if ! rt run <stdin >"$work/build.log" 2>&1; then
-        tail -5 "$work/build.log" >&2
-        exit 70
-    fi
+# least TIMES COMMAND...: the rows that a command prints, of so many runs each one with its least figure.
+least() {
+    times=$1
+    shift
+    for _ in $(seq "$times"); do
+        "$@" || return
+    done >"$work/rows"
+    awk -F ' [|] ' '
+        { row = $1 " | " $2; figure = $3 + 0 }
+        !(row in least) { order[++rows] = row }
+        !(row in least) || figure < least[row] { least[row] = figure; told[row] = $3 }
+        END { for (at = 1; at <= rows; at++) print order[at] " | " told[order[at]] }' "$work/rows"
+}
+
+# at_most FIGURE TEXT: the rows of standard input with this limit. It fails where the figure of one is greater.
+at_most() {
+    awk -F ' [|] ' -v most="$1" -v text="$2" '{ print $0 " | " text } $3 + 0 > most { over = 1 } END { exit over }'
+}
+
+# time_of COMMAND...: how long a command takes, in milliseconds.
+time_of() {
+    begin=$(date +%s%N)
+    "$@" || return
+    end=$(date +%s%N)
+    tenths=$(((end - begin) / 100000))
+    echo "$((tenths / 10)).$((tenths % 10)) ms"
+}
+
+# peak_of FILE COMMAND...: the greatest memory of a command, in bytes. What it prints goes to the file.
+peak_of() {
+    python3 -c 'import resource, subprocess, sys
+with open(sys.argv[1], "w") as told:
+    subprocess.run(sys.argv[2:], stdout=told, check=True)
+print(resource.getrusage(resource.RUSAGE_CHILDREN).ru_maxrss * 1024)' "$@"
 }

@@ -1,6 +1,6 @@
 #!/bin/sh
-# Prints how long it takes to read manifests, and how much memory that takes with the manifest itself.
-# It builds a program for that in a folder of its own, which proves what isn't proved yet on this machine.
+# How long it takes to read manifests, the least of three processes, and how much memory that takes with the manifest itself. It needs
+# Python.
 # Usage: bench/manifests.sh [KIND COUNT SIZE]... KIND is `component`, so many files of one component; `package`, a fifth of so
 # many files in each of its five components; or `named`, a package whose lines name so many components, each in a line of what it
 # requires and one of what it provides, and that has as many files. COUNT is at most 65,535 for a component, 65,530 for the named
@@ -10,8 +10,7 @@
 # 50, 100 and 200 MB in 16,384, 32,768 and 65,535 files.
 set -eu
 . "$(dirname "$0")/lib.sh"
-copy_program manifests 'may_abort=20: cny_manifest anyhow'
-build_program manifests
+build_bench manifests 'cny_manifest anyhow'
 if [ $# -eq 0 ]; then
     set -- component 16384 100 component 32768 100 component 65535 100
     set -- "$@" package 81920 100 package 163840 100 package 327675 100
@@ -20,17 +19,10 @@ if [ $# -eq 0 ]; then
     set -- "$@" component 16384 3000 component 32768 3000 component 65535 3000
 fi
 while [ $# -gt 2 ]; do
-    python3 - "$1" "$2" "$3" <<'MEASURE'
-import resource, subprocess, sys
-out = subprocess.run(["out/manifests", *sys.argv[1:]], capture_output=True, text=True, check=True).stdout.split()
-peak = resource.getrusage(resource.RUSAGE_CHILDREN).ru_maxrss * 1024
-if len(out) != 4:
-    sys.exit(f"{' '.join(sys.argv[1:])}: {' '.join(out)}")
-size, troves, contents, taken = map(int, out)
-print(
-    f"{sys.argv[1]}, {sys.argv[2]} files of {sys.argv[3]} bytes: a manifest of {size} bytes read in {taken} ms,"
-    f" {troves} troves, {contents} contents, peak memory {peak / size:.2f} times the manifest"
-)
-MEASURE
+    least 3 "$program" "$1" "$2" "$3" | grep -v '^its bytes'
+    peak=$(peak_of "$work/told" "$program" "$1" "$2" "$3")
+    awk -F ' [|] ' -v peak="$peak" '
+        NR == 1 { measure = $1 }
+        $1 == "its bytes" { printf "peak memory with the manifest, %s | %s | %.2f times the manifest\n", measure, $2, peak / $3 }' "$work/told"
     shift 3
 done

@@ -2,23 +2,22 @@
 refused. For `hub` each trove requires what one more provides, and the changes are of that one."""
 import sys
 
-sys.dont_write_bytecode = True
 sys.path.insert(0, sys.argv[1])
 
-from closure_cases import Trove
+from tools.cases.closures import trove as trove_of, waiting
 
 count, changes, refused = map(int, sys.argv[2:5])
 is_hub = sys.argv[5:] == ["hub"]
 
 
 def hub(revision):
-    return Trove("hub:lib", provides=["soname: hub.so(A B)"], revision=revision)
+    return trove_of("hub:lib", provides=["soname: hub.so(A B)"], revision=revision)
 
 
 def trove(place, revision):
     first = place // 10 * 10
     requires = ["trove: p%06d:lib" % (first % count + number) for number in range(is_hub, 10)]
-    return Trove("p%06d:lib" % place, requires + ["soname: hub.so(A)"] * is_hub, ["soname: lib%d.so(A B)" % place], revision)
+    return trove_of("p%06d:lib" % place, requires + ["soname: hub.so(A)"] * is_hub, ["soname: lib%d.so(A B)" % place], revision)
 
 
 def say(*words):
@@ -26,11 +25,11 @@ def say(*words):
 
 
 for one in [hub(1)] * is_hub + [trove(place, 1) for place in range(count)]:
-    say(*one.line())
+    say(waiting(one))
 say("of" if changes + refused else "closed")
 for change in range(changes):
     one = hub(change + 2) if is_hub else trove(change * 37 % count, change + 2)
-    say(*one.line())
-    say("change", one.name)
+    say(waiting(one))
+    say("change", one.identity.name.decode())
 for change in range(refused):
     say("change", "hub:lib" if is_hub else "p%06d:lib" % (change * 37 % count))

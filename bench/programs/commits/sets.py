@@ -1,11 +1,11 @@
+"""The change sets of bench/commits.sh, of 5 troves with 50 files each, a line of hexadecimal digits for each."""
 import sys
 from hashlib import sha1
 
-sys.dont_write_bytecode = True
 sys.path.insert(0, sys.argv[1])
 
-from repository_lines import component
-from stream_model import set_bytes
+from tools.cases.repositories import component
+from tools.model.streams import set_bytes
 
 for number in range(int(sys.argv[2])):
     troves, texts = [], []

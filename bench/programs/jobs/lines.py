@@ -1,7 +1,10 @@
-"""A line each for the two jobs: troves and contents."""
-import hashlib, sys
+"""The steps of bench/jobs.sh: two jobs of so many packages with their troves and contents, a verification and a rollback."""
+import hashlib
+import sys
+
 sys.path.insert(0, sys.argv[1])
-from stream_model import Id, ROOT, Trove, directory, regular, trove_bytes
+
+from tools.model.streams import Id, ROOT, Trove, directory, regular, trove_bytes
 
 packages = int(sys.argv[2])
 
@@ -11,7 +14,7 @@ def content(package, file, round_):
     return b"file %d of package %d, round %d, and some more bytes that are the same in each file" % (file, package, changes)
 
 
-for round_ in (1, 2):
+for round_, step in ((1, "install"), (2, "update")):
     troves, contents = [], {}
     for package in range(packages):
         name = b"p%05d" % package
@@ -28,4 +31,6 @@ for round_ in (1, 2):
                 files.append((top + b"/f%02d" % file, regular(0o644, 0, len(data), sha1, ROOT)))
             troves.append(Trove(identity, files, [], [], []))
     carried = [data for _, data in sorted(contents.items())]
-    print("job", ";".join("0x" + trove_bytes(trove, True).hex() for trove in troves), ";".join("0x" + data.hex() for data in carried), sep="\t")
+    print(step, ";".join("0x" + trove_bytes(trove, True).hex() for trove in troves), ";".join("0x" + data.hex() for data in carried), sep="\t")
+print("verify")
+print("back")
