@@ -1,39 +1,25 @@
 -- What the passes give makes a relative trove lead from one trove to another.
-use Rattle.std.proofs.Common.{◌≡◌, ◌≢◌, ℕ, inr, Option, Some, None, MatchOption, List, [], ◌∷◌, ◌++◌, All, Contains, Ordering, refl, sym, ap, ◌∙◌, subst, append-nil}
-use Rattle.std.specs.Ordering.{is_eq}
-use Rattle.std.specs.declared.cmp.Ordering.TheVariants.{Equal}
-use Rattle.std.specs.Prelude.{IsTrue}
+use Rattle.std.proofs.Common.{◌≡◌, ◌≢◌, ℕ, inr, Option, Some, None, MatchOption, List, [], ◌∷◌, ◌++◌, All, Ordering, refl, sym, ap, ◌∙◌, subst}
 use Rattle.std.proofs.lemmas.List.Elements.{All-nil, All-cons, All-contains}
-use Rattle.std.proofs.lemmas.Map.Text.{is_eq-slice_cmp}
-use Rattle.std.proofs.lemmas.Slice.Eq.{bytes_eq-Decides}
-use Rattle.std.specs.Cmp.Lexicographic.{slice_cmp}
-use Rattle.std.specs.Ordering.{nat_cmp}
 use Rattle.cny_dep.specs.Dep.{Dependency, IsDependency, dep_text}
 use Rattle.cny_dep.specs.Order.{dep_cmp}
-use Rattle.trove_stream.specs.trove-parts.declared.id.TroveId.{TroveId}
 use Rattle.trove_stream.specs.trove-parts.Id.{IsTroveId}
-use Rattle.trove_stream.specs.trove-parts.Order.{id_eq, id_cmp, id_ties}
+use Rattle.trove_stream.specs.trove-parts.Order.{id_cmp, name_of}
 use Rattle.trove_stream.specs.trove-parts.Items.{items_bytes, AreOfOneList}
-use Rattle.trove_stream.specs.trove-parts.Files.{IsFileAt, path_of, file_cmp}
+use Rattle.trove_stream.specs.trove-parts.Files.{IsFileAt, path_of}
 use Rattle.trove_stream.specs.trove-parts.Paths.{IsPath, path_cmp}
 use Rattle.trove_stream.specs.declared.parts.TroveParts.{TroveParts}
 use Rattle.trove_stream.specs.Trove.{IsTrove}
 use Rattle.trove_stream.specs.declared.rel.RelParts.{RelParts}
 use Rattle.trove_stream.specs.Disjoint.{AreDisjoint}
 use Rattle.trove_stream.specs.Rel.{IsPathOf, IsSameId, IsSameDep, IsRel}
-use Rattle.change_rel.specs.Amends.{HasKey, by_key, IsAmended}
+use Rattle.change_rel.specs.Amends.{HasKey, IsAmended}
 use Rattle.change_rel.specs.Leads.{id_key, dep_key, Leads, LeadsNowhere}
 use Rattle.change_rel.specs.Lists.{AreAmended}
-use Rattle.change_rel.proofs.Members.{all_from}
 use Rattle.change_rel.proofs.OneResult.{one_amended}
+use Rattle.trove_stream.proofs.cny-base.Lists.{all_from}
 
 -- ---- values that their order takes for equal
-
-pub equal_lists : (a b : List ℕ) → slice_cmp nat_cmp a b ≡ Equal → a ≡ b
-equal_lists a b is = (bytes_eq-Decides a b).0 (sym (is_eq-slice_cmp a b) ∙ ap is_eq is)
-
-pub equal_ids : (a b : TroveId) → id_cmp a b ≡ Equal → IsTrue (id_eq a b)
-equal_ids a b is = id_ties a b ∙ ap is_eq is
 
 -- dependencies of one text are one, as lists of one item each
 pub equal_deps : AreOfOneList dep_text dep_text IsDependency → (a b : Dependency) → IsDependency a → IsDependency b → dep_text a ≡ dep_text b → a ≡ b
@@ -57,9 +43,6 @@ module _ {A K : Type 0} (key : A → K) (order : K → K → Ordering) (gone : L
 
   pub disjoint : (IsSame : K → A → Type 0) → ((k : K) (x : A) → IsSame k x → key x ≡ k) → AreDisjoint IsSame gone set
   disjoint IsSame give = all_from (λ k. All (λ x. IsSame k x → ⊥) set) gone (λ k in'. all_from (λ x. IsSame k x → ⊥) set (λ x in'' same. d.apart k in' (x, in'', give k x same)))
-
-abbrev name_of : TroveId → List ℕ
-name_of id = id.name
 
 -- ---- a relative trove that is found
 

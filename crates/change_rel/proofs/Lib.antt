@@ -1,7 +1,12 @@
-mod Members
+pub mod Members
 mod Steps
 mod Passes
 mod OneResult
 mod Leading
-mod Sent
+pub mod Sent
 pub use Rattle.trove_stream.proofs as trove-stream
+pub use Rattle.trove_stream.proofs.cny-base
+pub use Rattle.trove_stream.proofs.trove-parts
+pub use Rattle.cny_dep.proofs as cny-dep
+pub use Rattle.trove_stream.proofs.file-stream
+pub mod Unique

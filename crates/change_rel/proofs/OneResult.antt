@@ -19,15 +19,14 @@ use Rattle.trove_stream.specs.declared.rel.RelParts.{RelParts}
 use Rattle.trove_stream.specs.Above.{dep_total}
 use Rattle.trove_stream.specs.Disjoint.{AreDisjoint}
 use Rattle.trove_stream.specs.Rel.{IsPathOf, IsSameId, IsSameDep}
-use Rattle.change_rel.specs.Amends.{HasKey, Fits, Amends, by_key, IsAmended}
+use Rattle.change_rel.specs.Amends.{HasKey, Amends, by_key}
 use Rattle.change_rel.specs.Leads.{id_key, dep_key, Leads}
 use Rattle.change_rel.specs.Lists.{AreAmended}
-use Rattle.change_rel.proofs.Members.{nothing_in, contains_first, contains_rest, contains_cases, same_members}
+use Rattle.change_rel.proofs.Members.{same_members}
+use Rattle.trove_stream.proofs.cny-base.Lists.{contains_cases, contains_first, contains_rest, nothing_in}
+use Rattle.trove_stream.proofs.trove-parts.Orders.{file_total}
 
 -- ---- one result
-
-pub file_total : IsTotalOrder file_cmp
-file_total = on_total path_of nat_list_cmp_total
 
 one_made : {A K : Type 0} (key : A → K) (gone : List K) (set old a b : List A) → Amends key gone set old a → Amends key gone set old b → (x : A) → Contains a x ↔ Contains b x
 one_made key gone set old a b one two x = ((λ h. (two.result x).1 ((one.result x).0 h)), (λ h. (one.result x).1 ((two.result x).0 h)))

@@ -3,15 +3,16 @@ use Rattle.std.proofs.Common.{◌≡◌, ℕ, ◌+◌, ◌<◌, ◌≤◌, ⊎_e
 use Rattle.std.specs.Cmp.{IsTotalOrder}
 use Rattle.std.specs.List.Sorted.{IsStrictlySortedBy}
 use Rattle.std.specs.Ordering.{ordering_reverse}
-use Rattle.std.specs.declared.cmp.Ordering.TheVariants.{Less, Equal, Greater}
-use Rattle.std.proofs.lemmas.Cmp.{tied_itself}
-use Rattle.std.proofs.lemmas.List.Elements.{All-nil, All-cons, All-head, All-tail, All-weaker, All-contains}
+use Rattle.std.specs.declared.cmp.Ordering.TheVariants.{Less, Greater}
+use Rattle.std.proofs.lemmas.List.Elements.{All-cons, All-head, All-tail, All-weaker, All-contains}
 use Rattle.change_rel.specs.Amends.{HasKey, Fits, by_key, IsBelow, IsAmended}
 use Rattle.change_rel.specs.Turns.{IsFateByKeys, IsFate}
 use Rattle.change_rel.specs.declared.amending.Fate.{Fate}
 use Rattle.change_rel.specs.declared.amending.Fate.TheVariants as fate
-use Rattle.change_rel.proofs.Members.{nothing_in, contains_first, contains_rest, contains_cases, all_from, contains_drop, pushed, rising_head, rising_drop, front_at, front_is, first_is, drop_all, below_rest}
+use Rattle.change_rel.proofs.Members.{contains_drop, pushed, rising_head, front_is, first_is, drop_all}
 use Rattle.change_rel.proofs.Steps.{step_gone, step_kept, step_set, step_replaced, rest_set, rest_gone, new_below, not_key, not_in}
+use Rattle.trove_stream.proofs.cny-base.Lists.{all_from, contains_cases, contains_first, contains_rest, nothing_in}
+use Rattle.trove_stream.proofs.Merging.{below_rest, front_at, rising_drop}
 
 -- what holds of the rest of the two lists holds of the whole ones, with what was found so far
 pub record Differs {A K : Type 0} (key : A → K) (order : K → K → Ordering) (gone : List K) (set old_rest new_rest old new : List A) : Type 0 where
@@ -40,7 +41,7 @@ module _ {A K : Type 0} (key : A → K) (order : K → K → Ordering) (o : IsTo
       subst (λ (l : List K). All (λ m. order k m ≡ Less) l) (sym (front_at i ks g within is))
       (All-cons (λ m. order k m ≡ Less) g (drop (i + 1) ks) less (All-weaker (λ m. order g m ≡ Less) (λ m. order k m ≡ Less) (λ m after. o.trans k g m less after) (drop (i + 1) ks) (below_rest order i ks g within is rises)))
 
-  below_same : (k m : K) (xs : List A) → k ≡ m → IsBelow key order k xs → IsBelow key order m xs
+  pub below_same : (k m : K) (xs : List A) → k ≡ m → IsBelow key order k xs → IsBelow key order m xs
   below_same k m xs same below = subst (λ (l : K). IsBelow key order l xs) same below
 
   -- ---- the difference of two lists
@@ -97,10 +98,6 @@ module _ {A K : Type 0} (key : A → K) (order : K → K → Ordering) (o : IsTo
   pub unfit_set : (a b : A) (gone : List K) (set old : List A) → a ≡ b → Fits key gone (b ∷ set) (a ∷ old) → ⊥
   unfit_set a b gone set old same fits =
       All-head (λ x. Contains (a ∷ old) x → ⊥) b set fits.lacked (subst (Contains (a ∷ old)) same (contains_first a old))
-
-  pub unfit_rest : (g : K) (gone : List K) (set : List A) → Fits key (g ∷ gone) set [] → ⊥
-  unfit_rest g gone set fits =
-      let h : HasKey key [] g = All-head (HasKey key []) g gone fits.had in nothing_in h.0 h.1
 
   -- ---- what becomes of an old element
 

@@ -1,5 +1,5 @@
 -- Files that a binary search finds by their path, and the names that are sent.
-use Rattle.std.proofs.Common.{◌≡◌, ℕ, suc, ◌+◌, ◌<◌, ◌⊎◌, ⊎_elim, inl, inr, Bool, false, List, [], ◌∷◌, ◌++◌, length, get_or, take, Some, None, Option, Result, Ok, Err, Contains, Ordering, refl, sym, ap, ◌∙◌, subst, arith, add-one}
+use Rattle.std.proofs.Common.{◌≡◌, ℕ, suc, ◌+◌, ◌<◌, ◌⊎◌, ⊎_elim, inl, inr, Bool, false, List, [], ◌∷◌, ◌++◌, length, get_or, take, Some, None, Option, Result, Ok, Err, Contains, Ordering, sym, ap, ◌∙◌, subst, arith, add-one}
 use Rattle.std.specs.Prelude.{◌↔◌, IsTrue, OnOk}
 use Rattle.std.proofs.lemmas.List.{take_more}
 use Rattle.std.specs.Cmp.Lexicographic.{slice_cmp, nat_list_cmp_total, nat_list_eq_equiv, texts_ties}
@@ -17,22 +17,22 @@ use Rattle.std.proofs.lemmas.List.Kept.{Contains-dedup, Contains-from_dedup, IsS
 use Rattle.std.proofs.lemmas.List.Sorted.{searchable_from_sorted, Contains-permutation, IsPermutation-sym}
 use Rattle.std.proofs.lemmas.Slice.Eq.{bytes_eq-Decides}
 use Rattle.std.proofs.lemmas.Map.Keys.{sorted_tail, Less-from_sorted}
-use Rattle.trove_stream.specs.file-stream.declared.record.FileRec.{FileRec}
 use Rattle.trove_stream.specs.trove-parts.declared.files.FileAt.{FileAt}
 use Rattle.trove_stream.specs.trove-parts.Files.{path_of, file_cmp}
 use Rattle.change_rel.specs.Sending.{content_of, Records, IsSent, SendsName, AreSent}
-use Rattle.change_rel.proofs.Members.{nothing_in, contains_first, contains_rest, contains_cases, rising_head}
-use Rattle.change_rel.proofs.Leading.{equal_lists}
+use Rattle.change_rel.proofs.Members.{rising_head}
+use Rattle.trove_stream.proofs.cny-base.Lists.{contains_cases, nothing_in}
+use Rattle.trove_stream.proofs.Equal.{equal_lists}
 
 -- how the path of a file compares with the one that is looked for
 abbrev pub against : List ℕ → FileAt → Ordering
 against path file = slice_cmp nat_cmp file.path path
 
-not_less : (x y : FileAt) → path_of x ≡ path_of y → file_cmp x y ≡ Less → ⊥
+pub not_less : (x y : FileAt) → path_of x ≡ path_of y → file_cmp x y ≡ Less → ⊥
 not_less x y same less = cc (tied_itself nat_list_cmp_total (path_of y), ap (λ (p : List ℕ). slice_cmp nat_cmp p (path_of y)) same, less)
 
 -- files of one path in a rising list are one
-one_at : (files : List FileAt) → IsStrictlySortedBy file_cmp files → (x y : FileAt) → Contains files x → Contains files y → path_of x ≡ path_of y → x ≡ y
+pub one_at : (files : List FileAt) → IsStrictlySortedBy file_cmp files → (x y : FileAt) → Contains files x → Contains files y → path_of x ≡ path_of y → x ≡ y
 one_at [] rises x y h g same = absurd (nothing_in x h)
 one_at (f ∷ files) rises x y h g same = ⊎_elim
     (λ e. ⊎_elim
@@ -76,10 +76,10 @@ module _ (files : List FileAt) (path : List ℕ) (size : ℕ) (name : List ℕ) 
 
 -- ---- what is sent of a file
 
-abbrev content : List ℕ → ℕ → Option (List ℕ × ℕ)
+abbrev pub content : List ℕ → ℕ → Option (List ℕ × ℕ)
 content name size = Some (name, size)
 
-one_name : (name sent : List ℕ) (size s : ℕ) → content name size ≡ content sent s → name ≡ sent
+pub one_name : (name sent : List ℕ) (size s : ℕ) → content name size ≡ content sent s → name ≡ sent
 one_name name sent size s e = ap (λ (o : Option (List ℕ × ℕ)). name_in name o) e
   where
     name_in : List ℕ → Option (List ℕ × ℕ) → List ℕ
@@ -90,16 +90,6 @@ pub sent_of : (old : List FileAt) (sent : List ℕ) (file : FileAt) (size : ℕ)
 sent_of old sent file size name is = (
   (λ s. (one_name name sent size s.size (sym is ∙ s.content), (λ h. s.lacked (h.0, h.1, h.2, h.3 ∙ sym is ∙ s.content)))),
   (λ h. record { size = size; content = is ∙ ap (λ (n : List ℕ). content n size) h.0; lacked = λ r. h.1 (r.0, r.1, r.2, r.3 ∙ ap (λ (n : List ℕ). content n size) (sym h.0)) }),
-)
-
-pub nothing_sent : (old : List FileAt) (sent : List ℕ) (file : FileAt) → content_of file.rec ≡ None → IsSent old sent file → ⊥
-nothing_sent old sent file is s = cc (is, s.content)
-
--- one more name
-pub one_more : (names new : List (List ℕ)) (name sent : List ℕ) (Lacks : Type 0) → new ≡ names ++ name ∷ [] → Lacks → Contains new sent ↔ (Contains names sent ⊎ ((name ≡ sent) × Lacks))
-one_more names new name sent Lacks is lacks = (
-  (λ h. ⊎_elim (λ there. inl there) (λ e. inr (e, lacks)) (Contains-push_cases names name sent (subst (λ (l : List (List ℕ)). Contains l sent) is h))),
-  (λ h. subst (λ (l : List (List ℕ)). Contains l sent) (sym is) (⊎_elim (λ there. Contains-append_left names (name ∷ []) sent there) (λ e. subst (Contains (names ++ name ∷ [])) e.0 (Contains-push names name)) h)),
 )
 
 -- one more file

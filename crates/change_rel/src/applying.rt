@@ -94,7 +94,8 @@ fn led_to(alloc: Global, old: &Trove, rel: &RelParts) -> Result<Option<Trove>, O
     }
 }
 
-fn missing_base(alloc: Global, id: &TroveId) -> Fault
+/// The refusal of a base of this id that there is none of, or want of memory for its text.
+pub fn missing_base(alloc: Global, id: &TroveId) -> Fault
     ensures { NamesBase id.now result }
 {
     match id_text(alloc, id) {

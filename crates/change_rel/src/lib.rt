@@ -11,7 +11,7 @@ mod relating;
 mod same;
 mod sending;
 
-pub use applying::apply;
+pub use applying::{apply, missing_base};
 pub use laws::{one_relative, one_result};
 pub use relating::relative;
 pub use sending::{ContentNames, to_send};

@@ -1,5 +1,5 @@
 -- What was read of a change set once contents were, and where the reader stops behind them.
-use Rattle.std.proofs.Common.{◌≡◌, ◌≢◌, ◌⊎◌, inl, inr, ℕ, zero, suc, ◌+◌, ◌-◌, ◌<◌, ◌≤◌, Bool, true, false, ◌||◌, nat_lt, IsTrue, All, List, [], ◌∷◌, ◌++◌, length, map, get_or, take, drop, Option, Some, None, Result, Err, IfErr, refl, sym, ap, ◌∙◌, subst, arith, append_assoc, append-nil, length-take, length-drop}
+use Rattle.std.proofs.Common.{◌≡◌, ◌≢◌, ◌⊎◌, inl, inr, ℕ, zero, suc, ◌+◌, ◌-◌, ◌<◌, ◌≤◌, Bool, true, false, nat_lt, IsTrue, All, List, [], ◌∷◌, ◌++◌, length, map, get_or, take, drop, Option, Some, None, Result, Err, IfErr, refl, sym, ap, ◌∙◌, subst, arith, append_assoc, append-nil, length-take, length-drop}
 use Rattle.std.specs.Prelude.{slice_range, flat_map}
 use Rattle.std.specs.Cmp.Lexicographic.{nat_list_cmp_total}
 use Rattle.std.specs.List.{list_any, AllByRecursion}
@@ -15,7 +15,7 @@ use Rattle.trove_stream.specs.cny-base.declared.refusal.Fault.TheVariants as fau
 use Rattle.trove_stream.specs.cny-base.declared.refusal.Refusal.{Refusal}
 use Rattle.trove_stream.specs.cny-base.declared.refusal.Refusal.TheVariants.{Malformed}
 use Rattle.cny_stream.specs.Item.{IsItemAt, item_bytes, is_expected}
-use Rattle.cny_stream.specs.ItemLaws.{same_item}
+use Rattle.cny_stream.proofs.ItemLaws.{same_item}
 use Rattle.cny_stream.specs.declared.item.Item.{Item}
 use Rattle.change_set.specs.declared.change.Part.{Part}
 use Rattle.change_set.specs.declared.change.Part.TheVariants.{Whole, Relative}
@@ -29,8 +29,10 @@ use Rattle.change_set.specs.Reading.{item_of, ArePartsTo, IsNextAt, last_name, I
 use Rattle.change_set.proofs.Faults.{fault_of_whole}
 use Rattle.change_set.proofs.GoodItems.{none_behind_end, end_item, end_expected, end_next}
 use Rattle.change_set.proofs.Progress.{progress_then, good_then, part_texts, parts_read, parts_good, content_item, with_contents, content_texts, contents_read, contents_good}
-use Rattle.change_set.proofs.SameSet.{IsOnlyPart, TrovesDiffer, RelsDiffer, only_parts}
+use Rattle.change_set.proofs.SameSet.{IsOnlyPart, RelsDiffer, only_parts}
 use Rattle.change_set.proofs.Small.{next_small}
+use Rattle.trove_stream.proofs.Distinct.{TrovesDiffer}
+use Rattle.trove_stream.proofs.cny-base.Bools.{or_left as left_true, or_right as right_true}
 
 -- ---- one more content
 
@@ -120,14 +122,6 @@ stops_here bytes parts contents first at refusal behind so_far none refused =
     }
 
 -- ---- good contents are those of the parts
-
-left_true : (x y : Bool) → x ≡ true → (x || y) ≡ true
-left_true true y h = refl
-left_true false y h = absurd (cc)
-
-right_true : (x y : Bool) → y ≡ true → (x || y) ≡ true
-right_true true y h = refl
-right_true false y h = h
 
 recorded_at : (parts : List Part) (k : ℕ) (item : StreamItem) (part : Part) (name : List ℕ) (size : ℕ) → All IsOnlyPart parts → k < length (map item_of parts) → get_or (map item_of parts) k item ≡ item
     → IsItemOf part item → IsTrue (has_record name size part) → IsTrue (list_any (has_record name size) parts)

@@ -1,9 +1,9 @@
 -- The fault of what stands where a good item is expected.
-use Rattle.std.proofs.Common.{◌≡◌, ℕ, ◌+◌, ◌-◌, ◌^◌, ◌<◌, ◌≤◌, inl, inr, Bool, true, false, ◌&&◌, ◌==◌, cond, nat_lt, nat_le, IsTrue, List, [], ◌∷◌, ◌++◌, length, get_or, take, drop, Option, Some, None, refl, sym, ap, ◌∙◌, arith, length-append}
+use Rattle.std.proofs.Common.{◌≡◌, ℕ, ◌+◌, ◌-◌, ◌<◌, ◌≤◌, inl, inr, Bool, true, false, ◌&&◌, ◌==◌, cond, nat_lt, nat_le, IsTrue, List, [], ◌∷◌, ◌++◌, length, take, drop, Option, Some, None, refl, sym, ap, ◌∙◌, arith, length-append}
 use Rattle.std.specs.Prelude.{not, slice_range}
 use Rattle.std.specs.Int.{w32, from_be_bytes, to_be_bytes}
-use Rattle.std.proofs.lemmas.Bool.{and_parts, not-false, not_from_true, cond-true, cond-false, cases_Bool, cases_lt, ltb-true, ltb-false, le-ltb, eqb-true}
-use Rattle.std.proofs.lemmas.List.{length-take, length-drop, take-append-drop, get_or-drop, get_or-take, get_or_past}
+use Rattle.std.proofs.lemmas.Bool.{and_parts, not-false, not_from_true, cond-true, cond-false, cases_Bool, ltb-true, ltb-false, le-ltb, eqb-true}
+use Rattle.std.proofs.lemmas.List.{length-take, length-drop, take-append-drop}
 use Rattle.std.proofs.lemmas.Nat.{be_bytes_4, from_be_bytes-to_be_bytes_4}
 use Rattle.trove_stream.specs.cny-base.declared.limits.TheConstants.{CONTENT_ITEM_LIMIT}
 use Rattle.trove_stream.specs.cny-base.declared.refusal.Refusal.{Refusal}
@@ -12,6 +12,8 @@ use Rattle.trove_stream.specs.cny-base.declared.refusal.What.TheVariants.{Conten
 use Rattle.cny_stream.specs.Item.{FitsItem, IsItemAt, item_bytes, is_expected, begins_unexpected, fault_place, value_len}
 use Rattle.change_set.specs.FirstFault.{stated_length, begins_content, is_oversized, place_of, fault_of}
 use Rattle.change_set.specs.Reading.{IsSmall}
+use Rattle.trove_stream.proofs.cny-base.StrFields.{IsBytes, drop_bytes, take_bytes}
+use Rattle.cny_stream.proofs.Items.{head_below}
 
 -- ---- a whole item
 
@@ -84,26 +86,10 @@ place_fault bytes tags at within small none =
 
 -- ---- bytes that hold a whole item
 
-abbrev pub IsBytes : List ℕ → Type 0
-IsBytes bytes = (i : ℕ) → get_or bytes i 0 < 256
-
-drop_bytes : (n : ℕ) (bytes : List ℕ) → IsBytes bytes → IsBytes (drop n bytes)
-drop_bytes n bytes h i = rw get_or-drop (h (n + i))
-
-take_bytes : (n : ℕ) (bytes : List ℕ) → IsBytes bytes → IsBytes (take n bytes)
-take_bytes n bytes h i =
-    elim (cases_lt i n) [
-      | inl lt ↦ rw (get_or-take n bytes i 0 lt) (h i)
-      | inr le ↦ rw (get_or_past (take n bytes) i 0 (omega (arith, length-take n bytes))) (omega arith)
-    ]
-
 chosen : (x y : Bool) (n len : ℕ) → cond x None (cond y None (Some n)) ≡ Some len → (x ≡ false) × (y ≡ false)
 chosen true y n len e = absurd cc
 chosen false true n len e = absurd cc
 chosen false false n len e = (refl, refl)
-
-head_below : (bytes : List ℕ) → IsBytes bytes → from_be_bytes w32 bytes < 2 ^ 32
-head_below bytes fits = omega (arith, fits 0, fits 1, fits 2, fits 3)
 
 -- the bytes begin with a whole item
 record BeginsWithItem (rest : List ℕ) : Type 0 where

@@ -5,10 +5,11 @@ use Rattle.std.proofs.lemmas.Bool.{false≢true}
 use Rattle.std.proofs.lemmas.Grind.{flat_map-append}
 use Rattle.std.proofs.lemmas.List.{append_cancel_left}
 use Rattle.trove_stream.specs.cny-base.declared.limits.TheConstants.{PARTS_LIMIT}
-use Rattle.trove_stream.specs.cny-base.Below.{begins_with, begins}
+use Rattle.trove_stream.specs.cny-base.Below.{begins_with}
+use Rattle.trove_stream.proofs.cny-base.Below.{begins}
 use Rattle.trove_stream.specs.cny-base.declared.refusal.Refusal.{Refusal}
 use Rattle.cny_stream.specs.Item.{is_expected}
-use Rattle.cny_stream.specs.ItemLaws.{same_item}
+use Rattle.cny_stream.proofs.ItemLaws.{same_item}
 use Rattle.change_set.specs.declared.change.ChangeSet.{ChangeSet}
 use Rattle.change_set.specs.ChangeSet.{magic, end_bytes, part_bytes, content_bytes, change_bytes, IsChangeSet, IsSetStream}
 use Rattle.change_set.specs.FirstFault.{StreamItem, Progress, item_text, start, tags_after, expected_tags, IsNext, progress_after, AreGood, progress_to, NoneNext, fault_of, StopsBehind, IsFirstFault}
@@ -17,7 +18,7 @@ use Rattle.change_set.proofs.Progress.{progress_then, good_then, with_parts, par
 
 -- ---- one list of items
 
-abbrev stream_item : ℕ → List ℕ → StreamItem
+abbrev pub stream_item : ℕ → List ℕ → StreamItem
 stream_item tag value = record { tag = tag; value = value }
 
 -- good items behind which no good one follows are the only ones that spell the bytes, and so is what stands behind them

@@ -1,5 +1,5 @@
 -- The names and sizes that an index has, as keys are added to it.
-use Rattle.std.proofs.Common.{◌≡◌, ℕ, Bool, true, false, cond, ◌&&◌, ◌||◌, ◌==◌, List, [], ◌∷◌, refl, sym, ap, ◌∙◌, arith, Ordering}
+use Rattle.std.proofs.Common.{◌≡◌, ℕ, Bool, true, cond, ◌&&◌, ◌||◌, ◌==◌, List, [], ◌∷◌, refl, sym, ap, ◌∙◌, Ordering}
 use Rattle.std.specs.BTreeSet.{BTreeSet, contains, Updates}
 use Rattle.std.specs.Cmp.{IsTotalOrder}
 use Rattle.std.specs.Cmp.Lexicographic.{slice_cmp, nat_list_cmp_total}
@@ -7,10 +7,11 @@ use Rattle.std.specs.List.{list_any}
 use Rattle.std.specs.Ordering.{nat_cmp, is_eq, ordering_then}
 use Rattle.std.specs.declared.cmp.Ordering.TheVariants.{Less, Equal, Greater}
 use Rattle.std.proofs.lemmas.Cmp.{nat_cmp_total, on_total, then_total, eq_by_cmp_equiv}
-use Rattle.std.proofs.lemmas.Bool.Decides.{nat_tests}
 use Rattle.std.proofs.lemmas.Map.Text.{is_eq-slice_cmp}
 use Rattle.change_set.specs.declared.recorded.Key.{Key}
 use Rattle.change_set.specs.Index.{is_key, has_key}
+use Rattle.trove_stream.proofs.cny-base.Bools.{written}
+use Rattle.trove_stream.proofs.cny-base.Counts.{equal_numbers}
 
 -- ---- the order of the keys
 
@@ -31,9 +32,6 @@ both_equal Greater Less = refl
 both_equal Greater Equal = refl
 both_equal Greater Greater = refl
 
-equal_numbers : (m n : ℕ) → is_eq (nat_cmp m n) ≡ (m == n)
-equal_numbers m n = grind (arith, nat_tests)
-
 same_key : (a : Key) (name : List ℕ) (size : ℕ) → is_eq (key_cmp a (record { name = name; size = size })) ≡ is_key name size a
 same_key a name size =
     both_equal (slice_cmp nat_cmp a.name name) (nat_cmp a.size size)
@@ -53,12 +51,6 @@ looked_up keys name size =
     alike (λ (k : Key). is_eq (key_cmp (record { name = name; size = size }) k)) (is_key name size) (λ k. asked_key k name size) keys.keys
 
 -- ---- one more key
-
-written : (b x : Bool) → cond b true x ≡ (x || b)
-written true true = refl
-written true false = refl
-written false true = refl
-written false false = refl
 
 pub one_more : (old new : BTreeSet Key) (added : Key) → Updates key_cmp old new added true → (name : List ℕ) (size : ℕ) → has_key name size new ≡ (has_key name size old || is_key name size added)
 one_more old new added updates name size =

@@ -3,14 +3,11 @@ use Rattle.std.proofs.Common.{◌≡◌, ℕ, ◌≤◌, List, [], ◌∷◌, �
 use Rattle.std.proofs.lemmas.List.{append_cancel_left}
 use Rattle.std.proofs.lemmas.List.Elements.{All-head, All-tail, All-weaker}
 use Rattle.cny_stream.specs.Item.{FitsItem}
-use Rattle.cny_stream.specs.ItemLaws.{same_front, same_item}
+use Rattle.cny_stream.proofs.ItemLaws.{same_item}
 use Rattle.trove_stream.specs.file-stream.declared.encoding.Encoding.{Encoding}
 use Rattle.trove_stream.specs.file-stream.declared.encoding.Encoding.TheVariants.{Compact}
 use Rattle.trove_stream.specs.declared.rel.RelParts.{RelParts}
 use Rattle.trove_stream.specs.RelBytes.{IsStreamOf, rel_bytes}
-use Rattle.trove_stream.specs.declared.parts.TroveParts.{TroveParts}
-use Rattle.trove_stream.specs.Stream.{stream_bytes}
-use Rattle.trove_stream.specs.Trove.{IsTrove}
 use Rattle.change_set.specs.declared.change.Part.{Part}
 use Rattle.change_set.specs.declared.change.Part.TheVariants.{Whole, Relative}
 use Rattle.change_set.specs.declared.change.Carried.{Carried}
@@ -19,16 +16,14 @@ use Rattle.change_set.specs.ChangeSet.{IsPart, part_tag, part_value, part_bytes,
 use Rattle.change_set.specs.FirstFault.{IsItemOf}
 use Rattle.change_set.specs.Reading.{item_of}
 use Rattle.change_set.proofs.Progress.{content_small}
+use Rattle.trove_stream.proofs.Distinct.{TrovesDiffer}
+use Rattle.trove_stream.proofs.cny-base.ItemLaws.{same_front}
 
 -- ---- parts
 
 -- no other part has the item of this one
 abbrev pub IsOnlyPart : Part → Type 0
 IsOnlyPart part = (other : Part) → IsItemOf other (item_of part) → other ≡ part
-
--- no bytes are the streams of two troves, nor of two relative troves
-abbrev pub TrovesDiffer : Type 0
-TrovesDiffer = (one other : Encoding) (a b : TroveParts) → IsTrove a → IsTrove b → stream_bytes one a ≡ stream_bytes other b → a ≡ b
 
 abbrev pub RelsDiffer : Type 0
 RelsDiffer = (one other : Encoding) (a b : RelParts) (bytes : List ℕ) → IsStreamOf one a bytes → IsStreamOf other b bytes → a ≡ b

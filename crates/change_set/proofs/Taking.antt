@@ -4,12 +4,11 @@ use Rattle.std.specs.Prelude.{slice_range}
 use Rattle.std.proofs.lemmas.Bool.{le-ltb, true≢false, cases_lt, eqb-true, or_cases}
 use Rattle.std.proofs.lemmas.List.{length-map}
 use Rattle.std.proofs.lemmas.List.Concat.{flat_map-append}
-use Rattle.std.proofs.lemmas.List.Elements.{All-nil, All-push}
+use Rattle.std.proofs.lemmas.List.Elements.{All-push}
 use Rattle.trove_stream.specs.cny-base.declared.limits.TheConstants.{PARTS_LIMIT}
-use Rattle.trove_stream.specs.cny-base.Below.{begins_with, begun}
 use Rattle.trove_stream.specs.cny-base.declared.refusal.Refusal.{Refusal}
 use Rattle.cny_stream.specs.Item.{FitsItem, IsItemAt, item_bytes, is_expected}
-use Rattle.cny_stream.specs.ItemLaws.{same_item}
+use Rattle.cny_stream.proofs.ItemLaws.{same_item}
 use Rattle.change_set.specs.declared.change.Part.{Part}
 use Rattle.change_set.specs.ChangeSet.{IsPart, part_value, part_bytes, FitsPart, magic}
 use Rattle.change_set.specs.FirstFault.{StreamItem, Progress, IsItemOf, NoneNext, fault_of, tags_after, expected_tags, progress_to, start, StopsBehind, IsFirstFault}
@@ -18,17 +17,6 @@ use Rattle.change_set.proofs.Progress.{with_parts, part_texts, parts_read, parts
 use Rattle.change_set.proofs.Small.{next_small}
 
 -- ---- parts one behind the other
-
-pub no_parts : (bytes : List ℕ) → begins_with magic bytes ≡ true → ArePartsTo bytes [] 8
-no_parts bytes h =
-    let rest = begun magic bytes h in
-    record {
-      within = omega (arith, ap length rest.1);
-      spelled = rest.1 ∙ ap (λ (l : List ℕ). magic ++ l) (sym (ap (drop 8) rest.1));
-      few = omega arith;
-      valid = All-nil IsPart;
-      fits = All-nil FitsPart;
-    }
 
 -- the item of a part and its tag
 abbrev pub read_item : ℕ → List ℕ → StreamItem

@@ -1,23 +1,20 @@
 -- The items that were written so far, and their lengths.
 use Rattle.std.proofs.Common.{◌≡◌, ℕ, ◌+◌, ◌<◌, ◌≤◌, List, [], ◌∷◌, ◌++◌, length, take, get_or, All, Result, Ok, Err, OnOk, sym, ◌∙◌, ap, subst, arith, length-append}
 use Rattle.std.specs.Prelude.{flat_map}
-use Rattle.std.specs.Int.{w32, to_be_bytes}
 use Rattle.std.proofs.lemmas.List.{flat_map_more, take_more}
 use Rattle.std.proofs.lemmas.List.Elements.{All-more}
 use Rattle.std.proofs.lemmas.List.Folds.{length-flat_map-take}
 use Rattle.trove_stream.specs.cny-base.declared.limits.TheConstants.{CHANGE_SET_LIMIT}
-use Rattle.cny_stream.specs.Item.{FitsItem, FitsOpen, item_bytes, open_head}
+use Rattle.cny_stream.specs.Item.{FitsItem, FitsOpen, open_head}
 use Rattle.change_set.specs.declared.change.Part.{Part}
 use Rattle.change_set.specs.declared.change.Carried.{Carried}
 use Rattle.change_set.specs.ChangeSet.{IsPart, FitsPart, part_tag, part_value, part_bytes, content_value, content_bytes}
+use Rattle.trove_stream.proofs.trove-parts.Encodings.{item_length}
 
 -- the first parts are valid, and their items stand behind what was there before
 pub record ArePartsWritten (before : List ℕ) (parts : List Part) (count : ℕ) (out : List ℕ) : Type 0 where
   pub valid : All IsPart (take count parts)
   pub text : out ≡ before ++ flat_map part_bytes (take count parts)
-
-pub item_length : (tag : ℕ) (value : List ℕ) → length (item_bytes tag value) ≡ 5 + length value
-item_length tag value = length-append (tag ∷ to_be_bytes w32 (length value)) value
 
 -- where all items have room, each of them has
 pub part_fits : (parts : List Part) (k : ℕ) (d : Part) → length (flat_map part_bytes parts) ≤ CHANGE_SET_LIMIT → k < length parts → FitsPart (get_or parts k d)

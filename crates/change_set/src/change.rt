@@ -1,5 +1,4 @@
 //! Change sets and what they hold.
-ghost use Rattle.std.specs.Prelude.{◌≡◌};
 
 use trove_stream::cny_base::{Bytes, Copies, ListOf, OutOfMemory};
 use trove_stream::{RelTrove, Trove};

@@ -2,8 +2,8 @@
 use Rattle.std.proofs.Common.{◌≡◌, ◌≢◌, ℕ, ◌+◌, Bool, true, false, ◌&&◌, ◌||◌, ◌==◌, nat_le, List, [], ◌∷◌, ◌++◌, length, refl, ap, ◌∙◌, arith, length-append}
 use Rattle.std.specs.Cmp.{first_so}
 use Rattle.cny_base.specs.Path.{is_path, are_parts, join}
-use Rattle.cny_base.specs.Joins.{not_zero}
-use Rattle.cny_base.specs.Parent.{after_slash, are_parts-append}
+use Rattle.cny_base.proofs.Joins.{not_zero}
+use Rattle.cny_base.proofs.Parent.{after_slash, are_parts-append}
 
 pub join_root : (path last : List ℕ) → is_path path ≡ true → length path ≡ 1
     → is_path (join path last) ≡ (length last == 0 || (nat_le (length last) 1023 && are_parts last))

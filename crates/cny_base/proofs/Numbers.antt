@@ -55,7 +55,7 @@ pub value_back : (n : ℕ) → n < 2 ^ 64 → decimal_value (decimal n) ≡ n
 value_back n fits = digits_value-decimal own n fits
 
 -- a text of digits with no 0 in front
-form_of : (text : List ℕ) → AreDigits text → 0 < length text → length text ≤ 19 → 48 < get_or text 0 0 → is_decimal text ≡ true
+pub form_of : (text : List ℕ) → AreDigits text → 0 < length text → length text ≤ 19 → 48 < get_or text 0 0 → is_decimal text ≡ true
 form_of [] digits some short first = absurd (omega arith)
 form_of (d ∷ ds) digits some short first = grind (arith, nat_tests)
 

@@ -12,25 +12,25 @@ use Rattle.cny_base.specs.StrField.{IsStrAt, str, str_len}
 abbrev pub IsBytes : List ℕ → Type 0
 IsBytes bytes = (i : ℕ) → get_or bytes i 0 < 256
 
-drop_bytes : (n : ℕ) (bytes : List ℕ) → IsBytes bytes → IsBytes (drop n bytes)
+pub drop_bytes : (n : ℕ) (bytes : List ℕ) → IsBytes bytes → IsBytes (drop n bytes)
 drop_bytes n bytes h i = rw get_or-drop (h (n + i))
 
-take_bytes : (n : ℕ) (bytes : List ℕ) → IsBytes bytes → IsBytes (take n bytes)
+pub take_bytes : (n : ℕ) (bytes : List ℕ) → IsBytes bytes → IsBytes (take n bytes)
 take_bytes n bytes h i =
     elim (cases_lt i n) [
       | inl lt ↦ rw (get_or-take n bytes i 0 lt) (h i)
       | inr le ↦ rw (get_or_past (take n bytes) i 0 (omega (arith, length-take n bytes))) (omega arith)
     ]
 
-chosen : (x y : Bool) (n len : ℕ) → cond x None (cond y None (Some n)) ≡ Some len → (x ≡ false) × (y ≡ false) × (n ≡ len)
+pub chosen : (x y : Bool) (n len : ℕ) → cond x None (cond y None (Some n)) ≡ Some len → (x ≡ false) × (y ≡ false) × (n ≡ len)
 chosen true y n len e = absurd cc
 chosen false true n len e = absurd cc
 chosen false false n len e = (refl, refl, cc)
 
-not_lt : (a b : ℕ) → nat_lt a b ≡ false → b ≤ a
+pub not_lt : (a b : ℕ) → nat_lt a b ≡ false → b ≤ a
 not_lt a b h = grind (arith, nat_tests)
 
-head_below : (bytes : List ℕ) → IsBytes bytes → from_be_bytes w16 bytes < 2 ^ 16
+pub head_below : (bytes : List ℕ) → IsBytes bytes → from_be_bytes w16 bytes < 2 ^ 16
 head_below bytes fits = omega (arith, fits 0, fits 1)
 
 spelled : (bytes : List ℕ) (at len : ℕ) → IsBytes bytes → at + 2 + len ≤ length bytes → len ≡ from_be_bytes w16 (take 2 (drop at bytes))

@@ -6,7 +6,7 @@ use Rattle.std.specs.Str.{IsUtf8, is_utf8}
 use Rattle.cny_base.specs.Name.{is_name}
 use Rattle.cny_base.specs.Path.{is_path}
 use Rattle.cny_base.specs.Target.{is_target}
-use Rattle.cny_base.specs.Utf8.{path_utf8, name_utf8, target_utf8}
+use Rattle.cny_base.proofs.Utf8Laws.{path_utf8, name_utf8, target_utf8}
 
 -- so the test for it changes nothing
 pub with_utf8 : (test : Bool) (bytes : List ℕ) → IsUtf8 bytes → test ≡ (test && is_utf8 bytes)

@@ -82,7 +82,7 @@ impl Path {
     }
 
     /// The path without its last name; `/` has none.
-    #[tactic(auto, using(crate::specs::Parent::parent_is_path))]
+    #[tactic(auto, using(crate::proofs::Parent::parent_is_path))]
     pub fn parent_path(&self, alloc: Global) -> Result<Option<Path>, OutOfMemory>
         ensures some { IfOk result (λ above. IfSome above (λ path. path ≡ parent self.now)) }
         ensures none { IfOk result (λ above. IsNone above ↔ (self.now ≡ root)) }

@@ -1,22 +1,20 @@
 -- What a search among rising flags finds.
-use Rattle.std.proofs.Common.{◌≡◌, ℕ, ◌+◌, ◌<◌, true, false, List, length, get_or, refl, sym, ap, ◌∙◌, arith, Result, Ok, Err, Ordering, Contains, inl, inr}
+use Rattle.std.proofs.Common.{◌≡◌, ℕ, ◌+◌, ◌<◌, true, List, length, get_or, refl, sym, ap, ◌∙◌, arith, Result, Ok, Err, Ordering, Contains, inl, inr}
 use Rattle.std.specs.Cmp.Lexicographic.{slice_cmp, nat_list_cmp_total}
 use Rattle.std.specs.FinMap.{nat_cmp-IsAntisymmetric, slice_cmp-IsAntisymmetric}
 use Rattle.std.specs.List.{HoldsAt}
 use Rattle.std.specs.List.Sorted.{IsStrictlySortedBy, IsSortedBy, IsBinarySearchResult, IsSearchInRange}
-use Rattle.std.specs.Ordering.{nat_cmp, is_lt, ordering_reverse}
+use Rattle.std.specs.Ordering.{nat_cmp, is_lt}
 use Rattle.std.specs.Result.{is_ok, IfOk}
 use Rattle.std.specs.declared.cmp.Ordering.TheVariants.{Less, Equal, Greater}
 use Rattle.std.proofs.lemmas.Bool.{cases_lt}
 use Rattle.std.proofs.lemmas.Cmp.{tied_itself}
 use Rattle.std.proofs.lemmas.List.Sorted.{searchable_from_sorted}
 use Rattle.std.proofs.lemmas.Map.Keys.{Less-from_sorted}
+use Rattle.cny_base.proofs.Orders.{not_less}
 
-abbrev R : List ℕ → List ℕ → Ordering
+abbrev pub R : List ℕ → List ℕ → Ordering
 R = slice_cmp nat_cmp
-
-not_less : (r s : Ordering) → r ≡ ordering_reverse s → s ≡ Less → is_lt r ≡ false
-not_less r s back less = ap is_lt (back ∙ ap ordering_reverse less)
 
 sorted_of_rising : (flags : List (List ℕ)) → IsStrictlySortedBy R flags → IsSortedBy (λ x y. is_lt (R x y)) flags
 sorted_of_rising flags rising k d _ within =

@@ -15,10 +15,10 @@ use Rattle.std.proofs.lemmas.List.Quantifiers.{position-Some}
 use Rattle.cny_base.specs.Name.{is_word_byte, is_word, is_colon, colon_place, begins_as_group, has_words, is_name}
 use Rattle.cny_dep.specs.Part.{is_part_byte, is_dep_name, is_flag}
 
-byte_ascii : (b : ℕ) → is_part_byte b ≡ true → b < 128
+pub byte_ascii : (b : ℕ) → is_part_byte b ≡ true → b < 128
 byte_ascii b is = grind (arith, nat_tests)
 
-bytes_ascii : (bytes : List ℕ) → list_all is_part_byte bytes ≡ true → IsAscii bytes
+pub bytes_ascii : (bytes : List ℕ) → list_all is_part_byte bytes ≡ true → IsAscii bytes
 bytes_ascii [] all = IsAscii-nil
 bytes_ascii (b ∷ bs) all =
     IsAscii-cons b bs (byte_ascii b (first_so (is_part_byte b) (list_all is_part_byte bs) all)) (bytes_ascii bs (second_so (is_part_byte b) (list_all is_part_byte bs) all))

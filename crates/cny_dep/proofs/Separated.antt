@@ -1,11 +1,11 @@
 -- A group of flags, as it is spelled and as it is cut at its separators.
-use Rattle.std.proofs.Common.{◌≡◌, ℕ, ◌≤◌, Bool, true, false, cond, List, [], ◌∷◌, ◌++◌, length, map, refl, sym, ap, ◌∙◌, subst, arith, ◌||◌, ◌==◌, Ordering}
+use Rattle.std.proofs.Common.{◌≡◌, ℕ, ◌≤◌, Bool, true, false, cond, List, [], ◌∷◌, ◌++◌, length, map, refl, sym, ap, ◌∙◌, subst, arith, ◌||◌, ◌==◌}
 use Rattle.std.specs.Cmp.{first_so, second_so}
-use Rattle.std.specs.Cmp.Lexicographic.{slice_cmp, nat_list_cmp_total}
+use Rattle.std.specs.Cmp.Lexicographic.{nat_list_cmp_total}
 use Rattle.std.specs.FinMap.{nat_cmp-IsAntisymmetric, slice_cmp-IsAntisymmetric}
 use Rattle.std.specs.List.{list_all, slice_split, onto_first, join_with_byte, All}
 use Rattle.std.specs.List.Sorted.{IsStrictlySortedBy, IsPermutation, IsSorted}
-use Rattle.std.specs.Ordering.{nat_cmp, eq_by_cmp}
+use Rattle.std.specs.Ordering.{eq_by_cmp}
 use Rattle.std.proofs.lemmas.Bool.{false≢true}
 use Rattle.std.proofs.lemmas.Bool.Decides.{nat_tests}
 use Rattle.std.proofs.lemmas.Cmp.{eq_by_cmp_equiv}
@@ -19,6 +19,7 @@ use Rattle.cny_dep.specs.Part.{is_part_byte, is_flag}
 use Rattle.cny_dep.specs.Relaxed.{space_for_comma}
 use Rattle.cny_dep.proofs.PartBytes.{flag_bytes}
 use Rattle.cny_dep.proofs.Sorted.{one_order, rising_from_distinct}
+use Rattle.cny_dep.proofs.Found.{R}
 
 abbrev is_space : ℕ → Bool
 is_space b = b == 32
@@ -99,9 +100,6 @@ in_parentheses group inner e =
     (rest.0, outer.2 ∙ ap (λ l. l ++ outer.1) front ∙ ap (λ l. 40 ∷ l) (rest.2 ∙ ap (λ l. rest.0 ++ l) back), rest.3)
 
 -- ---- lists of flags
-
-abbrev R : List ℕ → List ℕ → Ordering
-R = slice_cmp nat_cmp
 
 pub moved_valid : (xs ys : List (List ℕ)) → IsPermutation xs ys → list_all is_flag xs ≡ true → list_all is_flag ys ≡ true
 moved_valid xs ys moved all = list_all-from_AllPass is_flag ys (All-permutation (λ flag. is_flag flag ≡ true) xs ys moved (AllPass-from_list_all is_flag xs all))

@@ -13,29 +13,29 @@ use Rattle.std.proofs.lemmas.Map.Keys.{sorted_head, sorted_tail, sorted_from_all
 
 module _ {K : Type 0} {R : K → K → Ordering} (o : IsTotalOrder R) where
   -- one element beside those that are above it
-  abbrev is_first : K → K → Bool
+  abbrev pub is_first : K → K → Bool
   is_first x y = is_eq (R x y)
 
-  none_above : (x : K) (xs : List K) → AllByRecursion (λ y. R x y ≡ Less) xs → list_any (is_first x) xs ≡ false
+  pub none_above : (x : K) (xs : List K) → AllByRecursion (λ y. R x y ≡ Less) xs → list_any (is_first x) xs ≡ false
   none_above x [] all = refl
   none_above x (y ∷ ys) all = ap (λ r. is_eq r || list_any (is_first x) ys) all.0 ∙ none_above x ys all.1
 
   -- what passes a test among the elements above x
-  abbrev among_others : (K → Bool) → K → K → Bool
+  abbrev pub among_others : (K → Bool) → K → K → Bool
   among_others p x y = not (is_eq (R x y)) && p y
 
-  others_pass : (p : K → Bool) (x : K) (xs : List K) → AllByRecursion (λ y. R x y ≡ Less) xs → list_any (among_others p x) xs ≡ list_any p xs
+  pub others_pass : (p : K → Bool) (x : K) (xs : List K) → AllByRecursion (λ y. R x y ≡ Less) xs → list_any (among_others p x) xs ≡ list_any p xs
   others_pass p x [] all = refl
   others_pass p x (y ∷ ys) all = ap (λ r. (not (is_eq r) && p y) || list_any (among_others p x) ys) all.0 ∙ ap (λ b. p y || b) (others_pass p x ys all.1)
 
-  itself_apart : (p : K → Bool) (x : K) (xs : List K) → AllByRecursion (λ y. R x y ≡ Less) xs → list_any (among_others p x) (x ∷ xs) ≡ list_any p xs
+  pub itself_apart : (p : K → Bool) (x : K) (xs : List K) → AllByRecursion (λ y. R x y ≡ Less) xs → list_any (among_others p x) (x ∷ xs) ≡ list_any p xs
   itself_apart p x xs all = ap (λ r. (not (is_eq r) && p x) || list_any (among_others p x) xs) (tied_itself o x) ∙ others_pass p x xs all
 
-  all_above : (x y : K) (ys : List K) → R x y ≡ Less → AllByRecursion (λ z. R y z ≡ Less) ys → AllByRecursion (λ z. R x z ≡ Less) ys
+  pub all_above : (x y : K) (ys : List K) → R x y ≡ Less → AllByRecursion (λ z. R y z ≡ Less) ys → AllByRecursion (λ z. R x z ≡ Less) ys
   all_above x y [] less all = tt
   all_above x y (z ∷ zs) less all = (o.trans x y z less all.0, all_above x y zs less all.1)
 
-  first_found : (x : K) (xs : List K) → list_any (is_first x) (x ∷ xs) ≡ true
+  pub first_found : (x : K) (xs : List K) → list_any (is_first x) (x ∷ xs) ≡ true
   first_found x xs = ap (λ r. is_eq r || list_any (is_first x) xs) (tied_itself o x)
 
   module _ (same : IsAntisymmetric R) where

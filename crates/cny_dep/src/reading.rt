@@ -1,5 +1,5 @@
 //! The parts of a dependency's text.
-ghost use Rattle.std.specs.Prelude.{◌≡◌, ◌↔◌, ◌≤◌, ◌++◌, true, false, List, ℕ, Option, Some, None, IfSome, IfOk, IsSomeAnd, IsErrOf, IsTrue, map, codes};
+ghost use Rattle.std.specs.Prelude.{◌≡◌, ◌↔◌, ◌++◌, true, false, List, ℕ, Option, Some, None, IfSome, IfOk, IsSomeAnd, IsErrOf, IsTrue, map, codes};
 ghost use Rattle.std.specs.Cmp.Lexicographic.{slice_cmp};
 ghost use Rattle.std.specs.List.{list_all, slice_split};
 ghost use Rattle.std.specs.List.Sorted.{IsStrictlySortedBy};

@@ -20,6 +20,9 @@ use Rattle.cny_flavor.specs.Order.{rise}
 use Rattle.cny_flavor.specs.Spelling.{SpacedFlag, SpacedSet, Spelling, spaces, comma_and_flag, spelled_flags, spelled_own_flags, spelled_set, space_and_set, spelled_sets, spelled_sets_part, spelling_text, flags_of, set_of, sets_of, value_of}
 use Rattle.cny_flavor.specs.Reading.{after_byte, skip_spaces, word_len, sense_after_tilde, sense_without_tilde, sense_from, sense_at, flag_from, flag_at, with_front, flags_from, flags_at, in_order_of, ordered_flags_at, closed, own_flags_from, own_flags_at, with_word, set_at, with_first_set, sets_from, sets_at, after_is, ordered_sets, sets_part_at, with_flags, sets_after_at, parts_from, parts_at}
 use Rattle.cny_flavor.proofs.Putting.{list_all-in_order, length-in_order}
+use Rattle.cny_base.proofs.Bools.{or_left as any_first}
+use Rattle.cny_base.proofs.Counts.{at_most, is_at_most}
+use Rattle.cny_base.proofs.Again.{not_true}
 
 -- ---- words
 
@@ -42,10 +45,6 @@ first_of_word (b ∷ bs) is = record { byte = b; rest = bs; word_is = refl; alph
 first_byte : (word : List ℕ) → is_flavor_word word ≡ true → First word
 first_byte word is = first_of_word word (second_so (nat_le (length word) 255) (is_word word) is)
 
-any_first : (x y : Bool) → x ≡ true → (x || y) ≡ true
-any_first true y is = refl
-any_first false y is = absurd (cc is)
-
 word_bytes_here : (word : List ℕ) → is_word word ≡ true → list_all is_word_byte word ≡ true
 word_bytes_here [] is = refl
 word_bytes_here (b ∷ bs) is =
@@ -54,10 +53,6 @@ word_bytes_here (b ∷ bs) is =
 
 word_bytes : (word : List ℕ) → is_flavor_word word ≡ true → list_all is_word_byte word ≡ true
 word_bytes word is = word_bytes_here word (second_so (nat_le (length word) 255) (is_word word) is)
-
-not_true : (x : Bool) → not x ≡ true → x ≡ false
-not_true true is = absurd (cc is)
-not_true false is = refl
 
 ended_len : (rest : List ℕ) → ends_word rest ≡ true → word_len rest ≡ 0
 ended_len [] ends = refl
@@ -139,7 +134,7 @@ no_skip_flags f fs rest is =
     ap skip_spaces group ∙ no_skip_flag f.flag (flat_map comma_and_flag fs ++ rest) is ∙ sym group
 
 -- what is read at the front, by its first flag
-flags_opens : (n : ℕ) (bytes : List ℕ) (r : Flag × List ℕ) (next : Option (List ℕ)) → flag_at bytes ≡ r → after_byte 44 r.1 ≡ next
+pub flags_opens : (n : ℕ) (bytes : List ℕ) (r : Flag × List ℕ) (next : Option (List ℕ)) → flag_at bytes ≡ r → after_byte 44 r.1 ≡ next
     → flags_at (suc n) bytes ≡ flags_from r (option_map (λ rest. flags_at n (skip_spaces rest)) next)
 unfolding flags_at
 flags_opens n bytes r next is then =
@@ -180,9 +175,6 @@ record SetParts (s : SpacedSet) : Type 0 where
   flags : list_all is_flag (written s.flags) ≡ true
   within : length s.flags ≤ 64
 
-at_most : (m n : ℕ) → nat_le m n ≡ true → m ≤ n
-at_most m n h = grind (arith, nat_tests)
-
 set_parts : (s : SpacedSet) → fits (set_of s) ≡ true → SetParts s
 set_parts s is =
     let set = first_so (is_set (set_of s)) (nat_le (length (flags_of s.flags)) 64) is in
@@ -218,15 +210,6 @@ set_again s rest is ends none =
     ∙ ap (λ w. with_word w (own_flags_at (drop (word_len (s.word ++ own)) (s.word ++ own)))) (word_again s.word own parts.word stops)
     ∙ ap (λ l. with_word s.word (own_flags_at l)) (rest_again s.word own parts.word stops)
     ∙ ap (with_word s.word) (own_again s.flags rest parts.within parts.flags none)
-
--- sets go on with a space, or end
-after_sets_end : (ss : List SpacedSet) → ends_word (flat_map space_and_set ss) ≡ true
-after_sets_end [] = refl
-after_sets_end (s ∷ ss) = refl
-
-after_sets_none : (ss : List SpacedSet) → after_byte 40 (flat_map space_and_set ss) ≡ None
-after_sets_none [] = refl
-after_sets_none (s ∷ ss) = refl
 
 no_skip_sets : (s : SpacedSet) (ss : List SpacedSet) → fits (set_of s) ≡ true → skip_spaces (spelled_sets (s ∷ ss)) ≡ spelled_sets (s ∷ ss)
 no_skip_sets s ss is =
@@ -376,9 +359,6 @@ parts_again_from (f ∷ fs) before after ss good =
     (flags_no_is f fs part first (part_ends f fs before after ss) (part_no_colon f fs before after ss))
     ∙ ap (option_and_then (λ r. with_flags r.0 (sets_after_at r.1))) (ordered_again f fs part good.flags_within good.flags (part_ends f fs before after ss) (part_no_comma f fs before after ss))
     ∙ ap (with_flags (flags_of (f ∷ fs))) (after_again f fs before after ss good.sets_within good.sets)
-
-is_at_most : (m n : ℕ) → m ≤ n → nat_le m n ≡ true
-is_at_most m n h = grind (arith, nat_tests)
 
 all_fit : (ss : List InstructionSet) → list_all is_set ss ≡ true → sum_by set_count ss ≤ 64 → list_all fits ss ≡ true
 all_fit [] all within = refl

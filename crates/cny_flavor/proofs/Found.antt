@@ -1,7 +1,6 @@
 -- What is read is spelled so.
 use Rattle.std.specs.Prelude.{◌≡◌, ℕ, zero, Bool, true, false, cond, ◌==◌, List, [], ◌∷◌, ◌++◌, map, take, drop, codes, Option, Some, None, refl}
-use Rattle.std.proofs.Common.{suc, sym, ◌∙◌, ap, subst, arith, append_assoc}
-use Rattle.std.proofs.lemmas.Bool.Decides.{nat_tests}
+use Rattle.std.proofs.Common.{suc, sym, ◌∙◌, ap, subst, append_assoc}
 use Rattle.std.proofs.lemmas.List.{append-nil, take-append-drop}
 use Rattle.std.proofs.lemmas.Option.{same_Some}
 use Rattle.std.specs.List.{flat_map}
@@ -14,11 +13,9 @@ use Rattle.cny_flavor.specs.Canonical.{sense_text, flag_text}
 use Rattle.cny_flavor.specs.Order.{in_order}
 use Rattle.cny_flavor.specs.Spelling.{SpacedFlag, SpacedSet, Spelling, spaces, comma_and_flag, spelled_flags, spelled_own_flags, spelled_set, space_and_set, spelled_sets, spelled_sets_part, spelling_text, flags_of, set_of, sets_of, value_of}
 use Rattle.cny_flavor.specs.Reading.{after_byte, skip_spaces, word_len, sense_after_tilde, sense_without_tilde, sense_from, sense_at, flag_from, flag_at, with_front, flags_from, flags_at, in_order_of, ordered_flags_at, closed, own_flags_from, own_flags_at, with_word, set_at, with_first_set, sets_from, sets_at, after_is, ordered_sets, sets_part_at, with_flags, sets_after_from, sets_after_at, parts_from, parts_at}
+use Rattle.cny_base.proofs.Below.{test_equal as is_byte}
 
 -- ---- bytes and spaces
-
-is_byte : (b c : ℕ) → (b == c) ≡ true → b ≡ c
-is_byte b c h = grind (arith, nat_tests)
 
 begins_here : (wanted b : ℕ) (bs rest : List ℕ) (v : Bool) → (b == wanted) ≡ v → cond v (Some bs) None ≡ Some rest → b ∷ bs ≡ wanted ∷ rest
 begins_here wanted b bs rest true is found = ap (λ n. n ∷ bs) (is_byte b wanted is) ∙ ap (λ l. wanted ∷ l) (same_Some bs rest found)
@@ -317,7 +314,7 @@ pub record FoundParts (parts : Parts) (bytes : List ℕ) : Type 0 where
   pub parts_are : parts ≡ value_of written
   pub text : bytes ≡ spelling_text written
 
-parts_of : List Flag → List InstructionSet → Parts
+pub parts_of : List Flag → List InstructionSet → Parts
 parts_of fs ss = record { flags = fs; sets = ss }
 
 same_parts : (fs gs : List Flag) (ss ts : List InstructionSet) → fs ≡ gs → ss ≡ ts → parts_of fs ss ≡ parts_of gs ts
@@ -355,7 +352,7 @@ sets_alone bytes (Some ss) parts is whole =
       text = found.text;
     }
 
-parts_found_from : (bytes : List ℕ) (next : Option (List ℕ)) (parts : Parts) → parts_from bytes next ≡ Some parts → FoundParts parts bytes
+pub parts_found_from : (bytes : List ℕ) (next : Option (List ℕ)) (parts : Parts) → parts_from bytes next ≡ Some parts → FoundParts parts bytes
 parts_found_from bytes None parts whole = flags_first bytes (ordered_flags_at bytes) parts refl whole
 parts_found_from bytes (Some rest) parts whole = sets_alone bytes (sets_part_at bytes) parts refl whole
 

@@ -5,3 +5,4 @@ pub mod Loops
 pub mod Plain
 pub mod Putting
 pub mod Totals
+pub mod Utf8

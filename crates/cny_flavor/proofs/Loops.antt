@@ -7,7 +7,8 @@ use Rattle.cny_base.specs.declared.text.TextFault.TheVariants as fault
 use Rattle.std.specs.Option.{option_map, option_and_then}
 use Rattle.cny_flavor.specs.declared.parts.Flag.{Flag}
 use Rattle.cny_flavor.specs.declared.parts.InstructionSet.{InstructionSet}
-use Rattle.cny_flavor.specs.Reading.{Fails, after_byte, skip_spaces, flag_at, flags_from, flags_at, with_front, set_at, sets_at, sets_from, with_first_set}
+use Rattle.cny_flavor.specs.Reading.{Fails, after_byte, skip_spaces, flag_at, flags_at, with_front, set_at, sets_at, sets_from, with_first_set}
+use Rattle.cny_flavor.proofs.Again.{flags_opens as flags_open}
 
 -- one more than is left after this step
 one_more : (n k : ℕ) → k < n → n - k ≡ suc (n - (k + 1))
@@ -26,21 +27,9 @@ fails_along fault.Bad read whole along fails = along fails
 
 -- ---- flags
 
-pub with_front_none : (read : Option (List Flag × List ℕ)) → with_front [] read ≡ read
-with_front_none None = refl
-with_front_none (Some r) = refl
-
 with_front-push : (front : List Flag) (f : Flag) (read : Option (List Flag × List ℕ)) → with_front front (with_front (f ∷ []) read) ≡ with_front (front ++ f ∷ []) read
 with_front-push front f None = refl
 with_front-push front f (Some r) = ap (λ l. Some (l, r.1)) (sym (append_assoc front (f ∷ []) r.0))
-
--- what is read at the front, by its first flag
-flags_open : (n : ℕ) (bytes : List ℕ) (r : Flag × List ℕ) (next : Option (List ℕ)) → flag_at bytes ≡ r → after_byte 44 r.1 ≡ next
-    → flags_at (suc n) bytes ≡ flags_from r (option_map (λ rest. flags_at n (skip_spaces rest)) next)
-unfolding flags_at
-flags_open n bytes r next is then =
-    ap (λ x. flags_from x (option_map (λ rest. flags_at n (skip_spaces rest)) (after_byte 44 x.1))) is
-    ∙ ap (λ x. flags_from r (option_map (λ rest. flags_at n (skip_spaces rest)) x)) then
 
 -- the last flag
 pub flags_end : (n k : ℕ) (front : List Flag) (bytes after : List ℕ) (f : Flag) → k < n → (f, after) ≡ flag_at bytes → None ≡ after_byte 44 after
@@ -65,10 +54,6 @@ no_flags_left n k front bytes h = ap (λ m. with_front front (flags_at m bytes))
 
 abbrev pub with_sets : List InstructionSet → Option (List InstructionSet) → Option (List InstructionSet)
 with_sets front read = option_map (λ ss. front ++ ss) read
-
-pub with_sets_none : (read : Option (List InstructionSet)) → with_sets [] read ≡ read
-with_sets_none None = refl
-with_sets_none (Some r) = refl
 
 with_sets-push : (front : List InstructionSet) (s : InstructionSet) (read : Option (List InstructionSet)) → with_sets front (with_first_set s read) ≡ with_sets (front ++ s ∷ []) read
 with_sets-push front s None = refl

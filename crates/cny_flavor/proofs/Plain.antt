@@ -1,10 +1,8 @@
 -- The canonical text is a relaxed one.
-use Rattle.std.specs.Prelude.{◌≡◌, ◌↔◌, ℕ, Bool, true, false, not, IsTrue, ◌==◌, ◌&&◌, nat_le, List, [], ◌∷◌, ◌++◌, map, codes, Result, Err, Some, refl}
-use Rattle.std.proofs.Common.{sym, ◌∙◌, ap, subst, arith}
+use Rattle.std.specs.Prelude.{◌≡◌, ◌↔◌, ℕ, Bool, true, false, not, IsTrue, ◌&&◌, nat_le, List, [], ◌∷◌, ◌++◌, map, codes, Result, Err, Some, refl}
+use Rattle.std.proofs.Common.{sym, ◌∙◌, ap, subst}
 use Rattle.std.proofs.lemmas.Option.{same_Some}
-use Rattle.std.proofs.lemmas.Bool.Decides.{nat_tests}
 use Rattle.std.specs.Cmp.{first_so, second_so}
-use Rattle.std.specs.Cmp.Lexicographic.{nat_list_eq_equiv}
 use Rattle.std.specs.Str.{bytes_eq}
 use Rattle.std.specs.List.{flat_map, list_all}
 use Rattle.cny_base.specs.declared.text.TextFault.{TextFault}
@@ -19,6 +17,7 @@ use Rattle.cny_flavor.specs.Spelling.{SpacedFlag, SpacedSet, Spelling, comma_and
 use Rattle.cny_flavor.proofs.Putting.{in_order-rising}
 use Rattle.cny_flavor.proofs.Found.{parts_found}
 use Rattle.cny_flavor.proofs.Again.{parts_again}
+use Rattle.cny_base.proofs.ByteLists.{bytes_mean as equal_bytes, bytes_itself as own_bytes}
 
 abbrev plain_flag : Flag → SpacedFlag
 plain_flag f = record { spaces = 0; flag = f }
@@ -132,19 +131,6 @@ failing_reader fault.Memory text p r fails is relaxed = subst (λ (x : Result Pa
 failing_reader fault.Bad text p r fails is relaxed = absurd (cc (fails, relaxed_read text p relaxed))
 
 -- ---- equal bytes
-
-pub equal_bytes : (a b : List ℕ) → bytes_eq a b ≡ true → a ≡ b
-equal_bytes [] [] is = refl
-equal_bytes [] (y ∷ ys) is = absurd (cc is)
-equal_bytes (x ∷ xs) [] is = absurd (cc is)
-equal_bytes (x ∷ xs) (y ∷ ys) is =
-    ap (λ n. n ∷ xs) (equal_byte x y (first_so (x == y) (bytes_eq xs ys) is)) ∙ ap (λ l. y ∷ l) (equal_bytes xs ys (second_so (x == y) (bytes_eq xs ys) is))
-  where
-    equal_byte : (m n : ℕ) → (m == n) ≡ true → m ≡ n
-    equal_byte m n h = grind (arith, nat_tests)
-
-own_bytes : (a : List ℕ) → bytes_eq a a ≡ true
-own_bytes a = nat_list_eq_equiv.refl a
 
 not_false : (v : Bool) → false ≡ not v → v ≡ true
 not_false true h = refl

@@ -1,7 +1,6 @@
 -- Sums of cells, a flag and a set at a time.
 use Rattle.std.specs.Prelude.{◌≡◌, ℕ, ℤ, pos, ◌+ℤ◌, ◌≤ℤ◌, neg_ℤ, true, ◌&&◌, nat_le, List, [], ◌∷◌, ◌++◌, length, take, drop, Option, Some, None, refl}
 use Rattle.std.proofs.Common.{suc, ◌+◌, ◌*◌, ◌<◌, ◌≤◌, get_or, sym, ◌∙◌, ap, arith, drop-cons, add-one}
-use Rattle.std.proofs.lemmas.Bool.Decides.{nat_tests}
 use Rattle.std.proofs.lemmas.Int.{ints}
 use Rattle.std.proofs.lemmas.List.Sums.{sum_by_more}
 use Rattle.std.specs.Cmp.{first_so}
@@ -12,6 +11,7 @@ use Rattle.cny_flavor.specs.declared.parts.Flag.{Flag}
 use Rattle.cny_flavor.specs.declared.parts.InstructionSet.{InstructionSet}
 use Rattle.cny_flavor.specs.declared.parts.Parts.{Parts}
 use Rattle.cny_flavor.specs.Score.{flag_cell, flag_cells, set_cells, total}
+use Rattle.cny_base.proofs.Counts.{at_most}
 
 -- ---- sums
 
@@ -116,9 +116,6 @@ set_added trove system i score n s within is summed worth low high =
     }
 
 -- ---- both
-
-at_most : (m n : ℕ) → nat_le m n ≡ true → m ≤ n
-at_most m n h = grind (arith, nat_tests)
 
 pub few_flags : (p : Parts) (fs : List Flag) → is_flavor p ≡ true → fs ≡ p.flags → length fs ≤ 64
 few_flags p fs is same =

@@ -4,4 +4,3 @@ pub mod Order
 pub mod Reading
 pub mod Score
 pub mod Spelling
-pub mod Utf8

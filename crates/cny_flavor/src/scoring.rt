@@ -1,10 +1,10 @@
 //! How well a trove's flavor fits a system's.
 ghost use Rattle.std.specs.Prelude.{◌≡◌, ◌≤◌, ◌*◌, pos, ◌≤ℤ◌, neg_ℤ, length, IfSome};
 ghost use Rattle.std.specs.List.{flat_map, sum_by};
-ghost use Rattle.std.specs.Option.{option_map, option_copied};
+ghost use Rattle.std.specs.Option.{option_copied};
 ghost use Rattle.cny_flavor.specs.Canonical.{set_count};
 ghost use Rattle.cny_flavor.specs.Score as spec;
-ghost use Rattle.cny_flavor.specs.Score.{total, flag_cell, flag_cells, cells_with, set_cells, flavor_score};
+ghost use Rattle.cny_flavor.specs.Score.{total, flag_cell, flag_cells, set_cells, flavor_score};
 
 use crate::flavor::Flavor;
 use crate::order::Worded;

@@ -1,13 +1,13 @@
 -- Parts of the list that tells at each place whether two lists of bytes differ there.
-use Rattle.std.proofs.Common.{◌≡◌, ◌≢◌, ⊎_elim, ◌≤◌, ◌<◌, ◌+◌, ◌^◌, w64, ◌-◌, true, false, ℕ, zero, suc, List, [], ◌∷◌, Bool, cond, length, get_or, take, drop, map, not, eqb, sym, subst, ap, refl, ◌∙◌, arith}
+use Rattle.std.proofs.Common.{◌≡◌, ◌≢◌, ⊎_elim, ◌≤◌, ◌<◌, ◌+◌, ◌^◌, w64, ◌-◌, true, false, ℕ, zero, suc, List, [], ◌∷◌, Bool, cond, length, get_or, take, map, not, eqb, sym, subst, ap, refl, ◌∙◌, arith}
 use Rattle.std.proofs.lemmas.List.{map-id, length-take}
-use Rattle.std.proofs.lemmas.Simd.{ones-mask_l, length-zip2, get_or-zip2, trailing_mask_l, run_in_chunk_le, run_in_chunk_fails, run_in_chunk_stops, none_from_empty_mask, length-chunk, mask_l-lt}
+use Rattle.std.proofs.lemmas.Simd.{ones-mask_l, length-zip2, get_or-zip2, trailing_mask_l, run_in_chunk_fails, run_in_chunk_stops, none_from_empty_mask, length-chunk, mask_l-lt}
 use Rattle.std.proofs.lemmas.Nat.Bits.{bit_at-trailing_zeros}
 use Rattle.std.proofs.lemmas.Bool.{cases_lt}
 use Rattle.std.proofs.lemmas.List.Sums.{count_by-le-length, sum_by-append, count_by_more_yes, count_by_more_no}
 use Rattle.std.proofs.Math.Seq.{take-add}
 use Rattle.std.specs.List.{count_by, prefix_len}
-use Rattle.std.specs.Simd.Lanes.{mask_l, zip2}
+use Rattle.std.specs.Simd.Lanes.{mask_l}
 use lib.Count.{ones, count_trailing_zeros}
 use lib.Lanes.{chunk}
 use Rattle.cny_lanes.specs.Compare.{differing, AreSameBefore, IsFirstDifference}

@@ -3,10 +3,7 @@ use Rattle.std.proofs.Common.{◌≡◌, ℕ, ◌≤◌, Bool, true, ◌&&◌, L
 use Rattle.std.specs.Prelude.{not}
 use Rattle.std.specs.Cmp.{IsTotalOrder}
 use Rattle.std.specs.Cmp.Lexicographic.{nat_list_cmp_total}
-use Rattle.std.specs.List.{AllByRecursion}
 use Rattle.std.specs.List.Sorted.{IsStrictlySortedBy}
-use Rattle.std.specs.Ordering.{is_lt}
-use Rattle.std.specs.declared.cmp.Ordering.TheVariants.{Less, Equal, Greater}
 use Rattle.std.proofs.lemmas.Bool.{leb-true, true≢false}
 use Rattle.std.proofs.lemmas.Cmp.{on_total, then_total}
 use Rattle.std.proofs.lemmas.List.{map-append}
@@ -28,7 +25,7 @@ use Rattle.manifest_troves.specs.trove-parts.declared.id.TroveId.{TroveId}
 use Rattle.manifest_troves.specs.trove-parts.Id.{IsTroveId}
 use Rattle.manifest_troves.specs.trove-parts.Order.{id_cmp, id_total}
 use Rattle.manifest_troves.specs.trove-parts.declared.files.FileAt.{FileAt}
-use Rattle.manifest_troves.specs.trove-parts.Files.{file_cmp, path_of}
+use Rattle.manifest_troves.specs.trove-parts.Files.{file_cmp}
 use Rattle.manifest_troves.specs.trove-parts.Items.{IsRisingList}
 use Rattle.manifest_troves.specs.change-set.declared.change.Carried.{Carried}
 use Rattle.manifest_troves.specs.declared.lines.DepLine.{DepLine}
@@ -42,13 +39,15 @@ use Rattle.cny_manifest.specs.Grammar.{Progress, AtMagic, AtName, AtVersion, InB
 use Rattle.cny_manifest.specs.Lines.{with_feed}
 use Rattle.cny_manifest.specs.Made.{CanEnd}
 use Rattle.cny_manifest.specs.Spelling.{magic_line, name_line, version_line, ref_line, IsFlavorPart, IsDepLine, AreDepLines, Entry, DirEntry, FileEntry, LinkEntry, file_at, contents_in, dir_line, file_line, link_line, entry_items, IsOwnerHere, IsEntry, KeepsToKind, IsOwnLine, HasRisingLists, AreItems, IsSpelling}
-use Rattle.cny_manifest.proofs.FieldTexts.{both}
 use Rattle.cny_manifest.proofs.LineTexts.{magic_takes, name_takes, version_takes, word_text, word_takes, dep_takes, dir_takes, file_takes, target_takes, path_takes, file_next_takes}
+use Rattle.manifest_troves.proofs.trove-parts.Orders.{file_total}
+use Rattle.manifest_troves.specs.Troves.{name_of_line}
+use Rattle.cny_dep.proofs.Sorted.{all_above}
+use Rattle.cny_version.proofs.cny-base.Doubling.{both}
+use Rattle.cny_version.proofs.cny-base.Orders.{less_is}
+use Rattle.cny_version.proofs.cny-base.Sorted.{rising_nil as sorted_nil}
 
 -- ---- orders
-
-abbrev name_of_line : DepLine → List ℕ
-name_of_line line = line.name
 
 abbrev text_of_line : DepLine → List ℕ
 text_of_line line = dep_text line.dep
@@ -56,21 +55,9 @@ text_of_line line = dep_text line.dep
 pub dep_line_total : IsTotalOrder dep_line_cmp
 dep_line_total = then_total (on_total name_of_line nat_list_cmp_total) (on_total text_of_line nat_list_cmp_total)
 
-pub file_total : IsTotalOrder file_cmp
-file_total = on_total path_of nat_list_cmp_total
-
 -- ---- rising lists
 
-less_is : (o : Ordering) → is_lt o ≡ true → o ≡ Less
-less_is Less e = refl
-less_is Equal e = absurd cc
-less_is Greater e = absurd cc
-
 module _ {K : Type 0} {R : K → K → Ordering} (o : IsTotalOrder R) where
-  all_above : (x y : K) (ys : List K) → R x y ≡ Less → AllByRecursion (λ z. R y z ≡ Less) ys → AllByRecursion (λ z. R x z ≡ Less) ys
-  all_above x y [] less all = tt
-  all_above x y (z ∷ zs) less all = (o.trans x y z less all.0, all_above x y zs less all.1)
-
   -- one more element, above the last
   pub rising_push : (xs : List K) (y : K) → IsStrictlySortedBy R xs → is_above R xs y ≡ true → IsStrictlySortedBy R (xs ++ y ∷ [])
   unfolding IsStrictlySortedBy
@@ -78,16 +65,12 @@ module _ {K : Type 0} {R : K → K → Ordering} (o : IsTotalOrder R) where
   rising_push (x ∷ []) y rising above = ((less_is (R x y) above, tt), (tt, tt))
   rising_push (x ∷ z ∷ xs) y rising above =
       let rest = rising_push (z ∷ xs) y rising.1 above in
-      ((rising.0.0, all_above x z (xs ++ y ∷ []) rising.0.0 rest.0), rest)
+      ((rising.0.0, all_above o x z (xs ++ y ∷ []) rising.0.0 rest.0), rest)
 
 pub above_path_is : (files : List FileAt) (path : List ℕ) (rec : FileRec) → is_above file_cmp files (record { path = path; rec = rec }) ≡ is_above_path files path
 above_path_is [] path rec = refl
 above_path_is (file ∷ []) path rec = refl
 above_path_is (file ∷ next ∷ files) path rec = above_path_is (next ∷ files) path rec
-
-pub sorted_nil : {K : Type 0} (R : K → K → Ordering) → IsStrictlySortedBy R []
-unfolding IsStrictlySortedBy
-sorted_nil R = tt
 
 pub rising_more : {K : Type 0} {R : K → K → Ordering} (P : K → Type 0) (o : IsTotalOrder R) (xs : List K) (y : K) → IsRisingList P R xs → P y → is_above R xs y ≡ true → IsRisingList P R (xs ++ y ∷ [])
 rising_more P o xs y is valid above = record { valid = All-push P xs y is.valid valid; rising = rising_push o xs y is.rising above }
@@ -166,7 +149,7 @@ dep_lines_push of (x ∷ deps) (y ∷ lines) dep line are is = (are.0, dep_lines
 
 -- ---- one line more
 
-abbrev IsSoFar : List (List ℕ) → Body → Type 0
+abbrev pub IsSoFar : List (List ℕ) → Body → Type 0
 IsSoFar items b = AreItems items b × HasRisingLists b
 
 flavor_kind : (kind : NameKind) (b : Body) (parts : Parts) → KeepsToKind kind b → KeepsToKind kind (with_flavor b parts)
@@ -463,7 +446,7 @@ pub record IsFileNext (b : Body) (line : FileLine) : Type 0 where
   pub can : can_record b line.path ≡ true
   pub fits : IsLine (file_line b.owners line.path line.mode line.owner line.flags line.size)
 
-abbrev line_of_file : Bool → FileLine → List ℕ
+abbrev pub line_of_file : Bool → FileLine → List ℕ
 line_of_file owners line = file_line owners line.path line.mode line.owner line.flags line.size
 
 abbrev pub SoFar : List (List ℕ) → Progress → Type 0
@@ -610,7 +593,7 @@ item_added items (InTarget b path) text q so next =
     (subst (λ (c : Body). IsSoFar (items ++ text ∷ []) c) same (subst (λ (l : List (List ℕ)). IsSoFar l (with_spelled b entry)) (sym spelled) added))
 item_added items (Ended b) text q so next = absurd next.item
 
-all_added : (items : List (List ℕ)) (p : Progress) (texts : List (List ℕ)) (q : Progress) → SoFar items p → Lead p texts q → SoFar (items ++ texts) q
+pub all_added : (items : List (List ℕ)) (p : Progress) (texts : List (List ℕ)) (q : Progress) → SoFar items p → Lead p texts q → SoFar (items ++ texts) q
 all_added items p [] q so lead = subst (λ (r : Progress). SoFar (items ++ []) r) lead (subst (λ (l : List (List ℕ)). SoFar l p) (sym (append-nil items)) so)
 all_added items p (text ∷ texts) q so lead =
     subst (λ (l : List (List ℕ)). SoFar l q) (append_assoc items (text ∷ []) texts)

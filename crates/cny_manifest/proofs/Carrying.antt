@@ -7,7 +7,6 @@ use Rattle.std.specs.List.Sorted.{IsStrictlySortedBy}
 use Rattle.std.specs.Str.{bytes_eq}
 use Rattle.std.proofs.lemmas.Bool.{true≢false}
 use Rattle.std.proofs.lemmas.List.Elements.{All-from_recursion, recursion_from_All, All-weaker, All-contains}
-use Rattle.std.proofs.lemmas.Slice.Eq.{bytes_eq-Decides}
 use Rattle.sha1.specs.Sha1.{sha1}
 use Rattle.manifest_troves.specs.cny-base.Name.{kind_of_name}
 use Rattle.manifest_troves.specs.cny-base.declared.name.NameKind.{NameKind}
@@ -29,18 +28,10 @@ use Rattle.cny_manifest.specs.Makes.{HasOwnContents}
 use Rattle.cny_manifest.specs.Reading.{IsReadOf}
 use Rattle.cny_manifest.specs.Spelling.{Entry, DirEntry, FileEntry, LinkEntry, file_at, contents_in, KeepsToKind, IsSpelling}
 use Rattle.cny_manifest.proofs.OneReading.{spelling_of}
+use Rattle.manifest_troves.proofs.Names.{or_true}
+use Rattle.cny_version.proofs.cny-base.ByteLists.{bytes_mean as bytes_are, bytes_itself as same_bytes}
 
 -- ---- tests
-
-bytes_are : (x y : List ℕ) → bytes_eq x y ≡ true → x ≡ y
-bytes_are x y e = (bytes_eq-Decides x y).0 e
-
-same_bytes : (x : List ℕ) → bytes_eq x x ≡ true
-same_bytes x = (bytes_eq-Decides x x).1 refl
-
-or_true : (b : Bool) → (b || true) ≡ true
-or_true true = refl
-or_true false = refl
 
 -- ---- contents that are recorded
 

@@ -13,7 +13,7 @@ use Rattle.cny_manifest.specs.Made.{CanEnd}
 use Rattle.cny_manifest.specs.Reading.{IsOnly, Runs, Stops, IsEndOf, IsReadOf}
 use Rattle.cny_manifest.proofs.Steps.{none_found, runs_line, runs_then, stops_line, stops_here, stops_after}
 
-end_no_word : word_at (codes "end") ≡ None
+pub end_no_word : word_at (codes "end") ≡ None
 unfolding field_at
 end_no_word = refl
 

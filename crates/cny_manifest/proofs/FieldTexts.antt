@@ -1,5 +1,5 @@
 -- Fields of lines, cut off and put there again.
-use Rattle.std.proofs.Common.{◌≡◌, ℕ, zero, suc, ◌+◌, ◌/◌, ◌%◌, ◌<◌, ◌≤◌, ◌^◌, Bool, true, false, cond, ◌&&◌, ◌==◌, List, [], ◌∷◌, ◌++◌, length, get_or, take, drop, Option, Some, None, refl, sym, ap, subst, ◌∙◌, append_assoc, arith, rules, eq-eqb, length-append}
+use Rattle.std.proofs.Common.{◌≡◌, ℕ, zero, suc, ◌+◌, ◌/◌, ◌%◌, ◌<◌, ◌≤◌, ◌^◌, Bool, true, false, ◌&&◌, ◌==◌, List, [], ◌∷◌, ◌++◌, length, get_or, take, drop, Option, Some, None, refl, sym, ap, subst, ◌∙◌, append_assoc, arith, eq-eqb, length-append}
 use Rattle.std.specs.Prelude.{leb, not, ◌||◌}
 use Rattle.std.specs.List.{position, position_or_len, list_all}
 use Rattle.std.specs.Str.{bytes_eq}
@@ -11,41 +11,25 @@ use Rattle.std.proofs.lemmas.List.Sums.{position_or_len_is}
 use Rattle.std.proofs.lemmas.List.Folds.{list_all-append}
 use Rattle.std.proofs.lemmas.List.Quantifiers.{position-Some}
 use Rattle.std.proofs.lemmas.Fmt.{digits_decimal, digits_value-decimal, length-decimal-le, decimal_nonempty, first_decimal, decimal_digit, decimal-digits_value}
-use Rattle.std.proofs.lemmas.Str.Parse.{IsNumeralModel, numerals_by_fold, digits_value_short}
+use Rattle.std.proofs.lemmas.Str.Parse.{digits_value_short}
 use Rattle.manifest_troves.specs.cny-base.Name.{is_name, is_word, is_word_byte, is_colon, colon_place, has_words, begins_as_group}
-use Rattle.manifest_troves.specs.cny-base.Number.{octal_text, is_octal_digit, is_octal_text, octal_value, is_digit, is_decimal, decimal_on, decimal_value}
+use Rattle.manifest_troves.specs.cny-base.Number.{octal_text, is_octal_digit, is_octal_text, octal_value, is_digit, is_decimal, decimal_value}
 use Rattle.cny_manifest.specs.Lines.{◌&>◌, cut_at, is_space, field_at, after, mode_of, size_of}
+use Rattle.cny_version.proofs.cny-base.Numbers.{AreDigits, own}
+use Rattle.cny_version.proofs.cny-base.Doubling.{both}
+use Rattle.cny_version.proofs.cny-base.ByteLists.{bytes_itself as bytes_same, bytes_mean as same_bytes}
+use Rattle.manifest_troves.proofs.trove-parts.IdFields.{letter_in_word as letter_is}
+use Rattle.cny_version.proofs.cny-base.Bools.{or_left}
+use Rattle.manifest_troves.proofs.file-stream.Fields.{guarded as then_some}
 
 -- ---- steps that found something
-
-pub both : (a b : Bool) → (a && b) ≡ true → (a ≡ true) × (b ≡ true)
-both true b e = (refl, e)
-both false b e = absurd cc
 
 pub bind_some : {A B : Type 0} (o : Option A) (f : A → Option B) (y : B) → (o &> f) ≡ Some y → (x : A) × (o ≡ Some x) × (f x ≡ Some y)
 bind_some (Some x) f y e = (x, refl, e)
 bind_some None f y e = absurd cc
 
-pub then_some : {A : Type 0} (b : Bool) (x y : A) → cond b (Some x) None ≡ Some y → (b ≡ true) × (x ≡ y)
-then_some true x y e = (refl, cc)
-then_some false x y e = absurd cc
-
 pub some_is : {A : Type 0} (x y : A) → ◌≡◌ {A = Option A} (Some x) (Some y) → x ≡ y
 some_is x y e = cc
-
-pub same_bytes : (xs ys : List ℕ) → bytes_eq xs ys ≡ true → xs ≡ ys
-same_bytes [] [] e = refl
-same_bytes [] (y ∷ ys) e = absurd cc
-same_bytes (x ∷ xs) [] e = absurd cc
-same_bytes (x ∷ xs) (y ∷ ys) e =
-    let b = both (x == y) (bytes_eq xs ys) e in
-    let heads : x ≡ y = eqb-true x y b.0 in
-    let tails : xs ≡ ys = same_bytes xs ys b.1 in
-    cc
-
-pub bytes_same : (xs : List ℕ) → bytes_eq xs xs ≡ true
-bytes_same [] = refl
-bytes_same (x ∷ xs) = rw (eq-eqb x x refl) (bytes_same xs)
 
 -- ---- cut off
 
@@ -163,12 +147,6 @@ mode_again n le =
 
 -- ---- sizes
 
-abbrev AreDigits : List ℕ → Type 0
-AreDigits text = list_all is_digit text ≡ true
-
-own : IsNumeralModel AreDigits decimal_value
-own = numerals_by_fold AreDigits (search rules) decimal_on (search rules)
-
 record IsDecimalText (text : List ℕ) : Type 0 where
   some : 0 < length text
   short : length text ≤ 19
@@ -257,9 +235,6 @@ word_differs : (c b : ℕ) → is_word_byte c ≡ false → is_word_byte b ≡ t
 word_differs c b not is true e = absurd (let k : b ≡ c = eqb-true b c e in let no : true ≡ false = sym is ∙ ap is_word_byte k ∙ not in cc)
 word_differs c b not is false e = refl
 
-letter_is : (b : ℕ) → is_ascii_alphanumeric b ≡ true → is_word_byte b ≡ true
-letter_is b e = rw e refl
-
 pub word_without : (c : ℕ) → is_word_byte c ≡ false → (word : List ℕ) → is_word word ≡ true → Without c word
 word_without c not [] e = absurd cc
 word_without c not (b ∷ bs) e =
@@ -272,10 +247,6 @@ name_byte b = is_word_byte b || b == 58
 name_is_not : (b : ℕ) → name_byte b ≡ true → (same : Bool) → (b == 32) ≡ same → same ≡ false
 name_is_not b is true e = absurd (let k : b ≡ 32 = eqb-true b 32 e in let no : true ≡ false = sym is ∙ ap name_byte k in cc)
 name_is_not b is false e = refl
-
-or_left : (a b : Bool) → a ≡ true → (a || b) ≡ true
-or_left true b e = refl
-or_left false b e = absurd cc
 
 name_bytes : (bs : List ℕ) → list_all is_word_byte bs ≡ true → list_all name_byte bs ≡ true
 name_bytes [] e = refl

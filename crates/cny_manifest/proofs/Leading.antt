@@ -33,56 +33,51 @@ use Rattle.cny_manifest.specs.Grammar.{Progress, AtMagic, AtName, AtVersion, InB
 use Rattle.cny_manifest.specs.Lines.{word_at}
 use Rattle.cny_manifest.specs.Spelling.{magic_line, ref_line, IsFlavorPart, IsDepLine, AreDepLines, Entry, DirEntry, FileEntry, LinkEntry, file_at, contents_in, entry_items, owner_words, IsEntry, KeepsToKind, IsOwnLine, HasRisingLists, AreItems, IsSpelling}
 use Rattle.cny_manifest.proofs.FieldTexts.{without_all}
-use Rattle.cny_manifest.proofs.LineTexts.{is_not, magic_again, name_again, version_again, word_again, dep_again, dir_again, file_again, file_fields, target_again, path_again, file_next_again}
+use Rattle.cny_manifest.proofs.LineTexts.{magic_again, name_again, version_again, word_again, dep_again, dir_again, file_again, file_fields, target_again, path_again, file_next_again}
 use Rattle.cny_manifest.proofs.Adding.{above_path_is, no_entries, with_spelled}
+use Rattle.cny_version.proofs.cny-base.Bools.{both as both_true}
+use Rattle.cny_version.proofs.cny-base.Again.{not_true as is_not}
 
 -- ---- leads
 
-lead_then : (p : Progress) (xs : List (List ℕ)) (q : Progress) (ys : List (List ℕ)) (r : Progress) → Lead p xs q → Lead q ys r → Lead p (xs ++ ys) r
+pub lead_then : (p : Progress) (xs : List (List ℕ)) (q : Progress) (ys : List (List ℕ)) (r : Progress) → Lead p xs q → Lead q ys r → Lead p (xs ++ ys) r
 lead_then p [] q ys r first later = subst (λ (o : Progress). Lead o ys r) (sym first) later
 lead_then p (x ∷ xs) q ys r first later = (first.0, first.1, lead_then first.0 xs q ys r first.2 later)
 
 -- ---- elements
 
-head_of : {X : Type 0} (P : X → Type 0) (x : X) (xs : List X) → All P (x ∷ xs) → P x
+pub head_of : {X : Type 0} (P : X → Type 0) (x : X) (xs : List X) → All P (x ∷ xs) → P x
 head_of P x xs all = all 0 x (omega arith)
 
-tail_of : {X : Type 0} (P : X → Type 0) (x : X) (xs : List X) → All P (x ∷ xs) → All P xs
+pub tail_of : {X : Type 0} (P : X → Type 0) (x : X) (xs : List X) → All P (x ∷ xs) → All P xs
 tail_of P x xs all k d lt = all (suc k) d (omega arith)
 
 -- in a rising list each element is above the one before it
-above_of : {K : Type 0} (R : K → K → Ordering) (xs : List K) (y : K) (ys : List K) → IsStrictlySortedBy R (xs ++ y ∷ ys) → is_above R xs y ≡ true
+pub above_of : {K : Type 0} (R : K → K → Ordering) (xs : List K) (y : K) (ys : List K) → IsStrictlySortedBy R (xs ++ y ∷ ys) → is_above R xs y ≡ true
 unfolding IsStrictlySortedBy
 above_of R [] y ys rising = refl
 above_of R (x ∷ []) y ys rising = ap is_lt rising.0.0
 above_of R (x ∷ z ∷ xs) y ys rising = above_of R (z ∷ xs) y ys rising.1
 
-both_true : (a b : Bool) → a ≡ true → b ≡ true → (a && b) ≡ true
-both_true true b is so = so
-both_true false b is so = absurd cc
-
-empty : {A : Type 0} (xs : List A) → xs ≡ [] → is_empty xs ≡ true
-empty xs e = ap is_empty e
-
 -- ---- lines without values
 
-abbrev no_feed : ℕ → Bool
+abbrev pub no_feed : ℕ → Bool
 no_feed b = not (b == 10)
 
-plain_line : (text : List ℕ) → length text < 2049 → list_all no_feed text ≡ true → IsLine text
+pub plain_line : (text : List ℕ) → length text < 2049 → list_all no_feed text ≡ true → IsLine text
 plain_line text short all = record { short = short; no_feed = without_all 10 no_feed (λ b h. is_not (b == 10) h) text all }
 
-magic_is_line : (owners : Bool) → IsLine (magic_line owners)
+pub magic_is_line : (owners : Bool) → IsLine (magic_line owners)
 magic_is_line true = plain_line (codes "manifest 2") (omega arith) refl
 magic_is_line false = plain_line (codes "manifest 1") (omega arith) refl
 
 -- ---- the flavor
 
-flavor_can : (owners : Bool) (name : List ℕ) (version : WholeVersion) → can_have_flavor (body_of owners name version) ≡ true
+pub flavor_can : (owners : Bool) (name : List ℕ) (version : WholeVersion) → can_have_flavor (body_of owners name version) ≡ true
 unfolding can_have_flavor
 flavor_can owners name version = refl
 
-flavor_leads : (owners : Bool) (name : List ℕ) (version : WholeVersion) (parts : Parts) (lines : List (List ℕ)) → IsFlavorPart parts lines
+pub flavor_leads : (owners : Bool) (name : List ℕ) (version : WholeVersion) (parts : Parts) (lines : List (List ℕ)) → IsFlavorPart parts lines
     → Lead (InBody (body_of owners name version)) lines (InBody (with_flavor (body_of owners name version) parts))
 flavor_leads owners name version parts [] is = ap (λ (p : Parts). InBody (with_flavor (body_of owners name version) p)) (sym is)
 flavor_leads owners name version parts (line ∷ []) is = (
@@ -138,26 +133,26 @@ ref_leads b (id ∷ ids) group rising valid fit =
           (tail_of IsTroveId id ids valid) (tail_of (λ (x : TroveId). IsLine (ref_line x)) id ids fit)),
     )
 
-group_or_none : (kind : NameKind) (b : Body) → KeepsToKind kind b → (is_group_kind kind ≡ true) ⊎ (b.refs ≡ [])
+pub group_or_none : (kind : NameKind) (b : Body) → KeepsToKind kind b → (is_group_kind kind ≡ true) ⊎ (b.refs ≡ [])
 group_or_none Component b kept = inr kept
 group_or_none Package b kept = inr kept
 group_or_none Group b kept = inl refl
 
-refs_lead : (b : Body) (ids : List TroveId) → (is_group_kind (kind_of_name b.id.name) ≡ true) ⊎ (ids ≡ []) → IsStrictlySortedBy id_cmp (b.refs ++ ids) → All IsTroveId ids → All (λ id. IsLine (ref_line id)) ids
+pub refs_lead : (b : Body) (ids : List TroveId) → (is_group_kind (kind_of_name b.id.name) ≡ true) ⊎ (ids ≡ []) → IsStrictlySortedBy id_cmp (b.refs ++ ids) → All IsTroveId ids → All (λ id. IsLine (ref_line id)) ids
     → Lead (InBody b) (map ref_line ids) (InBody (record b { refs = b.refs ++ ids }))
 refs_lead b ids (inl group) rising valid fit = ref_leads b ids group rising valid fit
 refs_lead b ids (inr none) rising valid fit = subst (λ (l : List TroveId). Lead (InBody b) (map ref_line l) (InBody (record b { refs = b.refs ++ l }))) (sym none) (no_refs b)
 
 -- ---- dependencies
 
-require_can : (b : Body) (dep : DepLine) → is_own_by (kind_of_name b.id.name) b.id.name dep.name ≡ true → is_empty b.provides ≡ true → is_empty b.files ≡ true → is_above dep_line_cmp b.requires_ dep ≡ true
+pub require_can : (b : Body) (dep : DepLine) → is_own_by (kind_of_name b.id.name) b.id.name dep.name ≡ true → is_empty b.provides ≡ true → is_empty b.files ≡ true → is_above dep_line_cmp b.requires_ dep ≡ true
     → can_require b dep ≡ true
 unfolding can_require
 require_can b dep own provides files above =
     both_true (is_own_by (kind_of_name b.id.name) b.id.name dep.name) (is_empty b.provides && (is_empty b.files && is_above dep_line_cmp b.requires_ dep)) own
     (both_true (is_empty b.provides) (is_empty b.files && is_above dep_line_cmp b.requires_ dep) provides (both_true (is_empty b.files) (is_above dep_line_cmp b.requires_ dep) files above))
 
-requires_lead : (b : Body) (deps : List DepLine) (lines : List (List ℕ)) → AreDepLines (codes "requires") deps lines → is_empty b.provides ≡ true → is_empty b.files ≡ true → All (IsOwnLine b.id.name) deps
+pub requires_lead : (b : Body) (deps : List DepLine) (lines : List (List ℕ)) → AreDepLines (codes "requires") deps lines → is_empty b.provides ≡ true → is_empty b.files ≡ true → All (IsOwnLine b.id.name) deps
     → IsStrictlySortedBy dep_line_cmp (b.requires_ ++ deps) → Lead (InBody b) lines (InBody (record b { requires_ = b.requires_ ++ deps }))
 requires_lead b [] [] are provides files own rising = ap (λ (l : List DepLine). InBody (record b { requires_ = l })) (sym (append-nil b.requires_))
 requires_lead b [] (line ∷ lines) are provides files own rising = absurd are
@@ -180,13 +175,13 @@ requires_lead b (dep ∷ deps) (line ∷ lines) are provides files own rising =
           (subst (λ (x : List DepLine). IsStrictlySortedBy dep_line_cmp x) (sym (append_assoc b.requires_ (dep ∷ []) deps)) rising)),
     )
 
-provide_can : (b : Body) (dep : DepLine) → is_own_by (kind_of_name b.id.name) b.id.name dep.name ≡ true → is_empty b.files ≡ true → is_above dep_line_cmp b.provides dep ≡ true → can_provide b dep ≡ true
+pub provide_can : (b : Body) (dep : DepLine) → is_own_by (kind_of_name b.id.name) b.id.name dep.name ≡ true → is_empty b.files ≡ true → is_above dep_line_cmp b.provides dep ≡ true → can_provide b dep ≡ true
 unfolding can_provide
 provide_can b dep own files above =
     both_true (is_own_by (kind_of_name b.id.name) b.id.name dep.name) (is_empty b.files && is_above dep_line_cmp b.provides dep) own
     (both_true (is_empty b.files) (is_above dep_line_cmp b.provides dep) files above)
 
-provides_lead : (b : Body) (deps : List DepLine) (lines : List (List ℕ)) → AreDepLines (codes "provides") deps lines → is_empty b.files ≡ true → All (IsOwnLine b.id.name) deps
+pub provides_lead : (b : Body) (deps : List DepLine) (lines : List (List ℕ)) → AreDepLines (codes "provides") deps lines → is_empty b.files ≡ true → All (IsOwnLine b.id.name) deps
     → IsStrictlySortedBy dep_line_cmp (b.provides ++ deps) → Lead (InBody b) lines (InBody (record b { provides = b.provides ++ deps }))
 provides_lead b [] [] are files own rising = ap (λ (l : List DepLine). InBody (record b { provides = l })) (sym (append-nil b.provides))
 provides_lead b [] (line ∷ lines) are files own rising = absurd are
@@ -256,7 +251,7 @@ entry_leads b (LinkEntry path target) can is =
       (InBody (with_spelled b entry), record { fits = is.3; item = (target, target_again target is.1, refl, no_content b (b.files ++ file_at entry ∷ [])) }, refl),
     )
 
-abbrev with_entries : Body → List Entry → Body
+abbrev pub with_entries : Body → List Entry → Body
 with_entries b entries = record b { files = b.files ++ map file_at entries; contents = b.contents ++ flat_map contents_in entries }
 
 nothing_recorded : (b : Body) → Lead (InBody b) [] (InBody (with_entries b []))
@@ -281,19 +276,19 @@ each_leads b (entry ∷ entries) other rising are =
     (each_leads (with_spelled b entry) entries other (subst (λ (l : List FileAt). IsStrictlySortedBy file_cmp l) (sym (append_assoc b.files (file ∷ []) (map file_at entries))) rising)
     (tail_of (IsEntry b.owners) entry entries are)))
 
-other_or_none : (kind : NameKind) (b : Body) (entries : List Entry) → KeepsToKind kind b → b.files ≡ map file_at entries → (not (is_group_kind kind) ≡ true) ⊎ (entries ≡ [])
+pub other_or_none : (kind : NameKind) (b : Body) (entries : List Entry) → KeepsToKind kind b → b.files ≡ map file_at entries → (not (is_group_kind kind) ≡ true) ⊎ (entries ≡ [])
 other_or_none Component b entries kept are = inl refl
 other_or_none Package b entries kept are = inl refl
 other_or_none Group b entries kept are = inr (no_entries entries (sym kept.2 ∙ are))
 
-entries_lead : (b : Body) (entries : List Entry) → (not (is_group_kind (kind_of_name b.id.name)) ≡ true) ⊎ (entries ≡ []) → IsStrictlySortedBy file_cmp (b.files ++ map file_at entries) → All (IsEntry b.owners) entries
+pub entries_lead : (b : Body) (entries : List Entry) → (not (is_group_kind (kind_of_name b.id.name)) ≡ true) ⊎ (entries ≡ []) → IsStrictlySortedBy file_cmp (b.files ++ map file_at entries) → All (IsEntry b.owners) entries
     → Lead (InBody b) (flat_map (entry_items b.owners) entries) (InBody (with_entries b entries))
 entries_lead b entries (inl other) rising are = each_leads b entries other rising are
 entries_lead b entries (inr none) rising are = subst (λ (l : List Entry). Lead (InBody b) (flat_map (entry_items b.owners) l) (InBody (with_entries b l))) (sym none) (nothing_recorded b)
 
 -- ---- the whole
 
-body_leads : (items : List (List ℕ)) (b : Body) → AreItems items b → HasRisingLists b → Lead AtMagic items (InBody b)
+pub body_leads : (items : List (List ℕ)) (b : Body) → AreItems items b → HasRisingLists b → Lead AtMagic items (InBody b)
 body_leads items b are lists =
     let kind = kind_of_name b.id.name in
     let one : Body = with_flavor (body_of b.owners b.id.name b.id.version) b.id.flavor in

@@ -12,3 +12,4 @@ pub mod LineTexts
 pub mod Adding
 pub mod Leading
 pub mod OneManifest
+pub use Rattle.cny_dep.proofs as cny-dep

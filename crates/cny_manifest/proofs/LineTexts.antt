@@ -25,11 +25,11 @@ use Rattle.cny_manifest.specs.Entries.{path_of, names_if, owner_of, owner_at, di
 use Rattle.cny_manifest.specs.Grammar.{magic_of, kind_word, name_if, name_of, IsVersionField, IsVersionLine, IsDepField, IsDepFields}
 use Rattle.cny_manifest.specs.Lines.{◌&>◌, cut_at, field_at, after, mode_of, size_of, word_of, word_at}
 use Rattle.cny_manifest.specs.Spelling.{magic_line, name_line, version_line, owner_words, word_if, flag_words, IsOwnerHere}
-use Rattle.cny_manifest.proofs.FieldTexts.{both, bind_some, then_some, some_is, same_bytes, bytes_same, cut_by, field_takes, after_takes, Without, without_all, cut_again, field_again, after_again, mode_takes, mode_again, size_takes, size_again, mode_without, size_without, word_without, name_without}
-
-pub is_not : (b : Bool) → not b ≡ true → b ≡ false
-is_not true e = absurd cc
-is_not false e = refl
+use Rattle.cny_manifest.proofs.FieldTexts.{bind_some, some_is, cut_by, field_takes, after_takes, Without, without_all, cut_again, field_again, after_again, mode_takes, mode_again, size_takes, size_again, mode_without, size_without, word_without, name_without}
+use Rattle.cny_version.proofs.cny-base.Doubling.{both}
+use Rattle.cny_version.proofs.cny-base.ByteLists.{bytes_itself as bytes_same, bytes_mean as same_bytes}
+use Rattle.cny_version.proofs.cny-base.Again.{not_true as is_not}
+use Rattle.manifest_troves.proofs.file-stream.Fields.{guarded as then_some}
 
 abbrev no_space : ℕ → Bool
 no_space b = not (b == 32)
@@ -285,14 +285,14 @@ pub record TakesFile (owners : Bool) (fields : List ℕ) (line : FileLine) : Typ
   pub owner : IsOwnerHere owners line.owner
   pub path : is_path line.path ≡ true
 
-record TakesSized (owners : Bool) (mode size : ℕ) (text : List ℕ) (line : FileLine) : Type 0 where
+pub record TakesSized (owners : Bool) (mode size : ℕ) (text : List ℕ) (line : FileLine) : Type 0 where
   mode_is : line.mode ≡ mode
   size_is : line.size ≡ size
   spelled : text ≡ owner_words owners line.owner ++ (flag_words line.flags ++ line.path)
   owner : IsOwnerHere owners line.owner
   path : is_path line.path ≡ true
 
-sized_takes : (owners : Bool) (mode size : ℕ) (text : List ℕ) (line : FileLine) → sized_file owners mode size text ≡ Some line → TakesSized owners mode size text line
+pub sized_takes : (owners : Bool) (mode size : ℕ) (text : List ℕ) (line : FileLine) → sized_file owners mode size text ≡ Some line → TakesSized owners mode size text line
 unfolding sized_file
 sized_takes owners mode size text line e =
     let a = bind_some (owner_at owners text) (λ owned. path_of (behind_flags owned.1) &> λ path. Some (record { mode = mode; size = size; owner = owned.0; flags = flags_of owned.1; path = path })) line e in

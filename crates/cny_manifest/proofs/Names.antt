@@ -1,30 +1,12 @@
 -- Names of components of a package, and the last of lists that rise.
-use Rattle.std.proofs.Common.{◌≡◌, ℕ, suc, ◌-◌, Bool, true, false, ◌&&◌, nat_eq, List, [], ◌∷◌, length, take, drop, Some, refl, sym, ap, ◌∙◌, arith}
-use Rattle.std.specs.Prelude.{◌==◌, slice_get}
-use Rattle.std.specs.Cmp.Lexicographic.{pointwise}
+use Rattle.std.proofs.Common.{◌≡◌, ℕ, suc, ◌-◌, List, [], ◌∷◌, length, Some, ap, ◌∙◌, arith}
+use Rattle.std.specs.Prelude.{slice_get}
 use Rattle.std.specs.Ordering.{is_lt}
 use Rattle.std.specs.declared.cmp.Ordering.{Ordering}
-use Rattle.std.proofs.lemmas.Bool.Decides.{nat_tests}
-use Rattle.manifest_troves.specs.cny-base.Below.{begins_with}
 use Rattle.manifest_troves.specs.trove-parts.declared.files.FileAt.{FileAt}
-use Rattle.manifest_troves.specs.trove-stream.Trove.{begins_with_colon, is_component_of}
 use Rattle.cny_manifest.specs.Body.{is_above, is_above_path, path_cmp}
 
 -- ---- fronts
-
-same_bit : (a b : ℕ) (x y : Bool) → x ≡ y → (nat_eq b a && x) ≡ ((a == b) && y)
-same_bit a b x y e = grind (arith, nat_tests)
-
-begins_by : (front bytes : List ℕ) → pointwise nat_eq (take (length front) bytes) front ≡ begins_with front bytes
-begins_by [] bytes = refl
-begins_by (a ∷ front) [] = refl
-begins_by (a ∷ front) (b ∷ bytes) = same_bit a b (pointwise nat_eq (take (length front) bytes) front) (begins_with front bytes) (begins_by front bytes)
-
-pub goes_on : (whole name rest : List ℕ) → pointwise nat_eq (take (length whole) name) whole ≡ true → rest ≡ drop (length whole) name → begins_with_colon rest ≡ is_component_of whole name
-goes_on whole name rest is same = ap begins_with_colon same ∙ sym (ap (λ b. b && begins_with_colon (drop (length whole) name)) (sym (begins_by whole name) ∙ is))
-
-pub other_front : (whole name : List ℕ) → pointwise nat_eq (take (length whole) name) whole ≡ false → false ≡ is_component_of whole name
-other_front whole name is = sym (ap (λ b. b && begins_with_colon (drop (length whole) name)) (sym (begins_by whole name) ∙ is))
 
 -- ---- the last
 

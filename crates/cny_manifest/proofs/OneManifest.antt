@@ -1,5 +1,5 @@
 -- Bytes make one value at most, or have one first fault at most, and never both.
-use Rattle.std.proofs.Common.{◌≡◌, ℕ, Bool, true, false, nat_le, List, [], ◌∷◌, flat_map, Option, Some, None, refl, sym, ap, ◌∙◌, subst, inl, inr, append-nil, codes}
+use Rattle.std.proofs.Common.{◌≡◌, ℕ, Bool, true, false, nat_le, List, [], ◌∷◌, flat_map, Option, Some, sym, ap, ◌∙◌, subst, inl, inr, append-nil, codes}
 use Rattle.std.proofs.lemmas.Option.{same_Some}
 use Rattle.manifest_troves.specs.cny-base.declared.refusal.Refusal.{Refusal}
 use Rattle.manifest_troves.specs.cny-base.declared.refusal.Refusal.TheVariants.{Collision}
@@ -15,7 +15,6 @@ use Rattle.cny_dep.proofs.Parts.{one_dep}
 use Rattle.manifest_troves.specs.trove-parts.declared.id.TroveId.{TroveId}
 use Rattle.manifest_troves.specs.trove-parts.Id.{IsTroveId, id_text_of}
 use Rattle.manifest_troves.specs.trove-stream.declared.parts.TroveParts.{TroveParts}
-use Rattle.manifest_troves.specs.change-set.declared.change.Carried.{Carried}
 use Rattle.manifest_troves.specs.declared.lines.DepLine.{DepLine}
 use Rattle.manifest_troves.specs.Contents.{first_collision, contents_of}
 use Rattle.manifest_troves.specs.Troves.{troves_of}
@@ -36,8 +35,9 @@ use Rattle.cny_manifest.specs.Makes.{Makes}
 use Rattle.cny_manifest.specs.Reading.{LeadOnly, Runs, Stops}
 use Rattle.cny_manifest.specs.Spelling.{IsSpelling}
 use Rattle.cny_manifest.proofs.Leading.{spelling_manifest}
-use Rattle.cny_manifest.proofs.OneReading.{one_spelling, unread_only, unread_exact}
+use Rattle.cny_manifest.proofs.OneReading.{one_spelling, unread_only, unread_exact, made_of}
 use Rattle.cny_manifest.proofs.Steps.{none_found}
+use Rattle.cny_manifest.proofs.Ending.{end_no_word}
 
 -- ---- the value of a field
 
@@ -97,10 +97,6 @@ one_word_line ids b word.File fields =
 one_word_line ids b word.Link fields =
     one_line (λ (path : List ℕ). path_next b fields ≡ Some path) (λ (path : List ℕ). true) (λ (path : List ℕ). InTarget b path) (one_found (path_next b fields))
 
-end_no_word : word_at (codes "end") ≡ None
-unfolding field_at
-end_no_word = refl
-
 -- the line `end` has no word
 not_both : (text : List ℕ) (w : Word) (fields : List ℕ) → text ≡ codes "end" → word_at text ≡ Some (w, fields) → ⊥
 not_both text w fields end found = none_found (word_at text) (ap word_at end ∙ end_no_word) (w, fields) found
@@ -147,9 +143,6 @@ stops_of ids bytes fault stop =
 
 one_body : OneId → (bytes : List ℕ) → One (IsSpelling bytes)
 one_body ids bytes b c first second = sym (one_spelling bytes b c (runs_of ids bytes b (spelling_manifest bytes b first)) second)
-
-abbrev made_of : List TroveParts → List Carried → Made
-made_of troves contents = record { troves = troves; contents = contents }
 
 pub one_made : OneId → (bytes : List ℕ) (a b : Made) → Makes bytes a → Makes bytes b → a ≡ b
 one_made ids bytes a b first second =

@@ -11,7 +11,7 @@ use Rattle.cny_manifest.specs.declared.fault.ReadError.{ReadError}
 use Rattle.cny_manifest.specs.declared.fault.ReadError.TheVariants as errors
 use Rattle.cny_manifest.specs.declared.made.Made.{Made}
 use Rattle.cny_manifest.specs.Body.{Body}
-use Rattle.cny_manifest.specs.FirstFault.{NoneNext, GoesOn, fault_of, StopsBehind, refusal_of, IsFirstFault, IsFaultOf, IsRefusalOrMemory, fault_from}
+use Rattle.cny_manifest.specs.FirstFault.{NoneNext, GoesOn, fault_of, StopsBehind, refusal_of, IsFirstFault, IsFaultOf, fault_from}
 use Rattle.cny_manifest.specs.Grammar.{Progress, AtMagic, AtName, AtVersion, InBody, InContent, InTarget, Ended, IsLine, IsNext, Lead, IsManifest}
 use Rattle.cny_manifest.specs.Lines.{with_feed, line_at, content_at}
 use Rattle.cny_manifest.specs.Made.{lines_of}
@@ -23,6 +23,7 @@ use Rattle.cny_manifest.specs.Reading.{LeadOnly, Runs, Stops, StopsBy, IsReadOf}
 use Rattle.cny_manifest.proofs.Adding.{manifest_spelled}
 use Rattle.cny_manifest.proofs.CutLines.{ok_is, line_again, content_again}
 use Rattle.cny_manifest.proofs.Leading.{spelling_manifest}
+use Rattle.manifest_troves.specs.change-set.FirstFault.{IsRefusalOrMemory}
 
 -- ---- one list of items
 
@@ -129,7 +130,7 @@ no_spelling bytes f other stop is = no_manifest bytes f other stop (spelling_man
 
 -- ---- what is made
 
-abbrev made_of : List TroveParts → List Carried → Made
+abbrev pub made_of : List TroveParts → List Carried → Made
 made_of troves contents = record { troves = troves; contents = contents }
 
 pub made_value : (bytes : List ℕ) (troves : List TroveParts) (contents kept : List Carried) → IsReadOf bytes troves contents → first_collision contents ≡ None → kept ≡ contents_of contents

@@ -27,6 +27,7 @@ use Rattle.cny_manifest.specs.Body.{Body, file_next}
 use Rattle.cny_manifest.specs.Grammar.{Progress, AtMagic, InBody, InContent, Ended, IsNext, Lead}
 use Rattle.cny_manifest.specs.Spelling.{IsSpelling}
 use Rattle.manifest_troves.specs.Contents.{first_collision}
+pub use Rattle.manifest_troves.specs.change-set.FirstFault.{IsRefusalOrMemory}
 
 -- ---- the rules
 
@@ -113,8 +114,3 @@ IsFirstFault bytes refused = IsUnread bytes refused ⊎ HasCollision bytes refus
 abbrev pub IsFaultOf : List ℕ → Fault → Type 0
 IsFaultOf bytes (fault.Refused refused) = IsFirstFault bytes refused
 IsFaultOf bytes fault.Memory = Unit {0}
-
--- this refusal, or want of memory
-abbrev pub IsRefusalOrMemory : Refusal → Fault → Type 0
-IsRefusalOrMemory refused (fault.Refused r) = r ≡ refused
-IsRefusalOrMemory refused fault.Memory = Unit {0}

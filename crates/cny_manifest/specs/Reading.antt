@@ -14,10 +14,11 @@ use Rattle.cny_manifest.specs.Body.{Body, file_next}
 use Rattle.cny_manifest.specs.Grammar.{Progress, AtMagic, InBody, Ended, IsNext}
 use Rattle.cny_manifest.specs.FirstFault.{NoneNext, GoesOn, fault_of, fault_by_size, too_large_by}
 use Rattle.cny_manifest.specs.Made.{lines_of}
-use Rattle.manifest_troves.specs.Troves.{troves_of, HasRisingNames, KeepsEntries}
+use Rattle.manifest_troves.specs.Troves.{troves_of, KeepsEntries}
 use Rattle.manifest_troves.specs.trove-stream.declared.parts.TroveParts.{TroveParts}
 use Rattle.manifest_troves.specs.change-set.declared.change.Carried.{Carried}
 use Rattle.cny_manifest.specs.Lines.{with_feed, line_at, word_at}
+use Rattle.manifest_troves.specs.trove-stream.NameOrder.{HasRisingNames}
 
 -- ---- one value
 

@@ -1,12 +1,9 @@
 //! The lines behind the version's, up to the line `end`.
-ghost use Rattle.std.specs.Prelude.{◌≡◌, ◌<◌, ◌≤◌, Ok, Some, false, true, length, codes, IfOk, OnOk, IfErr};
+ghost use Rattle.std.specs.Prelude.{◌≡◌, ◌<◌, ◌≤◌, Ok, Some, false, length, codes, IfOk, OnOk, IfErr};
 ghost use Rattle.std.specs.Str.{bytes_eq};
 ghost use Rattle.manifest_troves.specs.cny-base.declared.limits.TheConstants.{CONTENT_LIMIT};
-ghost use Rattle.cny_manifest.specs.Body.{file_next};
-ghost use Rattle.cny_manifest.specs.FirstFault.{too_large, fault_by_size};
 ghost use Rattle.cny_manifest.specs.Grammar.{InBody, InContent, InTarget};
 ghost use Rattle.cny_manifest.specs.Lines.{line_at};
-ghost use Rattle.cny_manifest.specs.Lines as spec;
 ghost use Rattle.cny_manifest.specs.Reading.{Runs, StopsBy, IsWordAt, IsFaultAt, IsFile, NoFile};
 
 use crate::draft::Draft;

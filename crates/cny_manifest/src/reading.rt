@@ -1,5 +1,5 @@
 //! The troves and contents of a manifest.
-ghost use Rattle.std.specs.Prelude.{◌≡◌, ◌≤◌, Bool, Ok, length, codes, All, IfOk, IfErr, MatchResult};
+ghost use Rattle.std.specs.Prelude.{◌≡◌, Bool, Ok, codes, All, IfOk, IfErr, MatchResult};
 ghost use Rattle.manifest_troves.specs.cny-base.declared.refusal.Refusal.{Refusal};
 ghost use Rattle.cny_manifest.specs.declared.made.Made.{Made};
 ghost use Rattle.cny_manifest.specs.FirstFault as spec;

@@ -1,5 +1,5 @@
 //! Items of a stream: a tag of one byte, the length of the value in four bytes, the high byte first, and the value.
-ghost use Rattle.std.specs.Prelude.{◌≡◌, ◌≤◌, ◌+◌, ◌++◌, [], List, ℕ, length, take, drop, slice_index, IsTrue, OnOk, OnErr, IfOk, IfErr, IsOkAnd};
+ghost use Rattle.std.specs.Prelude.{◌≡◌, ◌≤◌, ◌+◌, ◌++◌, [], List, ℕ, length, take, drop, IsTrue, OnOk, OnErr, IfOk, IfErr, IsOkAnd};
 ghost use Rattle.cny_stream.specs.Item.{FitsItem, FitsOpen, IsItemAt, item_bytes, open_head, is_expected, fault_place, value_len};
 ghost use Rattle.cny_stream.specs.ItemLaws.{SameItem};
 

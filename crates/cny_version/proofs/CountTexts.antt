@@ -1,27 +1,21 @@
 -- Count texts, and the numbers that they write.
-use Rattle.std.proofs.Common.{◌≡◌, ℕ, ◌+◌, ◌^◌, ◌<◌, ◌≤◌, suc, zero, true, false, cond, not, ◌&&◌, eqb, leb, List, [], ◌∷◌, length, map, get_or, Some, None, refl, sym, ap, ◌∙◌, subst, arith, rules, lit<}
+use Rattle.std.proofs.Common.{◌≡◌, ℕ, ◌+◌, ◌^◌, ◌<◌, ◌≤◌, suc, zero, true, false, cond, not, ◌&&◌, eqb, leb, List, [], ◌∷◌, length, map, get_or, Some, None, refl, sym, ap, ◌∙◌, subst, arith, lit<}
 use Rattle.std.specs.Fmt.{decimal}
 use Rattle.std.specs.List.{list_all, join_with_byte}
 use Rattle.std.specs.Option.{option_map, option_and_then}
 use Rattle.std.specs.Cmp.{first_so, second_so}
 use Rattle.std.proofs.lemmas.Bool.{and_from, leb-true, le-leb, ltb-true, not-true}
 use Rattle.std.proofs.lemmas.Bool.Decides.{nat_tests}
-use Rattle.std.proofs.lemmas.Str.Parse.{IsNumeralModel, numerals_by_fold}
 use Rattle.std.proofs.lemmas.Fmt.{digits_decimal, digits_value-decimal, length-decimal-le, decimal_nonempty, first_decimal, decimal_digit, decimal-digits_value}
-use Rattle.cny_base.specs.Number.{is_digit, is_decimal, decimal_on, decimal_value}
+use Rattle.cny_base.specs.Number.{is_digit, is_decimal, decimal_value}
 use Rattle.cny_version.specs.Revision.{count_text, fits_32_bits, ends_above_zero, is_count}
 use Rattle.cny_version.specs.Reading.{pieces, number_found, count_found}
 use Rattle.cny_version.proofs.TextPieces.{is_free, pieces_at, pieces_free}
 use Rattle.cny_version.proofs.LabelTexts.{free_by_test, is_free-append}
 use Rattle.cny_version.proofs.Options.{bind_some, map_some, test_some, test_other}
+use Rattle.cny_base.proofs.Numbers.{AreDigits, form_of, own}
 
 -- ---- numbers
-
-abbrev AreDigits : List ℕ → Type 0
-AreDigits text = list_all is_digit text ≡ true
-
-own : IsNumeralModel AreDigits decimal_value
-own = numerals_by_fold AreDigits (search rules) decimal_on (search rules)
 
 -- what is known of a decimal text
 record IsDecimalText (text : List ℕ) : Type 0 where
@@ -32,10 +26,6 @@ record IsDecimalText (text : List ℕ) : Type 0 where
 decimal_text : (text : List ℕ) → is_decimal text ≡ true → IsDecimalText text
 decimal_text [] is = absurd (cc is)
 decimal_text (d ∷ ds) is = record { some = omega arith; digits = grind arith; front = λ zero_first. grind (arith, nat_tests) }
-
-form_of : (text : List ℕ) → AreDigits text → 0 < length text → length text ≤ 19 → 48 < get_or text 0 0 → is_decimal text ≡ true
-form_of [] digits some short first = absurd (omega arith)
-form_of (d ∷ ds) digits some short first = grind (arith, nat_tests)
 
 decimal_form : (n : ℕ) → n < 2 ^ 32 → is_decimal (decimal n) ≡ true
 decimal_form zero small = rw (decimal_digit 0 (lit< tt)) refl

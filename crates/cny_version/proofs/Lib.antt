@@ -12,3 +12,4 @@ pub mod VersionsReadBack
 pub mod VersionReaders
 pub mod VersionSteps
 pub mod NextCounts
+pub use Rattle.cny_base.proofs as cny-base

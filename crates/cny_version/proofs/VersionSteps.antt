@@ -97,7 +97,7 @@ pub on_end : (whole : Bool) (b : WholeBranch) (text : List ℕ) → pieces 47 te
     → version_on whole b (pieces 47 text) ≡ option_and_then (λ r. short_version (record { branch = b; revision = r })) (revision_found (depth b) text)
 on_end whole b text last = ap (version_on whole b) last
 
-last_snoc : (first : LabelParts) (shadows : List LabelParts) (label : LabelParts) → last_of first (shadows ++ label ∷ []) ≡ label
+pub last_snoc : (first : LabelParts) (shadows : List LabelParts) (label : LabelParts) → last_of first (shadows ++ label ∷ []) ≡ label
 last_snoc first [] label = refl
 last_snoc first (x ∷ shadows) label = last_snoc x shadows label
 

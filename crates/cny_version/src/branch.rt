@@ -1,6 +1,5 @@
 //! Branches: versions without their last revision.
-ghost use Rattle.std.specs.Prelude.{◌≡◌, ◌≤◌, length, IfOk, OnOk, IsTrue};
-ghost use Rattle.cny_version.specs.Label.{LabelParts, label_text, is_label};
+ghost use Rattle.std.specs.Prelude.{◌≡◌, ◌≤◌, length, IfOk, IsTrue};
 ghost use Rattle.cny_version.specs.Revision.{is_revision};
 ghost use Rattle.cny_version.specs.Version.{WholeBranch, branch_text, last_label, depth, IsBranch};
 ghost use Rattle.cny_version.specs.Made.{shadowed, branched};
@@ -24,7 +23,7 @@ pub(crate) struct Branch {
 }
 
 impl Model for Branch {
-    ghost use Rattle.std.specs.Prelude.{◌≡◌, ◌≤◌, ℕ, length, string_bytes};
+    ghost use Rattle.std.specs.Prelude.{◌≡◌, ◌≤◌, length, string_bytes};
     ghost use Rattle.cny_version.specs.Version.{WholeBranch, branch_text, depth, IsBranch};
     ghost use Rattle.cny_version.specs.Kept.{IsBranchWith};
 

@@ -1,5 +1,5 @@
 //! Versions made from their texts.
-ghost use Rattle.std.specs.Prelude.{◌≡◌, ◌≤◌, ◌+◌, length, IsTrue};
+ghost use Rattle.std.specs.Prelude.{◌≤◌, ◌+◌, length, IsTrue};
 ghost use Rattle.std.specs.Option.{option_map, option_and_then};
 ghost use Rattle.cny_version.specs.Label.{label_text, is_label};
 ghost use Rattle.cny_version.specs.Version.{branch_text, depth};

@@ -9,7 +9,7 @@ ghost use Rattle.cny_base.specs.declared.refusal.What.TheVariants as what;
 ghost use Rattle.cny_base.specs.declared.limits.TheConstants.{VERSION_LIMIT};
 ghost use Rattle.cny_version.specs.Label.{LabelParts, label_text, is_label};
 ghost use Rattle.cny_version.specs.Revision.{is_revision};
-ghost use Rattle.cny_version.specs.Version.{WholeBranch, WholeVersion, branch_text, version_text, last_label, depth, IsVersion, IsVersionText};
+ghost use Rattle.cny_version.specs.Version.{WholeVersion, branch_text, version_text, last_label, depth, IsVersion, IsVersionText};
 ghost use Rattle.cny_version.specs.Filled.{AbbreviatedVersion, filled, abbreviated_text, IsAbbreviationOf, IsAbbreviatedText};
 ghost use Rattle.cny_version.specs.Made.{shadow_onto, branch_onto, with_revision};
 ghost use Rattle.cny_version.specs.Reading.{Reads, version_found};

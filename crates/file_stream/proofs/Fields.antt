@@ -1,30 +1,17 @@
 -- Fields of records: flags, numbers and strs, read and written.
-use Rattle.std.proofs.Common.{◌≡◌, ℕ, ◌+◌, ◌^◌, ◌<◌, ◌≤◌, Bool, true, false, cond, zero, suc, List, [], ◌∷◌, ◌++◌, length, take, drop, get_or, nat_le, ◌&&◌, ◌==◌, Option, Some, None, refl, sym, ap, ◌∙◌, subst, arith, inl, inr, ◌⊎◌}
+use Rattle.std.proofs.Common.{◌≡◌, ℕ, ◌^◌, ◌<◌, ◌≤◌, Bool, true, false, cond, zero, suc, List, [], ◌∷◌, ◌++◌, length, take, drop, nat_le, ◌&&◌, Option, Some, None, refl, sym, ap, ◌∙◌, subst, arith, inl, inr, ◌⊎◌}
 use Rattle.std.specs.Cmp.{first_so, second_so}
 use Rattle.std.specs.Cmp.Derive.{both_true}
 use Rattle.std.specs.Int.{w16, to_be_bytes, from_be_bytes}
-use Rattle.std.proofs.lemmas.Bool.{cases_lt}
-use Rattle.std.proofs.lemmas.Bool.Decides.{nat_tests}
 use Rattle.std.proofs.Math.Seq.{take-append_seam, drop-append_seam}
-use Rattle.std.proofs.lemmas.List.{take-append-drop, length-take, length-take-le, length-append, append_assoc, get_or-take, get_or-drop, get_or_past}
+use Rattle.std.proofs.lemmas.List.{take-append-drop, length-take, length-take-le, length-append, append_assoc}
 use Rattle.std.proofs.lemmas.Nat.{be_bytes_2, from_be_bytes-to_be_bytes_2}
 use Rattle.cny_base.specs.StrField.{FitsStr, str}
 use Rattle.file_stream.specs.declared.record.Flags.{Flags}
 use Rattle.file_stream.specs.Record.{flag_bits}
 use Rattle.file_stream.specs.Reading.{flags_of, str_front}
-
-abbrev pub IsBytes : List ℕ → Type 0
-IsBytes bytes = (i : ℕ) → get_or bytes i 0 < 256
-
-pub drop_bytes : (n : ℕ) (bytes : List ℕ) → IsBytes bytes → IsBytes (drop n bytes)
-drop_bytes n bytes fits i = rw get_or-drop (fits (n + i))
-
-pub take_bytes : (n : ℕ) (bytes : List ℕ) → IsBytes bytes → IsBytes (take n bytes)
-take_bytes n bytes fits i =
-    elim (cases_lt i n) [
-      | inl lt ↦ rw (get_or-take n bytes i 0 lt) (fits i)
-      | inr le ↦ rw (get_or_past (take n bytes) i 0 (omega (arith, length-take n bytes))) (omega arith)
-    ]
+use Rattle.cny_base.proofs.StrFields.{IsBytes, drop_bytes, take_bytes, head_below as two_below}
+use Rattle.cny_base.proofs.Counts.{at_most, is_at_most as most_at}
 
 -- a value that stands behind a test
 pub guarded : {A : Type 0} (b : Bool) (x y : A) → cond b (Some x) None ≡ Some y → (b ≡ true) × (x ≡ y)
@@ -35,18 +22,6 @@ guarded false x y e = absurd (cc)
 pub chosen : {A : Type 0} (b : Bool) (x y z : A) → cond b x y ≡ z → ((b ≡ true) × (x ≡ z)) ⊎ ((b ≡ false) × (y ≡ z))
 chosen true x y z e = inl (refl, e)
 chosen false x y z e = inr (refl, e)
-
-pub same_number : (m n : ℕ) → (m == n) ≡ true → m ≡ n
-same_number m n is = grind (arith, nat_tests)
-
-pub number_same : (m n : ℕ) → m ≡ n → (m == n) ≡ true
-number_same m n is = grind (arith, nat_tests)
-
-pub at_most : (m n : ℕ) → nat_le m n ≡ true → m ≤ n
-at_most m n is = grind (arith, nat_tests)
-
-pub most_at : (m n : ℕ) → m ≤ n → nat_le m n ≡ true
-most_at m n is = grind (arith, nat_tests)
 
 pub no_bytes : (bytes : List ℕ) → length bytes ≡ 0 → bytes ≡ []
 no_bytes [] is = refl
@@ -79,9 +54,6 @@ bits_taken (suc (suc (suc (suc (suc (suc (suc zero))))))) small = refl
 bits_taken (suc (suc (suc (suc (suc (suc (suc (suc bits)))))))) small = absurd (omega arith)
 
 -- ---- numbers
-
-pub two_below : (bytes : List ℕ) → IsBytes bytes → from_be_bytes w16 bytes < 2 ^ 16
-two_below bytes fits = omega (arith, fits 0, fits 1)
 
 -- ---- a str at the front
 

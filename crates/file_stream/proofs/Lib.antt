@@ -1,3 +1,5 @@
 pub mod Fields
 pub mod Owners
 pub mod Records
+pub mod RecordLaws
+pub mod Digests

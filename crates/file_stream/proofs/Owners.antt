@@ -1,22 +1,25 @@
 -- Owners and how records name them.
-use Rattle.std.proofs.Common.{◌≡◌, ℕ, ◌≤◌, Bool, true, false, not, cond, List, ◌++◌, length, nat_le, Some, None, refl, sym, ap, ◌∙◌, subst, arith}
+use Rattle.std.proofs.Common.{◌≡◌, ℕ, ◌≤◌, Bool, true, false, cond, List, ◌++◌, length, nat_le, Some, None, refl, sym, ap, ◌∙◌, subst, arith}
 use Rattle.std.specs.Cmp.{first_so, second_so}
 use Rattle.std.specs.Prelude.{option_and_then}
 use Rattle.std.specs.Str.{bytes_eq, IsUtf8}
 use Rattle.std.proofs.lemmas.Bool.{false≢true}
 use Rattle.std.proofs.lemmas.List.{append_assoc}
 use Rattle.std.proofs.lemmas.Option.{option_and_then_some}
-use Rattle.std.proofs.lemmas.Slice.Eq.{bytes_eq-Decides}
 use Rattle.std.proofs.lemmas.Str.{IsUtf8-from_ascii}
 use Rattle.cny_base.specs.Name.{is_word}
 use Rattle.cny_base.specs.StrField.{FitsStr, str}
-use Rattle.cny_base.specs.Utf8.{word_ascii}
+use Rattle.cny_base.proofs.Utf8Laws.{word_ascii}
 use Rattle.file_stream.specs.declared.encoding.Encoding.{Encoding}
 use Rattle.file_stream.specs.declared.encoding.Encoding.TheVariants.{Compact, Explicit}
 use Rattle.file_stream.specs.Owner.{OwnerNames, is_owner_word, is_owner, root, root_owner, is_root}
 use Rattle.file_stream.specs.Record.{names_owner, owner_bytes}
 use Rattle.file_stream.specs.Reading.{str_front, checked_owner, owner_from, owner_at, same}
-use Rattle.file_stream.proofs.Fields.{IsBytes, IsFront, guarded, at_most, front_taken, front_again}
+use Rattle.file_stream.proofs.Fields.{IsFront, guarded, front_taken, front_again}
+use Rattle.cny_base.proofs.StrFields.{IsBytes}
+use Rattle.cny_base.proofs.Counts.{at_most}
+use Rattle.cny_base.proofs.ByteLists.{bytes_mean as equal_texts}
+use Rattle.cny_base.proofs.Bools.{not_false as negated}
 
 -- ---- tests
 
@@ -29,13 +32,6 @@ same_told true true e = refl
 same_told true false e = absurd (false≢true e)
 same_told false true e = absurd (false≢true e)
 same_told false false e = refl
-
-negated : (b : Bool) → not b ≡ false → b ≡ true
-negated true e = refl
-negated false e = absurd (false≢true (sym e))
-
-equal_texts : (x y : List ℕ) → bytes_eq x y ≡ true → x ≡ y
-equal_texts x y e = (bytes_eq-Decides x y).0 e
 
 -- ---- words
 
@@ -58,7 +54,7 @@ pub record IsOwnerFront (named : Bool) (bytes : List ℕ) (owner : OwnerNames) (
   pub spelled : bytes ≡ owner_bytes named owner ++ rest
   pub behind : IsBytes rest
 
-abbrev Found : Type 0
+abbrev pub Found : Type 0
 Found = OwnerNames × List ℕ
 
 checked_taken : (bytes user between group behind : List ℕ) (owner : OwnerNames) (rest : List ℕ) → IsFront bytes user between → IsFront between group behind
@@ -76,7 +72,7 @@ checked_taken bytes user between group behind owner rest first second e =
       behind = subst IsBytes is_rest second.behind;
     }
 
-group_taken : (bytes user between : List ℕ) (owner : OwnerNames) (rest : List ℕ) → IsFront bytes user between → owner_from (user, between) ≡ Some (owner, rest) → IsOwnerFront true bytes owner rest
+pub group_taken : (bytes user between : List ℕ) (owner : OwnerNames) (rest : List ℕ) → IsFront bytes user between → owner_from (user, between) ≡ Some (owner, rest) → IsOwnerFront true bytes owner rest
 group_taken bytes user between owner rest first e =
     option_and_then_some (λ (group : List ℕ × List ℕ). checked_owner (record { user = user; group = group.0 }) group.1) (str_front between) (owner, rest) e
     (λ group is made. checked_taken bytes user between group.0 group.1 owner rest first (front_taken between group.0 group.1 first.behind is) made)

@@ -21,8 +21,12 @@ use Rattle.file_stream.specs.declared.record.FileRec.TheVariants.{Dir, File, Lin
 use Rattle.file_stream.specs.Owner.{OwnerNames, is_owner, is_root}
 use Rattle.file_stream.specs.Record.{IsFileRecord, is_owned_by_root, IsRecordBytes, flag_bits, form_of, head, owner_bytes, owned, names_owner, record_bytes}
 use Rattle.file_stream.specs.Reading.{flags_of, str_front, owner_at, same, is_named_rightly, dir_at, file_at, target_at, link_at, kind_at, owned_at, form_at, record_of}
-use Rattle.file_stream.proofs.Fields.{IsBytes, IsFront, drop_bytes, take_bytes, guarded, chosen, same_number, number_same, at_most, most_at, no_bytes, bits_again, bits_taken, front_taken, front_again}
+use Rattle.file_stream.proofs.Fields.{IsFront, guarded, chosen, no_bytes, bits_again, bits_taken, front_taken, front_again}
 use Rattle.file_stream.proofs.Owners.{same_itself, same_told, IsOwnerFront, owner_taken, owner_again, same_owner}
+use Rattle.cny_base.proofs.StrFields.{IsBytes, drop_bytes, take_bytes}
+use Rattle.cny_base.proofs.Counts.{at_most, is_at_most as most_at, number_same}
+use Rattle.cny_base.proofs.Below.{test_equal as same_number}
+use Rattle.cny_base.proofs.ItemLaws.{same_front as same_split}
 
 -- ---- what is read is spelled so
 
@@ -204,16 +208,6 @@ module _ (encoding : Encoding) where
   none_found bytes None is fits outside = refl
 
 -- ---- no record's bytes begin another's
-
-same_split : (xs ys us vs : List ℕ) → length xs ≡ length ys → xs ++ us ≡ ys ++ vs → (xs ≡ ys) × (us ≡ vs)
-same_split [] [] us vs long e = (refl, e)
-same_split [] (y ∷ ys) us vs long e = absurd (omega arith)
-same_split (x ∷ xs) [] us vs long e = absurd (omega arith)
-same_split (x ∷ xs) (y ∷ ys) us vs long e =
-    let heads : x ≡ y = cc in
-    let tails : xs ++ us ≡ ys ++ vs = cc in
-    let more = same_split xs ys us vs (omega arith) tails in
-    (ap (λ (n : ℕ). n ∷ xs) heads ∙ ap (λ l. y ∷ l) more.0, more.1)
 
 same_forms : (named named' : Bool) → form_of named ≡ form_of named' → named ≡ named'
 same_forms true true e = refl

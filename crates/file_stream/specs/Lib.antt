@@ -1,4 +1,3 @@
 pub mod Owner
 pub mod Record
 pub mod Reading
-pub mod RecordLaws

@@ -27,6 +27,12 @@ IsFileRecord (Link target) = IsTrue (is_target target)
 
 -- ---- facts over the fields
 
+-- the flags of a file's record; a directory and a link have none
+abbrev pub flags_of : FileRec → Flags
+flags_of (Dir mode owner) = record { config = false; initial = false; transient = false }
+flags_of (File mode owner flags size name) = flags
+flags_of (Link target) = record { config = false; initial = false; transient = false }
+
 abbrev pub is_dir : FileRec → Bool
 is_dir (Dir mode owner) = true
 is_dir (File mode owner flags size name) = false

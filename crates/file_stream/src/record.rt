@@ -87,6 +87,22 @@ impl Drop for FileRec {
 }
 
 impl FileRec {
+    /// The flags of a file's record; a directory and a link have none.
+    pub fn flags(&self) -> Flags
+        ensures { result ≡ spec.flags_of self.now }
+    {
+        let none = Flags {
+            config: false,
+            initial: false,
+            transient: false,
+        };
+        match self {
+            FileRec::Dir { .. } => none,
+            FileRec::File { flags, .. } => *flags,
+            FileRec::Link { .. } => none,
+        }
+    }
+
     /// Whether the record has bytes: a file's size may be above its limit, all else the types hold.
     pub fn is_valid(&self) -> bool
         ensures { IsTrue result ↔ IsFileRecord self.now }

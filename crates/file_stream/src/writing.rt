@@ -3,7 +3,7 @@ ghost use Rattle.std.specs.Prelude.{◌≡◌, ◌++◌, IsTrue, OnOk, OnErr, If
 ghost use Rattle.sha1.specs.Sha1.{sha1};
 ghost use Rattle.file_stream.specs.Owner.{is_owner};
 ghost use Rattle.file_stream.specs.Record as spec;
-ghost use Rattle.file_stream.specs.Record.{FitsSize, IsFileRecord, record_bytes, file_record_bytes, full_record_bytes, names_owner, owned, owner_bytes};
+ghost use Rattle.file_stream.specs.Record.{FitsSize, IsFileRecord, record_bytes, file_record_bytes, full_record_bytes, names_owner, owner_bytes};
 
 use crate::encoding::Encoding;
 use crate::owner::Owner;

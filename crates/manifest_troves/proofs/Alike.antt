@@ -15,7 +15,7 @@ use Rattle.std.proofs.lemmas.Map.Entries.{lookup_head, lookup_tail, none_past_he
 use Rattle.std.proofs.lemmas.Map.Keys.{IsDistinct-from_sorted, sorted_tail}
 use Rattle.manifest_troves.proofs.Names.{by_bytes, tied}
 
-abbrev found : {X : Type 0} → List (List ℕ × X) → List ℕ → Option X
+abbrev pub found : {X : Type 0} → List (List ℕ × X) → List ℕ → Option X
 found es q = lookup (is_at (by_bytes q)) es
 
 not_none : {X : Type 0} (x : X) → ◌≡◌ {A = Option X} (Some x) None → ⊥

@@ -10,9 +10,11 @@ use Rattle.change_set.specs.cny-base.declared.name.NameKind.TheVariants.{Compone
 use Rattle.change_set.specs.trove-parts.declared.files.FileAt.{FileAt}
 use Rattle.manifest_troves.specs.declared.lines.TroveLines.{TroveLines}
 use Rattle.manifest_troves.specs.Troves.{entry_component, component_names, falls_to, component_trove, package_troves, troves_of, has_entry, KeepsEntries}
-use Rattle.manifest_troves.proofs.Names.{bytes_are, equal_bytes, has, or_true}
+use Rattle.manifest_troves.proofs.Names.{has, or_true}
 use Rattle.manifest_troves.proofs.Components.{troves_package, troves_component}
 use Rattle.manifest_troves.proofs.Sharing.{used_is}
+use Rattle.change_set.proofs.cny-base.ByteLists.{bytes_mean as bytes_are, equal_bytes}
+use Rattle.change_set.proofs.cny-base.Bools.{or_left as or_first}
 
 -- ---- elements of a list
 
@@ -60,10 +62,6 @@ component_has l test name (n ∷ names) among passes = at (bytes_eq n name) refl
         ap (λ (b : Bool). b || list_any (has_entry test) (map (component_trove l) names))
         (subst (λ (m : List ℕ). has_entry test (component_trove l m) ≡ true) (sym (bytes_are n name same)) passes)
     at false other later given = ap (λ (b : Bool). has_entry test (component_trove l n) || b) (later given) ∙ or_true (has_entry test (component_trove l n))
-
-or_first : (a b : Bool) → a ≡ true → (a || b) ≡ true
-or_first true b e = refl
-or_first false b e = absurd (true≢false (sym e))
 
 package_keeps : (l : TroveLines) (test : FileAt → Bool) → list_any test l.files ≡ true → list_any (has_entry test) (package_troves l (component_names l)) ≡ true
 package_keeps l test any =

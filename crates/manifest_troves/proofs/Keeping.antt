@@ -14,7 +14,8 @@ use Rattle.change_set.specs.cny-base.declared.refusal.Fault.TheVariants as fault
 use Rattle.change_set.specs.declared.change.Carried.{Carried}
 use Rattle.manifest_troves.specs.Kept.{Entries, kept_by, unless_same, differing, collision_then, collision_from, IsCollisionFrom}
 use Rattle.manifest_troves.specs.Contents.{first_difference, collides, collision_by, collision_behind, put_content, first_collision, IsCollisionOf}
-use Rattle.manifest_troves.proofs.Names.{by_bytes, same_test, bytes_are, equal_bytes, tied}
+use Rattle.manifest_troves.proofs.Names.{by_bytes, same_test, tied}
+use Rattle.change_set.proofs.cny-base.ByteLists.{bytes_mean as bytes_are, equal_bytes}
 
 -- ---- names
 

@@ -9,3 +9,6 @@ pub mod Rising
 pub mod Entries
 pub mod KeptOnes
 pub use Rattle.change_set.proofs.trove-parts
+pub use Rattle.change_set.proofs.cny-base
+pub use Rattle.change_set.proofs.trove-stream
+pub use Rattle.change_set.proofs.file-stream

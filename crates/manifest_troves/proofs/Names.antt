@@ -8,8 +8,9 @@ use Rattle.std.specs.Ordering.{nat_cmp, is_eq, match_ordering, ordering_reverse}
 use Rattle.std.specs.Str.{bytes_eq}
 use Rattle.std.specs.declared.cmp.Ordering.{Ordering}
 use Rattle.std.specs.declared.cmp.Ordering.TheVariants.{Less, Equal, Greater}
-use Rattle.std.proofs.lemmas.Slice.Eq.{bytes_eq-Decides}
 use Rattle.manifest_troves.specs.Troves.{with_names}
+use Rattle.change_set.proofs.cny-base.ByteLists.{bytes_mean as bytes_are}
+use Rattle.change_set.proofs.cny-base.Bools.{or_false}
 
 -- ---- equal names
 
@@ -18,12 +19,6 @@ by_bytes = slice_cmp nat_cmp
 
 pub same_test : (x y : List ℕ) → bytes_eq x y ≡ is_eq (by_bytes x y)
 same_test = texts_ties
-
-pub bytes_are : (x y : List ℕ) → bytes_eq x y ≡ true → x ≡ y
-bytes_are x y e = (bytes_eq-Decides x y).0 e
-
-pub equal_bytes : (x y : List ℕ) → x ≡ y → bytes_eq x y ≡ true
-equal_bytes x y e = (bytes_eq-Decides x y).1 e
 
 pub tied : (x y : List ℕ) → by_bytes x y ≡ Equal → x ≡ y
 tied x y e = bytes_are x y (same_test x y ∙ ap is_eq e)
@@ -77,10 +72,6 @@ has q names = list_any (λ (n : List ℕ). bytes_eq n q) names
 pub or_true : (b : Bool) → (b || true) ≡ true
 or_true true = refl
 or_true false = refl
-
-pub or_false : (b : Bool) → (b || false) ≡ b
-or_false true = refl
-or_false false = refl
 
 or_twice : (a b : Bool) → (a || (a || b)) ≡ (a || b)
 or_twice true b = refl

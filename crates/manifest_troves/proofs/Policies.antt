@@ -5,16 +5,13 @@ use Rattle.std.specs.Cmp.{first_so, second_so}
 use Rattle.std.specs.Cmp.Lexicographic.{pointwise}
 use Rattle.std.specs.Str.{bytes_eq}
 use Rattle.std.proofs.lemmas.Bool.{true≢false}
-use Rattle.std.proofs.lemmas.Bool.Decides.{nat_tests}
 use Rattle.std.proofs.lemmas.List.{drop-append-le}
 use Rattle.change_set.specs.cny-base.Below.{begins_with}
 use Rattle.manifest_troves.specs.Policy.{tested, ends_with, file_ends_with}
+use Rattle.change_set.proofs.cny-base.ByteLists.{begins_by, longer_front as longer}
+use Rattle.change_set.proofs.cny-base.Bools.{and_false}
 
 -- ---- fronts
-
-and_false : (a b : Bool) → b ≡ false → (a && b) ≡ false
-and_false true b e = e
-and_false false b e = refl
 
 and_more : (x y z : Bool) → (y ≡ false → z ≡ false) → (x && y) ≡ false → (x && z) ≡ false
 and_more true y z h e = h e
@@ -23,19 +20,6 @@ and_more false y z h e = refl
 and_true : (x y z : Bool) → x ≡ true → y ≡ z → (x && y) ≡ z
 and_true true y z e h = h
 and_true false y z e h = absurd (true≢false (sym e))
-
-same_bit : (a b : ℕ) (x y : Bool) → x ≡ y → (nat_eq b a && x) ≡ ((a == b) && y)
-same_bit a b x y e = grind (arith, nat_tests)
-
-begins_by : (front bytes : List ℕ) → pointwise nat_eq (take (length front) bytes) front ≡ begins_with front bytes
-begins_by [] bytes = refl
-begins_by (a ∷ front) [] = refl
-begins_by (a ∷ front) (b ∷ bytes) = same_bit a b (pointwise nat_eq (take (length front) bytes) front) (begins_with front bytes) (begins_by front bytes)
-
-longer : (front tail path : List ℕ) → begins_with front path ≡ false → begins_with (front ++ tail) path ≡ false
-longer [] tail path e = absurd (true≢false e)
-longer (a ∷ front) tail [] e = refl
-longer (a ∷ front) tail (b ∷ path) e = and_more (a == b) (begins_with front path) (begins_with (front ++ tail) path) (longer front tail path) e
 
 none_begun : (front : List ℕ) → begins_with (front ++ 47 ∷ []) [] ≡ false
 none_begun [] = refl

@@ -19,10 +19,11 @@ use Rattle.change_set.specs.trove-parts.declared.id.TroveId.{TroveId}
 use Rattle.change_set.specs.trove-stream.declared.parts.TroveParts.{TroveParts}
 use Rattle.change_set.specs.trove-stream.Trove.{begins_with_colon, is_component_of, IsComponentOf, KeepsKind, IsTrove}
 use Rattle.manifest_troves.specs.declared.lines.TroveLines.{TroveLines}
-use Rattle.manifest_troves.specs.Troves.{with_name, component_names, component_trove, package_of, package_troves, whole_component, group_trove, troves_of, AreTroves, by_name_cmp, HasRisingNames}
+use Rattle.manifest_troves.specs.Troves.{with_name, component_names, component_trove, package_of, package_troves, whole_component, group_trove, troves_of, AreTroves}
 use Rattle.manifest_troves.proofs.Names.{by_bytes}
 use Rattle.manifest_troves.proofs.Components.{troves_package, troves_component, troves_group}
 use Rattle.manifest_troves.proofs.Sharing.{used_sorted}
+use Rattle.change_set.specs.trove-stream.NameOrder.{by_name_cmp, HasRisingNames}
 
 -- ---- a package is below its components
 

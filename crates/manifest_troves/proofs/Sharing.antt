@@ -16,8 +16,10 @@ use Rattle.manifest_troves.specs.declared.lines.DepLine.{DepLine}
 use Rattle.manifest_troves.specs.declared.lines.TroveLines.{TroveLines}
 use Rattle.manifest_troves.specs.Shares.{Shared, no_share, plus_file, plus_required, plus_provided, share_at, plus_if, with_files, with_required, with_provided, share_of, named_trove}
 use Rattle.manifest_troves.specs.Troves.{entry_component, name_of_line, with_names, names_used, component_names, deps_of, falls_to, is_of, component_trove}
-use Rattle.manifest_troves.proofs.Names.{by_bytes, same_test, bytes_are, turned_bytes, names_sorted, none_sorted, has, has_names, has_mapped, or_true, or_false}
+use Rattle.manifest_troves.proofs.Names.{by_bytes, same_test, turned_bytes, names_sorted, none_sorted, has, has_names, has_mapped, or_true}
 use Rattle.manifest_troves.proofs.Alike.{same_entries}
+use Rattle.change_set.proofs.cny-base.ByteLists.{bytes_mean as bytes_are}
+use Rattle.change_set.proofs.cny-base.Bools.{first_false, or_false, second_false}
 
 -- ---- elements that are taken, one after the other
 
@@ -25,14 +27,6 @@ use Rattle.manifest_troves.proofs.Alike.{same_entries}
 abbrev put : Bool → Shared → Option Shared
 put true s = Some s
 put false s = None
-
-first_false : (a b : Bool) → (a || b) ≡ false → a ≡ false
-first_false true b e = absurd (true≢false e)
-first_false false b e = refl
-
-second_false : (a b : Bool) → (a || b) ≡ false → b ≡ false
-second_false true b e = absurd (true≢false e)
-second_false false b e = e
 
 unwrapped : (b : Bool) (s : Shared) → (b ≡ false → s ≡ no_share) → unwrap_or (put b s) no_share ≡ s
 unwrapped true s none = refl

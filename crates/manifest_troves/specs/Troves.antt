@@ -3,10 +3,8 @@ use Rattle.std.specs.Prelude.{◌≡◌, ◌≢◌, ℕ, Bool, false, IsTrue, Li
 use Rattle.std.specs.BTreeSet.{insert_key}
 use Rattle.std.specs.Cmp.Lexicographic.{slice_cmp}
 use Rattle.std.specs.List.{fold, filter, list_any}
-use Rattle.std.specs.List.Sorted.{IsStrictlySortedBy}
 use Rattle.std.specs.Ordering.{nat_cmp}
 use Rattle.std.specs.Str.{bytes_eq}
-use Rattle.std.specs.declared.cmp.Ordering.{Ordering}
 use Rattle.change_set.specs.cny-base.Name.{is_name, kind_of_name}
 use Rattle.change_set.specs.cny-base.declared.name.NameKind.{NameKind}
 use Rattle.change_set.specs.cny-base.declared.name.NameKind.TheVariants.{Component, Package, Group}
@@ -19,6 +17,7 @@ use Rattle.change_set.specs.trove-stream.Trove.{IsTrove}
 use Rattle.manifest_troves.specs.declared.lines.DepLine.{DepLine}
 use Rattle.manifest_troves.specs.declared.lines.TroveLines.{TroveLines}
 use Rattle.manifest_troves.specs.Policy.{component_of}
+pub use Rattle.change_set.specs.trove-stream.NameOrder.{by_name_cmp, HasRisingNames}
 
 -- ---- a package's components
 
@@ -100,14 +99,6 @@ abbrev pub AreTroves : TroveLines → Type 0
 AreTroves l = All IsTrove (troves_of l)
 
 -- ---- what holds of them
-
--- by the bytes of the names
-abbrev pub by_name_cmp : TroveParts → TroveParts → Ordering
-by_name_cmp t u = slice_cmp nat_cmp t.id.name u.id.name
-
--- each name above the one before it
-abbrev pub HasRisingNames : List TroveParts → Type 0
-HasRisingNames troves = IsStrictlySortedBy by_name_cmp troves
 
 -- an entry of the trove passes the test
 abbrev pub has_entry : (FileAt → Bool) → TroveParts → Bool

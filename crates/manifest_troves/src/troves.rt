@@ -1,12 +1,12 @@
 //! The troves that a manifest makes.
-ghost use Rattle.std.specs.Prelude.{◌≡◌, ◌∷◌, ◌++◌, [], List, ℕ, All, IfOk, OnOk, IsErrOf, map};
+ghost use Rattle.std.specs.Prelude.{◌≡◌, ◌∷◌, ◌++◌, [], All, IfOk, OnOk, IsErrOf, map};
 ghost use Rattle.std.specs.BTreeMap.{IsOrdered, keys};
 ghost use Rattle.std.specs.Cmp.Lexicographic.{slice_cmp};
 ghost use Rattle.std.specs.Ordering.{nat_cmp};
 ghost use Rattle.change_set.specs.trove-stream.Trove.{IsTrove};
 ghost use Rattle.manifest_troves.specs.Shares.{named_trove};
 ghost use Rattle.manifest_troves.specs.Troves as spec;
-ghost use Rattle.manifest_troves.specs.Troves.{with_name, package_of, AreTroves, HasRisingNames, KeepsEntries};
+ghost use Rattle.manifest_troves.specs.Troves.{with_name, AreTroves, HasRisingNames, KeepsEntries};
 
 use crate::lines::{DepLine, DepLines, TroveLines};
 use crate::shares::{Shares, shares_of};

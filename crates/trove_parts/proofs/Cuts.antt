@@ -2,7 +2,6 @@
 use Rattle.std.proofs.Common.{◌≡◌, ℕ, Bool, true, false, zero, suc, List, [], ◌∷◌, ◌++◌, length, ◌==◌, refl, sym, ap, ◌∙◌, arith}
 use Rattle.std.specs.Cmp.{first_so, second_so}
 use Rattle.std.specs.List.{list_all}
-use Rattle.std.specs.Str.{bytes_eq}
 use Rattle.std.proofs.lemmas.Bool.{false≢true}
 use Rattle.std.proofs.lemmas.Bool.Decides.{nat_tests}
 use Rattle.std.proofs.lemmas.List.{append-nil, append_cancel_right}
@@ -15,10 +14,10 @@ lacks_by p c fails [] all i within e = absurd (omega arith)
 lacks_by p c fails (x ∷ xs) all zero within e = absurd (false≢true (sym fails ∙ ap p (sym e) ∙ first_so (p x) (list_all p xs) all))
 lacks_by p c fails (x ∷ xs) all (suc i) within e = lacks_by p c fails xs (second_so (p x) (list_all p xs) all) i (omega arith) e
 
-first_other : (c x : ℕ) (xs : List ℕ) → Lacks c (x ∷ xs) → x ≡ c → ⊥
+pub first_other : (c x : ℕ) (xs : List ℕ) → Lacks c (x ∷ xs) → x ≡ c → ⊥
 first_other c x xs lacks e = lacks 0 (omega arith) e
 
-rest_lacks : (c x : ℕ) (xs : List ℕ) → Lacks c (x ∷ xs) → Lacks c xs
+pub rest_lacks : (c x : ℕ) (xs : List ℕ) → Lacks c (x ∷ xs) → Lacks c xs
 rest_lacks c x xs lacks i within e = lacks (suc i) (omega arith) e
 
 -- one list, cut twice at the first such byte
@@ -73,20 +72,7 @@ empty_brackets text version rest inner other flavor whole lacks ends none cut =
     let same : inner ≡ flavor = append_cancel_right inner flavor (93 ∷ []) (sym ends ∙ found.0) in
     found.1 (sym (ap length same) ∙ none)
 
-pub is_zero : (n : ℕ) → (n == 0) ≡ true → n ≡ 0
-is_zero n is = grind (arith, nat_tests)
-
 pub above_zero : (n : ℕ) → (n == 0) ≡ false → n ≡ 0 → ⊥
 above_zero n is e = grind (arith, nat_tests)
 
 -- ---- bytes that are equal by their test
-
-pub equal_bytes : (a b : List ℕ) → bytes_eq a b ≡ true → a ≡ b
-equal_bytes [] [] is = refl
-equal_bytes [] (y ∷ ys) is = absurd (cc is)
-equal_bytes (x ∷ xs) [] is = absurd (cc is)
-equal_bytes (x ∷ xs) (y ∷ ys) is =
-    ap (λ (n : ℕ). n ∷ xs) (equal_byte x y (first_so (x == y) (bytes_eq xs ys) is)) ∙ ap (λ l. y ∷ l) (equal_bytes xs ys (second_so (x == y) (bytes_eq xs ys) is))
-  where
-    equal_byte : (m n : ℕ) → (m == n) ≡ true → m ≡ n
-    equal_byte m n same = grind (arith, nat_tests)

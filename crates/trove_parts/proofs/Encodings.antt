@@ -13,11 +13,11 @@ use Rattle.file_stream.specs.Owner.{OwnerNames, is_root}
 use Rattle.file_stream.specs.Record.{is_owned_by_root, worth, head, owner_bytes, names_owner, owned, record_bytes, flag_bits}
 use Rattle.trove_parts.specs.declared.files.FileAt.{FileAt}
 use Rattle.trove_parts.specs.Files.{file_value, files_bytes, HasOtherOwner}
-use Rattle.trove_parts.proofs.Lengths.{str_length}
+use Rattle.trove_parts.proofs.IdFields.{str_length}
 
 -- ---- the explicit encoding is longer exactly by the owners that are root
 
-owned_length : (named : Bool) (kind flags mode : ℕ) (owner : OwnerNames) (rest : List ℕ) → length (owned named kind flags mode owner rest) ≡ 5 + (length (owner_bytes named owner) + length rest)
+pub owned_length : (named : Bool) (kind flags mode : ℕ) (owner : OwnerNames) (rest : List ℕ) → length (owned named kind flags mode owner rest) ≡ 5 + (length (owner_bytes named owner) + length rest)
 owned_length named kind flags mode owner rest = omega (arith, length-append (head named kind flags mode) (owner_bytes named owner ++ rest), length-append (owner_bytes named owner) rest)
 
 owner_longer : (owner : OwnerNames) (v : Bool) → is_root owner ≡ v → worth v 1 + length (owner_bytes (names_owner Compact owner) owner) ≤ length (owner_bytes true owner)
@@ -39,7 +39,7 @@ record_longer (rec.File mode owner flags size name) v is = owned_longer 102 (fla
 record_longer (rec.Link target) true is = absurd (false≢true is)
 record_longer (rec.Link target) false is = omega arith
 
-item_length : (tag : ℕ) (value : List ℕ) → length (item_bytes tag value) ≡ 5 + length value
+pub item_length : (tag : ℕ) (value : List ℕ) → length (item_bytes tag value) ≡ 5 + length value
 item_length tag value = length-append (tag ∷ to_be_bytes w32 (length value)) value
 
 item_longer : (tag : ℕ) (file : FileAt) (v : Bool) → is_owned_by_root file.rec ≡ v

@@ -13,6 +13,7 @@ use Rattle.cny_flavor.specs.declared.parts.Sense.{Sense}
 use Rattle.cny_flavor.specs.declared.parts.Sense.TheVariants.{Required, Preferred, PreferNot, Forbidden}
 use Rattle.cny_flavor.specs.Canonical.{is_flavor_word, is_flag, are_flags, is_set, are_sets, set_count, flag_count, is_flavor, sense_text, flag_text, after_comma, flags_text, own_flags_text, set_text, after_space, sets_text, sets_part, flavor_text}
 use Rattle.cny_flavor.specs.Order.{rise}
+use Rattle.cny_flavor.proofs.Utf8.{good_words as good_flags}
 
 word_length : (word : List ℕ) → is_flavor_word word ≡ true → length word ≤ 255
 word_length word is = leb-true (length word) 255 (first_so (nat_le (length word) 255) (is_word word) is)
@@ -39,9 +40,6 @@ flags_length (f ∷ fs) all =
 own_length : (fs : List Flag) → list_all is_flag fs ≡ true → length (own_flags_text fs) ≤ 258 * length fs + 2
 own_length [] all = omega arith
 own_length (f ∷ fs) all = omega (arith, length-append (40 ∷ flags_text (f ∷ fs)) (41 ∷ []), flags_length (f ∷ fs) all)
-
-good_flags : (fs : List Flag) → are_flags fs ≡ true → list_all is_flag fs ≡ true
-good_flags fs is = first_so (list_all is_flag fs) (rise (λ f. f.word) fs) is
 
 set_length : (s : InstructionSet) → is_set s ≡ true → length (set_text s) + 1 ≤ 258 * set_count s
 set_length s is =

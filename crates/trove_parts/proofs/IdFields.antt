@@ -1,7 +1,7 @@
 -- The fields of an id: their bytes, and how they stand one behind the other.
 use Rattle.std.proofs.Common.{◌≡◌, ℕ, ◌+◌, ◌-◌, ◌≤◌, true, not, ◌&&◌, nat_le, List, [], ◌∷◌, ◌++◌, length, take, drop, get_or, Option, Some, None, refl, sym, ap, ◌∙◌, arith, inl, inr, append_assoc, length-append}
 use Rattle.std.specs.Cmp.{first_so, second_so}
-use Rattle.std.specs.Int.{w16, to_be_bytes, from_be_bytes}
+use Rattle.std.specs.Int.{w16, to_be_bytes}
 use Rattle.std.specs.List.{list_all}
 use Rattle.std.specs.Char.{is_ascii_alphanumeric}
 use Rattle.std.specs.Str.{IsUtf8}
@@ -9,15 +9,14 @@ use Rattle.std.proofs.lemmas.Bool.{and_from, cases_lt, leb-true}
 use Rattle.std.proofs.lemmas.Bool.Decides.{nat_tests}
 use Rattle.std.proofs.lemmas.List.{get_or-take, get_or-drop, length-take, length-drop, drop-drop}
 use Rattle.std.proofs.lemmas.List.Quantifiers.{position-Some}
-use Rattle.std.proofs.lemmas.Nat.{from_be_bytes-to_be_bytes_2}
 use Rattle.std.proofs.lemmas.Str.{IsUtf8-from_ascii}
 use Rattle.std.proofs.Math.Seq.{drop-append_seam}
 use Rattle.cny_version.specs.cny-base.Name.{is_word_byte, is_word, is_colon, colon_place, begins_as_group, has_words, is_name}
 use Rattle.cny_version.specs.cny-base.StrField.{FitsStr, str}
-use Rattle.cny_version.specs.cny-base.Utf8.{name_ascii}
+use Rattle.cny_version.proofs.cny-base.Utf8Laws.{name_ascii}
 use Rattle.cny_flavor.specs.declared.parts.Parts.{Parts}
 use Rattle.cny_flavor.specs.Canonical.{is_flavor, flavor_text}
-use Rattle.cny_flavor.specs.Utf8.{flavor_ascii}
+use Rattle.cny_flavor.proofs.Utf8.{flavor_ascii}
 use Rattle.cny_version.specs.Version.{WholeVersion, IsVersion, version_text}
 use Rattle.trove_parts.specs.declared.id.TroveId.{TroveId}
 use Rattle.trove_parts.specs.declared.stream.PartSpans.{PartSpans}
@@ -26,10 +25,11 @@ use Rattle.trove_parts.specs.Parts.{AreTextsOf, Lacks, three_strs, name_in, vers
 use Rattle.trove_parts.proofs.Cuts.{lacks_by}
 use Rattle.trove_parts.proofs.FlavorLength.{flavor_short}
 use Rattle.trove_parts.proofs.VersionBytes.{version_utf8}
+use Rattle.cny_version.proofs.cny-base.IdFields.{same_str}
 
 -- ---- names have no `=`
 
-letter_in_word : (b : ℕ) → is_ascii_alphanumeric b ≡ true → is_word_byte b ≡ true
+pub letter_in_word : (b : ℕ) → is_ascii_alphanumeric b ≡ true → is_word_byte b ≡ true
 letter_in_word b is = grind (arith, nat_tests)
 
 word_lacks : (word : List ℕ) → is_word word ≡ true → Lacks 61 word
@@ -40,7 +40,7 @@ word_lacks (b ∷ bs) is =
     (second_so (is_ascii_alphanumeric b) (list_all is_word_byte bs) is))
 
 -- two texts with another byte between them
-halves_lack : (c : ℕ) (bytes : List ℕ) (at : ℕ) → (get_or bytes at 0 ≡ c → ⊥) → Lacks c (take at bytes) → Lacks c (drop (at + 1) bytes) → Lacks c bytes
+pub halves_lack : (c : ℕ) (bytes : List ℕ) (at : ℕ) → (get_or bytes at 0 ≡ c → ⊥) → Lacks c (take at bytes) → Lacks c (drop (at + 1) bytes) → Lacks c bytes
 halves_lack c bytes at other front back i within e =
     elim (cases_lt i at) [
       | inl lt ↦ front i (omega (arith, length-take at bytes)) (rw (get_or-take at bytes i 0 lt) e)
@@ -81,7 +81,7 @@ version_fits v is = let short : length (version_text v) ≤ 512 = is.short in om
 pub flavor_fits : (p : Parts) → is_flavor p ≡ true → FitsStr (flavor_text p)
 flavor_fits p is = omega (arith, flavor_short p is)
 
-str_length : (value : List ℕ) → length (str value) ≡ 2 + length value
+pub str_length : (value : List ℕ) → length (str value) ≡ 2 + length value
 str_length value = length-append (to_be_bytes w16 (length value)) value
 
 pub id_short : (id : TroveId) → IsTroveId id → length (id_bytes id) ≤ 17290
@@ -116,23 +116,6 @@ fields_utf8 id is =
 
 -- ---- fields, one behind the other
 
-same_split : (xs ys us vs : List ℕ) → length xs ≡ length ys → xs ++ us ≡ ys ++ vs → (xs ≡ ys) × (us ≡ vs)
-same_split [] [] us vs long e = (refl, e)
-same_split [] (y ∷ ys) us vs long e = absurd (omega arith)
-same_split (x ∷ xs) [] us vs long e = absurd (omega arith)
-same_split (x ∷ xs) (y ∷ ys) us vs long e =
-    let heads : x ≡ y = cc in
-    let tails : xs ++ us ≡ ys ++ vs = cc in
-    let more = same_split xs ys us vs (omega arith) tails in
-    (ap (λ (n : ℕ). n ∷ xs) heads ∙ ap (λ l. y ∷ l) more.0, more.1)
-
-same_str : (a b x y : List ℕ) → FitsStr a → FitsStr b → str a ++ x ≡ str b ++ y → (a ≡ b) × (x ≡ y)
-same_str a b x y a_fits b_fits e =
-    let fronts = same_split (to_be_bytes w16 (length a)) (to_be_bytes w16 (length b)) (a ++ x) (b ++ y) refl
-    (sym (append_assoc (to_be_bytes w16 (length a)) a x) ∙ e ∙ append_assoc (to_be_bytes w16 (length b)) b y) in
-    let lengths : length a ≡ length b = sym (from_be_bytes-to_be_bytes_2 (length a) a_fits) ∙ ap (from_be_bytes w16) fronts.0 ∙ from_be_bytes-to_be_bytes_2 (length b) b_fits in
-    same_split a b x y lengths fronts.1
-
 pub three_and : (a b c rest : List ℕ) → three_strs a b c ++ rest ≡ str a ++ (str b ++ (str c ++ rest))
 three_and a b c rest = append_assoc (str a) (str b ++ str c) rest ∙ ap (λ l. str a ++ l) (append_assoc (str b) (str c) rest)
 
@@ -159,7 +142,7 @@ behind_str bytes at to a rest is end =
 
 -- ---- ids in a stream
 
-fields_there : (bytes : List ℕ) (at : ℕ) (spans : PartSpans) (id : TroveId) (rest : List ℕ) → AreStrsAt bytes at spans → IsTroveId id → drop at bytes ≡ id_bytes id ++ rest
+pub fields_there : (bytes : List ℕ) (at : ℕ) (spans : PartSpans) (id : TroveId) (rest : List ℕ) → AreStrsAt bytes at spans → IsTroveId id → drop at bytes ≡ id_bytes id ++ rest
     → SameFields (name_in bytes spans) (version_in bytes spans) (flavor_in bytes spans) (drop spans.flavor.to bytes) id.name (version_text id.version) (flavor_text id.flavor) rest
 fields_there bytes at spans id rest are is e =
     let fits = fields_fit id is in

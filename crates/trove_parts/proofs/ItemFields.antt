@@ -1,35 +1,27 @@
 -- What the values of items are: their fields, and that they are UTF-8.
-use Rattle.std.proofs.Common.{◌≡◌, ℕ, ◌<◌, true, List, [], ◌∷◌, ◌++◌, length, drop, lit<, IsTrue, nat_le, ◌&&◌, refl, sym, ◌∙◌, ap, arith, append_assoc}
+use Rattle.std.proofs.Common.{◌≡◌, ℕ, ◌<◌, true, List, [], ◌∷◌, ◌++◌, length, drop, lit<, IsTrue, nat_le, ◌&&◌, refl, sym, ◌∙◌, arith}
 use Rattle.std.specs.Cmp.{first_so, second_so}
-use Rattle.std.specs.Int.{w16, to_be_bytes, from_be_bytes}
 use Rattle.std.specs.List.{list_all, join_with_byte}
 use Rattle.std.specs.Prelude.{slice_range, codes}
 use Rattle.std.specs.Str.{IsUtf8, IsAscii}
 use Rattle.std.proofs.lemmas.Bool.Decides.{nat_tests}
-use Rattle.std.proofs.lemmas.Nat.{from_be_bytes-to_be_bytes_2}
 use Rattle.std.proofs.lemmas.Str.{IsAscii-append, IsUtf8-from_ascii}
 use Rattle.std.proofs.lemmas.Str.Ascii.{IsAscii-nil, IsAscii-cons}
 use Rattle.cny_version.specs.cny-base.Path.{is_path}
-use Rattle.cny_version.specs.cny-base.StrField.{FitsStr, IsStrAt, str}
+use Rattle.cny_version.specs.cny-base.StrField.{FitsStr, IsStrAt}
 use Rattle.cny_dep.specs.declared.class.Class.{Class}
 use Rattle.cny_dep.specs.declared.class.Class.TheVariants.{Abi, File, Trove, Soname, UserInfo, GroupInfo, Python, Perl}
 use Rattle.cny_dep.specs.Dep.{Dependency, IsDependency, class_text, flags_text, dep_text}
 use Rattle.cny_dep.specs.Part.{is_part_byte, is_dep_name, is_flag}
-use Rattle.cny_stream.specs.ItemLaws.{same_front}
 use Rattle.file_stream.specs.declared.encoding.Encoding.{Encoding}
 use Rattle.file_stream.specs.Record.{record_bytes}
 use Rattle.trove_parts.specs.declared.files.FileAt.{FileAt}
 use Rattle.trove_parts.specs.Files.{IsFileAt, file_value}
 use Rattle.trove_parts.proofs.Lengths.{path_short}
+use Rattle.cny_dep.proofs.PartBytes.{bytes_ascii as part_ascii}
+use Rattle.cny_version.proofs.cny-base.IdFields.{same_str}
 
 -- ---- files
-
-pub same_str : (a b r q : List ℕ) → FitsStr a → FitsStr b → str a ++ r ≡ str b ++ q → (a ≡ b) × (r ≡ q)
-same_str a b r q a_fits b_fits e =
-    let both = same_front (to_be_bytes w16 (length a)) (to_be_bytes w16 (length b)) (a ++ r) (b ++ q) refl
-    (sym (append_assoc (to_be_bytes w16 (length a)) a r) ∙ e ∙ append_assoc (to_be_bytes w16 (length b)) b q) in
-    let lengths : length a ≡ length b = sym (from_be_bytes-to_be_bytes_2 (length a) a_fits) ∙ ap (from_be_bytes w16) both.0 ∙ from_be_bytes-to_be_bytes_2 (length b) b_fits in
-    same_front a b r q lengths both.1
 
 pub path_fits : (path : List ℕ) → IsTrue (is_path path) → FitsStr path
 path_fits path is = omega (arith, path_short path is)
@@ -40,13 +32,6 @@ file_there encoding bytes from to file field valid same =
     same_str (slice_range bytes from to) file.path (drop to bytes) (record_bytes encoding file.rec) field.fits (path_fits file.path valid.path) (sym field.spelled ∙ same)
 
 -- ---- dependencies
-
-part_byte_ascii : (b : ℕ) → is_part_byte b ≡ true → b < 128
-part_byte_ascii b is = grind (arith, nat_tests)
-
-part_ascii : (bytes : List ℕ) → list_all is_part_byte bytes ≡ true → IsAscii bytes
-part_ascii [] all = IsAscii-nil
-part_ascii (b ∷ bytes) all = IsAscii-cons b bytes (part_byte_ascii b (first_so (is_part_byte b) (list_all is_part_byte bytes) all)) (part_ascii bytes (second_so (is_part_byte b) (list_all is_part_byte bytes) all))
 
 name_ascii : (name : List ℕ) → is_dep_name name ≡ true → IsAscii name
 name_ascii name is = part_ascii name (second_so (nat_le (length name) 1024) (list_all is_part_byte name) (second_so (nat_le 1 (length name)) (nat_le (length name) 1024 && list_all is_part_byte name) is))

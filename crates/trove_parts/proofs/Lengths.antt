@@ -1,8 +1,8 @@
 -- How long the values of items may be.
-use Rattle.std.proofs.Common.{suc, Bool, ◌&&◌, ◌||◌, nat_le, ◌⊎◌, inl, inr, ⊎_elim, ◌≡◌, ℕ, ◌+◌, ◌*◌, ◌≤◌, false, true, IsTrue, List, [], ◌∷◌, ◌++◌, length, refl, arith, length-append}
+use Rattle.std.proofs.Common.{suc, Bool, ◌&&◌, nat_le, ⊎_elim, ◌≡◌, ℕ, ◌+◌, ◌*◌, ◌≤◌, false, true, IsTrue, List, [], ◌∷◌, ◌++◌, length, arith, length-append}
 use Rattle.std.specs.Cmp.{first_so, second_so}
 use Rattle.std.specs.Prelude.{◌==◌, codes}
-use Rattle.std.specs.Int.{w16, w32, to_be_bytes}
+use Rattle.std.specs.Int.{w32, to_be_bytes}
 use Rattle.std.specs.List.{list_all, join_with_byte}
 use Rattle.std.specs.Str.{is_utf8}
 use Rattle.std.proofs.lemmas.Bool.{leb-true}
@@ -22,6 +22,8 @@ use Rattle.file_stream.specs.Owner.{OwnerNames, is_owner_word, is_owner}
 use Rattle.file_stream.specs.Record.{IsFileRecord, flag_bits, head, owner_bytes, names_owner, owned, record_bytes}
 use Rattle.trove_parts.specs.declared.files.FileAt.{FileAt}
 use Rattle.trove_parts.specs.Files.{IsFileAt, file_value}
+use Rattle.trove_parts.proofs.IdFields.{str_length}
+use Rattle.cny_version.proofs.cny-base.Bools.{tests_of}
 
 -- ---- paths and files
 
@@ -31,12 +33,6 @@ at_most n h = grind (arith, nat_tests)
 empty : (n : ℕ) → (n == 0) ≡ true → suc n ≤ 1024
 empty n h = grind (arith, nat_tests)
 
-tests_of : (x e n p : Bool) → (x && (e || (n && p))) ≡ true → (e ≡ true) ⊎ (n ≡ true)
-tests_of true true n p h = inl refl
-tests_of true false true p h = inr refl
-tests_of true false false p h = absurd (cc h)
-tests_of false e n p h = absurd (cc h)
-
 pub path_short : (path : List ℕ) → IsTrue (is_path path) → length path ≤ 1024
 path_short [] is = omega arith
 path_short (b ∷ bs) is = ⊎_elim (empty (length bs)) (at_most (length bs)) (tests_of (b == 47) (length bs == 0) (nat_le (length bs) 1023) (are_parts bs) is)
@@ -45,9 +41,6 @@ target_short : (target : List ℕ) → IsTrue (is_target target) → length targ
 target_short target is =
     let form = first_so (has_target_form target) (is_utf8 target) is in
     leb-true (length target) 1024 (first_so (nat_le (length target) 1024) (list_all is_shown target) (second_so (nat_le 1 (length target)) (nat_le (length target) 1024 && list_all is_shown target) form))
-
-pub str_length : (value : List ℕ) → length (str value) ≡ 2 + length value
-str_length value = length-append (to_be_bytes w16 (length value)) value
 
 owner_word_short : (word : List ℕ) → is_owner_word word ≡ true → length word ≤ 32
 owner_word_short word is = leb-true (length word) 32 (first_so (nat_le (length word) 32) (is_word word) is)

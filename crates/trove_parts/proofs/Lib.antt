@@ -3,10 +3,16 @@ pub mod VersionBytes
 pub mod FlavorLength
 pub mod IdFields
 pub mod Reading
-mod Rising
+pub mod Rising
 mod Taking
 mod Writing
 mod Lengths
-mod ItemFields
-mod OneList
-mod Encodings
+pub mod ItemFields
+pub mod OneList
+pub mod Encodings
+pub mod ItemsLaws
+pub use Rattle.cny_version.proofs.cny-base
+pub use Rattle.file_stream.proofs as file-stream
+pub mod Counts
+pub mod Orders
+pub mod Sizes

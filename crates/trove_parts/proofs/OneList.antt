@@ -1,14 +1,11 @@
 -- The items at the front of bytes are those of one list.
-use Rattle.std.proofs.Common.{◌≡◌, ℕ, true, false, List, [], ◌∷◌, ◌++◌, All, refl, sym, ap, ◌∙◌, arith, append_assoc, ◌==◌}
+use Rattle.std.proofs.Common.{◌≡◌, ℕ, false, List, [], ◌∷◌, ◌++◌, All, refl, sym, ap, ◌∙◌, append_assoc}
 use Rattle.std.proofs.lemmas.Bool.{false≢true}
-use Rattle.std.proofs.lemmas.Bool.Decides.{nat_tests}
 use Rattle.std.proofs.lemmas.List.Elements.{All-head, All-tail}
 use Rattle.cny_stream.specs.Item.{FitsItem, item_bytes}
-use Rattle.cny_stream.specs.ItemLaws.{same_item}
+use Rattle.cny_stream.proofs.ItemLaws.{same_item}
 use Rattle.trove_parts.specs.Items.{items_bytes, begins_with_tag, AreOfOneList}
-
-itself : (n : ℕ) → (n == n) ≡ true
-itself n = grind (arith, nat_tests)
+use Rattle.cny_version.proofs.cny-base.Below.{equal_test as itself}
 
 module _ {A : Type 0} (value value' : A → List ℕ) (IsValid : A → Type 0) (fits : (x : A) → IsValid x → FitsItem (value x)) (fits' : (x : A) → IsValid x → FitsItem (value' x))
     (once : (x y : A) → IsValid x → IsValid y → value x ≡ value' y → x ≡ y) (tag : ℕ) where

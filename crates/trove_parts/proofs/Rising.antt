@@ -7,6 +7,8 @@ use Rattle.std.specs.declared.cmp.Ordering.TheVariants.{Less, Equal, Greater}
 use Rattle.std.specs.Ordering.{is_lt}
 use Rattle.std.proofs.lemmas.Bool.{false≢true}
 use Rattle.std.proofs.lemmas.Map.Keys.{Less-from_sorted, sorted_from_all_adjacent}
+use Rattle.cny_version.proofs.cny-base.Orders.{less}
+use Rattle.cny_dep.proofs.Sorted.{all_above}
 
 all_front : {K : Type 0} (P : K → Type 0) (a b : List K) → AllByRecursion P (a ++ b) → AllByRecursion P a
 all_front P [] b all = tt
@@ -18,10 +20,6 @@ rising_front R [] b rising = tt
 rising_front R (x ∷ a) b rising = (all_front (λ y. R x y ≡ Less) a b rising.0, rising_front R a b rising.1)
 
 module _ {K : Type 0} {R : K → K → Ordering} (o : IsTotalOrder R) where
-  all_above : (x y : K) (ys : List K) → R x y ≡ Less → AllByRecursion (λ z. R y z ≡ Less) ys → AllByRecursion (λ z. R x z ≡ Less) ys
-  all_above x y [] less all = tt
-  all_above x y (z ∷ zs) less all = (o.trans x y z less all.0, all_above x y zs less all.1)
-
   -- one more element, above the last
   pub rising_push : (xs : List K) (y : K) → IsStrictlySortedBy R xs → ((d : K) → 0 < length xs → R (get_or xs (length xs - 1) d) y ≡ Less) → IsStrictlySortedBy R (xs ++ y ∷ [])
   unfolding IsStrictlySortedBy
@@ -30,7 +28,7 @@ module _ {K : Type 0} {R : K → K → Ordering} (o : IsTotalOrder R) where
   rising_push (x ∷ z ∷ xs) y rising above =
       let place : length (x ∷ z ∷ xs) - 1 ≡ suc (length (z ∷ xs) - 1) = omega arith in
       let rest = rising_push (z ∷ xs) y rising.1 (λ d some. sym (ap (λ (n : ℕ). R (get_or (x ∷ z ∷ xs) n d) y) place) ∙ above d (omega arith)) in
-      ((rising.0.0, all_above x z (xs ++ y ∷ []) rising.0.0 rest.0), rest)
+      ((rising.0.0, all_above o x z (xs ++ y ∷ []) rising.0.0 rest.0), rest)
 
 -- the element before the last of a rising list is below the last
 pub below_pushed : {K : Type 0} (R : K → K → Ordering) (xs : List K) (y d : K) → IsStrictlySortedBy R (xs ++ y ∷ []) → 0 < length xs → R (get_or xs (length xs - 1) d) y ≡ Less
@@ -46,18 +44,13 @@ below_pushed R (x ∷ z ∷ xs) y d rising some =
 abbrev pub is_less : {K : Type 0} → (K → K → Ordering) → K → K → Bool
 is_less R x y = is_lt (R x y)
 
-less : (r : Ordering) → true ≡ is_lt r → r ≡ Less
-less Less h = refl
-less Equal h = absurd (cc)
-less Greater h = absurd (cc)
-
 pub less_iff : (r : Ordering) (b : Bool) → b ≡ is_lt r → (IsTrue b → r ≡ Less) × (r ≡ Less → IsTrue b)
 less_iff Less b h = (λ _. refl, λ _. h)
 less_iff Equal b h = (λ t. absurd (cc), λ e. absurd (cc))
 less_iff Greater b h = (λ t. absurd (cc), λ e. absurd (cc))
 
 module _ {K : Type 0} {R : K → K → Ordering} (o : IsTotalOrder R) where
-  rises_from : (xs : List K) → ((k : ℕ) (d : K) → k + 1 < length xs → true ≡ is_less R (get_or xs k d) (get_or xs (k + 1) d)) → IsStrictlySortedBy R xs
+  pub rises_from : (xs : List K) → ((k : ℕ) (d : K) → k + 1 < length xs → true ≡ is_less R (get_or xs k d) (get_or xs (k + 1) d)) → IsStrictlySortedBy R xs
   unfolding IsStrictlySortedBy
   rises_from [] all = tt
   rises_from (x ∷ xs) all = sorted_from_all_adjacent o (x ∷ xs) x (λ k within. less (R (get_or (x ∷ xs) k x) (get_or (x ∷ xs) (k + 1) x)) (all k x within))

@@ -1,13 +1,13 @@
 -- The items read so far are a front of all items of the tag.
-use Rattle.std.proofs.Common.{◌≡◌, ℕ, ◌≤◌, Bool, true, false, List, [], ◌∷◌, ◌++◌, length, drop, All, Option, Some, None, refl, sym, ap, ◌∙◌, subst, arith, append_assoc, append-nil, Ordering, ◌==◌, IsTrue}
+use Rattle.std.proofs.Common.{◌≡◌, ℕ, ◌≤◌, Bool, true, false, List, [], ◌∷◌, ◌++◌, length, drop, All, Option, Some, None, refl, sym, ap, ◌∙◌, subst, arith, append_assoc, append-nil, Ordering, IsTrue}
 use Rattle.std.specs.List.Sorted.{IsStrictlySortedBy}
 use Rattle.std.proofs.lemmas.Bool.{false≢true}
-use Rattle.std.proofs.lemmas.Bool.Decides.{nat_tests}
 use Rattle.std.proofs.lemmas.List.Concat.{flat_map-append}
 use Rattle.std.proofs.lemmas.List.Elements.{All-nil, All-head, All-tail, All-push}
 use Rattle.cny_stream.specs.Item.{item_bytes}
 use Rattle.trove_parts.specs.Items.{items_bytes, begins_with_tag, IsRisingList, IsWithin, BeginsWithItems, IsValueAt}
 use Rattle.trove_parts.proofs.Rising.{rising_front}
+use Rattle.cny_version.proofs.cny-base.Below.{equal_test as itself}
 
 -- the elements are those of the items from `at` up to `end`
 pub record IsReadTo {A : Type 0} (value : A → List ℕ) (IsValid : A → Type 0) (compare : A → A → Ordering) (bytes : List ℕ) (at tag : ℕ) (xs : List A) (end : ℕ) : Type 0 where
@@ -39,9 +39,6 @@ within_fewer None few many le within = tt
 within_fewer (Some most) few many le within = omega (arith, le, within)
 
 -- ---- fronts
-
-itself : (n : ℕ) → (n == n) ≡ true
-itself n = grind (arith, nat_tests)
 
 module _ {A : Type 0} (value : A → List ℕ) (IsValid : A → Type 0) (tag : ℕ) where
   pub none_read : (from : List ℕ) → IsFrontOfAll value IsValid tag from from []
@@ -77,7 +74,7 @@ module _ {A : Type 0} (value : A → List ℕ) (IsValid : A → Type 0) (tag : �
     },
   )
 
-  pushed : (front more : List A) (x : A) → front ++ x ∷ more ≡ (front ++ x ∷ []) ++ more
+  pub pushed : (front more : List A) (x : A) → front ++ x ∷ more ≡ (front ++ x ∷ []) ++ more
   pushed front more x = sym (append_assoc front (x ∷ []) more)
 
   pub rising_next : (compare : A → A → Ordering) (all front : List A) (bytes rest : List ℕ) (x : A) (more : List A) → IsNext all front bytes rest x more → IsStrictlySortedBy compare all

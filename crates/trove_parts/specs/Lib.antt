@@ -2,7 +2,6 @@ pub mod Id
 pub mod Order
 pub mod Parts
 pub mod Items
-pub mod ItemsLaws
 pub mod Files
 pub mod Refs
 pub mod Deps

@@ -11,16 +11,16 @@ use Rattle.cny_flavor.specs.Canonical.{flavor_text}
 use Rattle.cny_version.specs.Version.{version_text}
 use Rattle.trove_parts.specs.declared.id.TroveId.{TroveId}
 
-abbrev bytes_cmp : List ℕ → List ℕ → Ordering
+abbrev pub bytes_cmp : List ℕ → List ℕ → Ordering
 bytes_cmp x y = slice_cmp nat_cmp x y
 
-abbrev name_of : TroveId → List ℕ
+abbrev pub name_of : TroveId → List ℕ
 name_of id = id.name
 
-abbrev version_of : TroveId → List ℕ
+abbrev pub version_of : TroveId → List ℕ
 version_of id = version_text id.version
 
-abbrev flavor_of : TroveId → List ℕ
+abbrev pub flavor_of : TroveId → List ℕ
 flavor_of id = flavor_text id.flavor
 
 -- whether name, version text and flavor text are equal

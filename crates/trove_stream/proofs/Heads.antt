@@ -1,20 +1,21 @@
 -- The items of an id's texts, and the id that has them.
-use Rattle.std.proofs.Common.{◌≡◌, ℕ, ◌+◌, ◌<◌, ◌≤◌, ◌^◌, List, [], ◌∷◌, ◌++◌, length, drop, refl, sym, ap, ◌∙◌, arith, append_assoc, append-nil, length-append}
-use Rattle.std.specs.Int.{w16, w32, to_be_bytes, from_be_bytes}
+use Rattle.std.proofs.Common.{◌≡◌, ℕ, ◌+◌, ◌≤◌, List, ◌∷◌, ◌++◌, length, drop, sym, ap, ◌∙◌, arith, append_assoc, length-append}
+use Rattle.std.specs.Int.{w32, to_be_bytes}
 use Rattle.std.proofs.Math.Seq.{drop-append_seam}
 use Rattle.std.proofs.lemmas.List.{drop-drop}
-use Rattle.std.proofs.lemmas.Nat.{from_be_bytes-to_be_bytes_2}
-use Rattle.trove_parts.specs.cny-base.StrField.{FitsStr, str}
+use Rattle.trove_parts.specs.cny-base.StrField.{str}
 use Rattle.trove_parts.specs.cny-flavor.Canonical.{flavor_text}
 use Rattle.cny_stream.specs.Item.{item_bytes}
-use Rattle.cny_stream.specs.ItemLaws.{same_front, same_item}
+use Rattle.cny_stream.proofs.ItemLaws.{same_item}
 use Rattle.cny_version.specs.Version.{version_text}
 use Rattle.trove_parts.specs.declared.id.TroveId.{TroveId}
-use Rattle.trove_parts.specs.Id.{IsTroveId, id_bytes, IsIdAt}
-use Rattle.trove_parts.specs.Parts.{AreTextsOf, three_strs}
+use Rattle.trove_parts.specs.Id.{IsTroveId, id_bytes}
+use Rattle.trove_parts.specs.Parts.{AreTextsOf}
 use Rattle.trove_stream.specs.declared.head.HeadItems.{HeadItems}
 use Rattle.trove_stream.specs.Head.{name_in, version_in, flavor_in, AreHeadItems}
 use Rattle.trove_stream.specs.Stream.{three_items, head_bytes}
+use Rattle.trove_parts.proofs.IdFields.{str_length}
+use Rattle.cny_version.proofs.cny-base.Counts.{small as fits_item}
 
 pub three_and : (a b c rest : List ℕ) → three_items a b c ++ rest ≡ item_bytes 1 a ++ (item_bytes 2 b ++ (item_bytes 3 c ++ rest))
 three_and a b c rest = append_assoc (item_bytes 1 a) (item_bytes 2 b ++ item_bytes 3 c) rest ∙ ap (λ l. item_bytes 1 a ++ l) (append_assoc (item_bytes 2 b) (item_bytes 3 c) rest)
@@ -34,9 +35,6 @@ pub record AreShort (id : TroveId) : Type 0 where
   pub version : length (version_text id.version) ≤ 17290
   pub flavor : length (flavor_text id.flavor) ≤ 17290
 
-str_length : (value : List ℕ) → length (str value) ≡ 2 + length value
-str_length value = length-append (to_be_bytes w16 (length value)) value
-
 pub texts_short : (id : TroveId) → length (id_bytes id) ≤ 17290 → AreShort id
 texts_short id short =
     let first = length-append (str id.name) (str (version_text id.version) ++ str (flavor_text id.flavor)) in
@@ -45,9 +43,6 @@ texts_short id short =
     let version = str_length (version_text id.version) in
     let flavor = str_length (flavor_text id.flavor) in
     record { name = omega arith; version = omega arith; flavor = omega arith }
-
-pub fits_item : (n : ℕ) → n ≤ 17290 → n < 2 ^ 32
-fits_item n short = omega arith
 
 -- ---- the items of an id
 

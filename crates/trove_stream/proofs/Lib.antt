@@ -1,15 +1,15 @@
-mod Forbidding
-mod Names
+pub mod Names
 mod Heads
-mod Lists
-mod Handing
+pub mod Lists
 mod OneTrove
-mod Merging
-mod Equal
+pub mod Merging
+pub mod Equal
 mod RelStreamParts
-mod Handed
 mod Whole
 mod OneRel
-pub mod Rising
 pub mod Places
 pub use Rattle.trove_parts.proofs as trove-parts
+pub use Rattle.trove_parts.proofs.cny-base
+pub use Rattle.trove_parts.proofs.file-stream
+pub use Rattle.cny_dep.proofs as cny-dep
+pub mod Distinct

@@ -1,5 +1,5 @@
 -- Where each list of a trove's stream ends.
-use Rattle.std.proofs.Common.{◌≡◌, ℕ, ◌≤◌, false, List, [], ◌∷◌, ◌++◌, length, drop, refl, sym, ap, ◌∙◌, subst, arith, append-nil}
+use Rattle.std.proofs.Common.{◌≡◌, ℕ, false, List, [], ◌∷◌, ◌++◌, length, drop, refl, sym, ap, ◌∙◌, subst, arith, append-nil}
 use Rattle.std.specs.Prelude.{◌==◌}
 use Rattle.std.proofs.lemmas.List.{length-drop}
 use Rattle.cny_dep.specs.Dep.{dep_text}
@@ -8,10 +8,12 @@ use Rattle.trove_parts.specs.Id.{id_bytes}
 use Rattle.trove_parts.specs.Deps.{deps_bytes}
 use Rattle.trove_parts.specs.Files.{file_value, files_bytes}
 use Rattle.trove_parts.specs.Items.{begins_with_tag, BeginsWithItems, AreItemsAt}
-use Rattle.trove_parts.specs.ItemsLaws.{other_tag}
+use Rattle.trove_parts.proofs.ItemsLaws.{other_tag}
 use Rattle.trove_parts.specs.Refs.{refs_bytes}
 use Rattle.trove_stream.specs.declared.parts.TroveParts.{TroveParts}
 use Rattle.trove_stream.specs.Stream.{head_bytes, lists_bytes, stream_bytes, IsHeadOf}
+use Rattle.trove_stream.specs.Installed.{IsRising}
+use Rattle.std.specs.List.Sorted.{IsStrictlySortedBy}
 
 abbrev pub behind_refs : TroveParts → List ℕ
 behind_refs t = deps_bytes 6 t.requires_ ++ deps_bytes 7 t.provides
@@ -38,9 +40,6 @@ requires_begin bytes t same = record { spelled = same; ended = provides_end 6 t 
 pub provides_begin : (bytes : List ℕ) (t : TroveParts) → bytes ≡ deps_bytes 7 t.provides → BeginsWithItems dep_text 7 bytes t.provides []
 provides_begin bytes t same = record { spelled = same ∙ sym (append-nil (deps_bytes 7 t.provides)); ended = refl }
 
-pub is_end : (bytes : List ℕ) (to : ℕ) → to ≤ length bytes → drop to bytes ≡ [] → to ≡ length bytes
-is_end bytes to within none = let long = ap length none in omega (arith, length-drop to bytes)
-
 nothing_behind : (bytes : List ℕ) (to : ℕ) → to ≡ length bytes → drop to bytes ≡ []
 nothing_behind bytes to end = empty (drop to bytes) (omega (arith, length-drop to bytes))
   where
@@ -58,3 +57,7 @@ whole encoding bytes t h f r q p head files refs required provided end =
     ∙ ap (λ l. files_bytes encoding 4 t.files ++ l) (refs.begins.spelled
     ∙ ap (λ l. refs_bytes 5 t.refs ++ l) (required.begins.spelled
     ∙ ap (λ l. deps_bytes 6 t.requires_ ++ l) last)))
+
+pub none_rise : IsRising []
+unfolding IsStrictlySortedBy
+none_rise = tt

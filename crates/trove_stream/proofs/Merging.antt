@@ -12,13 +12,13 @@ rising_drop R (suc i) [] rising = tt
 rising_drop R (suc i) (x ∷ xs) rising = rising_drop R i xs rising.1
 
 -- what is left from a place on begins with the element there
-front_at : {K : Type 0} (i : ℕ) (xs : List K) (x : K) → i < length xs → x ≡ get_or xs i x → drop i xs ≡ x ∷ drop (i + 1) xs
+pub front_at : {K : Type 0} (i : ℕ) (xs : List K) (x : K) → i < length xs → x ≡ get_or xs i x → drop i xs ≡ x ∷ drop (i + 1) xs
 front_at {K} i xs x within is =
     let front : drop i xs ≡ get_or xs i x ∷ drop (i + 1) xs = rw (add-one, drop-cons xs i x) refl in
     front ∙ ap (λ (y : K). y ∷ drop (i + 1) xs) (sym is)
 
 -- the element at a place is below all behind it
-below_rest : {K : Type 0} (R : K → K → Ordering) (i : ℕ) (xs : List K) (x : K) → i < length xs → x ≡ get_or xs i x → IsStrictlySortedBy R xs → All (λ y. R x y ≡ Less) (drop (i + 1) xs)
+pub below_rest : {K : Type 0} (R : K → K → Ordering) (i : ℕ) (xs : List K) (x : K) → i < length xs → x ≡ get_or xs i x → IsStrictlySortedBy R xs → All (λ y. R x y ≡ Less) (drop (i + 1) xs)
 unfolding IsStrictlySortedBy
 below_rest {K} R i xs x within is rising =
     let P : List K → Type 0 = λ l. IsStrictlySortedBy R l in

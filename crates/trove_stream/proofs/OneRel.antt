@@ -1,9 +1,9 @@
 -- A stream is that of one relative trove, and the streams in both encodings.
-use Rattle.std.proofs.Common.{◌≡◌, ◌↔◌, ℕ, ◌+◌, ◌<◌, ◌≤◌, ◌^◌, List, [], ◌++◌, length, All, refl, sym, ap, ◌∙◌, arith, append-nil}
+use Rattle.std.proofs.Common.{◌≡◌, ◌↔◌, ℕ, ◌+◌, ◌≤◌, List, [], ◌++◌, length, All, refl, sym, ap, ◌∙◌, append-nil}
 use Rattle.std.proofs.lemmas.List.{append_cancel_left}
 use Rattle.cny_dep.specs.Dep.{IsDependency, dep_text}
 use Rattle.cny_stream.specs.Item.{item_bytes}
-use Rattle.cny_stream.specs.ItemLaws.{same_item}
+use Rattle.cny_stream.proofs.ItemLaws.{same_item}
 use Rattle.trove_parts.specs.file-stream.declared.encoding.Encoding.{Encoding}
 use Rattle.trove_parts.specs.file-stream.declared.encoding.Encoding.TheVariants.{Compact, Explicit}
 use Rattle.trove_parts.specs.declared.id.TroveId.{TroveId}
@@ -11,12 +11,13 @@ use Rattle.trove_parts.specs.Id.{IsTroveId, id_bytes}
 use Rattle.trove_parts.specs.declared.files.FileAt.{FileAt}
 use Rattle.trove_parts.specs.Files.{IsFileAt, HasOtherOwner, file_value, files_bytes}
 use Rattle.trove_parts.specs.Items.{items_bytes, AreOfOneList}
-use Rattle.trove_parts.specs.ItemsLaws.{same_middle}
+use Rattle.trove_parts.proofs.ItemsLaws.{same_middle}
 use Rattle.trove_parts.specs.Paths.{IsPath, path_value, paths_bytes}
 use Rattle.trove_stream.specs.declared.rel.RelParts.{RelParts}
 use Rattle.trove_stream.specs.Pairs.{BeginsWithPair, ids_bytes}
 use Rattle.trove_stream.specs.RelBytes.{IsStreamOf, rel_stream_bytes}
 use Rattle.trove_stream.proofs.RelStreamParts.{first_id, first_of_pair, second_of_pair, files_part, refs_part, requires_part, provides_part, begins_files, begins_refs, begins_requires, begins_provides}
+use Rattle.cny_version.proofs.cny-base.Counts.{small as fits}
 
 record SamePair {A B : Type 0} (xs xs' : List A) (ys ys' : List B) (rest rest' : List ℕ) : Type 0 where
   first : xs ≡ xs'
@@ -31,9 +32,6 @@ one_pair value value' value2 value2' IsValid IsValid2 one other tag bytes xs xs'
     let first = one tag bytes xs xs' more (items_bytes value2' (tag + 1) ys' ++ rest') xs_are xs_are' (first_of_pair value value2 tag bytes xs ys rest pair) (first_of_pair value' value2' tag bytes xs' ys' rest' pair') in
     let second = other (tag + 1) more ys ys' rest rest' ys_are ys_are' (second_of_pair value value2 tag bytes more xs ys rest pair refl) (second_of_pair value' value2' tag bytes more xs' ys' rest' pair' first.1) in
     record { first = first.0; second = second.0; behind = second.1 }
-
-fits : (n : ℕ) → n ≤ 17290 → n < 2 ^ 32
-fits n short = omega arith
 
 pub one_rel : (one other : Encoding) (a b : RelParts) (bytes : List ℕ) → IsStreamOf one a bytes → IsStreamOf other b bytes → ((id : TroveId) → IsTroveId id → length (id_bytes id) ≤ 17290)
     → ((i j : TroveId) (x y : List ℕ) → IsTroveId i → IsTroveId j → id_bytes i ++ x ≡ id_bytes j ++ y → (i ≡ j) × (x ≡ y))

@@ -3,7 +3,7 @@ use Rattle.std.proofs.Common.{◌≡◌, ◌↔◌, ℕ, ◌≤◌, List, [], �
 use Rattle.cny_dep.specs.Dep.{IsDependency, dep_text}
 use Rattle.trove_parts.specs.cny-flavor.Canonical.{flavor_text}
 use Rattle.cny_stream.specs.Item.{item_bytes}
-use Rattle.cny_stream.specs.ItemLaws.{same_item}
+use Rattle.cny_stream.proofs.ItemLaws.{same_item}
 use Rattle.cny_version.specs.Version.{version_text}
 use Rattle.trove_parts.specs.file-stream.declared.encoding.Encoding.{Encoding}
 use Rattle.trove_parts.specs.file-stream.declared.encoding.Encoding.TheVariants.{Compact, Explicit}
@@ -14,12 +14,13 @@ use Rattle.trove_parts.specs.Deps.{deps_bytes}
 use Rattle.trove_parts.specs.declared.files.FileAt.{FileAt}
 use Rattle.trove_parts.specs.Files.{IsFileAt, HasOtherOwner, file_value, files_bytes}
 use Rattle.trove_parts.specs.Items.{AreOfOneList}
-use Rattle.trove_parts.specs.ItemsLaws.{same_middle}
+use Rattle.trove_parts.proofs.ItemsLaws.{same_middle}
 use Rattle.trove_stream.specs.declared.parts.TroveParts.{TroveParts}
 use Rattle.trove_stream.specs.Stream.{head_bytes, lists_bytes, stream_bytes}
 use Rattle.trove_stream.specs.Trove.{IsTrove}
-use Rattle.trove_stream.proofs.Heads.{three_and, texts_short, fits_item}
+use Rattle.trove_stream.proofs.Heads.{three_and, texts_short}
 use Rattle.trove_stream.proofs.Lists.{behind_files, behind_refs, files_begin, refs_begin, requires_begin, provides_begin}
+use Rattle.cny_version.proofs.cny-base.Counts.{small as fits_item}
 
 -- the same three texts, and the same behind them
 pub one_head : (a b : TroveId) (r s : List ℕ) → length (id_bytes a) ≤ 17290 → length (id_bytes b) ≤ 17290 → head_bytes a ++ r ≡ head_bytes b ++ s → (id_bytes a ≡ id_bytes b) × (r ≡ s)

@@ -1,7 +1,6 @@
 -- Where the trove of a name stands in a rising list.
 use Rattle.std.proofs.Common.{◌≡◌, ℕ, suc, ◌+◌, ◌<◌, ◌⊎◌, ⊎_elim, inl, inr, Bool, true, false, cond, List, [], ◌∷◌, length, get_or, slice_get, Some, None, Option, option_copied, Contains, Ordering, refl, sym, ap, ◌∙◌, arith, add-one, true≢false}
 use Rattle.std.specs.Cmp.Lexicographic.{slice_cmp, nat_list_cmp_total}
-use Rattle.std.specs.FinMap.{nat_cmp-IsAntisymmetric, slice_cmp-IsAntisymmetric}
 use Rattle.std.specs.List.{HoldsAt}
 use Rattle.std.specs.List.Sorted.{IsSortedBy, IsNonDecreasingBy, IsPartitionPoint}
 use Rattle.std.specs.Ordering.{nat_cmp, is_lt, ordering_index, ordering_reverse}
@@ -18,21 +17,19 @@ use Rattle.std.proofs.lemmas.Slice.Eq.{bytes_eq-Decides}
 use Rattle.trove_stream.specs.declared.parts.TroveParts.{TroveParts}
 use denote.Ref.{Bor}
 use Rattle.trove_stream.specs.Installed.{by_name, IsRising, trove_of, IsPlaceOf, IsNameless}
+use Rattle.trove_stream.proofs.Equal.{equal_lists as equal_names}
 
-abbrev name_of : TroveParts → List ℕ
+abbrev pub name_of : TroveParts → List ℕ
 name_of t = t.id.name
 
 -- how the name of a trove compares with the one that is looked for
 abbrev pub against : List ℕ → TroveParts → Ordering
 against name t = slice_cmp nat_cmp (name_of t) name
 
-equal_names : (x y : List ℕ) → slice_cmp nat_cmp x y ≡ Equal → x ≡ y
-equal_names x y e = slice_cmp-IsAntisymmetric nat_cmp-IsAntisymmetric x y e
-
-nothing_in : (t : TroveParts) → Contains [] t → ⊥
+pub nothing_in : (t : TroveParts) → Contains [] t → ⊥
 nothing_in t h = omega (arith, h.1)
 
-first_or_later : (x y : TroveParts) (list : List TroveParts) → Contains (x ∷ list) y → (x ≡ y) ⊎ Contains list y
+pub first_or_later : (x y : TroveParts) (list : List TroveParts) → Contains (x ∷ list) y → (x ≡ y) ⊎ Contains list y
 first_or_later x y list h = ⊎_elim
     (λ here. ⊎_elim (λ none. absurd (nothing_in y none)) inl (Contains-push_cases [] x y here))
     inr

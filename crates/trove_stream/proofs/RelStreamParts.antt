@@ -7,7 +7,7 @@ use Rattle.trove_parts.specs.file-stream.declared.encoding.Encoding.{Encoding}
 use Rattle.trove_parts.specs.declared.id.TroveId.{TroveId}
 use Rattle.trove_parts.specs.Id.{id_bytes}
 use Rattle.trove_parts.specs.Items.{items_bytes, begins_with_tag, BeginsWithItems, AreItemsAt, IsValueAt}
-use Rattle.trove_parts.specs.ItemsLaws.{other_tag}
+use Rattle.trove_parts.proofs.ItemsLaws.{other_tag}
 use Rattle.trove_parts.specs.Files.{file_value}
 use Rattle.trove_parts.specs.Paths.{path_value}
 use Rattle.trove_stream.specs.declared.rel.RelParts.{RelParts}
@@ -15,20 +15,20 @@ use Rattle.trove_stream.specs.Pairs.{pair_bytes, BeginsWithPair, IsPairAt, ids_b
 
 -- ---- tags
 
-differ : (tag other : ℕ) → tag < other → (other == tag) ≡ false
+pub differ : (tag other : ℕ) → tag < other → (other == tag) ≡ false
 differ tag other below = grind (arith, nat_tests)
 
 -- items of a later tag, with nothing behind them
-ends_before_items : {A : Type 0} (value : A → List ℕ) (tag other : ℕ) (xs : List A) → tag < other → begins_with_tag tag (items_bytes value other xs) ≡ false
+pub ends_before_items : {A : Type 0} (value : A → List ℕ) (tag other : ℕ) (xs : List A) → tag < other → begins_with_tag tag (items_bytes value other xs) ≡ false
 ends_before_items value tag other xs below =
     ap (begins_with_tag tag) (sym (append-nil (items_bytes value other xs))) ∙ other_tag value tag other xs [] (differ tag other below) refl
 
 module _ {A B : Type 0} (value : A → List ℕ) (value' : B → List ℕ) where
-  ends_before_pair : (tag other : ℕ) (xs : List A) (ys : List B) → tag < other → begins_with_tag tag (pair_bytes value value' other xs ys) ≡ false
+  pub ends_before_pair : (tag other : ℕ) (xs : List A) (ys : List B) → tag < other → begins_with_tag tag (pair_bytes value value' other xs ys) ≡ false
   ends_before_pair tag other xs ys below =
       other_tag value tag other xs (items_bytes value' (other + 1) ys) (differ tag other below) (ends_before_items value' tag (other + 1) ys (omega arith))
 
-  ends_before_pair_and : (tag other : ℕ) (xs : List A) (ys : List B) (rest : List ℕ) → tag < other → begins_with_tag tag rest ≡ false → begins_with_tag tag (pair_bytes value value' other xs ys ++ rest) ≡ false
+  pub ends_before_pair_and : (tag other : ℕ) (xs : List A) (ys : List B) (rest : List ℕ) → tag < other → begins_with_tag tag rest ≡ false → begins_with_tag tag (pair_bytes value value' other xs ys ++ rest) ≡ false
   ends_before_pair_and tag other xs ys rest below ended =
       ap (begins_with_tag tag) (append_assoc (items_bytes value other xs) (items_bytes value' (other + 1) ys) rest)
       ∙ other_tag value tag other xs (items_bytes value' (other + 1) ys ++ rest) (differ tag other below) (other_tag value' tag (other + 1) ys rest (differ tag (other + 1) (omega arith)) ended)

@@ -1,5 +1,5 @@
 -- The whole stream: its five parts up to its end.
-use Rattle.std.proofs.Common.{◌≡◌, ℕ, ◌≤◌, List, [], ◌++◌, length, drop, ap, ◌∙◌, arith, append-nil, length-drop}
+use Rattle.std.proofs.Common.{◌≡◌, ℕ, List, [], ◌++◌, length, drop, ap, ◌∙◌, arith, append-nil}
 use Rattle.std.proofs.lemmas.List.{drop_all}
 use Rattle.cny_dep.specs.Dep.{dep_text}
 use Rattle.trove_parts.specs.file-stream.declared.encoding.Encoding.{Encoding}
@@ -22,7 +22,3 @@ whole encoding bytes rel p q r s t ids files refs required provided end =
     (pair_bytes dep_text dep_text 0x27 rel.requires_gone rel.requires_added) (pair_bytes dep_text dep_text 0x29 rel.provides_gone rel.provides_added)
     (drop p bytes) (drop q bytes) (drop r bytes) (drop s bytes) ids.spelled files.spelled refs.spelled required.spelled
     (provided.spelled ∙ ap (λ l. pair_bytes dep_text dep_text 0x29 rel.provides_gone rel.provides_added ++ l) (drop_all t bytes (omega arith)))
-
--- nothing is left behind the last part only where it ends with the bytes
-pub not_at_end : (bytes : List ℕ) (t : ℕ) → t ≤ length bytes → drop t bytes ≡ [] → t ≡ length bytes
-not_at_end bytes t within none = omega (arith, ap length none, length-drop t bytes)

@@ -6,6 +6,7 @@ use Rattle.trove_parts.specs.cny-base.declared.refusal.Fault.TheVariants.{Refuse
 use Rattle.trove_parts.specs.cny-base.declared.refusal.Refusal.TheVariants.{Reserved}
 use Rattle.trove_parts.specs.file-stream.Record.{is_dir}
 use Rattle.trove_parts.specs.declared.files.FileAt.{FileAt}
+use Rattle.trove_stream.specs.declared.parts.TroveParts.{TroveParts}
 
 -- no trove may record its path as it does
 abbrev pub is_forbidden_file : FileAt → Bool
@@ -20,3 +21,7 @@ first_forbidden (file ∷ files) = if is_forbidden_file file then Some file.path
 abbrev pub IsReservedOrMemory : List ℕ → Fault → Type 0
 IsReservedOrMemory path (Refused refusal) = refusal ≡ Reserved path
 IsReservedOrMemory path Memory = Unit {0}
+
+-- the trove records no path that no trove may record
+abbrev pub IsAllowed : TroveParts → Type 0
+IsAllowed t = first_forbidden t.files ≡ None

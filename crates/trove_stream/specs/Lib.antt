@@ -12,3 +12,6 @@ pub use Rattle.trove_parts.specs.cny-base
 pub use Rattle.trove_parts.specs.cny-flavor
 pub use Rattle.trove_parts.specs.file-stream
 pub use Rattle.trove_parts.specs as trove-parts
+pub mod NameOrder
+pub mod Either
+pub mod FilesOf

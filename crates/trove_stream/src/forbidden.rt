@@ -1,6 +1,5 @@
 //! Paths that no trove may record.
 ghost use Rattle.std.specs.Prelude.{◌≡◌, MatchOption, IsOk, IsErrAnd, Option, Some, None, IfSome, IfNone};
-ghost use Rattle.std.specs.Option.{option_map};
 ghost use Rattle.trove_stream.specs.Forbidden as spec;
 ghost use Rattle.trove_stream.specs.Forbidden.{first_forbidden, IsReservedOrMemory};
 

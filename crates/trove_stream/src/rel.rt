@@ -1,5 +1,5 @@
 //! Relative troves.
-ghost use Rattle.std.specs.Prelude.{◌≡◌, ◌↔◌, IsTrue, IfOk, OnOk, IfErr};
+ghost use Rattle.std.specs.Prelude.{◌≡◌, IfOk, OnOk, IfErr};
 ghost use Rattle.trove_stream.specs.declared.rel.RelParts.{RelParts};
 ghost use Rattle.trove_stream.specs.Rel.{AreParts, IsRel};
 

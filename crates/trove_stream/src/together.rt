@@ -1,7 +1,6 @@
 //! The rules for the parts of a relative trove.
 ghost use Rattle.std.specs.Prelude.{◌≡◌, ◌≢◌, ◌↔◌, IsTrue};
-ghost use Rattle.trove_stream.specs.Disjoint.{AreDisjoint};
-ghost use Rattle.trove_stream.specs.Rel.{AreParts, GoTogether, IsPathOf, IsSameId, IsSameDep};
+ghost use Rattle.trove_stream.specs.Rel.{AreParts, GoTogether};
 
 use crate::disjoint::are_disjoint;
 use crate::rel::RelParts;

@@ -80,6 +80,14 @@ impl Trove {
         Ok(Trove { parts })
     }
 
+    /// The trove of these parts, which are those of one. Takes no memory.
+    pub fn from_parts(parts: TroveParts) -> Self
+        requires { IsTrove parts }
+        ensures { result ≡ parts }
+    {
+        Trove { parts }
+    }
+
     /// Which trove it is.
     pub fn id(&self) -> &TroveId
         ensures value { result.now ≡ self.now.id }

@@ -2,8 +2,9 @@ use Rattle.std.proofs.Common.{◌≡◌, ◌+◌, ◌∷◌, List, drop, sym, su
 use Rattle.std.proofs.lemmas.List.Elements.{All-nil}
 use Rattle.std.specs.declared.cmp.Ordering.TheVariants.{Less}
 use Rattle.change_rel.specs.Amends.{Fits, IsBelow}
-use Rattle.change_rel.proofs.Members.{front_at, drop_all}
+use Rattle.change_rel.proofs.Members.{drop_all}
 use Rattle.change_rel.proofs.Passes.{below_from, fate_from, unfit_set}
+use Rattle.trove_stream.proofs.Merging.{front_at}
 use Rattle.change_rel.proofs.amending.fate_of.Goals as goal
 
 pub returns-then-next-set : goal.returns-then-next-set

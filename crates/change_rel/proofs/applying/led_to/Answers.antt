@@ -1,4 +1,4 @@
-use Rattle.std.proofs.Common.{◌≡◌, Option, MatchOption, refl, sym, subst, ◌∙◌}
+use Rattle.std.proofs.Common.{Option, MatchOption, refl, sym, subst, ◌∙◌}
 use Rattle.trove_stream.specs.declared.parts.TroveParts.{TroveParts}
 use Rattle.change_rel.specs.Leads.{LeadsNowhere}
 use Rattle.change_rel.specs.Lists.{AreAmended}

@@ -1,7 +1,7 @@
-use Rattle.std.proofs.Common.{◌≡◌}
-use Rattle.change_rel.proofs.Leading.{equal_lists, equal_ids, equal_deps}
+use Rattle.change_rel.proofs.Leading.{equal_deps}
 use Rattle.change_rel.proofs.OneResult.{one_rel}
 use Rattle.cny_dep.specs.Dep.{dep_text}
+use Rattle.trove_stream.proofs.Equal.{equal_ids, equal_lists}
 use Rattle.change_rel.proofs.laws.one_relative.Goals as goal
 
 pub returns : goal.returns

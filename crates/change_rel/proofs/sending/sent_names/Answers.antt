@@ -1,4 +1,4 @@
-use Rattle.std.proofs.Common.{ℕ, List, Contains, arith, subst}
+use Rattle.std.proofs.Common.{List, Contains, arith, subst}
 use Rattle.std.specs.Prelude.{◌↔◌}
 use Rattle.trove_stream.specs.trove-parts.declared.files.FileAt.{FileAt}
 use Rattle.change_rel.specs.Sending.{SendsName}

@@ -1,5 +1,5 @@
 use Rattle.trove_stream.specs.trove-parts.Files.{file_cmp}
-use Rattle.change_rel.proofs.Members.{rising_nil}
+use Rattle.trove_stream.proofs.cny-base.Sorted.{rising_nil}
 use Rattle.change_rel.proofs.sending.to_send.Goals as goal
 
 pub names_to_send-requires : goal.names_to_send-requires

@@ -1,21 +1,16 @@
-use Rattle.std.proofs.Common.{◌≡◌, ℕ, ◌+◌, Bool, true, false, List, [], get_or, refl, ap, ◌∙◌, arith, rules, tests, IsTrue, Ordering}
+use Rattle.std.proofs.Common.{◌≡◌, ℕ, ◌+◌, Bool, true, false, List, [], get_or, ap, ◌∙◌, arith, rules, tests, IsTrue}
 use Rattle.std.specs.Cmp.Lexicographic.{slice_cmp, nat_list_cmp_total}
 use Rattle.std.specs.List.{IsAllAdjacentAnswer}
 use Rattle.std.specs.List.Sorted.{IsStrictlySortedBy}
 use Rattle.std.specs.Ordering.{nat_cmp, is_lt}
-use Rattle.std.specs.declared.cmp.Ordering.TheVariants.{Less, Equal, Greater}
 use Rattle.std.proofs.lemmas.Bool.{false≢true}
 use Rattle.std.proofs.lemmas.List.Sorted.{answers_always}
 use Rattle.std.proofs.lemmas.Map.Keys.{Less-from_sorted, sorted_from_all_adjacent}
+use Rattle.cny_base.proofs.Orders.{less}
 use Rattle.cny_dep.proofs.reading.are_rising.Goals as goal
 
 abbrev below : List ℕ → List ℕ → Bool
 below x y = is_lt (slice_cmp nat_cmp x y)
-
-less : (r : Ordering) → true ≡ is_lt r → r ≡ Less
-less Less h = refl
-less Equal h = absurd (cc)
-less Greater h = absurd (cc)
 
 rising : (xs : List (List ℕ)) (b : Bool) → IsAllAdjacentAnswer (λ x y b. b ≡ below x y) xs b
     → (IsTrue b → IsStrictlySortedBy (slice_cmp nat_cmp) xs) × (IsStrictlySortedBy (slice_cmp nat_cmp) xs → IsTrue b)

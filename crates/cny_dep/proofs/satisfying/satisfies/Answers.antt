@@ -1,11 +1,8 @@
-use Rattle.std.proofs.Common.{◌≡◌, true, false, not, Bool, refl, sym, ◌∙◌, subst, All, Contains}
+use Rattle.std.proofs.Common.{sym, ◌∙◌, subst, All, Contains}
 use Rattle.std.specs.Cmp.Lexicographic.{bytes_decides}
 use Rattle.std.specs.Str.{bytes_eq}
+use Rattle.cny_base.proofs.Bools.{not_false}
 use Rattle.cny_dep.proofs.satisfying.satisfies.Goals as goal
-
-not_false : (b : Bool) → not b ≡ false → b ≡ true
-not_false true h = refl
-not_false false h = absurd (cc)
 
 pub returns : goal.returns
 returns c =

@@ -1,5 +1,4 @@
-use Rattle.std.proofs.Common.{◌≡◌, ◌+◌, ◌*◌, ◌≤◌, ◌<◌, ℕ, Bool, true, false, cond, length, take, get_or, not, eqb, Fits, w64, arith, take_all, ap, sym, subst, ◌∙◌}
-use Rattle.std.proofs.lemmas.List.Sums.{count_by_more_yes, count_by_more_no}
+use Rattle.std.proofs.Common.{Bool, true, false, arith, take_all, ap, sym, ◌∙◌}
 use Rattle.std.specs.List.{count_by}
 use Rattle.cny_lanes.specs.Compare.{differing}
 use Rattle.cny_lanes.proofs.Comparing.{counted_below, one_more, none_more, length-differing}

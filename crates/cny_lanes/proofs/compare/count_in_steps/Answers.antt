@@ -1,6 +1,4 @@
-use Rattle.std.proofs.Common.{◌≡◌, ◌+◌, ◌*◌, ◌≤◌, ◌<◌, ◌^◌, ℕ, Bool, length, take, not, eqb, Fits, w64, arith, ap, sym, subst, ◌∙◌}
-use Rattle.std.proofs.lemmas.List.Sums.{count_by-le-length}
-use Rattle.std.proofs.lemmas.Simd.{length-zip2}
+use Rattle.std.proofs.Common.{◌≡◌, ◌+◌, ◌*◌, ℕ, Bool, take, arith, ap, subst, ◌∙◌}
 use Rattle.std.specs.List.{count_by}
 use lib.Count.{ones}
 use lib.Lanes.{chunk}

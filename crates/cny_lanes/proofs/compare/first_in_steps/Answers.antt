@@ -1,8 +1,6 @@
-use Rattle.std.proofs.Common.{◌≡◌, ◌+◌, ◌*◌, ◌≤◌, ◌<◌, ◌-◌, ℕ, Bool, true, false, cond, length, take, get_or, not, eqb, Fits, w64, arith, ap, sym, subst, ◌∙◌}
-use lib.Lanes.{chunk}
+use Rattle.std.proofs.Common.{◌+◌, ◌*◌, ◌<◌, ◌-◌, ℕ, false, arith, sym, subst, ◌∙◌}
 use lib.Count.{count_trailing_zeros}
-use Rattle.std.specs.Simd.Lanes.{mask_l}
-use Rattle.cny_lanes.specs.Compare.{differing, IsFirstDifference, AreSameBefore}
+use Rattle.cny_lanes.specs.Compare.{differing, IsFirstDifference}
 use Rattle.cny_lanes.proofs.Comparing.{same_in_run, first_in_run}
 use Rattle.cny_lanes.proofs.compare.first_in_steps.Goals as goal
 

@@ -1,6 +1,6 @@
-use Rattle.std.proofs.Common.{◌≡◌, ◌≤◌, ◌+◌, ◌%◌, ◌^◌, ℕ, List, Bool, length, not, eqb, sym, subst, ap, w8, arith, ◌∙◌}
+use Rattle.std.proofs.Common.{◌≡◌, ◌≤◌, ◌%◌, ◌^◌, ℕ, List, Bool, length, not, eqb, sym, subst, ap, w8, arith, ◌∙◌}
 use Rattle.std.proofs.lemmas.Simd.{tops_compared, mask_l-mod, length-chunk, length-zip2}
-use Rattle.std.specs.Simd.Lanes.{mask_l, zip2}
+use Rattle.std.specs.Simd.Lanes.{mask_l}
 use lib.Lanes.{chunk}
 use Rattle.cny_lanes.specs.Compare.{differing}
 use Rattle.cny_lanes.proofs.Comparing.{chunk_of_differing}

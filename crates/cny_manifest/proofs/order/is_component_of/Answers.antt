@@ -1,5 +1,5 @@
 use Rattle.std.proofs.Common.{◌∙◌}
-use Rattle.cny_manifest.proofs.Names.{goes_on, other_front}
+use Rattle.manifest_troves.proofs.trove-stream.Names.{goes_on, other_front}
 use Rattle.cny_manifest.proofs.order.is_component_of.Goals as goal
 
 pub returns-in-None : goal.returns-in-None

@@ -1,4 +1,4 @@
-use Rattle.cny_stream.specs.ItemLaws.{same_item, no_prefix}
+use Rattle.cny_stream.proofs.ItemLaws.{same_item, no_prefix}
 use Rattle.cny_stream.proofs.item.one_item.Goals as goal
 
 pub returns-clause-unique : goal.returns-clause-unique

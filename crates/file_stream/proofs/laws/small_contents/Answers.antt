@@ -1,4 +1,4 @@
-use Rattle.file_stream.specs.RecordLaws.{size_fits}
+use Rattle.file_stream.proofs.RecordLaws.{size_fits}
 use Rattle.file_stream.proofs.laws.small_contents.Goals as goal
 
 pub returns : goal.returns

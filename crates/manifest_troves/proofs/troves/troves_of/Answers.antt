@@ -1,7 +1,8 @@
 use Rattle.std.proofs.Common.{◌∙◌, sym, subst}
-use Rattle.manifest_troves.specs.Troves.{HasRisingNames, KeepsEntries}
+use Rattle.manifest_troves.specs.Troves.{KeepsEntries}
 use Rattle.manifest_troves.proofs.Entries.{entries_kept}
 use Rattle.manifest_troves.proofs.Rising.{troves_rise}
+use Rattle.change_set.specs.trove-stream.NameOrder.{HasRisingNames}
 use Rattle.manifest_troves.proofs.troves.troves_of.Goals as goal
 
 pub returns-clause-rising : goal.returns-clause-rising

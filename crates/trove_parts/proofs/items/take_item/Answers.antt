@@ -1,6 +1,6 @@
 use Rattle.std.proofs.Common.{sym, ◌∙◌, drop}
 use Rattle.std.specs.Prelude.{slice_range}
-use Rattle.cny_stream.specs.ItemLaws.{same_item}
+use Rattle.cny_stream.proofs.ItemLaws.{same_item}
 use Rattle.trove_parts.proofs.items.take_item.Goals as goal
 
 pub returns-clause-only : goal.returns-clause-only

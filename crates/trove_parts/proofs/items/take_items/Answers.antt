@@ -1,15 +1,11 @@
-use Rattle.std.proofs.Common.{◌≡◌, ◌+◌, ◌≤◌, List, [], ◌∷◌, ◌++◌, length, length-append, drop, Result, Err, sym, ap, ◌∙◌, subst, arith}
+use Rattle.std.proofs.Common.{◌≡◌, ◌+◌, ◌≤◌, List, [], ◌∷◌, ◌++◌, length, length-append, drop, Err, sym, ap, ◌∙◌, subst, arith}
 use Rattle.std.proofs.lemmas.Result.{err_from_is_err_and}
-use Rattle.cny_version.specs.cny-base.declared.text.TextFault.{TextFault}
 use Rattle.cny_version.specs.cny-base.declared.text.TextFault.TheVariants.{Bad}
 use Rattle.std.proofs.lemmas.Bool.{false≢true}
 use Rattle.trove_parts.specs.Items.{items_bytes, IsWithin}
 use Rattle.trove_parts.proofs.Taking.{IsReadTo, IsFrontOfAll, none_read, none_to, no_tail, next_of, rising_next, one_more, read_more, refused, taken, within_none, within_fewer}
+use Rattle.cny_dep.proofs.Faults.{handed_on}
 use Rattle.trove_parts.proofs.items.take_items.Goals as goal
-
--- what was returned is what was handed on
-handed_on : {T : Type 0} (r : Result T TextFault) (met told : TextFault) → ((e : TextFault) × (r ≡ Err e) × (e ≡ met)) → r ≡ Err told → met ≡ told
-handed_on r met told given is = cc (given.1, given.2, is)
 
 pub items-init : goal.items-init
 items-init g c =

@@ -1,15 +1,11 @@
-use Rattle.std.proofs.Common.{◌≡◌, Result, Err, ap, ◌∙◌}
+use Rattle.std.proofs.Common.{◌≡◌, Err, ap, ◌∙◌}
 use Rattle.std.proofs.lemmas.Result.{err_from_is_err_and}
-use Rattle.cny_version.specs.cny-base.declared.text.TextFault.{TextFault}
 use Rattle.cny_version.specs.cny-base.declared.text.TextFault.TheVariants.{Bad}
 use Rattle.cny_flavor.specs.Canonical.{flavor_text}
 use Rattle.cny_version.specs.Version.{version_text}
 use Rattle.trove_parts.proofs.IdFields.{fields_fit, texts_there, rest_there, id_there}
+use Rattle.cny_dep.proofs.Faults.{handed_on}
 use Rattle.trove_parts.proofs.stream.next_id.Goals as goal
-
--- what was returned is what was handed on
-handed_on : {T : Type 0} (r : Result T TextFault) (met told : TextFault) → ((e : TextFault) × (r ≡ Err e) × (e ≡ met)) → r ≡ Err told → met ≡ told
-handed_on r met told given is = cc (given.1, given.2, is)
 
 pub returns-in_default-clause-bad : goal.returns-in_default-clause-bad
 returns-in_default-clause-bad c _ id rest is spelled =

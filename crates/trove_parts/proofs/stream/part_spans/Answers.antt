@@ -1,11 +1,8 @@
-use Rattle.std.proofs.Common.{◌++◌, Option, Some, None, IfNone, ◌∙◌}
+use Rattle.std.proofs.Common.{◌++◌, ◌∙◌}
 use Rattle.cny_version.specs.cny-base.StrField.{str}
 use Rattle.trove_parts.proofs.IdFields.{behind_str, three_and}
+use Rattle.cny_version.proofs.cny-base.Faults.{if_none}
 use Rattle.trove_parts.proofs.stream.part_spans.Goals as goal
-
-if_none : {T : Type 0} (r : Option T) (P : Type 0) → P → IfNone r P
-if_none None P p = p
-if_none (Some x) P p = tt
 
 pub returns-in_err-version-clause-none : goal.returns-in_err-version-clause-none
 returns-in_err-version-clause-none c = if_none c.from_residual-in_err-version.result _

@@ -1,11 +1,9 @@
-use Rattle.std.proofs.Common.{length, Option, Some, None, IfNone, lit<, sym, ◌∙◌}
+use Rattle.std.proofs.Common.{length, Some, None, lit<, sym, ◌∙◌}
 use Rattle.std.proofs.lemmas.Str.Pattern.{split_parts, strip_suffix_char}
-use Rattle.trove_parts.proofs.Cuts.{no_brackets, with_brackets, bracketed, empty_brackets, is_zero, above_zero}
+use Rattle.trove_parts.proofs.Cuts.{no_brackets, with_brackets, bracketed, empty_brackets, above_zero}
+use Rattle.cny_version.proofs.cny-base.Faults.{if_none}
+use Rattle.cny_version.proofs.cny-base.Allowed.{is_zero}
 use Rattle.trove_parts.proofs.text.version_and_flavor.Goals as goal
-
-if_none : {T : Type 0} (r : Option T) (P : Type 0) → P → IfNone r P
-if_none None P p = p
-if_none (Some x) P p = tt
 
 pub returns-in_err-flavor-in-Some-clause-none : goal.returns-in_err-flavor-in-Some-clause-none
 returns-in_err-flavor-in-Some-clause-none c = if_none c.from_residual.result _

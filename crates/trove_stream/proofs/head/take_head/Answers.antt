@@ -1,8 +1,8 @@
 use Rattle.std.proofs.Common.{Err, ap}
 use Rattle.std.proofs.lemmas.Result.{err_from_is_err_and}
 use Rattle.trove_parts.specs.cny-base.declared.text.TextFault.TheVariants.{Bad}
-use Rattle.trove_stream.proofs.Handing.{handed_on}
 use Rattle.trove_stream.proofs.Heads.{there}
+use Rattle.cny_dep.proofs.Faults.{handed_on}
 use Rattle.trove_stream.proofs.head.take_head.Goals as goal
 
 pub returns-in_err-id-clause-bad : goal.returns-in_err-id-clause-bad

@@ -4,7 +4,7 @@ use Rattle.std.proofs.lemmas.Cmp.{on_total}
 use Rattle.std.proofs.lemmas.List.Sorted.{answers_always}
 use Rattle.trove_stream.specs.declared.parts.TroveParts.{TroveParts}
 use Rattle.trove_stream.specs.Installed.{by_name}
-use Rattle.trove_stream.proofs.Rising.{is_less, rising_answer}
+use Rattle.trove_parts.proofs.Rising.{is_less, rising_answer}
 use Rattle.trove_stream.proofs.installed.are_rising.Goals as goal
 
 pub returns : goal.returns

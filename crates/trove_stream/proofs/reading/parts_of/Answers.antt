@@ -4,8 +4,9 @@ use Rattle.trove_parts.specs.cny-base.declared.text.TextFault.TheVariants.{Bad}
 use Rattle.trove_parts.specs.Deps.{deps_bytes}
 use Rattle.trove_stream.specs.declared.parts.TroveParts.{TroveParts}
 use Rattle.trove_stream.specs.Stream.{lists_bytes}
-use Rattle.trove_stream.proofs.Handing.{handed_on}
-use Rattle.trove_stream.proofs.Lists.{behind_files, behind_refs, files_begin, refs_begin, requires_begin, provides_begin, is_end, whole}
+use Rattle.trove_stream.proofs.Lists.{behind_files, behind_refs, files_begin, refs_begin, requires_begin, provides_begin, whole}
+use Rattle.cny_dep.proofs.Faults.{handed_on}
+use Rattle.cny_version.proofs.cny-base.Lists.{is_end}
 use Rattle.trove_stream.proofs.reading.parts_of.Goals as goal
 
 pub returns-in_err-files-clause-bad : goal.returns-in_err-files-clause-bad

@@ -3,9 +3,10 @@ use Rattle.std.proofs.lemmas.Result.{err_from_is_err_and}
 use Rattle.trove_parts.specs.cny-base.declared.text.TextFault.TheVariants.{Bad}
 use Rattle.trove_stream.specs.declared.rel.RelParts.{RelParts}
 use Rattle.trove_stream.specs.RelBytes.{IsSpelled}
-use Rattle.trove_stream.proofs.Handed.{handed_on}
 use Rattle.trove_stream.proofs.RelStreamParts.{files_part, refs_part, requires_part, provides_part, begins_files, begins_refs, begins_requires, begins_provides}
-use Rattle.trove_stream.proofs.Whole.{whole, not_at_end}
+use Rattle.trove_stream.proofs.Whole.{whole}
+use Rattle.cny_dep.proofs.Faults.{handed_on}
+use Rattle.cny_version.proofs.cny-base.Lists.{is_end as not_at_end}
 use Rattle.trove_stream.proofs.rel_reading.read_parts.Goals as goal
 
 pub returns-in_err-ids-clause-bad : goal.returns-in_err-ids-clause-bad

@@ -3,8 +3,8 @@ use Rattle.std.proofs.lemmas.Result.{err_from_is_err_and}
 use Rattle.trove_parts.specs.cny-base.declared.text.TextFault.TheVariants.{Bad}
 use Rattle.cny_dep.specs.Dep.{dep_text}
 use Rattle.trove_parts.specs.Items.{items_bytes}
-use Rattle.trove_stream.proofs.Handed.{handed_on}
 use Rattle.trove_stream.proofs.RelStreamParts.{first_of_pair, second_of_pair, pair_at}
+use Rattle.cny_dep.proofs.Faults.{handed_on}
 use Rattle.trove_stream.proofs.rel_reading.take_changed_deps.Goals as goal
 
 pub returns-in_err-gone-clause-bad : goal.returns-in_err-gone-clause-bad

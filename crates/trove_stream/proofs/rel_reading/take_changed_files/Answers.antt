@@ -4,8 +4,8 @@ use Rattle.trove_parts.specs.cny-base.declared.text.TextFault.TheVariants.{Bad}
 use Rattle.trove_parts.specs.Files.{file_value}
 use Rattle.trove_parts.specs.Paths.{path_value}
 use Rattle.trove_parts.specs.Items.{items_bytes}
-use Rattle.trove_stream.proofs.Handed.{handed_on}
 use Rattle.trove_stream.proofs.RelStreamParts.{first_of_pair, second_of_pair, pair_at}
+use Rattle.cny_dep.proofs.Faults.{handed_on}
 use Rattle.trove_stream.proofs.rel_reading.take_changed_files.Goals as goal
 
 pub returns-in_err-gone-clause-bad : goal.returns-in_err-gone-clause-bad

@@ -1,5 +1,5 @@
 use Rattle.std.proofs.Common.{sym, ◌∙◌}
-use Rattle.change_rel.proofs.Leading.{equal_lists}
+use Rattle.trove_stream.proofs.Equal.{equal_lists}
 use Rattle.change_rel.proofs.element.FileAtElementPath.meet_key.Goals as goal
 
 pub returns-clause-equal : goal.returns-clause-equal

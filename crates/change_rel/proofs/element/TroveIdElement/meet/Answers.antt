@@ -1,5 +1,5 @@
 use Rattle.std.proofs.Common.{sym, ◌∙◌}
-use Rattle.change_rel.proofs.Leading.{equal_ids}
+use Rattle.trove_stream.proofs.Equal.{equal_ids}
 use Rattle.change_rel.proofs.element.TroveIdElement.meet.Goals as goal
 
 pub returns-clause-equal : goal.returns-clause-equal

@@ -1,10 +1,8 @@
-use Rattle.std.proofs.Common.{ℕ, ◌<◌, ◌≤◌, ◌^◌, subst, sym, ◌∙◌, arith}
+use Rattle.std.proofs.Common.{subst, sym, ◌∙◌}
 use Rattle.cny_stream.specs.Item.{FitsItem}
 use Rattle.trove_parts.proofs.Lengths.{file_short}
+use Rattle.trove_parts.proofs.Sizes.{small}
 use Rattle.trove_parts.proofs.files.FileAtElement.put.Goals as goal
-
-small : (n : ℕ) → n ≤ 2057 → n < 2 ^ 32
-small n le = omega arith
 
 pub put_item-requires : goal.put_item-requires
 put_item-requires c =

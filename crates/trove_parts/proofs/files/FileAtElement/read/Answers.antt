@@ -1,16 +1,12 @@
-use Rattle.std.proofs.Common.{◌≡◌, Result, Err, ap, sym, ◌∙◌}
+use Rattle.std.proofs.Common.{◌≡◌, Err, ap, sym, ◌∙◌}
 use Rattle.std.proofs.lemmas.Bool.{false≢true}
 use Rattle.std.proofs.lemmas.List.{take_rest}
 use Rattle.std.proofs.lemmas.Result.{err_from_is_err_and}
 use Rattle.cny_version.specs.cny-base.Path.{is_path}
-use Rattle.cny_version.specs.cny-base.declared.text.TextFault.{TextFault}
 use Rattle.cny_version.specs.cny-base.declared.text.TextFault.TheVariants.{Bad}
 use Rattle.trove_parts.proofs.ItemFields.{file_there}
+use Rattle.cny_dep.proofs.Faults.{handed_on}
 use Rattle.trove_parts.proofs.files.FileAtElement.read.Goals as goal
-
--- what was returned is what was handed on
-handed_on : {T : Type 0} (r : Result T TextFault) (met told : TextFault) → ((e : TextFault) × (r ≡ Err e) × (e ≡ met)) → r ≡ Err told → met ≡ told
-handed_on r met told given is = cc (given.1, given.2, is)
 
 pub returns-in_err-path-clause-bad : goal.returns-in_err-path-clause-bad
 returns-in_err-path-clause-bad c h x valid same =

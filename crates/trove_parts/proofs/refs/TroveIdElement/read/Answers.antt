@@ -1,11 +1,7 @@
-use Rattle.std.proofs.Common.{◌≡◌, ℕ, ◌≤◌, List, [], length, drop, sym, ap, ◌∙◌, arith, append-nil}
-use Rattle.std.proofs.lemmas.List.{length-drop}
+use Rattle.std.proofs.Common.{◌≡◌, [], length, sym, ◌∙◌, append-nil}
 use Rattle.trove_parts.specs.Id.{id_bytes}
+use Rattle.cny_version.proofs.cny-base.Lists.{is_end}
 use Rattle.trove_parts.proofs.refs.TroveIdElement.read.Goals as goal
-
--- a place behind which nothing is left
-is_end : (bytes : List ℕ) (to : ℕ) → to ≤ length bytes → drop to bytes ≡ [] → to ≡ length bytes
-is_end bytes to within none = let long = ap length none in omega (arith, length-drop to bytes)
 
 pub returns-then-found-bytes-clause-bad : goal.returns-then-found-bytes-clause-bad
 returns-then-found-bytes-clause-bad c _ x valid same =

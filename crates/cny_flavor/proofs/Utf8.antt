@@ -1,13 +1,13 @@
--- The canonical text of a flavor is UTF-8.
+-- The canonical text of a flavor is ASCII.
 use Rattle.std.specs.Prelude.{◌≡◌, ℕ, true, ◌&&◌, nat_le, List, [], ◌∷◌, length, codes}
 use Rattle.std.proofs.Common.{lit<}
-use Rattle.std.proofs.lemmas.Str.{IsAscii-append, IsUtf8-from_ascii, is_utf8-from_IsUtf8}
+use Rattle.std.proofs.lemmas.Str.{IsAscii-append}
 use Rattle.std.proofs.lemmas.Str.Ascii.{IsAscii-nil, IsAscii-cons}
 use Rattle.std.specs.Cmp.{first_so, second_so}
 use Rattle.std.specs.List.{flat_map, list_all}
-use Rattle.std.specs.Str.{IsAscii, is_utf8}
+use Rattle.std.specs.Str.{IsAscii}
 use Rattle.cny_base.specs.Name.{is_word}
-use Rattle.cny_base.specs.Utf8.{word_ascii}
+use Rattle.cny_base.proofs.Utf8Laws.{word_ascii}
 use Rattle.cny_flavor.specs.declared.parts.Flag.{Flag}
 use Rattle.cny_flavor.specs.declared.parts.InstructionSet.{InstructionSet}
 use Rattle.cny_flavor.specs.declared.parts.Parts.{Parts}
@@ -44,7 +44,7 @@ ascii_own [] all = IsAscii-nil
 ascii_own (f ∷ fs) all =
     IsAscii-append (40 ∷ flags_text (f ∷ fs)) (41 ∷ []) (IsAscii-cons 40 (flags_text (f ∷ fs)) (lit< tt) (ascii_flags (f ∷ fs) all)) (IsAscii-cons 41 [] (lit< tt) IsAscii-nil)
 
-good_words : (fs : List Flag) → are_flags fs ≡ true → list_all is_flag fs ≡ true
+pub good_words : (fs : List Flag) → are_flags fs ≡ true → list_all is_flag fs ≡ true
 good_words fs is = first_so (list_all is_flag fs) (rise (λ f. f.word) fs) is
 
 ascii_set : (s : InstructionSet) → is_set s ≡ true → IsAscii (set_text s)
@@ -79,6 +79,3 @@ flavor_ascii p is =
     let sets = second_so (are_flags p.flags) (are_sets p.sets) both in
     IsAscii-append (flags_text p.flags) (sets_part p.flags p.sets) (ascii_flags p.flags (good_words p.flags (first_so (are_flags p.flags) (are_sets p.sets) both)))
     (ascii_part p.flags p.sets (first_so (list_all is_set p.sets) (rise (λ s. s.word) p.sets) sets))
-
-pub flavor_utf8 : (p : Parts) → is_flavor p ≡ true → is_utf8 (flavor_text p) ≡ true
-flavor_utf8 p is = is_utf8-from_IsUtf8 (flavor_text p) (IsUtf8-from_ascii (flavor_text p) (flavor_ascii p is))

@@ -1,8 +1,8 @@
 -- Where the items of one tag end, and what stands between equal bytes.
 use Rattle.std.specs.Prelude.{◌≡◌, ℕ, false, ◌==◌, List, [], ◌∷◌, ◌++◌, length, refl}
 use Rattle.std.proofs.Common.{ap, arith, length-append}
-use Rattle.cny_stream.specs.ItemLaws.{same_front}
 use Rattle.trove_parts.specs.Items.{items_bytes, begins_with_tag}
+use Rattle.cny_version.proofs.cny-base.ItemLaws.{same_front}
 
 -- bytes that begin with items of another tag, or with none and then with what doesn't begin with this tag
 pub other_tag : {A : Type 0} (value : A → List ℕ) (tag other : ℕ) (xs : List A) (rest : List ℕ) → (other == tag) ≡ false

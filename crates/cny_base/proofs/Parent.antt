@@ -6,8 +6,8 @@ use Rattle.std.specs.Cmp.{first_so, second_so}
 use Rattle.std.specs.Cmp.Derive.{both_true}
 use Rattle.std.specs.List.{slice_split, onto_first, list_all}
 use Rattle.cny_base.specs.Path.{is_slash, or_root, parent, join, is_path, is_path, is_part, are_parts}
-use Rattle.cny_base.specs.Joins.{not_zero}
-use Rattle.cny_base.specs.Below.{path_parts}
+use Rattle.cny_base.proofs.Joins.{not_zero}
+use Rattle.cny_base.proofs.Below.{path_parts}
 
 -- ---- parts round a slash
 

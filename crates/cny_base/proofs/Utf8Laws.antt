@@ -13,8 +13,8 @@ use Rattle.std.specs.Cmp.{first_so, second_so}
 use Rattle.std.specs.List.{slice_split, list_all, join_with_byte}
 use Rattle.std.specs.Str.{IsUtf8, IsAscii, is_utf8}
 use Rattle.cny_base.specs.declared.limits.TheConstants.{NAME_LIMIT}
-use Rattle.cny_base.specs.Joins.{slash_is, not_zero}
-use Rattle.cny_base.specs.Parent.{after_slash}
+use Rattle.cny_base.proofs.Joins.{slash_is, not_zero}
+use Rattle.cny_base.proofs.Parent.{after_slash}
 use Rattle.cny_base.specs.Name.{is_word_byte, is_word, is_colon, colon_place, begins_as_group, has_words, is_name}
 use Rattle.cny_base.specs.Target.{has_target_form, is_target}
 use Rattle.cny_base.specs.Path.{is_slash, is_path, has_part_form, is_part, are_parts}

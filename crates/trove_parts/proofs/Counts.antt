@@ -1,0 +1,5 @@
+-- Counts that fit.
+use Rattle.std.proofs.Common.{arith, ℕ, ◌<◌, ◌^◌, ◌≤◌}
+
+pub small : (n : ℕ) → n ≤ 17421 → n < 2 ^ 32
+small n le = omega arith

@@ -1,7 +1,0 @@
--- The fault that a `?` hands on.
-use Rattle.std.proofs.Common.{◌≡◌, Result, Err}
-use Rattle.trove_parts.specs.cny-base.declared.text.TextFault.{TextFault}
-
--- what was returned is what was handed on
-pub handed_on : {T : Type 0} (r : Result T TextFault) (met told : TextFault) → ((e : TextFault) × (r ≡ Err e) × (e ≡ met)) → r ≡ Err told → met ≡ told
-handed_on r met told given is = cc (given.1, given.2, is)
