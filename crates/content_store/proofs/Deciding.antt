@@ -6,13 +6,12 @@ use Rattle.tree_disk.specs.cny-base.declared.stop.Stop.{Stop}
 use Rattle.tree_disk.specs.cny-base.declared.stop.Stop.TheVariants.{Refused, Memory, Failed, Damaged, FarFailed, FarDamaged}
 use Rattle.tree_disk.specs.Tree.{Name, Tree}
 use Rattle.tree_disk.specs.Disk.{DiskModel, IsDisk}
-use Rattle.tree_disk.specs.Moments.{rose_before}
+use Rattle.tree_disk.proofs.Moments.{rose_before}
 use Rattle.tree_disk.specs.Confined.{Among, Confined}
 use Rattle.std.specs.FinMap.{get}
 use Rattle.tree_disk.specs.Clear.{is_within, without_tree, IsBare}
-use Rattle.tree_disk.specs.ClearLaws.{bare_without}
-use Rattle.tree_disk.specs.ConfinedLaws.{confined_read, confined_start, confined_then, confined_wider}
-use Rattle.tree_disk.specs.StepLaws.{tests_then}
+use Rattle.tree_disk.proofs.ClearLaws.{bare_without}
+use Rattle.tree_disk.proofs.ConfinedLaws.{confined_read, confined_start, confined_then, confined_wider}
 use Rattle.tree_disk.specs.Steps.{IsDiskStop, Found, Tests, Ended, Makes, Within}
 use Rattle.content_store.specs.Outcome.{if_passed, Decides, EndsWith, PutStops}
 
@@ -80,11 +79,6 @@ memory_ends : {Z : Type 0} (told : Bool) (outcome : Result Tree Refusal) (old ne
     → EndsWith told outcome old new r a b
 memory_ends told outcome old new (Ok z) a b is = absurd is
 memory_ends {Z = Z} told outcome old new (Err s) a b is = subst (λ x. EndsWith {X = Z} told outcome old new (Err x) a b) (sym is) tt
-
--- want of memory, passed on by `?`
-pub passed_memory : {X : Type 0} (e : Stop) (r : Result X Stop) → IsErrAnd r (λ s. s ≡ e) → e ≡ Memory → IsErrAnd r (λ s. s ≡ Memory)
-passed_memory e (Ok x) is memory = is
-passed_memory e (Err s) is memory = is ∙ memory
 
 -- ---- why it stops
 
@@ -186,11 +180,6 @@ module _ {D : Type 0} {disk : DiskModel D} where
       by (Err e) ended = tt
 
   module _ (laws : IsDisk disk) where
-    -- one test after another that passed
-    pub tests_next : {X Y Z W : Type 0} {view : X → Y} {other : Z → W} {test : Tree → Result Y Refusal} {next : Tree → Result W Refusal} {old mid new : D} {x : X} {r : Result Z Stop}
-        → Tests disk view test old mid (Ok x) → Tests disk other next mid new r → Tests disk other next old new r
-    tests_next first then = tests_then laws first then (λ tells. refl)
-
     -- a test that decides, and nothing is changed
     pub decides_test : {names : Tree → Name → Bool} {test : Tree → Result Unit Refusal} {outcome : Tree → Result Tree Refusal} {old new : D} {r : Result Unit Stop}
         → Tests disk (λ (u : Unit). u) test old new r → (IsTrue disk.tells → outcome (disk.reads old) ≡ if_passed (disk.reads old) (test (disk.reads old)))

@@ -2,16 +2,12 @@
 use Rattle.std.proofs.Common.{◌≡◌, ◌≢◌, ◌⊎◌, ⊎_elim, inl, inr, ℕ, zero, suc, ◌+◌, ◌-◌, min, ◌≤◌, ◌<◌, Bool, true, false, cond, List, [], ◌∷◌, ◌++◌, length, take, drop, Option, Some, None, refl, sym, ◌∙◌, ap, arith}
 use Rattle.std.specs.Prelude.{◌==◌, is_some, MatchOption}
 use Rattle.std.proofs.lemmas.Bool.{cases_lt}
-use Rattle.std.proofs.lemmas.Bool.Decides.{nat_tests}
-use Rattle.std.proofs.lemmas.List.{length-take, length-drop, drop-drop, drop_all, take_all, take_at, take_min}
+use Rattle.std.proofs.lemmas.List.{length-take, length-drop, drop-drop, drop_all, take_min}
 use Rattle.cny_lanes.specs.Compare.{IsFirstDifference}
 use Rattle.content_store.specs.Difference.{first_difference, shifted}
-
-equal_test : (x y : ℕ) → (x == y) ≡ true → x ≡ y
-equal_test x y is = grind (arith, nat_tests)
-
-same_test : (x y : ℕ) → x ≡ y → (x == y) ≡ true
-same_test x y is = grind (arith, nat_tests)
+use Rattle.tree_disk.proofs.cny-base.Below.{test_equal as equal_test}
+use Rattle.tree_disk.proofs.cny-base.ByteLists.{read_front}
+use Rattle.tree_disk.proofs.cny-base.Counts.{number_same as same_test}
 
 other_test : (x y : ℕ) → (x ≡ y → ⊥) → (x == y) ≡ false
 other_test x y differ = at (x == y) refl
@@ -115,9 +111,6 @@ by_kernel (x ∷ a) (y ∷ b) (suc at) same first =
 abbrev pub IsBehind : List ℕ → List ℕ → ℕ → Type 0
 IsBehind file bytes at = first_difference file bytes ≡ shifted at (first_difference (drop at file) (drop at bytes))
 
-pub behind_start : (file bytes : List ℕ) → IsBehind file bytes 0
-behind_start file bytes = sym (shifted_zero (first_difference file bytes))
-
 -- a piece of the bytes, by its own length
 own_front : (own l : List ℕ) (n : ℕ) → own ≡ take n l → take (length own) l ≡ own
 own_front own l n is = ap (λ (k : ℕ). take k l) (ap length is ∙ length-take n l) ∙ take_min n l ∙ sym is
@@ -153,10 +146,6 @@ pub behind_found_both : (file other : List ℕ) (at n k : ℕ) → IsBehind file
     → first_difference (take n (drop at file)) (take n (drop at other)) ≡ Some k → first_difference file other ≡ Some (at + k)
 behind_found_both file other at n k so_far found = so_far ∙ ap (shifted at) (within_front n (drop at file) (drop at other) k found)
 
--- the rest of some bytes, as a slice has it
-pub rest_is : (bytes : List ℕ) (at n : ℕ) → take n (take (length bytes - at) (drop at bytes)) ≡ take n (drop at bytes)
-rest_is bytes at n = ap (take n) (take_all (length bytes - at) (drop at bytes) (omega (arith, length-drop at bytes)))
-
 rest_longer : (l : List ℕ) → 0 < length l → first_difference l [] ≡ Some 0
 rest_longer [] some = absurd (omega arith)
 rest_longer (x ∷ l) some = refl
@@ -170,13 +159,6 @@ behind_longer file bytes at so_far ended more =
     ∙ ap (shifted at) (rest_longer (drop at file) (omega (arith, more, length-drop at file)))
     ∙ ap Some zero_more
 
--- both have ended
-pub behind_both : (file bytes : List ℕ) (at : ℕ) → IsBehind file bytes at → length bytes ≤ at → length file ≤ at → first_difference file bytes ≡ None
-behind_both file bytes at so_far ended none_more =
-    so_far
-    ∙ ap (λ l. shifted at (first_difference (drop at file) l)) (drop_all at bytes ended)
-    ∙ ap (λ l. shifted at (first_difference l [])) (drop_all at file none_more)
-
 -- ---- lists of any lengths, by their common part
 
 -- the kernel finds it there
@@ -186,10 +168,6 @@ common_found a b p q n k is_p is_q in_a in_b first =
   where
     long : length p ≡ length q
     long = omega (arith, ap length is_p, ap length is_q, length-take n a, length-take n b, in_a, in_b)
-
-longer_second : (l : List ℕ) → 0 < length l → first_difference [] l ≡ Some 0
-longer_second [] some = absurd (omega arith)
-longer_second (x ∷ l) some = refl
 
 one_longer : (x y : List ℕ) → length x ≢ length y → (length x ≡ 0) ⊎ (length y ≡ 0) → first_difference x y ≡ Some 0
 one_longer [] [] other one = absurd (other refl)
@@ -217,18 +195,6 @@ common_same a b p q n is_p is_q least same long =
     ∙ ap (λ l. shifted n (first_difference [] l)) (drop_all n b (omega (arith, least, long)))
 
 -- ---- what a read left in a buffer
-
--- its front is the piece of the file
-pub read_front : (file old new : List ℕ) (at count : ℕ) → count ≡ min (length old) (length file - at) → new ≡ take count (drop at file) ++ drop count old
-    → take count new ≡ take (length old) (drop at file)
-read_front file old new at count most is =
-    ap (take count) is
-    ∙ take_at (take count (drop at file)) (drop count old) count (length-take count (drop at file) ∙ short)
-    ∙ ap (λ (k : ℕ). take k (drop at file)) (most ∙ ap (min (length old)) (sym (length-drop at file)))
-    ∙ take_min (length old) (drop at file)
-  where
-    short : min count (length (drop at file)) ≡ count
-    short = omega (arith, most, length-drop at file)
 
 -- two pieces that were read
 pub pieces_read : (f g b_old b_new o_old o_new : List ℕ) (at kept count : ℕ) → length b_old ≡ length o_old

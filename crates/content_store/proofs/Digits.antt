@@ -71,7 +71,7 @@ ascii : (cs : List ℕ) → list_all is_low cs ≡ true → IsAscii cs
 ascii [] all = IsAscii-nil
 ascii (c ∷ cs) all = IsAscii-cons c cs (low_small c (first_so (is_low c) (list_all is_low cs) all)) (ascii cs (second_so (is_low c) (list_all is_low cs) all))
 
-not_dots : (cs : List ℕ) → 3 ≤ length cs → is_dots cs ≡ false
+pub not_dots : (cs : List ℕ) → 3 ≤ length cs → is_dots cs ≡ false
 not_dots [] long = absurd (omega arith)
 not_dots (a ∷ []) long = absurd (omega arith)
 not_dots (a ∷ b ∷ []) long = absurd (omega arith)

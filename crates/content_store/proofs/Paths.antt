@@ -1,23 +1,23 @@
 -- Where contents stand.
-use Rattle.std.proofs.Common.{◌≡◌, ◌≢◌, ⊎_elim, ℕ, ◌+◌, ◌≤◌, ◌<◌, Bool, true, false, cond, ◌&&◌, ◌||◌, [], ◌∷◌, length, Option, Some, None, is_some, refl, sym, ◌∙◌, ap, arith, length-append}
-use Rattle.std.specs.Prelude.{nat_le, ◌==◌}
-use Rattle.std.specs.Cmp.{first_so, second_so}
+use Rattle.std.proofs.Common.{◌≡◌, ◌≢◌, ⊎_elim, ◌+◌, ◌≤◌, ◌<◌, Bool, true, false, cond, [], ◌∷◌, length, Option, Some, None, is_some, refl, sym, ◌∙◌, ap, arith, length-append}
 use Rattle.std.proofs.lemmas.Bool.{cases_Bool}
-use Rattle.std.proofs.lemmas.List.{append_cancel_left}
-use Rattle.std.proofs.lemmas.Bool.Decides.{nat_tests}
 use Rattle.std.specs.FinMap.{get}
 use Rattle.hex.specs.Hex.{decode_of, encode_lower, IsBytes}
 use Rattle.hex.proofs.HexLemmas.{decode_of-encode_lower}
-use Rattle.tree_disk.specs.cny-base.Path.{before_slash, has_slash, is_path, join, parent, root, or_root, are_parts}
-use Rattle.tree_disk.specs.cny-base.Below.{is_below, below_rest, before_join}
-use Rattle.tree_disk.specs.cny-base.Parent.{join_is_path}
+use Rattle.tree_disk.specs.cny-base.Path.{is_path, join, parent, root}
+use Rattle.tree_disk.specs.cny-base.Below.{is_below}
+use Rattle.tree_disk.proofs.cny-base.Parent.{join_is_path}
 use Rattle.tree_disk.specs.cny-base.declared.node.Node.{Node}
 use Rattle.tree_disk.specs.Tree.{Name, Tree, same_name, WellFormed}
-use Rattle.tree_disk.specs.Laws.{same_means, same_tree}
+use Rattle.tree_disk.specs.Laws.{same_means}
+use Rattle.tree_disk.proofs.Laws.{same_tree}
 use Rattle.tree_disk.specs.Clear.{is_within, without_tree}
-use Rattle.tree_disk.specs.ClearLaws.{get-without_tree, or_cases}
+use Rattle.tree_disk.proofs.ClearLaws.{get-without_tree, or_cases}
 use Rattle.content_store.specs.Store.{content_path}
 use Rattle.content_store.proofs.Digits.{digits_long, digits_no_slash, digits_parts}
+use Rattle.tree_disk.proofs.Names.{below_longer, join_short, parent_join, same_last}
+use Rattle.tree_disk.proofs.cny-base.Counts.{fits}
+use Rattle.tree_disk.proofs.Children.{path_short}
 
 -- ---- lengths
 
@@ -26,33 +26,10 @@ join_long [] last long = absurd (omega arith)
 join_long (b ∷ []) last long = absurd (omega arith)
 join_long (b ∷ c ∷ p) last long = omega (arith, length-append (b ∷ c ∷ p) (47 ∷ last))
 
-join_short : (p last : Name) → length (join p last) ≤ length p + length last + 1
-join_short [] last = omega arith
-join_short (b ∷ []) last = omega arith
-join_short (b ∷ c ∷ p) last = omega (arith, length-append (b ∷ c ∷ p) (47 ∷ last))
-
 join_longer : (p last : Name) → is_path p ≡ true → length last < length (join p last)
 join_longer [] last path = absurd (cc path)
 join_longer (b ∷ []) last path = omega arith
 join_longer (b ∷ c ∷ p) last path = omega (arith, length-append (b ∷ c ∷ p) (47 ∷ last))
-
-fits : (n : ℕ) → n ≤ 1024 → nat_le n 1024 ≡ true
-fits n le = grind (arith, nat_tests)
-
-zero_short : (n : ℕ) → (n == 0) ≡ true → n ≤ 1023
-zero_short n is = grind (arith, nat_tests)
-
-test_short : (n : ℕ) → nat_le n 1023 ≡ true → n ≤ 1023
-test_short n is = grind (arith, nat_tests)
-
-path_short : (q : Name) → is_path q ≡ true → length q ≤ 1024
-path_short [] path = absurd (cc path)
-path_short (b ∷ bs) path =
-    let short : length bs ≤ 1023 = ⊎_elim
-    (λ none. zero_short (length bs) none)
-    (λ some. test_short (length bs) (first_so (nat_le (length bs) 1023) (are_parts bs) some))
-    (or_cases (length bs == 0) (nat_le (length bs) 1023 && are_parts bs) (second_so (b == 47) (length bs == 0 || (nat_le (length bs) 1023 && are_parts bs)) path)) in
-    omega (arith, short)
 
 -- ---- a content's path
 
@@ -60,14 +37,6 @@ pub content_is_path : (dir name : Name) → is_path dir ≡ true → length dir 
 content_is_path dir name path short long bytes =
     join_is_path dir (encode_lower name) path (digits_parts name long bytes)
     (fits (length (content_path dir name)) (omega (arith, short, join_short dir (encode_lower name), digits_long name long)))
-
-slash_first : (b : ℕ) → is_path (b ∷ []) ≡ true → b ≡ 47
-slash_first b path = grind (arith, nat_tests)
-
-parent_join : (p last : Name) → is_path p ≡ true → has_slash last ≡ false → parent (join p last) ≡ p
-parent_join [] last path plain = absurd (cc path)
-parent_join (b ∷ []) last path plain = ap or_root (ap (λ (v : Bool). cond v (b ∷ before_slash last) []) plain) ∙ ap (λ (n : ℕ). n ∷ []) (sym (slash_first b path))
-parent_join (b ∷ c ∷ p) last path plain = ap or_root (before_join (b ∷ c ∷ p) last false plain)
 
 pub content_parent : (dir name : Name) → is_path dir ≡ true → IsBytes name → parent (content_path dir name) ≡ dir
 content_parent dir name path bytes = parent_join dir (encode_lower name) path (digits_no_slash name bytes)
@@ -78,9 +47,6 @@ content_not_root dir name path long is =
     absurd (omega (arith, same, join_longer dir (encode_lower name) path, digits_long name long))
 
 -- ---- a directory that is too long for contents
-
-below_longer : (p q : Name) → is_below p q ≡ true → length p < length q
-below_longer p q low = let rest = below_rest p q low in omega (arith, ap length rest.1, length-append p (47 ∷ rest.0))
 
 within_long : (p q : Name) → is_within p q ≡ true → length p ≤ length q
 within_long p q within = ⊎_elim
@@ -107,11 +73,6 @@ without_nothing tree p none = same_tree (without_tree tree p) tree (λ q. get-wi
     at q false is = ap (λ b. cond b None (get tree q)) is
 
 -- ---- two names
-
-same_last : (dir a b : Name) → join dir a ≡ join dir b → a ≡ b
-same_last [] a b is = cc is
-same_last (c ∷ []) a b is = cc is
-same_last (c ∷ d ∷ dir) a b is = cc (append_cancel_left (c ∷ d ∷ dir) (47 ∷ a) (47 ∷ b) is)
 
 pub same_content_path : (dir a b : Name) → IsBytes a → IsBytes b → content_path dir a ≡ content_path dir b → a ≡ b
 same_content_path dir a b bytes_a bytes_b is =

@@ -1,7 +1,6 @@
 -- What stands at a content's path, and what comes of putting one there.
-use Rattle.std.proofs.Common.{◌≡◌, ℕ, ◌≤◌, Bool, true, false, not, ◌&&◌, ◌||◌, length, Option, Some, None, is_some, Ok, refl, sym, ◌∙◌, ap, subst, arith}
-use Rattle.std.specs.Prelude.{IsTrue, nat_le, if◌then◌else◌}
-use Rattle.std.proofs.lemmas.Bool.Decides.{nat_tests}
+use Rattle.std.proofs.Common.{◌≡◌, ℕ, Bool, true, false, not, ◌&&◌, ◌||◌, length, Option, Some, None, Ok, refl, sym, ◌∙◌, ap, subst}
+use Rattle.std.specs.Prelude.{IsTrue}
 use Rattle.std.specs.FinMap.{get}
 use Rattle.tree_disk.specs.cny-base.Path.{parent}
 use Rattle.tree_disk.specs.cny-base.declared.node.Node.{Node}
@@ -10,8 +9,8 @@ use Rattle.tree_disk.specs.declared.disk.Look.{Look}
 use Rattle.tree_disk.specs.Tree.{Name, Tree, same_name, put, is_file, is_link}
 use Rattle.tree_disk.specs.Rows.{bytes_at, bytes_of, can_append, can_rename, grown, is_dir_at, is_empty_at, is_file_at, look_of, seen_as, with_append, with_rename}
 use Rattle.tree_disk.specs.Looks.{size_seen}
-use Rattle.tree_disk.specs.Laws.{same_means, get_put_here, get_put_other}
-use Rattle.tree_disk.specs.Whole.{whole_within}
+use Rattle.tree_disk.specs.Laws.{same_means}
+use Rattle.tree_disk.proofs.Laws.{get_put_here, get_put_other}
 use Rattle.content_store.specs.Difference.{first_difference}
 use Rattle.content_store.specs.Store.{content_path, file_bytes}
 use Rattle.content_store.specs.Outcome.{if_passed, move_names, move_outcome, placed, put_names, put_outcome, same_or_collision, CanPut}
@@ -38,16 +37,6 @@ sizeless (Some (node.Link target)) is = refl
 pub no_file_of_size : (tree : Tree) (p : Name) (look : Look) → look ≡ look_of tree p → size_seen look ≡ None → is_file_at tree p ≡ false
 no_file_of_size tree p look seen is = sizeless (get tree p) (ap size_seen (sym seen) ∙ is)
 
--- the size of what stands, and 0 where no file does
-or_zero_size : (o : Option Node) → Rattle.std.specs.Prelude.unwrap_or (size_seen (seen_as o)) 0 ≡ length (bytes_of o)
-or_zero_size None = refl
-or_zero_size (Some (node.Dir mode)) = refl
-or_zero_size (Some (node.File mode bytes)) = refl
-or_zero_size (Some (node.Link target)) = refl
-
-pub size_or_zero : (tree : Tree) (p : Name) → Rattle.std.specs.Prelude.unwrap_or (size_seen (look_of tree p)) 0 ≡ length (bytes_at tree p)
-size_or_zero tree p = or_zero_size (get tree p)
-
 -- ---- the bytes of a file
 
 file_has : (o : Option Node) → is_file o ≡ true → file_bytes o ≡ Some (bytes_of o)
@@ -67,23 +56,6 @@ no_file_has (Some (node.Link target)) is = refl
 
 pub no_bytes_stand : (tree : Tree) (p : Name) → is_file_at tree p ≡ false → file_bytes (get tree p) ≡ None
 no_bytes_stand tree p is = no_file_has (get tree p) is
-
-some_by_file : (o : Option Node) → is_file o ≡ is_some (file_bytes o)
-some_by_file None = refl
-some_by_file (Some (node.Dir mode)) = refl
-some_by_file (Some (node.File mode bytes)) = refl
-some_by_file (Some (node.Link target)) = refl
-
-pub stands_as_file : (tree : Tree) (p : Name) → is_file_at tree p ≡ is_some (file_bytes (get tree p))
-stands_as_file tree p = some_by_file (get tree p)
-
-pub whole_file : (tree : Tree) (p : Name) (most : ℕ) → is_file_at tree p ≡ true → length (bytes_at tree p) ≤ most
-    → whole_within most (bytes_at tree p) ≡ file_bytes (get tree p)
-whole_file tree p most is fits =
-    ap (λ b. if b then Some (bytes_at tree p) else None) (within (length (bytes_at tree p)) most fits) ∙ sym (bytes_stand tree p is)
-  where
-    within : (m n : ℕ) → m ≤ n → nat_le m n ≡ true
-    within m n le = grind (arith, nat_tests)
 
 -- ---- what may be done
 

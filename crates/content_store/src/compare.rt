@@ -7,28 +7,7 @@ ghost use Rattle.content_store.specs.Difference.{first_difference};
 use crate::difference::difference;
 use std::alloc::Global;
 use tree_disk::cny_base::{Path, Stop};
-use tree_disk::{TreeDisk, steps};
-
-/// How many bytes of a file are looked at at once.
-pub const PIECE: usize = 65_536;
-
-/// How many bytes the next piece has, where so many are left and there is so much room.
-pub fn room_for(left: u64, room: usize) -> usize
-    ensures { result ≡ min left room }
-{
-    if left < room as u64 {
-        left as usize
-    } else {
-        room
-    }
-}
-
-/// The room for pieces of so many bytes: at least 1.
-pub fn piece_room(size: u64) -> usize
-    ensures { 0 < result }
-{
-    room_for(size, PIECE).max(1)
-}
+use tree_disk::{TreeDisk, piece_room, room_for, steps};
 
 // Compares some bytes with those of a file from a place on, as many as these are.
 fn piece_differs<D: TreeDisk>(

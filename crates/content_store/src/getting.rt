@@ -1,5 +1,5 @@
 //! Contents read from a store, and cleared.
-ghost use Rattle.std.specs.Prelude.{◌≡◌, IfErr, IsTrue, OnOk, Ok, is_some};
+ghost use Rattle.std.specs.Prelude.{IfErr, IsTrue, OnOk, Ok, is_some};
 ghost use Rattle.tree_disk.specs.Clear.{is_within, without_tree, IsBare};
 ghost use Rattle.tree_disk.specs.Steps.{IsDiskStop, Makes, Tests};
 ghost use Rattle.std.specs.FinMap as map;
@@ -10,8 +10,8 @@ use std::alloc::Global;
 use tree_disk::cny_base::{Bytes, Path, Stop};
 use tree_disk::{TreeDisk, steps};
 
-// The bytes of the file at a path, where one stands.
-fn file_at<D: TreeDisk>(alloc: Global, disk: &mut D, path: &Path) -> Result<Option<Bytes>, Stop>
+/// The bytes of the file at a path, where one stands.
+pub fn file_at<D: TreeDisk>(alloc: Global, disk: &mut D, path: &Path) -> Result<Option<Bytes>, Stop>
     ensures tests { Tests D.disk (λ found. found)
         (λ tree. Ok (file_bytes (map.get tree path.now)))
         disk.old disk.new result }

@@ -15,7 +15,7 @@ mod putting;
 
 pub use contents::{Contents, FarStop, NoContents};
 pub use difference::difference as first_difference;
-pub use getting::{clear, get, has};
+pub use getting::{clear, file_at, get, has};
 pub use namer::{ByteNamer, Namer, Sha1Namer};
 pub use path_of::names_apart;
 pub use putting::{put, put_file};

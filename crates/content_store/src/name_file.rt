@@ -1,13 +1,12 @@
 // The name of a file's bytes.
-ghost use Rattle.std.specs.Prelude.{◌≡◌, ◌<◌, ◌++◌, List, ℕ, [], IfErr, IfOk, IsTrue, OnOk, Ok, drop, length, take};
+ghost use Rattle.std.specs.Prelude.{◌≡◌, ◌<◌, ◌++◌, List, ℕ, [], IfErr, IsTrue, OnOk, Ok, drop, length, take};
 ghost use Rattle.tree_disk.specs.Rows.{bytes_at, is_file_at};
 ghost use Rattle.tree_disk.specs.Steps.{IsDiskStop, Tests};
 
-use crate::compare::{piece_room, room_for};
 use crate::namer::Namer;
 use std::alloc::Global;
 use tree_disk::cny_base::{Path, Stop};
-use tree_disk::{TreeDisk, steps};
+use tree_disk::{TreeDisk, piece_room, room_for, steps};
 
 /// How many bytes a file has, and 0 where none stands.
 pub fn size_of<D: TreeDisk>(alloc: Global, disk: &mut D, path: &Path) -> Result<u64, Stop>

@@ -8,7 +8,7 @@ use Rattle.std.proofs.lemmas.List.Elements.{All-head, All-tail, All-push, All-we
 use Rattle.tree_disk.specs.cny-base.Path.{is_path}
 use Rattle.tree_disk.specs.cny-base.StrField.{str}
 use Rattle.cny_stream.specs.Item.{FitsItem, item_bytes, IsItemAt, is_expected}
-use Rattle.cny_stream.specs.ItemLaws.{same_item}
+use Rattle.cny_stream.proofs.ItemLaws.{same_item, same_four}
 use Rattle.tree_disk.specs.Tree.{Name}
 use Rattle.journal_log.specs.declared.put.Want.{Want}
 use Rattle.journal_log.specs.declared.put.Want.TheVariants.{Nothing, Dir, File, Link, Staged}
@@ -18,7 +18,8 @@ use Rattle.journal_log.specs.WriteSet.{Rises, IsFormed, CanBeLogged}
 use Rattle.journal_log.specs.Rules.{AreLogged, AreNamed, NothingBelow}
 use Rattle.journal_log.specs.LogBytes.{magic, put_tag, put_value, put_bytes, end_bytes, FitsPut, IsLogText}
 use Rattle.journal_log.specs.PutItem.{IsPutItem, IsTold, ArePutsOf, IsEnd}
-use Rattle.journal_log.proofs.Links.{same_two, same_four, same_str, fits_path, fits_target}
+use Rattle.journal_log.proofs.Links.{same_two, fits_path, fits_target}
+use Rattle.tree_disk.proofs.cny-base.IdFields.{same_str}
 
 -- ---- one put for one item
 

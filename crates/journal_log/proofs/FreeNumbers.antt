@@ -20,7 +20,7 @@ none_left : (puts : List Put) → with_numbers [] puts ≡ puts
 none_left [] = refl
 none_left (p ∷ puts) = refl
 
-less : (b : Bool) (n : ℕ) (numbers : List ℕ) (m : ℕ) → length (n ∷ numbers) ≡ cond b 1 0 + m → length (cond b numbers (n ∷ numbers)) ≡ m
+pub less : (b : Bool) (n : ℕ) (numbers : List ℕ) (m : ℕ) → length (n ∷ numbers) ≡ cond b 1 0 + m → length (cond b numbers (n ∷ numbers)) ≡ m
 less true n numbers m e = omega (arith, e)
 less false n numbers m e = omega (arith, e)
 
@@ -79,17 +79,6 @@ pub record IsNumberedTo (puts front : List Put) (from : ℕ) (made : List Put) :
   pub writes : made ≡ with_numbers numbers front
   pub below : All (λ n. n < from) numbers
   pub seen : (m : ℕ) → m < from → (names_staged puts m ≡ true) ⊎ Contains numbers m
-
-pub none_numbered : (puts : List Put) → IsNumberedTo puts [] 0 []
-none_numbered puts = record {
-  numbers = [];
-  free = record { rise = tt; free = All-nil (λ n. names_staged puts n ≡ false); least = λ m n in_none lt. absurd (let h = in_none.1 in omega (arith, h)) };
-  fit = All-nil (λ n. n < 2 ^ 32);
-  enough = refl;
-  writes = refl;
-  below = All-nil (λ n. n < 0);
-  seen = λ m lt. absurd (omega (arith, lt));
-}
 
 rises_push : (numbers : List ℕ) (n : ℕ) → NumbersRise numbers → All (λ m. m < n) numbers → NumbersRise (numbers ++ n ∷ [])
 rises_push [] n rise low = (All-nil (λ m. n < m), tt)

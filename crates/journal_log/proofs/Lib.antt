@@ -11,4 +11,8 @@ pub mod Decoding
 pub mod StagedTests
 pub mod Tails
 pub mod NumberTexts
+pub mod NumberLaws
+pub mod StagedLaws
 pub use Rattle.tree_disk.proofs as tree-disk
+pub use Rattle.tree_disk.proofs.cny-base
+pub mod FileNames

@@ -2,34 +2,24 @@
 use Rattle.std.proofs.Common.{◌≡◌, ℕ, ◌+◌, Bool, true, false, not, ◌&&◌, ◌||◌, nat_eq, IsTrue, List, [], ◌∷◌, ◌++◌, length, take, drop, Option, Some, None, MatchOption, ◌⊎◌, inl, inr, IfNone, IfSome, Bor, refl, sym, ◌∙◌, ap, arith, append_assoc, append-nil}
 use Rattle.std.specs.Prelude.{◌==◌, codes, slice_get}
 use Rattle.std.specs.Ordering.{nat_cmp, ordering_then, is_eq}
-use Rattle.std.specs.declared.cmp.Ordering.TheVariants.{Equal}
 use Rattle.std.specs.Cmp.Lexicographic.{slice_cmp, pointwise}
 use Rattle.std.specs.Str.{bytes_eq}
 use Rattle.std.proofs.Math.Seq.{drop-append_seam}
 use Rattle.std.proofs.lemmas.Bool.Decides.{nat_tests}
 use Rattle.std.proofs.lemmas.Map.Text.{is_eq-slice_cmp}
-use Rattle.tree_disk.specs.cny-base.Below.{begins_with, begins, begun, is_below}
+use Rattle.tree_disk.specs.cny-base.Below.{begins_with, is_below}
+use Rattle.tree_disk.proofs.cny-base.Below.{begins, begun, same_cmp as equal_numbers, equal_test as same_number}
 use Rattle.tree_disk.specs.cny-base.Path.{root, join}
 use Rattle.tree_disk.specs.Tree.{Name, same_name}
-use Rattle.tree_disk.specs.Laws.{same_means, same_itself}
+use Rattle.tree_disk.specs.Laws.{same_means}
+use Rattle.tree_disk.proofs.Laws.{same_itself}
 use Rattle.tree_disk.specs.Clear.{is_within}
 use Rattle.journal_log.specs.Own.{gate, log, work, staged, is_own_file, is_own}
 use Rattle.journal_log.specs.WriteSet.{CanBeNamed}
 use Rattle.journal_log.specs.Joined.{front_of}
-
-pub if_none : {X : Type 0} (r : Option X) (P : Type 0) → P → IfNone r P
-if_none None P p = p
-if_none (Some x) P p = tt
+use Rattle.tree_disk.proofs.cny-base.ByteLists.{begins_by, longer_front}
 
 -- ---- a front of some bytes
-
-same_bit : (a b : ℕ) (x y : Bool) → x ≡ y → (nat_eq b a && x) ≡ ((a == b) && y)
-same_bit a b x y e = grind (arith, nat_tests)
-
-begins_by : (front bytes : List ℕ) → pointwise nat_eq (take (length front) bytes) front ≡ begins_with front bytes
-begins_by [] bytes = refl
-begins_by (a ∷ front) [] = refl
-begins_by (a ∷ front) (b ∷ bytes) = same_bit a b (pointwise nat_eq (take (length front) bytes) front) (begins_with front bytes) (begins_by front bytes)
 
 abbrev pub IsStripped : List ℕ → List ℕ → Option (Bor (List ℕ)) → Type 0
 IsStripped front bytes r = MatchOption r (pointwise nat_eq (take (length front) bytes) front ≡ false)
@@ -45,26 +35,10 @@ pub not_stripped : (front bytes : List ℕ) (r : Option (Bor (List ℕ))) → Is
 not_stripped front bytes None cases = sym (begins_by front bytes) ∙ cases
 not_stripped front bytes (Some x) cases = tt
 
--- no longer front begins the bytes either
-pub longer_front : (front more bytes : List ℕ) → begins_with front bytes ≡ false → begins_with (front ++ more) bytes ≡ false
-longer_front front more bytes none = at (begins_with (front ++ more) bytes) refl
-  where
-    at : (v : Bool) → begins_with (front ++ more) bytes ≡ v → begins_with (front ++ more) bytes ≡ false
-    at false e = e
-    at true e =
-        let rest = begun (front ++ more) bytes e in
-        absurd (cc (none, ap (begins_with front) (rest.1 ∙ append_assoc front more rest.0) ∙ begins front (more ++ rest.0)))
-
-same_number : (n : ℕ) → (n == n) ≡ true
-same_number n = grind (arith, nat_tests)
-
 -- a common front changes nothing
 pub behind_front : (front a b : List ℕ) → begins_with (front ++ a) (front ++ b) ≡ begins_with a b
 behind_front [] a b = refl
 behind_front (x ∷ front) a b = ap (λ t. t && begins_with (front ++ a) (front ++ b)) (same_number x) ∙ behind_front front a b
-
-equal_numbers : (n : ℕ) → nat_cmp n n ≡ Equal
-equal_numbers n = grind (arith, nat_tests)
 
 same_behind : (front a b : List ℕ) → same_name (front ++ a) (front ++ b) ≡ same_name a b
 same_behind [] a b = refl

@@ -5,6 +5,9 @@ use Rattle.std.specs.List.{list_any}
 use Rattle.std.specs.Ordering.{nat_cmp, is_eq}
 use Rattle.std.proofs.lemmas.Bool.Decides.{nat_tests}
 use Rattle.journal_log.specs.Staged.{NumbersFit}
+use Rattle.tree_disk.proofs.cny-base.Bools.{written}
+use Rattle.tree_disk.proofs.cny-base.Below.{test_equal as same_number}
+use Rattle.tree_disk.proofs.cny-base.Counts.{equal_numbers as same_numbers}
 
 equal_numbers : (m n : ℕ) → is_eq (nat_cmp m n) ≡ (n == m)
 equal_numbers m n = grind (arith, nat_tests)
@@ -17,15 +20,6 @@ alike p q same (k ∷ keys) = ap (λ (b : Bool). b || list_any p keys) (same k) 
 pub looked_up : (keys : BTreeSet ℕ) (n : ℕ) → contains nat_cmp keys n ≡ list_any (λ m. m == n) keys.keys
 looked_up keys n = alike (λ (m : ℕ). is_eq (nat_cmp n m)) (λ m. m == n) (λ m. equal_numbers n m) keys.keys
 
-written : (b x : Bool) → cond b true x ≡ (x || b)
-written true true = refl
-written true false = refl
-written false true = refl
-written false false = refl
-
-same_numbers : (m n : ℕ) → is_eq (nat_cmp m n) ≡ (m == n)
-same_numbers m n = grind (arith, nat_tests)
-
 -- one more number
 pub one_more : (old new : BTreeSet ℕ) (added : ℕ) → Updates nat_cmp old new added true → (n : ℕ) → list_any (λ m. m == n) new.keys ≡ (list_any (λ m. m == n) old.keys || (added == n))
 one_more old new added updates n =
@@ -34,9 +28,6 @@ one_more old new added updates n =
     ∙ ap (λ (x : Bool). cond (is_eq (nat_cmp added n)) true x) (looked_up old n)
     ∙ ap (λ (b : Bool). cond b true (list_any (λ m. m == n) old.keys)) (same_numbers added n)
     ∙ written (added == n) (list_any (λ m. m == n) old.keys)
-
-pub same_number : (m n : ℕ) → (m == n) ≡ true → m ≡ n
-same_number m n h = grind (arith, nat_tests)
 
 -- they still fit, if the one that is added does
 pub still_fit : (old new : BTreeSet ℕ) (added : ℕ) → Updates nat_cmp old new added true → added < 2 ^ 32 → NumbersFit old.keys → NumbersFit new.keys

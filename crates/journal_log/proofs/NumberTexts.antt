@@ -1,33 +1,23 @@
 -- The last names of staged files that writes name, by their numbers.
-use Rattle.std.proofs.Common.{◌≡◌, ℕ, ◌<◌, ◌^◌, ◌==◌, Bool, true, false, ◌||◌, List, [], ◌∷◌, Option, Some, None, refl, sym, ◌∙◌, ap, subst, arith}
+use Rattle.std.proofs.Common.{◌≡◌, ℕ, ◌<◌, ◌^◌, ◌==◌, Bool, true, false, ◌||◌, List, [], ◌∷◌, Option, Some, None, refl, sym, ◌∙◌, ap, subst}
 use Rattle.std.specs.Fmt.{decimal}
 use Rattle.std.specs.List.{list_any}
 use Rattle.std.specs.Str.{bytes_eq}
-use Rattle.std.proofs.lemmas.Bool.Decides.{nat_tests}
 use Rattle.std.proofs.lemmas.Map.Text.{is_eq-slice_cmp}
 use Rattle.tree_disk.specs.Tree.{same_name}
-use Rattle.tree_disk.specs.Laws.{same_means, same_itself}
+use Rattle.tree_disk.specs.Laws.{same_means}
+use Rattle.tree_disk.proofs.Laws.{same_itself}
 use Rattle.journal_log.specs.declared.put.Want.{Want}
 use Rattle.journal_log.specs.declared.put.Want.TheVariants.{Nothing, Dir, File, Link, Staged}
 use Rattle.journal_log.specs.declared.put.Put.{Put}
 use Rattle.journal_log.specs.Staged.{is_staged_as, names_staged, is_staged_at, names_staged_at, AreStagedNumbers, NumbersFit}
-use Rattle.journal_log.proofs.NumberSets.{same_number}
+use Rattle.tree_disk.proofs.cny-base.Bools.{or_left, or_right}
+use Rattle.tree_disk.proofs.cny-base.Below.{equal_test as equal_itself, test_equal as same_number}
 
 -- a number that the writes name, whose text is this
 record HasNumber (puts : List Put) (last : List ℕ) (n : ℕ) : Type 0 where
   named : names_staged puts n ≡ true
   text : decimal n ≡ last
-
-or_left : (x y : Bool) → x ≡ true → (x || y) ≡ true
-or_left true y h = refl
-or_left false y h = absurd (cc h)
-
-or_right : (x y : Bool) → y ≡ true → (x || y) ≡ true
-or_right true y h = refl
-or_right false y h = h
-
-equal_itself : (n : ℕ) → (n == n) ≡ true
-equal_itself n = grind (arith, nat_tests)
 
 number_here : (last : List ℕ) (w : Want) → is_staged_at last w ≡ true → (n : ℕ) × (is_staged_as n w ≡ true) × (decimal n ≡ last)
 number_here last Nothing h = absurd (cc h)

@@ -1,5 +1,5 @@
 -- Strictly rising paths, by neighbours.
-use Rattle.std.proofs.Common.{◌≡◌, ℕ, zero, suc, ◌<◌, Bool, true, false, List, [], ◌∷◌, length, get_or, refl, arith, add-one, MatchBool}
+use Rattle.std.proofs.Common.{◌≡◌, ℕ, zero, suc, ◌<◌, Bool, true, false, List, [], ◌∷◌, length, get_or, arith, add-one, MatchBool}
 use Rattle.std.specs.declared.cmp.Ordering.{Ordering}
 use Rattle.std.specs.declared.cmp.Ordering.TheVariants.{Less, Equal, Greater}
 use Rattle.std.specs.Ordering.{nat_cmp, is_lt}
@@ -7,14 +7,10 @@ use Rattle.std.specs.Cmp.Lexicographic.{slice_cmp}
 use Rattle.std.specs.List.{IsAllAdjacentAnswer}
 use Rattle.journal_log.specs.declared.put.Put.{Put}
 use Rattle.journal_log.specs.WriteSet.{Rises}
+use Rattle.tree_disk.proofs.cny-base.Orders.{less}
 
 abbrev pub is_before : Put → Put → Bool
 is_before p q = is_lt (slice_cmp nat_cmp p.path q.path)
-
-less : (o : Ordering) → true ≡ is_lt o → o ≡ Less
-less Less h = refl
-less Equal h = absurd cc
-less Greater h = absurd cc
 
 not_less : (o : Ordering) → false ≡ is_lt o → o ≡ Less → ⊥
 not_less Less h e = cc

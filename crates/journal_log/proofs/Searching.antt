@@ -5,16 +5,18 @@ use Rattle.std.specs.List.Sorted.{IsBinarySearchResult, IsSearchInRange, IsSorte
 use Rattle.std.specs.Result.{result_ok}
 use Rattle.std.specs.declared.cmp.Ordering.{Ordering}
 use Rattle.std.specs.declared.cmp.Ordering.TheVariants.{Less, Equal, Greater}
-use Rattle.std.specs.Ordering.{nat_cmp, is_lt, is_eq, ordering_reverse}
+use Rattle.std.specs.Ordering.{nat_cmp, is_lt, is_eq}
 use Rattle.std.specs.Cmp.Lexicographic.{slice_cmp, nat_list_cmp_total}
 use Rattle.std.proofs.lemmas.Bool.{cases_lt}
 use Rattle.std.proofs.lemmas.List.Sorted.{searchable_from_sorted}
 use Rattle.tree_disk.specs.Tree.{Name, same_name}
-use Rattle.tree_disk.specs.Laws.{same_means, same_itself}
+use Rattle.tree_disk.specs.Laws.{same_means}
+use Rattle.tree_disk.proofs.Laws.{same_itself}
 use Rattle.journal_log.specs.declared.put.Put.{Put}
 use Rattle.journal_log.specs.WriteSet.{Rises}
 use Rattle.journal_log.specs.Targets.{is_target}
 use Rattle.journal_log.proofs.Rising.{rising_at}
+use Rattle.tree_disk.proofs.cny-base.Orders.{not_less as turned}
 
 -- how the path of a put compares with the one that is looked for
 abbrev pub against : Name → Put → Ordering
@@ -22,9 +24,6 @@ against path p = slice_cmp nat_cmp p.path path
 
 pub equal_paths : (p q : Name) → slice_cmp nat_cmp p q ≡ Equal → p ≡ q
 equal_paths p q e = same_means p q (ap is_eq e)
-
-turned : (a b : Ordering) → a ≡ ordering_reverse b → b ≡ Less → is_lt a ≡ false
-turned a b e f = ap is_lt (e ∙ ap ordering_reverse f)
 
 sorted : (puts : List Put) → Rises puts → IsSortedBy (λ a b. is_lt (slice_cmp nat_cmp a.path b.path)) puts
 sorted puts rises = λ k d low high.

@@ -9,7 +9,9 @@ use Rattle.tree_disk.specs.cny-base.Path.{is_path}
 use Rattle.tree_disk.specs.Tree.{Name}
 use Rattle.journal_log.specs.Joined.{front_of}
 use Rattle.journal_log.specs.Own.{staged_file}
-use Rattle.journal_log.specs.StagedLaws.{staged_is_path, path_short, staged_length}
+use Rattle.journal_log.proofs.StagedLaws.{staged_is_path, staged_length}
+use Rattle.tree_disk.proofs.cny-base.Counts.{fits}
+use Rattle.tree_disk.proofs.Children.{path_short}
 
 -- the slash behind the directory is counted, but for `/`
 pub longer_front : (dir : Name) → is_path dir ≡ true → 1 < length dir → length (front_of dir) ≡ length dir + 1
@@ -21,9 +23,6 @@ pub root_front : (dir : Name) → is_path dir ≡ true → length dir ≤ 1 → 
 root_front [] path less = absurd (cc path)
 root_front (b ∷ []) path less = refl
 root_front (b ∷ c ∷ rest) path less = absurd (omega arith)
-
-fits : (n : ℕ) → n ≤ 1024 → nat_le n 1024 ≡ true
-fits n le = grind (arith, nat_tests)
 
 within : (n : ℕ) → nat_le n 1024 ≡ true → n ≤ 1024
 within n h = grind (arith, nat_tests)

@@ -7,15 +7,17 @@ use Rattle.std.specs.List.{HoldsAt}
 use Rattle.std.proofs.lemmas.List.{take_all}
 use Rattle.std.proofs.lemmas.List.Elements.{All-contains, Contains-get_or}
 use Rattle.tree_disk.specs.cny-base.Path.{is_path, root, parent}
-use Rattle.tree_disk.specs.cny-base.Below.{is_below, below_parent, above_parent, child_below, none_below_root, parent_shorter}
-use Rattle.tree_disk.specs.cny-base.Parent.{parent_is_path}
+use Rattle.tree_disk.specs.cny-base.Below.{is_below}
+use Rattle.tree_disk.proofs.cny-base.Below.{below_parent, above_parent, child_below, none_below_root, parent_shorter}
+use Rattle.tree_disk.proofs.cny-base.Parent.{parent_is_path}
 use Rattle.tree_disk.specs.Tree.{Name, same_name}
-use Rattle.tree_disk.specs.Laws.{same_itself}
+use Rattle.tree_disk.proofs.Laws.{same_itself}
 use Rattle.journal_log.specs.declared.put.Want.TheVariants.{Nothing}
 use Rattle.journal_log.specs.declared.put.Put.{Put}
 use Rattle.journal_log.specs.WriteSet.{Rises}
 use Rattle.journal_log.specs.Targets.{is_dir_want, is_target}
 use Rattle.journal_log.specs.Rules.{AreLogged, AreNamed, NothingBelow, NoneBelow, DirsAbove, DirAt, AreInner}
+use Rattle.tree_disk.proofs.Names.{no_path as not_empty}
 
 -- ---- one place for each path
 
@@ -58,7 +60,7 @@ place_decides puts path place q b rises lt here is found = (to, from)
     from : DirAt puts path → IsTrue b
     from dirs = found ∙ dirs q (place, lt, sym is) (ap (λ (x : Put). x.path) is ∙ here q)
 
-listed : (puts : List Put) (p : Put) → Contains puts p → is_target puts p.path ≡ true
+pub listed : (puts : List Put) (p : Put) → Contains puts p → is_target puts p.path ≡ true
 listed puts p in_puts = at puts in_puts.0 in_puts.1 in_puts.2
   where
     at : (xs : List Put) (k : ℕ) → k < length xs → get_or xs k p ≡ p → is_target xs p.path ≡ true
@@ -83,10 +85,6 @@ pub record WalksUp (puts : List Put) (path above : Name) : Type 0 where
   pub path_is : is_path above ≡ true
   pub low : (above ≡ root) ⊎ (is_below above path ≡ true)
   pub seen : (p : Put) → Contains puts p → is_below p.path path ≡ true → (p.path ≡ above) ⊎ ((is_below p.path above ≡ true) ⊎ (is_dir_want p.want ≡ true))
-
-not_empty : (path : Name) → is_path path ≡ true → path ≡ [] → ⊥
-not_empty [] is e = cc is
-not_empty (b ∷ bs) is e = cc
 
 pub walk_begins : (puts : List Put) (path : Name) → AreInner puts → is_path path ≡ true → WalksUp puts path (parent path)
 walk_begins puts path inner is = record {

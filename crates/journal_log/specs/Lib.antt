@@ -1,8 +1,6 @@
 pub mod Own
 pub mod Staged
 pub mod Numbers
-pub mod StagedLaws
-pub mod NumberLaws
 pub mod WriteSet
 pub mod Targets
 pub mod LogBytes

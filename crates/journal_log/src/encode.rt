@@ -1,5 +1,5 @@
 //! The bytes of the log of a write set.
-ghost use Rattle.std.specs.Prelude.{◌≡◌, ◌≤◌, ◌++◌, [], false, length, IfOk, OnOk, IsTrue, All};
+ghost use Rattle.std.specs.Prelude.{◌≡◌, ◌≤◌, ◌++◌, [], false, IfOk, OnOk, IsTrue, All};
 ghost use Rattle.std.specs.Int.{to_be_bytes, w16, w32};
 ghost use Rattle.tree_disk.specs.cny-base.Path.{is_path};
 ghost use Rattle.tree_disk.specs.cny-base.Target.{is_target};

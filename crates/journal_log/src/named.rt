@@ -1,5 +1,5 @@
 //! The paths that a log can name.
-ghost use Rattle.std.specs.Prelude.{◌≡◌, ◌↔◌, ◌++◌, ◌<◌, false, length, IsTrue, IfSome, IfNone};
+ghost use Rattle.std.specs.Prelude.{◌≡◌, ◌↔◌, ◌++◌, ◌<◌, false, IsTrue, IfSome, IfNone};
 ghost use Rattle.tree_disk.specs.cny-base.Below.{begins_with};
 ghost use Rattle.tree_disk.specs.cny-base.Path.{is_path};
 ghost use Rattle.tree_disk.specs.Clear as clear;

@@ -10,7 +10,7 @@ use Rattle.tree_disk.specs.Disk.{DiskModel, IsDisk, HasCause, HasChanged, HasSyn
 use Rattle.tree_disk.specs.Moments.{shows_weaker}
 use Rattle.tree_disk.specs.Unfailed.{IsEither, UnlessFailed}
 use Rattle.tree_disk.specs.Confined.{Among}
-use Rattle.tree_disk.specs.ConfinedLaws.{confined_synced, confined_changed}
+use Rattle.tree_disk.proofs.ConfinedLaws.{confined_synced, confined_changed}
 use Rattle.tree_disk.specs.Steps.{step_of, Ended, Makes, no_name}
 
 module _ {D : Type 0} {disk : DiskModel D} (laws : IsDisk disk) where

@@ -5,16 +5,17 @@ use Rattle.std.proofs.lemmas.List.{take_more}
 use Rattle.std.specs.List.{list_any}
 use Rattle.std.specs.FinMap.{get, keys, contains_key-keys}
 use Rattle.cny_base.specs.Path.{is_path, root, parent, last_name, join}
-use Rattle.cny_base.specs.Below.{is_below, child_below}
+use Rattle.cny_base.specs.Below.{is_below}
+use Rattle.cny_base.proofs.Below.{child_below}
 use Rattle.cny_base.specs.declared.node.Node.{Node}
-use Rattle.cny_base.specs.declared.node.Node.TheVariants.{Dir, File, Link}
 use Rattle.tree_disk.specs.Tree.{Name, Tree, same_name, is_dir, is_file, is_link, is_child, children, WellFormed}
-use Rattle.tree_disk.specs.Rows.{is_childless, can_remove, without, seen_as, look_of}
-use Rattle.tree_disk.specs.Laws.{same_means, get_put, same_tree}
+use Rattle.tree_disk.specs.Rows.{is_childless, can_remove, without}
+use Rattle.tree_disk.specs.Laws.{same_means, get_put}
+use Rattle.tree_disk.proofs.Laws.{same_tree}
 use Rattle.tree_disk.specs.Clear.{is_within, without_tree, without_each}
-use Rattle.tree_disk.specs.Looks.{sees_nothing, sees_dir}
-use Rattle.tree_disk.specs.ClearLaws.{or_right, by_name, within_join_below, get-without_tree}
-use Rattle.tree_disk.specs.Children.{none_any, not_below_itself, none_below, covered_up, filter_none}
+use Rattle.tree_disk.proofs.ClearLaws.{by_name, within_join_below, get-without_tree}
+use Rattle.tree_disk.proofs.Children.{none_any, not_below_itself, none_below, covered_up, filter_none}
+use Rattle.cny_base.proofs.Bools.{or_right}
 
 pub get-without_each : (t : Tree) (p : Name) (names : List (List ℕ)) (q : Name)
     → get (without_each t p names) q ≡ cond (list_any (λ last. is_within (join p last) q) names) None (get t q)
@@ -104,20 +105,6 @@ module _ (t : Tree) (p : Name) (well : WellFormed t) (path : is_path p ≡ true)
       and_both : (x y : Bool) → x ≡ true → y ≡ true → (x && y) ≡ true
       and_both true y left right = right
       and_both false y left right = left
-
-  -- ---- what isn't a directory
-
-  seen_removable : (o : Option Node) (b : Bool) → sees_nothing (seen_as o) ≡ false → sees_dir (seen_as o) ≡ false
-      → (is_file o || (is_link o || (is_dir o && b))) ≡ true
-  seen_removable None b some no_dir = absurd (cc some)
-  seen_removable (Some (Dir mode)) b some no_dir = absurd (cc no_dir)
-  seen_removable (Some (File mode bytes)) b some no_dir = refl
-  seen_removable (Some (Link target)) b some no_dir = refl
-
-  pub may_remove_leaf : sees_nothing (look_of t p) ≡ false → sees_dir (look_of t p) ≡ false → can_remove t p ≡ true
-  may_remove_leaf some no_dir = removable t (seen_removable (get t p) (is_childless t p) some no_dir)
-
--- ---- what a look shows
 
 -- ---- where no directory stands, nothing stands below
 

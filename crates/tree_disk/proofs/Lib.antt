@@ -2,3 +2,18 @@ pub mod ReadAll
 pub mod NewFile
 pub mod Clearing
 pub mod Calls
+pub mod Allowed
+pub mod Children
+pub mod ClearLaws
+pub mod ConfinedLaws
+pub mod Laws
+pub mod Looks
+pub mod Moments
+pub mod Nodes
+pub mod StepLaws
+pub mod Unfailed
+pub use Rattle.cny_base.proofs as cny-base
+pub mod Names
+pub mod Order
+pub mod Deciding
+pub mod Without

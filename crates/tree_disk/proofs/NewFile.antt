@@ -1,15 +1,11 @@
 -- A file that is made by an append and gets its mode.
-use Rattle.std.proofs.Common.{◌≡◌, ℕ, Bool, true, false, not, ◌&&◌, ◌||◌, List, Option, Some, None, is_some, refl, ◌∙◌, ap}
+use Rattle.std.proofs.Common.{◌≡◌, ℕ, true, not, ◌||◌, List, Option, Some, None, is_some, refl, ◌∙◌, ap}
 use Rattle.std.specs.FinMap.{get}
 use Rattle.cny_base.specs.declared.node.Node.{Node}
 use Rattle.cny_base.specs.declared.node.Node.TheVariants.{File}
 use Rattle.tree_disk.specs.Tree.{Name, Tree, put, is_dir, is_file}
 use Rattle.tree_disk.specs.Rows.{can_make, can_set_mode, grown, of_mode, with_append, with_mode, with_node}
-use Rattle.tree_disk.specs.Laws.{get_put_here, put_put}
-
-right_true : (x y : Bool) → (x && y) ≡ true → y ≡ true
-right_true true y h = h
-right_true false y h = absurd (cc h)
+use Rattle.tree_disk.proofs.Laws.{get_put_here, put_put, second as right_true}
 
 none_there : (o : Option Node) → not (is_some o) ≡ true → o ≡ None
 none_there None h = refl

@@ -1,10 +1,8 @@
 -- A file read in pieces.
-use Rattle.std.proofs.Common.{◌≡◌, ℕ, ◌+◌, ◌≤◌, List, [], ◌++◌, length, take, drop, sym, ◌∙◌, ap, arith, IsTrue, length-take, Result, Ok, Err, OnOk, IsErr}
-use Rattle.std.proofs.lemmas.List.{take_all}
+use Rattle.std.proofs.Common.{◌≡◌, ℕ, ◌+◌, ◌≤◌, List, ◌++◌, length, take, drop, sym, ◌∙◌, ap, arith, IsTrue, length-take}
 use Rattle.std.proofs.Common.{take-add}
-use Rattle.tree_disk.specs.declared.disk.DiskStop.{DiskStop}
 use Rattle.tree_disk.specs.Whole.{IsPiece}
-use Rattle.tree_disk.specs.Moments.{same_start, same_on, time_start, time_on}
+use Rattle.tree_disk.specs.Moments.{same_on, time_on}
 use Rattle.std.specs.FinMap.{get}
 use Rattle.tree_disk.specs.Tree.{Name}
 use Rattle.tree_disk.specs.Rows.{bytes_of, is_file_at}
@@ -24,24 +22,10 @@ pub record SoFar {D : Type 0} (disk : DiskModel D) (path : Name) (size : ℕ) (b
   pub faults : disk.faults old ≤ disk.faults d
   pub most : length bytes ≤ size
 
-no_ok : {X E : Type 0} (P : Type 0) (r : Result X E) → IsErr r → OnOk r P
-no_ok P (Ok x) h = absurd (cc h)
-no_ok P (Err e) h = tt
-
 take_two : (m n : ℕ) (file : List ℕ) → take m file ++ take n (drop m file) ≡ take (m + n) file
 take_two m n file = sym (take-add m n file)
 
 module _ {D : Type 0} {disk : DiskModel D} (laws : IsDisk disk) (path : Name) (size : ℕ) where
-  pub shown_start : (d : D) (bytes : List ℕ) → IsTrue (is_file_at (disk.reads d) path) → length (bytes_of (get (disk.reads d) path)) ≡ size → bytes ≡ [] → Shown disk path size bytes d d
-  shown_start d bytes file long empty = record {
-    file = file;
-    long = long;
-    front = empty ∙ ap (λ l. take (length l) (bytes_of (get (disk.reads d) path))) (sym empty);
-    within = omega (arith, ap length empty);
-    same = same_start disk d;
-    time = time_start laws d;
-  }
-
   pub shown_on : (old mid new : D) (bytes more : List ℕ) (room count : ℕ) → Shown disk path size bytes old mid → HasRead disk mid new (IsPiece (bytes_of (get (disk.reads mid) path)) room bytes more count) → Shown disk path size more old new
   shown_on old mid new bytes more room count shown read =
       let file = bytes_of (get (disk.reads old) path) in
@@ -61,19 +45,3 @@ module _ {D : Type 0} {disk : DiskModel D} (laws : IsDisk disk) (path : Name) (s
         same = same_on shown.same read.same;
         time = time_on laws shown.same shown.time read.time;
       }
-
-  -- a read that failed
-  pub shown_err : {Q : Type 0} (P : Type 0) (old mid new : D) (bytes : List ℕ) (r : Result Unit DiskStop) → IsErr r → Shown disk path size bytes old mid → HasRead disk mid new Q → HasRead disk old new (OnOk r P)
-  shown_err P old mid new bytes r err shown read = record {
-    answer = no_ok P r err;
-    same = same_on shown.same read.same;
-    time = time_on laws shown.same shown.time read.time;
-  }
-
-  -- all of it
-  pub shown_end : (old d : D) (bytes : List ℕ) → Shown disk path size bytes old d → size ≤ length bytes → HasRead disk old d (bytes ≡ bytes_of (get (disk.reads old) path))
-  shown_end old d bytes shown whole = record {
-    answer = shown.front ∙ take_all (length bytes) (bytes_of (get (disk.reads old) path)) (omega (arith, whole, shown.long));
-    same = shown.same;
-    time = shown.time;
-  }

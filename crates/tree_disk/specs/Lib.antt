@@ -4,16 +4,11 @@ pub mod Looks
 pub mod Disk
 pub mod Laws
 pub mod Nodes
-pub mod Allowed
 pub mod Moments
 pub mod Confined
-pub mod ConfinedLaws
 pub mod Steps
-pub mod StepLaws
 pub mod Unfailed
 pub mod Untold
 pub mod Whole
 pub mod Clear
-pub mod ClearLaws
-pub mod Children
 pub use Rattle.cny_base.specs as cny-base

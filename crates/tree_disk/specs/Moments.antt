@@ -1,19 +1,10 @@
 -- How calls follow one another.
-use Rattle.std.specs.Prelude.{◌≡◌, ℕ, ◌≤◌, refl}
+use Rattle.std.specs.Prelude.{refl}
 use Rattle.std.proofs.Common.{◌∙◌, sym, subst, ap, inl, inr, ⊎_elim, arith}
-use Rattle.cny_base.specs.Count.{Rose}
 use Rattle.std.specs.FinMap.{get}
 use Rattle.tree_disk.specs.Tree.{Tree}
 use Rattle.std.proofs.lemmas.Bool.{cases_lt}
-use Rattle.tree_disk.specs.Disk.{DiskModel, IsDisk, IsImageOf, Shows, InOneStep, Unchanged, Elapses}
-
--- ---- the count of faults
-
-pub rose_later : (a b c : ℕ) → Rose a b → b ≤ c → Rose a c
-rose_later a b c h le = omega (arith, h, le)
-
-pub rose_before : (a b c : ℕ) → a ≤ b → Rose b c → Rose a c
-rose_before a b c le h = omega (arith, h, le)
+use Rattle.tree_disk.specs.Disk.{DiskModel, IsDisk, IsImageOf, Shows, Unchanged, Elapses}
 
 -- ---- what is read at each moment
 
@@ -36,20 +27,6 @@ module _ {D : Type 0} {disk : DiskModel D} where
         (cases_lt (disk.now mid) k);
     kept = λ k le. then.kept k (omega (arith, le, first.later)) ∙ first.kept k le;
   }
-
-  -- what the trees before and after a single step have, each tree has meanwhile
-  pub shows_step : {old new : D} {P : Tree → Type 0} → InOneStep disk old new → P (disk.reads old) → P (disk.reads new) → Shows disk old new P
-  shows_step {P = P} step before after = shows_weaker (λ t is. ⊎_elim (λ was. subst P (sym was) before) (λ now. subst P (sym now) after) is) step
-
-  -- also at the moment at which the run began
-  pub shows_since : {old new : D} {P : Tree → Type 0} → IsDisk disk → Shows disk old new P → P (disk.reads old)
-      → (k : ℕ) → disk.now old ≤ k → k ≤ disk.now new → P (disk.reads_at new k)
-  shows_since {old = old} {new = new} {P = P} laws run at_old k since le = ⊎_elim
-      (λ after. run.each k after le)
-      (λ before.
-      let is : k ≡ disk.now old = omega (arith, since, before) in
-      subst P (sym (run.kept k before ∙ ap (disk.reads_at old) is ∙ laws.reads_now old)) at_old)
-      (cases_lt (disk.now old) k)
 
 -- ---- reads, one after another
 

@@ -1,6 +1,5 @@
 // A name and all names below it, taken away.
 ghost use Rattle.std.specs.Prelude.{◌≡◌, ◌≢◌, ◌≤◌, IfErr, IfOk, IsErrOf, IsTrue, OnOk, string_bytes};
-ghost use Rattle.std.specs.List.{All};
 ghost use Rattle.cny_base.specs.Count.{Rose};
 ghost use Rattle.cny_base.specs.Path.{is_path, join, root};
 ghost use Rattle.cny_base.specs.declared.stop.Stop.TheVariants as stop;

@@ -1,5 +1,5 @@
 // The disk as the layers above see it: the tree that it reads, and what a crash may leave.
-ghost use Rattle.std.specs.Prelude.{◌≡◌, ◌≤◌, Bool, List, ℕ, [], length, IfOk, OnOk, IsTrue};
+ghost use Rattle.std.specs.Prelude.{◌≡◌, ◌≤◌, Bool, length, IfOk, IsTrue};
 ghost use Rattle.tree_disk.specs.declared.disk.DiskStop.TheVariants.{Memory};
 ghost use Rattle.tree_disk.specs.Tree.{children};
 ghost use Rattle.tree_disk.specs.Rows.{is_file_at, is_dir_at, can_append, can_make, can_set_mode, can_remove, can_rename, with_append, with_node, with_mode, without, with_rename, ReadsFrom, look_of};

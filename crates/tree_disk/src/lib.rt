@@ -4,6 +4,7 @@
 
 mod clear;
 mod disk;
+mod pieces;
 mod ranges;
 pub mod steps;
 mod whole;
@@ -12,6 +13,7 @@ mod write;
 pub use clear::clear_tree;
 pub use cny_base;
 pub use disk::{DiskStop, Look, TreeDisk};
+pub use pieces::{PIECE, piece_room, room_for};
 pub use ranges::{byte_ranges, node_ranges};
 pub use whole::read_whole;
 pub use write::{make_file, write_file};

@@ -1,5 +1,5 @@
 // A file's bytes, over any disk.
-ghost use Rattle.std.specs.Prelude.{◌≡◌, ◌<◌, ◌≤◌, ◌+◌, ◌-◌, [], min, true, length, IfOk, OnOk, OnErr, IfSome, IsErrOf, IsTrue};
+ghost use Rattle.std.specs.Prelude.{◌≡◌, ◌<◌, ◌≤◌, ◌+◌, ◌-◌, [], true, length, IfOk, OnOk, OnErr, IfSome, IsErrOf, IsTrue};
 ghost use Rattle.tree_disk.specs.declared.disk.DiskStop.TheVariants.{Failed, Refused};
 ghost use Rattle.tree_disk.specs.Rows.{bytes_at, is_file_at};
 ghost use Rattle.tree_disk.specs.Disk.{HasCause, Reads};
@@ -7,6 +7,7 @@ ghost use Rattle.cny_base.specs.Count.{Rose};
 ghost use Rattle.tree_disk.specs.Whole.{IsWhole};
 ghost use Rattle.tree_disk.specs.Whole as whole;
 
+use crate::pieces::room_for;
 use crate::{DiskStop, TreeDisk};
 use cny_base::{Bytes, Path};
 use std::alloc::Global;
@@ -99,17 +100,6 @@ fn fill<D: TreeDisk>(
         }
     }
     Ok(())
-}
-
-// How many bytes the next piece may have.
-fn room_for(left: u64, room: usize) -> usize
-    ensures { result ≡ min left room }
-{
-    if left < room as u64 {
-        left as usize
-    } else {
-        room
-    }
 }
 
 // Reads the next piece and adds it.

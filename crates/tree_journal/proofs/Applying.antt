@@ -1,5 +1,5 @@
 -- What crash images recover to while a write set is applied.
-use Rattle.std.proofs.Common.{◌≡◌, ◌≢◌, inl, inr, ⊎_elim, ℕ, ◌≤◌, ◌^◌, ◌<◌, Bool, true, false, cond, ◌==◌, IsTrue, List, [], ◌∷◌, get_or, map, codes, length, Option, Some, None, is_some, Contains, Result, Ok, Err, OnOk, OnErr, IfErr, IsErrOf, IsErrAnd, refl, sym, ◌∙◌, ap, subst, arith}
+use Rattle.std.proofs.Common.{◌≡◌, ◌≢◌, inl, inr, ⊎_elim, ℕ, ◌≤◌, ◌^◌, ◌<◌, Bool, true, false, cond, ◌==◌, IsTrue, List, [], ◌∷◌, get_or, map, codes, length, Option, Some, None, is_some, Contains, Result, Ok, Err, OnOk, IfErr, IsErrOf, IsErrAnd, refl, sym, ◌∙◌, ap, subst, arith}
 use Rattle.std.proofs.lemmas.Bool.{cases_Bool}
 use Rattle.std.proofs.lemmas.List.Elements.{All-head, All-tail, All-cons, All-weaker, Contains-get_or}
 use Rattle.std.proofs.lemmas.Bool.Decides.{nat_tests}
@@ -14,16 +14,18 @@ use Rattle.journal_log.specs.cny-base.declared.node.Node.TheVariants as node
 use Rattle.journal_log.specs.cny-base.declared.stop.Stop.{Stop}
 use Rattle.journal_log.specs.cny-base.declared.stop.Stop.TheVariants.{Refused, Memory, Failed, Damaged, FarFailed, FarDamaged}
 use Rattle.journal_log.specs.tree-disk.Tree.{Name, Tree, same_name, is_dir, is_file, children, AgreesOutside, WellFormed}
-use Rattle.journal_log.specs.tree-disk.Laws.{same_means, same_itself, get_put_here, get_put_other, reads_image}
-use Rattle.journal_log.specs.tree-disk.Children.{none_below, stands_or_not}
+use Rattle.journal_log.specs.tree-disk.Laws.{same_means}
+use Rattle.journal_log.proofs.tree-disk.Laws.{same_itself, get_put_here, get_put_other, reads_image}
+use Rattle.journal_log.proofs.tree-disk.Children.{none_below, stands_or_not}
 use Rattle.journal_log.specs.tree-disk.Clear.{is_within, without_tree}
-use Rattle.journal_log.specs.tree-disk.ClearLaws.{below_within, within_itself, or_left, or_right, or_cases}
+use Rattle.journal_log.proofs.tree-disk.ClearLaws.{below_within, within_itself, or_cases}
 use Rattle.journal_log.specs.tree-disk.Disk.{DiskModel, IsDisk, IsImageOf}
 use Rattle.journal_log.specs.tree-disk.Confined.{Among, Confined, DiffersOnlyAt, IsUnsyncedOr, IsSynced, LeavesOnly}
-use Rattle.journal_log.specs.tree-disk.ConfinedLaws.{leaves_weaker, leaves_then, confined_start, confined_wider, confined_then}
+use Rattle.journal_log.proofs.tree-disk.ConfinedLaws.{leaves_weaker, leaves_then, confined_start, confined_wider, confined_then}
 use Rattle.journal_log.specs.tree-disk.Steps.{no_name, Ended, IsDiskStop, Makes}
-use Rattle.journal_log.specs.tree-disk.Moments.{rose_before}
-use Rattle.journal_log.specs.tree-disk.Unfailed.{UnlessFailed, unfailed_start, unfailed_weaker, unfailed_then, unfailed_confined}
+use Rattle.journal_log.proofs.tree-disk.Moments.{rose_before}
+use Rattle.journal_log.specs.tree-disk.Unfailed.{UnlessFailed}
+use Rattle.journal_log.proofs.tree-disk.Unfailed.{unfailed_start, unfailed_weaker, unfailed_then, unfailed_confined}
 use Rattle.journal_log.specs.declared.put.Want.{Want}
 use Rattle.journal_log.specs.declared.put.Want.TheVariants as want
 use Rattle.journal_log.specs.declared.put.Put.{Put}
@@ -31,18 +33,18 @@ use Rattle.journal_log.specs.Own.{gate, log, work, staged, staged_file, is_own, 
 use Rattle.journal_log.specs.Rules.{AreLogged}
 use Rattle.journal_log.specs.Staged.{is_file_want, HaveNoBytes, names_staged, names_staged_at, is_staged_as, is_staged_at}
 use Rattle.journal_log.specs.Numbers.{staged_want, with_numbers, IsNumbered}
-use Rattle.journal_log.specs.StagedLaws.{staged_short}
-use Rattle.journal_log.specs.NumberLaws.{same_count, all_with_numbers, staged_dir, staged_nothing, numbered_rises, numbered_targets}
+use Rattle.journal_log.proofs.StagedLaws.{staged_short}
+use Rattle.journal_log.proofs.NumberLaws.{same_count, all_with_numbers, staged_dir, staged_nothing, numbered_rises, numbered_targets}
 use Rattle.journal_log.specs.WriteSet.{CanBeNamed, CanBeLogged, IsLoggable, IsFormed, ComesBefore, Rises}
 use Rattle.journal_log.specs.Targets.{is_dir_want, node_of, is_target, with_targets}
-use Rattle.journal_log.specs.LogBytes.{IsSpelled}
 use Rattle.tree_journal.specs.CanBePut.{CanBePut, AllCanBePut}
 use Rattle.tree_journal.specs.Recovery.{is_flag, is_committed, RecoversTo, at_rest}
 use Rattle.tree_journal.specs.Staging.{has_content, AllStaged, HoldsNoOthers, resolved, resolve, outcome}
 use Rattle.tree_journal.specs.Apply.{with_base, goal, CanApply, Applies, HoldsStaged, IsAsBefore, IsBeforeOrAfter, IsAtRest, IsOneOf, is_own_or_target}
 use Rattle.tree_journal.specs.Passes.{all_put}
 use Rattle.tree_journal.specs.Visible.{IsVisible}
-use Rattle.tree_journal.specs.Steps.{with_log, with_flag, with_stage, with_staged, committed, is_log_or_staged, is_replay_name, CanPrepare, HasLog, IsPrepared, IsCommitted, IsOldOrNew}
+use Rattle.tree_journal.specs.Steps.{with_stage, with_staged, is_replay_name, HasLog, IsCommitted, IsLogOf}
+use Rattle.tree_journal.proofs.BetweenSteps.{with_log, with_flag, committed, is_log_or_staged, HasNoFlag, IsPrepared, IsOldOrNew}
 use Rattle.tree_journal.proofs.WriteSets.{neither}
 use Rattle.tree_journal.proofs.OwnNames.{in_gate, in_log, in_work, in_staged, base_own, log_or_staged_own, base_not_in_gate, base_not_in_log, base_not_in_staged, log_not_in_gate, gate_not_written, staged_apart_gate, staged_apart_log, staged_apart_work, staged_not_root}
 use Rattle.tree_journal.proofs.OwnFiles.{get-own_file_other, get-own_file_here, get-base_other, base_stands}
@@ -50,6 +52,9 @@ use Rattle.tree_journal.proofs.Staged.{AgreesStaged, all_staged_same, content_fi
 use Rattle.tree_journal.proofs.StagedBytes.{IsFree, Keeps, file_longer, strays_kept, staged_elsewhere, written_holds}
 use Rattle.tree_journal.proofs.Seen.{visible_same, visible_before, agrees_stores}
 use Rattle.tree_journal.proofs.ReplayImages.{recovers_same, by_flag, can_elsewhere, replay_image, image_agrees, same_all_put, without_work}
+use Rattle.journal_log.proofs.cny-base.Faults.{on_err}
+use Rattle.journal_log.proofs.cny-base.Bools.{or_left, or_right}
+use Rattle.journal_log.proofs.cny-base.Below.{test_equal as same_number}
 
 not_false : {A : Type 0} (b : Bool) → b ≡ true → b ≡ false → A
 not_false b is other = absurd (cc (is, other))
@@ -138,7 +143,7 @@ image_before : {D : Type 0} (disk : DiskModel D) (base : Name) (old : D) → is_
     → (image : Tree) → IsImageOf disk old image → IsAsBefore disk base old image
 image_before disk base old clear synced image is = (image, is, at_rest (ap is_flag (is.synced (gate base) synced) ∙ clear) (λ q out. refl))
 
-module _ {D : Type 0} (disk : DiskModel D) (laws : IsDisk disk) (base : Name) (path : is_path base ≡ true) (old : D) (can : CanPrepare disk base old) where
+module _ {D : Type 0} (disk : DiskModel D) (laws : IsDisk disk) (base : Name) (path : is_path base ≡ true) (old : D) (can : HasNoFlag disk base old) where
   -- an image whose commit flag isn't set, and that stores the same as what the disk read
   pub as_before : (image : Tree) → is_committed base image ≡ false → StoresSame base image (disk.reads old) → IsAsBefore disk base old image
   as_before image clear same = (disk.reads old, reads_image laws old, at_rest clear same)
@@ -285,9 +290,6 @@ formed_back n (want.File mode bytes) formed = tt
 formed_back n (want.Link target) formed = tt
 formed_back n (want.Staged mode number size name) formed = omega (arith, formed.number_fits)
 
-same_number : (m n : ℕ) → (m == n) ≡ true → m ≡ n
-same_number m n h = grind (arith, nat_tests)
-
 staged_fits : (puts : List Put) → All (λ p. FitsStaged p.want) puts → (k : ℕ) → names_staged puts k ≡ true → k < 2 ^ 64
 staged_fits [] fits k named = absurd (cc named)
 staged_fits (p ∷ puts) fits k named = ⊎_elim
@@ -343,27 +345,22 @@ same_length puts made is = sym (ap length is.writes ∙ same_count is.numbers pu
 pub record IsWritten {D : Type 0} (disk : DiskModel D) (base : Name) (puts made : List Put) (bytes : List ℕ) (old mid : D) : Type 0 where
   pub path : is_path base ≡ true
   pub dir : is_path (staged base) ≡ true
-  pub rises : Rises puts
-  pub numbered : IsNumbered puts made
-  pub paths : All (λ p. IsTrue (is_path p.path)) made
-  pub formed : All (λ p. IsFormed p.want) made
-  pub logged : AreLogged base made
-  pub spelled : IsSpelled made bytes
+  pub is_log : IsLogOf base puts made bytes
   pub can : CanApply disk base puts old
   pub reads : disk.reads mid ≡ with_log base puts made bytes (disk.reads old)
 
 module _ {D : Type 0} (disk : DiskModel D) (base : Name) (puts made : List Put) (bytes : List ℕ) (old mid : D) (w : IsWritten disk base puts made bytes old mid) where
   loggable : IsLoggable base made
-  loggable = numbered_loggable puts made w.numbered base (with_base base (disk.reads old)) w.rises w.paths w.formed (paths_back puts made w.numbered w.paths) w.can.named w.logged w.can.well_formed
+  loggable = numbered_loggable puts made w.is_log.numbered base (with_base base (disk.reads old)) w.is_log.rises w.is_log.paths w.is_log.formed (paths_back puts made w.is_log.numbered w.is_log.paths) w.can.named w.is_log.logged w.can.well_formed
 
   taken : (map (resolve base (with_log base puts made bytes (disk.reads old))) made ≡ map (resolve base (with_base base (disk.reads old))) puts) × AllStaged base (with_log base puts made bytes (disk.reads old)) made
-  taken = log_holds base w.path w.dir puts made w.numbered bytes (disk.reads old) (numbers_fit puts made w.numbered w.formed) w.can.stand
+  taken = log_holds base w.path w.dir puts made w.is_log.numbered bytes (disk.reads old) (numbers_fit puts made w.is_log.numbered w.is_log.formed) w.can.stand
 
   log_base : is_dir (get (with_log base puts made bytes (disk.reads old)) base) ≡ true
-  log_base = with_log_base base w.path w.dir puts made w.numbered bytes (disk.reads old)
+  log_base = with_log_base base w.path w.dir puts made w.is_log.numbered bytes (disk.reads old)
 
   log_same : StoresSame base (with_log base puts made bytes (disk.reads old)) (with_base base (disk.reads old))
-  log_same = with_log_same base w.path w.dir puts made w.numbered bytes (disk.reads old)
+  log_same = with_log_same base w.path w.dir puts made w.is_log.numbered bytes (disk.reads old)
 
   base_same : StoresSame base (with_base base (disk.reads old)) (disk.reads old)
   base_same q out = get-base_other base (disk.reads old) q (⊎_elim (λ same. absurd (cc (base_own base q same, out))) (λ other. other) (cases_Bool (same_name q base)))
@@ -380,9 +377,9 @@ module _ {D : Type 0} (disk : DiskModel D) (base : Name) (puts made : List Put) 
       (λ p free. log_same p (neither (is_own base p) (is_target puts p) free).0) q out
 
   log_can : AllCanBePut made (with_log base puts made bytes (disk.reads old))
-  log_can = can_elsewhere base w.path made w.paths (numbered_named puts made w.numbered base w.can.named) (with_base base (disk.reads old)) (with_log base puts made bytes (disk.reads old))
+  log_can = can_elsewhere base w.path made w.is_log.paths (numbered_named puts made w.is_log.numbered base w.can.named) (with_base base (disk.reads old)) (with_log base puts made bytes (disk.reads old))
       (λ q out. sym (log_same q (neither (is_own base q) (is_target made q) out).0)) (base_stands base (disk.reads old)) log_base
-      (numbered_can puts made w.numbered (with_base base (disk.reads old)) w.can.can)
+      (numbered_can puts made w.is_log.numbered (with_base base (disk.reads old)) w.can.can)
 
   pub is_prepared : is_committed base (disk.reads mid) ≡ false → IsSynced disk mid → IsPrepared disk base made mid
   is_prepared clear synced = record {
@@ -390,8 +387,8 @@ module _ {D : Type 0} (disk : DiskModel D) (base : Name) (puts made : List Put) 
       holds = record {
         mode = 384;
         bytes = bytes;
-        file = log_stands base w.path w.dir puts made w.numbered bytes (disk.reads old);
-        text = record { loggable = loggable; spelled = w.spelled };
+        file = log_stands base w.path w.dir puts made w.is_log.numbered bytes (disk.reads old);
+        text = record { loggable = loggable; spelled = w.is_log.spelled };
       };
       can = record { loggable = loggable; stand = taken.1; can = log_can; base_stands = log_base };
     });
@@ -537,11 +534,6 @@ pub on_ok_end : {P S : Type 0} (told : Bool) (after new : Tree) (result : Result
 on_ok_end told after new (Ok u) a b ended tells s so = so (ended tells) s
 on_ok_end told after new (Err e) a b ended tells s so = tt
 
--- what holds is also said of an error
-pub on_err : {T E P : Type 0} (result : Result T E) → P → OnErr result P
-on_err (Ok t) p = tt
-on_err (Err e) p = p
-
 -- before the first call
 pub nothing_yet : {D : Type 0} (disk : DiskModel D) → IsDisk disk → (base : Name) (puts : List Put) (old : D) → CanApply disk base puts old → LeavesOnly disk old old (IsBeforeOrAfter disk base puts old)
 nothing_yet disk laws base puts old can = record {
@@ -556,7 +548,7 @@ stopped_at_once disk base puts old can = inl (at_rest can.flag_clear (λ q out. 
 
 -- ---- how it ends
 
-ok_of_err : (P : Type 0) (Q : Stop → Type 0) (r : Result Unit Stop) → IsErrAnd r Q → OnOk r P
+pub ok_of_err : (P : Type 0) (Q : Stop → Type 0) (r : Result Unit Stop) → IsErrAnd r Q → OnOk r P
 ok_of_err P Q (Ok u) is = absurd is
 ok_of_err P Q (Err e) is = tt
 
@@ -613,8 +605,8 @@ module _ {D : Type 0} (disk : DiskModel D) (laws : IsDisk disk) (base : Name) (p
     stops = memory_stops r is;
   }
 
-  pub may_prepare : IsTrue disk.tells → CanPrepare disk base old
-  may_prepare tells = record { parent_stands = (can tells).parent_stands; flag_clear = (can tells).flag_clear; flag_synced = (can tells).flag_synced }
+  pub has_no_flag : IsTrue disk.tells → HasNoFlag disk base old
+  has_no_flag tells = record { flag_clear = (can tells).flag_clear; flag_synced = (can tells).flag_synced }
 
   module _ (path : is_path base ≡ true) where
     first_seen : (mid : D) → Confined disk (Among (is_log_or_staged base)) old mid → UnlessFailed disk old mid (IsVisible base (disk.reads old) (goal base puts (disk.reads old)))
@@ -642,7 +634,7 @@ module _ {D : Type 0} (disk : DiskModel D) (laws : IsDisk disk) (base : Name) (p
     module _ (made : List Put) (bytes : List ℕ) (targets : (q : Name) → is_target made q ≡ is_target puts q) (mid new : D) (written : IsTrue disk.tells → IsWritten disk base puts made bytes old mid) (r : Result Unit Stop)
         (others : IsTrue disk.tells → HoldsNoOthers base made (disk.reads mid)) where
       each_image : IsTrue disk.tells → (image : Tree) → IsOldOrNew base made (disk.reads mid) image → IsBeforeOrAfter disk base puts old image
-      each_image tells image (inl before) = inl (as_before disk laws base path old (may_prepare tells) image before.0
+      each_image tells image (inl before) = inl (as_before disk laws base path old (has_no_flag tells) image before.0
           (λ q out. before.1 q out ∙ mid_same disk base puts made bytes old mid (written tells) q out))
       each_image tells image (inr after) = inr (recovers_same base image (outcome base made (disk.reads mid)) (goal base puts (disk.reads old)) after (goal_same disk base puts made bytes old mid (written tells)))
 
@@ -669,7 +661,7 @@ module _ {D : Type 0} (disk : DiskModel D) (laws : IsDisk disk) (base : Name) (p
       holds_staged : IsTrue disk.tells → (named : All (λ p. CanBeNamed base p.path) made) → IsPrepared disk base made mid → disk.reads new ≡ committed base made (disk.reads mid) → HoldsStaged base puts (disk.reads new)
       holds_staged tells named ready done = record {
         made = made;
-        numbered = (written tells).numbered;
+        numbered = (written tells).is_log.numbered;
         stand = stand_new;
         only = only_files base made (disk.reads new) (laws.reads_well_formed new) stand_new (λ q low free. kept q (below_within (staged base) q low) ∙ others tells q low free);
       }
@@ -689,9 +681,9 @@ module _ {D : Type 0} (disk : DiskModel D) (laws : IsDisk disk) (base : Name) (p
       applies_whole change first first_run first_synced then then_run then_synced then_seen = record {
         any_moment = λ tells. leaves_then (leaves_weaker (λ image h. inl h) (first_run tells)) (leaves_weaker (each_image tells) (then_run tells));
         applied = λ tells. on_ok_end disk.tells (committed base made (disk.reads mid)) (disk.reads new) r (disk.faults mid) (disk.faults new) then.ended tells (then_synced tells)
-            (λ done synced. at_rest_now tells (numbered_named puts made (written tells).numbered base (can tells).named) (ready tells) done synced);
+            (λ done synced. at_rest_now tells (numbered_named puts made (written tells).is_log.numbered base (can tells).named) (ready tells) done synced);
         cleared = λ tells. on_ok_end disk.tells (committed base made (disk.reads mid)) (disk.reads new) r (disk.faults mid) (disk.faults new) then.ended tells (then_synced tells)
-            (λ done synced. holds_staged tells (numbered_named puts made (written tells).numbered base (can tells).named) (ready tells) done);
+            (λ done synced. holds_staged tells (numbered_named puts made (written tells).is_log.numbered base (can tells).named) (ready tells) done);
         stopped = λ tells. on_err r (one_of tells ((then_run tells).each (disk.reads new) (laws.counts_now new (disk.now mid) (disk.reads new) (then_run tells).later (reads_image laws new))));
         confined = λ tells. confined_then (confined_wider (log_within base puts) (first.confined tells)) (confined_wider (replay_within base puts made targets) (then.confined tells));
         visible = λ tells. unfailed_then first.later then.later (first_seen mid (first.confined tells))
@@ -704,18 +696,6 @@ module _ {D : Type 0} (disk : DiskModel D) (laws : IsDisk disk) (base : Name) (p
         where
           ready : IsTrue disk.tells → IsPrepared disk base made mid
           ready tells = is_prepared disk base puts made bytes old mid (written tells) (flag_kept mid (first.outside tells) (can tells).flag_clear) (first_synced tells)
-
-      -- the same, where the commit goes over an equal list
-      pub applies_listed : (l : List Put) → l ≡ made → (change : Tree → Tree) → Makes {X = Unit {0}} disk (is_log_or_staged base) change old mid (Ok tt) → (IsTrue disk.tells → LeavesOnly disk old mid (IsAsBefore disk base old)) → (IsTrue disk.tells → IsSynced disk mid)
-          → Makes disk (is_replay_name base l) (committed base l) mid new r → (IsTrue disk.tells → LeavesOnly disk mid new (IsOldOrNew base l (disk.reads mid)))
-          → (IsTrue disk.tells → OnOk r (IsSynced disk new))
-          → (IsTrue disk.tells → UnlessFailed disk mid new (IsVisible base (disk.reads mid) (outcome base l (disk.reads mid))))
-          → Applies disk base puts old new r
-      applies_listed l same change first first_run first_synced then then_run then_synced then_seen = applies_whole change first first_run first_synced
-          (subst (λ (x : List Put). Makes disk (is_replay_name base x) (committed base x) mid new r) same then)
-          (λ tells. subst (λ (x : List Put). LeavesOnly disk mid new (IsOldOrNew base x (disk.reads mid))) same (then_run tells))
-          then_synced
-          (λ tells. subst (λ (x : List Put). UnlessFailed disk mid new (IsVisible base (disk.reads mid) (outcome base x (disk.reads mid)))) same (then_seen tells))
 
     pub prepared : (made : List Put) (bytes : List ℕ) (mid : D) → IsTrue disk.tells → IsWritten disk base puts made bytes old mid → AgreesOutside (is_log_or_staged base) (disk.reads mid) (disk.reads old) → IsSynced disk mid → IsPrepared disk base made mid
     prepared made bytes mid tells written outside synced = is_prepared disk base puts made bytes old mid written (flag_kept mid outside (can tells).flag_clear) synced

@@ -6,14 +6,16 @@ use Rattle.std.specs.List.{All}
 use Rattle.std.specs.FinMap.{get}
 use Rattle.std.specs.Cmp.Lexicographic.{nat_list_cmp_total}
 use Rattle.journal_log.specs.cny-base.Path.{root, parent}
-use Rattle.journal_log.specs.cny-base.Below.{is_below, child_below}
+use Rattle.journal_log.specs.cny-base.Below.{is_below}
+use Rattle.journal_log.proofs.cny-base.Below.{child_below}
 use Rattle.journal_log.specs.cny-base.declared.node.Node.{Node}
 use Rattle.journal_log.specs.cny-base.declared.node.Node.TheVariants as node
 use Rattle.journal_log.specs.tree-disk.Tree.{Name, Tree, same_name, is_dir, is_file, is_link, is_child, WellFormed}
 use Rattle.journal_log.specs.tree-disk.Rows.{can_remove, is_childless, without, look_of, seen_as}
-use Rattle.journal_log.specs.tree-disk.Laws.{same_means, get_put_here, get_put_other}
-use Rattle.journal_log.specs.tree-disk.Allowed.{remove_well_formed}
-use Rattle.journal_log.specs.tree-disk.Children.{childless_from}
+use Rattle.journal_log.specs.tree-disk.Laws.{same_means}
+use Rattle.journal_log.proofs.tree-disk.Laws.{get_put_here, get_put_other}
+use Rattle.journal_log.proofs.tree-disk.Allowed.{remove_well_formed}
+use Rattle.journal_log.proofs.tree-disk.Children.{childless_from, or_none}
 use Rattle.journal_log.specs.declared.put.Want.{Want}
 use Rattle.journal_log.specs.declared.put.Want.TheVariants as want
 use Rattle.journal_log.specs.declared.put.Put.{Put}
@@ -21,7 +23,10 @@ use Rattle.journal_log.specs.WriteSet.{CanBeNamed, Rises}
 use Rattle.journal_log.specs.Targets.{is_dir_want, is_target}
 use Rattle.tree_journal.specs.CanBePut.{CanBePut}
 use Rattle.tree_journal.specs.Passes.{obstructs, is_obstructed, cleared, all_cleared, CanClear, CanClearAll, CanClearPass, CanReplay}
-use Rattle.tree_journal.proofs.WriteSets.{less_differs, below_later, neither, or_none, contains_first, contains_rest, contains_cases, target_at, is_target-from, first_before, later_differs, rest_at}
+use Rattle.tree_journal.proofs.WriteSets.{below_later, neither, target_at, first_before, later_differs, rest_at}
+use Rattle.journal_log.proofs.cny-base.Lists.{contains_cases, contains_first, contains_rest}
+use Rattle.journal_log.proofs.Walking.{listed as is_target-from}
+use Rattle.journal_log.proofs.tree-disk.Order.{less_differs}
 
 -- ---- one write
 

@@ -1,8 +1,8 @@
 -- A file that is copied in pieces, and renamed into its place.
-use Rattle.std.proofs.Common.{◌≡◌, ⊎_elim, ℕ, ◌+◌, ◌-◌, ◌<◌, ◌≤◌, min, Bool, true, false, cond, not, ◌&&◌, ◌||◌, IsTrue, List, ◌++◌, length, take, drop, Option, Some, None, is_some, refl, sym, ◌∙◌, ap, arith, length-take}
+use Rattle.std.proofs.Common.{◌≡◌, ⊎_elim, ℕ, ◌+◌, ◌-◌, ◌<◌, ◌≤◌, min, Bool, true, false, cond, not, ◌&&◌, ◌||◌, IsTrue, List, ◌++◌, length, take, drop, Option, Some, None, is_some, refl, sym, ◌∙◌, ap, arith}
 use Rattle.std.proofs.Common.{take-add}
 use Rattle.std.proofs.lemmas.Bool.{cases_Bool, cases_lt}
-use Rattle.std.proofs.lemmas.List.{take_all, take_at, take_min, length-drop}
+use Rattle.std.proofs.lemmas.List.{take_all, take_min, length-drop}
 use Rattle.std.specs.FinMap.{get}
 use Rattle.std.specs.Prelude.{codes}
 use Rattle.journal_log.specs.cny-base.Path.{is_path, parent}
@@ -10,24 +10,19 @@ use Rattle.journal_log.specs.cny-base.declared.node.Node.{Node}
 use Rattle.journal_log.specs.cny-base.declared.node.Node.TheVariants as node
 use Rattle.journal_log.specs.tree-disk.Tree.{Name, Tree, same_name, put, is_dir, is_file, is_link}
 use Rattle.journal_log.specs.tree-disk.Rows.{bytes_of, bytes_at, can_append, can_make, can_rename, can_set_mode, is_file_at, grown, of_mode, with_append, with_mode, with_node, with_rename}
-use Rattle.journal_log.specs.tree-disk.Laws.{same_means, get_put, get_put_here, get_put_other, put_put, same_tree}
+use Rattle.journal_log.specs.tree-disk.Laws.{same_means, get_put}
+use Rattle.journal_log.proofs.tree-disk.Laws.{get_put_here, get_put_other, put_put, same_tree}
 use Rattle.journal_log.specs.Own.{work, is_own}
 use Rattle.journal_log.specs.tree-disk.Clear.{is_within}
-use Rattle.journal_log.specs.tree-disk.ClearLaws.{within_itself, or_left, or_right, or_cases}
+use Rattle.journal_log.proofs.tree-disk.ClearLaws.{within_itself, or_cases}
 use Rattle.journal_log.specs.tree-disk.Disk.{two_names}
 use Rattle.journal_log.specs.cny-base.Below.{is_below}
 use Rattle.tree_journal.specs.Passes.{is_work_or_name, CanCopy, CanMove, CanWork}
-use Rattle.tree_journal.proofs.OwnNames.{parent_join, in_work}
+use Rattle.tree_journal.proofs.OwnNames.{in_work}
+use Rattle.journal_log.proofs.tree-disk.Names.{parent_join}
+use Rattle.journal_log.proofs.cny-base.Bools.{or_left, or_right}
 
 -- ---- pieces of a file
-
--- what a read left in the front of a buffer
-pub piece_read : (file old new : List ℕ) (at count : ℕ) → count ≡ min (length old) (length file - at) → new ≡ take count (drop at file) ++ drop count old
-    → take count new ≡ take (length old) (drop at file)
-piece_read file old new at count most is =
-    let long : length (take count (drop at file)) ≡ count = length-take count (drop at file) ∙ omega (arith, most, length-drop at file) in
-    ap (take count) is ∙ take_at (take count (drop at file)) (drop count old) count long
-    ∙ ap (λ (n : ℕ). take n (drop at file)) (most ∙ ap (min (length old)) (sym (length-drop at file))) ∙ take_min (length old) (drop at file)
 
 -- one piece more
 pub one_more : (file : List ℕ) (at room count : ℕ) → count ≡ min room (length file - at) → take at file ++ take room (drop at file) ≡ take (at + count) file
@@ -52,7 +47,7 @@ apart_by : (tree : Tree) (p q : Name) → (get tree p ≡ get tree q → ⊥) �
 apart_by tree p q other = ⊎_elim (λ same. absurd (other (ap (get tree) (same_means p q same)))) (λ no_same. no_same) (cases_Bool (same_name p q))
 
 module _ (tree : Tree) (from to : Name) (size : ℕ) (can : CanCopy tree from to size) where
-  file : List ℕ
+  pub file : List ℕ
   file = bytes_at tree from
 
   parts : (is_dir (get tree (parent to)) ≡ true) × (get tree to ≡ None)

@@ -1,16 +1,17 @@
 -- How runs of calls that only read follow one another.
-use Rattle.std.proofs.Common.{◌≡◌, ℕ, ◌≤◌, Bool, IsTrue, Result, Ok, Err, IfOk, IfErr, IsErrAnd, sym, ◌∙◌, subst, arith}
+use Rattle.std.proofs.Common.{◌≡◌, ℕ, ◌≤◌, Bool, IsTrue, Result, Ok, Err, IfOk, IfErr, IsErrAnd, sym, subst, arith}
 use Rattle.journal_log.specs.cny-base.Count.{Rose}
 use Rattle.journal_log.specs.cny-base.declared.refusal.Refusal.{Refusal}
 use Rattle.journal_log.specs.cny-base.declared.stop.Stop.{Stop}
 use Rattle.journal_log.specs.cny-base.declared.stop.Stop.TheVariants.{Refused, Memory, Failed, Damaged, FarFailed, FarDamaged}
 use Rattle.journal_log.specs.tree-disk.Tree.{Tree}
 use Rattle.journal_log.specs.tree-disk.Disk.{DiskModel, IsDisk}
-use Rattle.journal_log.specs.tree-disk.Moments.{same_start, same_on, time_start, time_on, rose_before}
+use Rattle.journal_log.specs.tree-disk.Moments.{same_start, same_on, time_start, time_on}
+use Rattle.journal_log.proofs.tree-disk.Moments.{rose_before}
 use Rattle.journal_log.specs.tree-disk.Steps.{IsDiskStop, Found, Tests}
 use Rattle.tree_journal.specs.Found.{IsFaultOr, Finds}
 
-if_ok_err : {X : Type 0} (P : X → Type 0) (e : Stop) (r : Result X Stop) → IsErrAnd r (λ s. s ≡ e) → IfOk r P
+pub if_ok_err : {X : Type 0} (P : X → Type 0) (e : Stop) (r : Result X Stop) → IsErrAnd r (λ s. s ≡ e) → IfOk r P
 if_ok_err P e (Ok x) is = absurd is
 if_ok_err P e (Err s) is = tt
 
@@ -154,7 +155,3 @@ module _ {D : Type 0} {disk : DiskModel D} where
         → Tests disk view (λ tree. Ok (value tree)) old mid (Ok x) → Finds disk P mid new r
         → (IsTrue disk.tells → view x ≡ value (disk.reads old) → (z : Z) → P (disk.reads old) z → R (disk.reads old) z) → Finds disk R old new r
     finds_after_test {view = view} {value = value} tested then so = finds_then (finds_test {view = view} {value = value} tested tt) then so
-
-pub passed_memory : {X : Type 0} (e : Stop) (r : Result X Stop) → IsErrAnd r (λ s. s ≡ e) → e ≡ Memory → IsErrAnd r (λ s. s ≡ Memory)
-passed_memory e (Ok x) is memory = is
-passed_memory e (Err s) is memory = is ∙ memory

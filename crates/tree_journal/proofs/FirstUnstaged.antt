@@ -17,7 +17,8 @@ use Rattle.tree_journal.specs.Staging.{is_content, has_content, AllStaged}
 use Rattle.tree_journal.specs.Recovery.{IsStagedPath, IsFirstUnstaged}
 use Rattle.tree_journal.specs.Found.{sees_size}
 use Rattle.tree_journal.proofs.PutTest.{listed_before}
-use Rattle.tree_journal.proofs.Copies.{piece_read, one_more}
+use Rattle.tree_journal.proofs.Copies.{one_more}
+use Rattle.journal_log.proofs.cny-base.ByteLists.{read_front as piece_read}
 
 -- ---- what a look and a digest say of a file
 

@@ -1,3 +1,4 @@
+pub mod BetweenSteps
 pub mod OwnNames
 pub mod WriteSets
 pub mod OwnFiles
@@ -13,4 +14,8 @@ pub mod MakePass
 pub mod Seen
 pub mod StagedBytes
 pub mod Applying
+pub mod InOrder
 pub mod Recovering
+pub mod RecoveredDisk
+pub use Rattle.journal_log.proofs.tree-disk
+pub use Rattle.journal_log.proofs as journal-log

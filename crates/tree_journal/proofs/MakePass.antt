@@ -6,15 +6,16 @@ use Rattle.std.specs.List.{All}
 use Rattle.std.specs.FinMap.{get}
 use Rattle.std.specs.declared.cmp.Ordering.TheVariants.{Less}
 use Rattle.journal_log.specs.cny-base.Path.{is_path, root, parent}
-use Rattle.journal_log.specs.cny-base.Parent.{parent_is_path}
-use Rattle.journal_log.specs.cny-base.Below.{is_below, child_below, parent_first}
+use Rattle.journal_log.proofs.cny-base.Parent.{parent_is_path}
+use Rattle.journal_log.specs.cny-base.Below.{is_below}
+use Rattle.journal_log.proofs.cny-base.Below.{child_below, parent_first}
 use Rattle.journal_log.specs.cny-base.declared.node.Node.{Node}
 use Rattle.journal_log.specs.cny-base.declared.node.Node.TheVariants as node
 use Rattle.journal_log.specs.tree-disk.Tree.{Name, Tree, same_name, put, is_dir, is_file, WellFormed}
-use Rattle.journal_log.specs.tree-disk.Rows.{can_make, can_set_mode, with_mode, of_mode, look_of, seen_as}
-use Rattle.journal_log.specs.tree-disk.Laws.{same_means, same_itself, get_put, get_put_here, get_put_other, same_tree}
-use Rattle.journal_log.specs.tree-disk.ClearLaws.{within_itself}
-use Rattle.journal_log.specs.tree-disk.Looks.{sees_dir}
+use Rattle.journal_log.specs.tree-disk.Rows.{can_make, can_set_mode, with_mode, of_mode}
+use Rattle.journal_log.specs.tree-disk.Laws.{same_means, get_put}
+use Rattle.journal_log.proofs.tree-disk.Laws.{same_itself, get_put_here, get_put_other, same_tree}
+use Rattle.journal_log.proofs.tree-disk.ClearLaws.{within_itself}
 use Rattle.journal_log.specs.declared.put.Want.{Want}
 use Rattle.journal_log.specs.declared.put.Want.TheVariants as want
 use Rattle.journal_log.specs.declared.put.Put.{Put}
@@ -24,10 +25,13 @@ use Rattle.journal_log.specs.Targets.{is_dir_want, node_of, is_target, with_targ
 use Rattle.tree_journal.specs.CanBePut.{CanBePut}
 use Rattle.tree_journal.specs.Staging.{has_content, AllStaged, resolved, resolve, outcome}
 use Rattle.tree_journal.specs.Passes.{obstructs, is_renamed, all_cleared, with_target, CanMake, CanMakeAll, CanMakeDir, CanMakeNow, CanMove, CanWork, CanReplay, CanMakePass, CanPutAll}
-use Rattle.tree_journal.proofs.WriteSets.{name_cmp, not_itself, not_back, neither, or_none, contains_first, contains_rest, first_before, later_differs, with_targets_agree, rest_at, front_at}
+use Rattle.tree_journal.proofs.WriteSets.{neither, first_before, later_differs, with_targets_agree, rest_at, front_at}
 use Rattle.tree_journal.proofs.OwnNames.{base_own, in_work, in_staged}
 use Rattle.tree_journal.proofs.Staged.{AgreesStaged, resolved_same, content_same, all_staged_same, resolve_all_same, target_resolved, outcome_outside, dir_resolved, own_free}
 use Rattle.tree_journal.proofs.ClearPass.{all_cleared_outside, not_obstructed, nothing_obstructs, CanClearPart, part_whole}
+use Rattle.journal_log.proofs.tree-disk.Order.{name_cmp, not_back, not_itself}
+use Rattle.journal_log.proofs.cny-base.Lists.{contains_first, contains_rest}
+use Rattle.journal_log.proofs.tree-disk.Children.{or_none}
 
 -- ---- one write
 
@@ -54,7 +58,7 @@ put_nothing base tree p is can = same_tree tree (with_target base p tree) (λ q.
         ∙ sym (ap (λ (b : Bool). cond b (node_of (resolved base tree p.want)) (get tree q)) same ∙ ap (λ (w : Want). node_of (resolved base tree w)) is)
     at q false other = sym (ap (λ (b : Bool). cond b (node_of (resolved base tree p.want)) (get tree q)) other)
 
-none_empty : (dir : Bool) (o : Option Node) → dir ≡ true → o ≡ None → (dir && not (is_some o)) ≡ true
+pub none_empty : (dir : Bool) (o : Option Node) → dir ≡ true → o ≡ None → (dir && not (is_some o)) ≡ true
 none_empty dir o is none = cc (is, ap (λ (x : Option Node). dir && not (is_some x)) none, ap (λ (b : Bool). b && true) is)
 
 pub may_make_dir : (tree : Tree) (p : Put) → CanMake tree p → is_renamed p.want ≡ false → p.want ≢ want.Nothing → CanMakeDir tree p.path
@@ -70,15 +74,6 @@ may_move base tree p now other some = record {
   workable = now.workable;
   not_own = now.not_own;
 }
-
-seen_dir : (o : Option Node) → sees_dir (seen_as o) ≡ is_dir o
-seen_dir None = refl
-seen_dir (Some (node.Dir mode)) = refl
-seen_dir (Some (node.File mode bytes)) = refl
-seen_dir (Some (node.Link target)) = refl
-
-pub dir_seen : (tree : Tree) (path : Name) → sees_dir (look_of tree path) ≡ is_dir (get tree path)
-dir_seen tree path = seen_dir (get tree path)
 
 pub may_set_dir_mode : (tree : Tree) (path : Name) → is_dir (get tree path) ≡ true → can_set_mode tree path ≡ true
 may_set_dir_mode tree path is = ap (λ (b : Bool). b || is_file (get tree path)) is

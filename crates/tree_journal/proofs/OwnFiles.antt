@@ -3,21 +3,24 @@ use Rattle.std.proofs.Common.{◌≡◌, ◌≢◌, inl, inr, ⊎_elim, ℕ, Boo
 use Rattle.std.proofs.lemmas.Bool.{cases_Bool}
 use Rattle.std.specs.FinMap.{get}
 use Rattle.journal_log.specs.cny-base.Path.{is_path, root, parent}
-use Rattle.journal_log.specs.cny-base.Below.{parent_shorter}
+use Rattle.journal_log.proofs.cny-base.Below.{parent_shorter}
 use Rattle.journal_log.specs.cny-base.declared.node.Node.{Node}
 use Rattle.journal_log.specs.cny-base.declared.node.Node.TheVariants as node
 use Rattle.journal_log.specs.cny-base.declared.stop.Stop.{Stop}
 use Rattle.journal_log.specs.tree-disk.Tree.{Name, Tree, same_name, put, is_dir, is_file, is_link, WellFormed}
 use Rattle.journal_log.specs.tree-disk.Rows.{can_append, can_make, can_remove, is_childless, with_append, with_node, without, grown, look_of, seen_as}
-use Rattle.journal_log.specs.tree-disk.Laws.{same_means, same_itself, get_put_here, get_put_other, put_put}
+use Rattle.journal_log.specs.tree-disk.Laws.{same_means}
+use Rattle.journal_log.proofs.tree-disk.Laws.{same_itself, get_put_here, get_put_other, put_put}
 use Rattle.journal_log.specs.tree-disk.Clear.{is_within, without_tree}
 use Rattle.journal_log.specs.tree-disk.Looks.{sees_nothing}
 use Rattle.journal_log.specs.tree-disk.Steps.{Ended}
-use Rattle.journal_log.specs.tree-disk.ClearLaws.{get-without_tree, bare_without, within_itself, or_left, or_right}
+use Rattle.journal_log.proofs.tree-disk.ClearLaws.{get-without_tree, bare_without, within_itself}
 use Rattle.journal_log.proofs.tree-disk.Clearing.{without-nothing}
 use Rattle.tree_journal.specs.Apply.{with_base}
 use Rattle.tree_journal.specs.Steps.{with_own_file, IsOther}
 use Rattle.tree_journal.proofs.OwnNames.{not_longer}
+use Rattle.tree_journal.proofs.MakePass.{none_empty as both}
+use Rattle.journal_log.proofs.cny-base.Bools.{or_left, or_right}
 
 other_no_dir : (o : Option Node) → IsOther o → is_dir o ≡ false
 other_no_dir None other = refl
@@ -37,6 +40,13 @@ may_remove_other tree p above other =
     ap (λ (b : Bool). not b && (is_file (get tree p) || (is_link (get tree p) || (is_dir (get tree p) && is_childless tree p)))) (not_root tree p above (other_no_dir (get tree p) other))
     ∙ ⊎_elim (λ file. or_left (is_file (get tree p)) _ file) (λ link. or_right (is_file (get tree p)) _ (or_left (is_link (get tree p)) _ link)) other
 
+pub may_remove_file : (tree : Tree) (p : Name) → p ≢ root → is_file (get tree p) ≡ true → can_remove tree p ≡ true
+may_remove_file tree p other file =
+    ap (λ (b : Bool). not b && (is_file (get tree p) || (is_link (get tree p) || (is_dir (get tree p) && is_childless tree p)))) no_root ∙ or_left (is_file (get tree p)) _ file
+  where
+    no_root : same_name p root ≡ false
+    no_root = ⊎_elim (λ same. absurd (other (same_means p root same))) (λ no_same. no_same) (cases_Bool (same_name p root))
+
 parent_differs : (p : Name) → is_path p ≡ true → same_name p root ≡ false → same_name (parent p) p ≡ false
 parent_differs p path other = ⊎_elim
     (λ same. ⊎_elim
@@ -44,9 +54,6 @@ parent_differs p path other = ⊎_elim
     (λ less. absurd (omega (arith, ap length (same_means (parent p) p same))))
     (parent_shorter p path))
     (λ no_same. no_same) (cases_Bool (same_name (parent p) p))
-
-both : (x : Bool) (o : Option Node) → x ≡ true → o ≡ None → (x && not (is_some o)) ≡ true
-both x o is none = cc (is, ap is_some none, ap (λ (b : Bool). b && not (is_some o)) is, ap not (ap is_some none))
 
 pub may_make_removed : (tree : Tree) (p : Name) → is_path p ≡ true → is_dir (get tree (parent p)) ≡ true → IsOther (get tree p) → can_make (without tree p) p ≡ true
 may_make_removed tree p path above other =
@@ -65,15 +72,6 @@ base_kept base tree is = ap (λ (b : Bool). cond b tree (put tree base (Some (no
 
 pub may_make_base : (tree : Tree) (p : Name) → is_dir (get tree (parent p)) ≡ true → get tree p ≡ None → can_make tree p ≡ true
 may_make_base tree p above none = both (is_dir (get tree (parent p))) (get tree p) above none
-
-pub nothing_seen : (tree : Tree) (p : Name) → sees_nothing (look_of tree p) ≡ true → get tree p ≡ None
-nothing_seen tree p is = at (get tree p) is
-  where
-    at : (o : Option Node) → sees_nothing (seen_as o) ≡ true → o ≡ None
-    at None is = refl
-    at (Some (node.Dir mode)) is = absurd (cc is)
-    at (Some (node.File mode bytes)) is = absurd (cc is)
-    at (Some (node.Link target)) is = absurd (cc is)
 
 pub other_seen : (tree : Tree) (p : Name) → sees_nothing (look_of tree p) ≡ false → is_dir (get tree p) ≡ false → IsOther (get tree p)
 other_seen tree p some no_dir = at (get tree p) some no_dir

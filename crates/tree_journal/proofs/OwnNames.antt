@@ -1,37 +1,35 @@
 -- The journal's own names, and which of them lie in which.
-use Rattle.std.proofs.Common.{◌≡◌, ◌≢◌, ⊎_elim, ℕ, ◌+◌, ◌<◌, ◌≤◌, Bool, true, false, cond, ◌&&◌, ◌||◌, [], ◌∷◌, ◌++◌, length, codes, refl, sym, ◌∙◌, ap, subst, arith, length-append}
+use Rattle.std.proofs.Common.{◌≡◌, ◌≢◌, ⊎_elim, ℕ, ◌+◌, ◌<◌, ◌≤◌, Bool, true, false, ◌&&◌, ◌||◌, [], ◌∷◌, ◌++◌, length, codes, refl, sym, ◌∙◌, ap, subst, arith, length-append}
 use Rattle.std.proofs.lemmas.Bool.{cases_Bool}
-use Rattle.std.proofs.lemmas.Bool.Decides.{nat_tests}
-use Rattle.std.specs.Prelude.{nat_le, ◌==◌}
 use Rattle.std.specs.Str.{is_utf8}
 use Rattle.std.proofs.Common.{lit<}
 use Rattle.std.proofs.lemmas.Str.{IsUtf8-from_ascii, is_utf8-from_IsUtf8}
 use Rattle.std.proofs.lemmas.Str.Ascii.{IsAscii-nil, IsAscii-cons}
-use Rattle.journal_log.specs.cny-base.Path.{has_slash, before_slash, is_path, join, parent, root, or_root, are_parts}
-use Rattle.journal_log.specs.cny-base.Below.{is_below, below_rest, before_join, below_parent}
-use Rattle.journal_log.specs.cny-base.Parent.{join_is_path}
+use Rattle.journal_log.specs.cny-base.Path.{has_slash, is_path, join, root, are_parts}
+use Rattle.journal_log.specs.cny-base.Below.{is_below}
+use Rattle.journal_log.proofs.cny-base.Below.{below_rest, below_parent, equal_test}
+use Rattle.journal_log.proofs.cny-base.Parent.{join_is_path}
 use Rattle.journal_log.specs.tree-disk.Tree.{Name, same_name}
 use Rattle.journal_log.specs.tree-disk.Laws.{same_means}
 use Rattle.journal_log.specs.tree-disk.Clear.{is_within}
-use Rattle.journal_log.specs.tree-disk.Children.{path_short}
-use Rattle.journal_log.specs.tree-disk.ClearLaws.{below_trans, below_within, within_itself, or_left, or_right, or_cases}
+use Rattle.journal_log.proofs.tree-disk.Children.{path_short, or_none}
+use Rattle.journal_log.proofs.tree-disk.ClearLaws.{below_trans, below_within, within_itself, or_cases}
 use Rattle.journal_log.specs.Own.{gate, log, work, staged, is_own_file, is_own}
-use Rattle.tree_journal.specs.Steps.{is_log_or_staged}
-use Rattle.tree_journal.proofs.WriteSets.{or_none}
+use Rattle.tree_journal.proofs.BetweenSteps.{is_log_or_staged}
+use Rattle.journal_log.proofs.tree-disk.Names.{below_longer, join_short, parent_join, same_last as join_same}
+use Rattle.journal_log.proofs.cny-base.Counts.{fits}
+use Rattle.journal_log.proofs.cny-base.Bools.{or_left, or_right}
+use Rattle.journal_log.proofs.StagedLaws.{p_part as staged_part}
+
+-- ---- the name of the working directory
+
+work_utf8 : is_utf8 (codes "w") ≡ true
+work_utf8 = is_utf8-from_IsUtf8 (codes "w") (IsUtf8-from_ascii (codes "w") (IsAscii-cons 119 [] (lit< tt) IsAscii-nil))
+
+pub work_part : are_parts (codes "w") ≡ true
+work_part = ap (λ (b : Bool). b && true) work_utf8
 
 -- ---- joined names
-
-slash_first : (b : ℕ) → is_path (b ∷ []) ≡ true → b ≡ 47
-slash_first b path = grind (arith, nat_tests)
-
-or_root_itself : (b : ℕ) (p : Name) → or_root (b ∷ p) ≡ b ∷ p
-or_root_itself b p = refl
-
--- a name directly below a path has the path as its parent
-pub parent_join : (p last : Name) → is_path p ≡ true → has_slash last ≡ false → parent (join p last) ≡ p
-parent_join [] last path plain = absurd (cc path)
-parent_join (b ∷ []) last path plain = ap or_root (ap (λ (v : Bool). cond v (b ∷ before_slash last) []) plain) ∙ ap (λ (n : ℕ). n ∷ []) (sym (slash_first b path))
-parent_join (b ∷ c ∷ p) last path plain = ap or_root (before_join (b ∷ c ∷ p) last false plain)
 
 -- and is longer
 pub join_longer : (p last : Name) → is_path p ≡ true → length p + length last ≤ length (join p last)
@@ -39,30 +37,16 @@ join_longer [] last path = absurd (cc path)
 join_longer (b ∷ []) last path = omega arith
 join_longer (b ∷ c ∷ p) last path = omega (arith, length-append (b ∷ c ∷ p) (47 ∷ last))
 
-pub join_short : (p last : Name) → length (join p last) ≤ length p + length last + 1
-join_short [] last = omega arith
-join_short (b ∷ []) last = omega arith
-join_short (b ∷ c ∷ p) last = omega (arith, length-append (b ∷ c ∷ p) (47 ∷ last))
-
-fits : (n : ℕ) → n ≤ 1024 → nat_le n 1024 ≡ true
-fits n le = grind (arith, nat_tests)
-
 -- a name that isn't too long is a path
 pub own_is_path : (p last : Name) → is_path p ≡ true → are_parts last ≡ true → length (join p last) ≤ 1024 → is_path (join p last) ≡ true
 own_is_path p last path parts short = join_is_path p last path parts (fits (length (join p last)) short)
 
 -- ---- lengths
 
-pub below_longer : (p q : Name) → is_below p q ≡ true → length p < length q
-below_longer p q low = let rest = below_rest p q low in omega (arith, ap length rest.1, length-append p (47 ∷ rest.0))
-
 pub not_longer : (p q : Name) → length q ≤ length p → (p ≡ q → ⊥) → is_within p q ≡ false
 not_longer p q le other = or_none (same_name q p) (is_below p q)
     (⊎_elim (λ same. absurd (other (sym (same_means q p same)))) (λ no_same. no_same) (cases_Bool (same_name q p)))
     (⊎_elim (λ low. absurd (omega (arith, below_longer p q low))) (λ not_low. not_low) (cases_Bool (is_below p q)))
-
-pub within_longer : (p q : Name) → is_within p q ≡ true → length p ≤ length q
-within_longer p q within = ⊎_elim (λ same. omega (arith, ap length (same_means q p same))) (λ low. omega (arith, below_longer p q low)) (or_cases (same_name q p) (is_below p q) within)
 
 -- what is below something within a name is within it
 pub within_below : (f q p : Name) → is_within f q ≡ true → is_below q p ≡ true → is_within f p ≡ true
@@ -77,9 +61,6 @@ pub data Line (a b : Name) : Type 0 where
   one : a ≡ b → Line a b
   first : is_below a b ≡ true → Line a b
   second : is_below b a ≡ true → Line a b
-
-equal_test : (n : ℕ) → (n == n) ≡ true
-equal_test n = grind (arith, nat_tests)
 
 below_more : (x : ℕ) (a b : Name) → is_below a b ≡ true → is_below (x ∷ a) (x ∷ b) ≡ true
 below_more x a b low = ap (λ (t : Bool). t && is_below a b) (equal_test x) ∙ low
@@ -109,15 +90,6 @@ in_line a b q high low =
 abbrev head_of : Name → ℕ
 head_of [] = 0
 head_of (b ∷ p) = b
-
-cancel : (p a b : Name) → p ++ a ≡ p ++ b → a ≡ b
-cancel [] a b is = is
-cancel (x ∷ p) a b is = cancel p a b (let rest : p ++ a ≡ p ++ b = cc is in rest)
-
-pub join_same : (p a b : Name) → join p a ≡ join p b → a ≡ b
-join_same [] a b is = let rest : a ≡ b = cc is in rest
-join_same (x ∷ []) a b is = let rest : a ≡ b = cc is in rest
-join_same (x ∷ y ∷ p) a b is = let rest : 47 ∷ a ≡ 47 ∷ b = cancel (x ∷ y ∷ p) (47 ∷ a) (47 ∷ b) is in let tail : a ≡ b = cc rest in tail
 
 no_empty : (p : Name) → 0 < length p → p ≡ [] → ⊥
 no_empty p some is = absurd (omega (arith, some, ap length is))
@@ -289,9 +261,6 @@ module _ (base : Name) (path : is_path base ≡ true) where
   pub log_apart_work : (q : Name) → is_within (log base) q ≡ true → is_within (work base) q ≡ false
   log_apart_work = apart base path (codes "log") (codes "w") (omega (arith, log_long)) (omega (arith, work_long)) refl refl (λ is. absurd (omega (arith, ap length is)))
 
-  pub log_apart_staged : (q : Name) → is_within (log base) q ≡ true → is_within (staged base) q ≡ false
-  log_apart_staged = apart base path (codes "log") (codes "p") (omega (arith, log_long)) (omega (arith, staged_long)) refl refl (λ is. absurd (omega (arith, ap length is)))
-
   pub staged_apart_gate : (q : Name) → is_within (staged base) q ≡ true → is_within (gate base) q ≡ false
   staged_apart_gate = apart base path (codes "p") (codes "gate") (omega (arith, staged_long)) (omega (arith, gate_long)) refl refl (λ is. absurd (omega (arith, ap length is)))
 
@@ -333,18 +302,6 @@ log_utf8 = is_utf8-from_IsUtf8 (codes "log") (IsUtf8-from_ascii (codes "log")
 
 pub gate_part : are_parts (codes "gate") ≡ true
 gate_part = ap (λ (b : Bool). b && true) gate_utf8
-
-work_utf8 : is_utf8 (codes "w") ≡ true
-work_utf8 = is_utf8-from_IsUtf8 (codes "w") (IsUtf8-from_ascii (codes "w") (IsAscii-cons 119 [] (lit< tt) IsAscii-nil))
-
-staged_utf8 : is_utf8 (codes "p") ≡ true
-staged_utf8 = is_utf8-from_IsUtf8 (codes "p") (IsUtf8-from_ascii (codes "p") (IsAscii-cons 112 [] (lit< tt) IsAscii-nil))
-
-pub work_part : are_parts (codes "w") ≡ true
-work_part = ap (λ (b : Bool). b && true) work_utf8
-
-pub staged_part : are_parts (codes "p") ≡ true
-staged_part = ap (λ (b : Bool). b && true) staged_utf8
 
 pub log_part : are_parts (codes "log") ≡ true
 log_part = ap (λ (b : Bool). b && true) log_utf8

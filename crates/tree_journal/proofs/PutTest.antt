@@ -7,30 +7,30 @@ use Rattle.std.specs.List.{All, list_any}
 use Rattle.std.specs.FinMap.{get}
 use Rattle.std.specs.declared.cmp.Ordering.TheVariants.{Less}
 use Rattle.journal_log.specs.cny-base.Path.{is_path, root, parent, join}
-use Rattle.journal_log.specs.cny-base.Parent.{parent_is_path}
-use Rattle.journal_log.specs.cny-base.Below.{is_below, below_parent, child_below, none_below_root, parent_shorter}
+use Rattle.journal_log.proofs.cny-base.Parent.{parent_is_path}
+use Rattle.journal_log.specs.cny-base.Below.{is_below}
+use Rattle.journal_log.proofs.cny-base.Below.{below_parent, child_below, none_below_root, parent_shorter}
 use Rattle.journal_log.specs.tree-disk.declared.disk.Look.{Look}
 use Rattle.journal_log.specs.tree-disk.Tree.{Name, Tree, same_name, is_dir, children, WellFormed}
 use Rattle.journal_log.specs.tree-disk.Laws.{same_means}
 use Rattle.journal_log.specs.tree-disk.Rows.{look_of}
 use Rattle.journal_log.specs.tree-disk.Clear.{is_within}
-use Rattle.journal_log.specs.tree-disk.ClearLaws.{below_trans, join_below, or_cases}
-use Rattle.journal_log.specs.tree-disk.Children.{none_below, stands_or_not, covered_up, children_stand, child_longer, path_short, child_not_root}
+use Rattle.journal_log.proofs.tree-disk.ClearLaws.{below_trans, join_below, or_cases}
+use Rattle.journal_log.proofs.tree-disk.Children.{none_below, stands_or_not, covered_up, children_stand, child_longer, path_short, child_not_root, clash}
 use Rattle.journal_log.specs.declared.put.Put.{Put}
 use Rattle.journal_log.specs.WriteSet.{Rises}
 use Rattle.journal_log.specs.Targets.{is_target}
 use Rattle.tree_journal.specs.CanBePut.{CanBePut, AllCanBePut, HasWay, IsClearBelow}
 use Rattle.tree_journal.specs.Recovery.{IsFirstBlocked}
 use Rattle.journal_log.specs.tree-disk.Looks.{sees_dir}
-use Rattle.tree_journal.specs.Found.{IsAbove, IsChild, IsAnswer, AreClear}
-use Rattle.tree_journal.proofs.WriteSets.{name_cmp, not_itself, not_back, contains_cases, contains_first, contains_rest, is_target-from, first_before}
-use Rattle.tree_journal.proofs.MakePass.{dir_seen}
-
-clash : {A : Type 0} (b : Bool) → b ≡ true → b ≡ false → A
-clash b is not_so = absurd (cc (is, not_so))
-
-not_empty : (q : Name) → is_path q ≡ true → q ≡ [] → ⊥
-not_empty q path empty = absurd (cc (path, ap is_path empty))
+use Rattle.tree_journal.specs.Found.{IsAbove, IsChild, AreClear}
+use Rattle.tree_journal.proofs.WriteSets.{first_before}
+use Rattle.journal_log.specs.cny-base.Answer.{IsAnswer}
+use Rattle.journal_log.proofs.tree-disk.Order.{name_cmp, not_back, not_itself}
+use Rattle.journal_log.proofs.cny-base.Lists.{contains_cases, contains_first, contains_rest}
+use Rattle.journal_log.proofs.tree-disk.Looks.{dir_seen}
+use Rattle.journal_log.proofs.Walking.{listed as is_target-from}
+use Rattle.journal_log.proofs.tree-disk.Names.{no_path as not_empty}
 
 -- ---- paths above
 
@@ -40,12 +40,6 @@ above_is path above is_one is other = record {
   is_path = ap is_path is ∙ parent_is_path path is_one;
   not_root = other;
   shorter = ⊎_elim (λ top. absurd (other top)) (λ less. omega (arith, ap length is, less)) (parent_shorter path is_one);
-}
-
-pub way_of_root : (puts : List Put) (tree : Tree) (path : Name) → path ≡ root → IsAnswer (HasWay puts tree path) true
-way_of_root puts tree path top = record {
-  holds = λ e q q_path low free. absurd (none_below_root q q_path (subst (λ (x : Name). is_below q x ≡ true) top low));
-  fails = λ e. absurd (cc e);
 }
 
 -- what lies above a path is the path without its last name, or lies above that

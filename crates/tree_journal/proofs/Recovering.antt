@@ -10,14 +10,15 @@ use Rattle.journal_log.specs.cny-base.declared.refusal.Refusal.TheVariants as re
 use Rattle.journal_log.specs.cny-base.declared.stop.Stop.{Stop}
 use Rattle.journal_log.specs.cny-base.declared.stop.Stop.TheVariants.{Refused, Memory, Failed, Damaged, FarFailed, FarDamaged}
 use Rattle.journal_log.specs.tree-disk.Tree.{Name, Tree, same_name, is_dir, WellFormed}
-use Rattle.journal_log.specs.tree-disk.Laws.{get_put_here, get_put_other, reads_image, same_tree}
-use Rattle.journal_log.specs.tree-disk.Moments.{rose_before, same_start, same_on, time_start, time_on}
+use Rattle.journal_log.proofs.tree-disk.Laws.{get_put_here, get_put_other, reads_image, same_tree}
+use Rattle.journal_log.specs.tree-disk.Moments.{same_start, same_on, time_start, time_on}
+use Rattle.journal_log.proofs.tree-disk.Moments.{rose_before}
 use Rattle.journal_log.specs.tree-disk.Disk.{DiskModel, IsDisk, IsImageOf, HasRead}
 use Rattle.journal_log.specs.tree-disk.Confined.{Among, Confined, IsSynced, LeavesOnly}
 use Rattle.journal_log.specs.tree-disk.Steps.{no_name, Ended, Makes}
-use Rattle.journal_log.specs.tree-disk.ConfinedLaws.{false_from_not, leaves_weaker, leaves_then, confined_read, confined_then}
-use Rattle.journal_log.specs.tree-disk.Unfailed.{UnlessFailed, unfailed_weaker, unfailed_then, unfailed_confined}
-use Rattle.journal_log.specs.tree-disk.ClearLaws.{or_left}
+use Rattle.journal_log.proofs.tree-disk.ConfinedLaws.{false_from_not, leaves_weaker, leaves_then, confined_read, confined_then}
+use Rattle.journal_log.specs.tree-disk.Unfailed.{UnlessFailed}
+use Rattle.journal_log.proofs.tree-disk.Unfailed.{unfailed_weaker, unfailed_then, unfailed_confined}
 use Rattle.journal_log.specs.declared.put.Put.{Put}
 use Rattle.journal_log.specs.Own.{gate, log, is_own, StoresSame}
 use Rattle.tree_journal.specs.Staging.{outcome}
@@ -27,12 +28,13 @@ use Rattle.tree_journal.specs.Found.{FindsReplayable, IsFaultOr, StopsSo}
 use Rattle.tree_journal.specs.Passes.{all_put}
 use Rattle.tree_journal.specs.Visible.{IsVisible}
 use Rattle.tree_journal.specs.Steps.{is_replay_name, replayed, HasLog, IsCommitted}
-use Rattle.tree_journal.proofs.OwnNames.{parent_join, in_gate}
+use Rattle.tree_journal.proofs.OwnNames.{in_gate}
 use Rattle.tree_journal.proofs.Seen.{visible_before, visible_same}
 use Rattle.tree_journal.proofs.ReplayImages.{recovers_same, unchanged_leaves, same_all_put}
-
-clash : {A : Type 0} (b : Bool) → b ≡ true → b ≡ false → A
-clash b is not_so = absurd (cc (is, not_so))
+use Rattle.journal_log.proofs.tree-disk.Children.{clash}
+use Rattle.journal_log.proofs.tree-disk.Names.{parent_join}
+use Rattle.tree_journal.proofs.Finding.{if_err as err_if_err, if_ok_err as err_if_ok}
+use Rattle.journal_log.proofs.cny-base.Bools.{or_left}
 
 -- ---- results
 
@@ -51,14 +53,6 @@ if_err_map (Err e) f p = f e p
 pub err_on_ok : {X : Type 0} (P : Type 0) (e : Stop) (r : Result X Stop) → IsErrAnd r (λ s. s ≡ e) → OnOk r P
 err_on_ok P e (Ok x) is = absurd is
 err_on_ok P e (Err s) is = tt
-
-pub err_if_ok : {X : Type 0} (P : X → Type 0) (e : Stop) (r : Result X Stop) → IsErrAnd r (λ s. s ≡ e) → IfOk r P
-err_if_ok P e (Ok x) is = absurd is
-err_if_ok P e (Err s) is = tt
-
-err_if_err : {X : Type 0} (P : Stop → Type 0) (e : Stop) (r : Result X Stop) → IsErrAnd r (λ s. s ≡ e) → P e → IfErr r P
-err_if_err P e (Ok x) is p = absurd is
-err_if_err P e (Err s) is p = subst P (sym is) p
 
 -- what isn't a path stands nowhere
 pub no_flag : (base : Name) (tree : Tree) → WellFormed tree → is_path (gate base) ≡ false → is_committed base tree ≡ false

@@ -1,20 +1,22 @@
 -- What crash images recover to while a log is replayed.
-use Rattle.std.proofs.Common.{◌≡◌, inl, ⊎_elim, cond, Bool, true, false, ◌||◌, IsTrue, List, [], get_or, Option, Some, None, Contains, refl, sym, ◌∙◌, ap, subst, arith}
+use Rattle.std.proofs.Common.{◌≡◌, inl, ⊎_elim, cond, Bool, true, false, ◌||◌, IsTrue, List, [], get_or, Option, Some, None, Contains, refl, sym, ◌∙◌, ap, subst}
 use Rattle.std.proofs.lemmas.Bool.{cases_Bool}
 use Rattle.std.proofs.lemmas.List.Elements.{All-contains, Contains-get_or}
 use Rattle.std.specs.List.{All}
 use Rattle.std.specs.FinMap.{get}
 use Rattle.journal_log.specs.cny-base.Path.{is_path, join, parent, has_slash}
-use Rattle.journal_log.specs.cny-base.Below.{is_below, below_parent}
+use Rattle.journal_log.specs.cny-base.Below.{is_below}
+use Rattle.journal_log.proofs.cny-base.Below.{below_parent}
 use Rattle.journal_log.specs.cny-base.declared.node.Node.{Node}
 use Rattle.journal_log.specs.cny-base.declared.node.Node.TheVariants as node
 use Rattle.journal_log.specs.tree-disk.Tree.{Name, Tree, same_name, is_dir, is_file}
-use Rattle.journal_log.specs.tree-disk.Laws.{same_means, same_itself, only_reads}
+use Rattle.journal_log.specs.tree-disk.Laws.{same_means}
+use Rattle.journal_log.proofs.tree-disk.Laws.{same_itself}
 use Rattle.journal_log.specs.tree-disk.Clear.{is_within, without_tree}
-use Rattle.journal_log.specs.tree-disk.ClearLaws.{below_within, within_itself, or_left, or_cases, get-without_tree, bare_without}
+use Rattle.journal_log.proofs.tree-disk.ClearLaws.{below_within, within_itself, or_cases, get-without_tree, bare_without}
 use Rattle.journal_log.specs.tree-disk.Disk.{DiskModel, IsDisk}
 use Rattle.journal_log.specs.tree-disk.Confined.{Among, Confined, DiffersOnlyAt, IsUnsyncedOr, IsSynced, LeavesOnly}
-use Rattle.journal_log.specs.tree-disk.ConfinedLaws.{leaves_weaker}
+use Rattle.journal_log.proofs.tree-disk.ConfinedLaws.{leaves_weaker}
 use Rattle.journal_log.specs.tree-disk.Steps.{no_name}
 use Rattle.journal_log.specs.declared.put.Put.{Put}
 use Rattle.journal_log.specs.Own.{gate, log, work, staged, is_own, StoresSame}
@@ -26,9 +28,12 @@ use Rattle.tree_journal.specs.Staging.{AllStaged, outcome}
 use Rattle.tree_journal.specs.Apply.{is_own_or_target}
 use Rattle.tree_journal.specs.Passes.{is_work_or_target, all_put, CanReplay, CanPutAll}
 use Rattle.tree_journal.specs.Steps.{is_replay_name, IsCommitted}
-use Rattle.tree_journal.proofs.WriteSets.{neither, or_none}
+use Rattle.tree_journal.proofs.WriteSets.{neither}
 use Rattle.tree_journal.proofs.Staged.{AgreesStaged, own_free, all_staged_same, outcome_outside, same_outcome}
-use Rattle.tree_journal.proofs.OwnNames.{parent_join, within_below, in_line, Line, one, first, second, in_gate, in_log, in_work, base_own, OwnPlace, at_base, in_file, own_place, base_not_in_gate, base_not_in_work, log_not_in_gate, log_not_in_work, gate_not_in_work, staged_apart_gate, staged_apart_work, in_staged}
+use Rattle.tree_journal.proofs.OwnNames.{within_below, in_line, Line, one, first, second, in_gate, in_log, in_work, base_own, OwnPlace, at_base, in_file, own_place, base_not_in_gate, base_not_in_work, log_not_in_gate, log_not_in_work, gate_not_in_work, staged_apart_gate, staged_apart_work, in_staged}
+use Rattle.journal_log.proofs.tree-disk.Names.{parent_join}
+use Rattle.journal_log.proofs.cny-base.Bools.{or_left}
+use Rattle.journal_log.proofs.tree-disk.Children.{or_none}
 
 -- ---- a tree that recovers
 
@@ -48,7 +53,7 @@ flag_is_file (Some (node.Link target)) h = absurd (cc h)
 
 -- ---- the journal's own names and the targets
 
-not_false : (b : Bool) → b ≡ true → b ≡ false → ⊥
+pub not_false : (b : Bool) → b ≡ true → b ≡ false → ⊥
 not_false b is other = absurd (cc (is, other))
 
 module _ (base : Name) (path : is_path base ≡ true) (puts : List Put) (paths : All (λ p. IsTrue (is_path p.path)) puts) (named : All (λ p. CanBeNamed base p.path) puts) where
@@ -229,18 +234,6 @@ module _ {D : Type 0} (disk : DiskModel D) (laws : IsDisk disk) (base : Name) (p
       → RecoversTo base image (outcome base puts (disk.reads old))
   by_replay image agree set = replay_image base path puts log_of.write_set.paths log_of.named (disk.reads old) image (outcome base puts (disk.reads old)) ready.has_log.holds
       ready.has_log.can.stand ready.has_log.can.can ready.has_log.can.base_stands agree set (λ q out. refl)
-
-  -- before a call
-  pub start_leaves : LeavesOnly disk old old (λ image. RecoversTo base image (outcome base puts (disk.reads old)))
-  start_leaves = record {
-    later = omega arith;
-    each = λ image since. at image (only_reads laws old ready.synced image (laws.only_now old image since));
-    before = λ k image le since. inl since;
-    kept = λ k image le since. since;
-  }
-    where
-      at : (image : Tree) → image ≡ disk.reads old → RecoversTo base image (outcome base puts (disk.reads old))
-      at image is = by_replay image (λ q out. ap (λ (t : Tree). get t q) is) (ap (is_committed base) is ∙ ready.flag_set)
 
   gate_apart : is_work_or_target base puts (gate base) ≡ false
   gate_apart = or_none (is_within (work base) (gate base)) (is_target puts (gate base)) (gate_not_in_work base path) (gate_no_target base path puts log_of.write_set.paths log_of.named)

@@ -7,12 +7,14 @@ use Rattle.journal_log.specs.cny-base.Path.{is_path}
 use Rattle.journal_log.specs.cny-base.declared.node.Node.{Node}
 use Rattle.journal_log.specs.cny-base.declared.node.Node.TheVariants as node
 use Rattle.journal_log.specs.tree-disk.Tree.{Name, Tree, same_name, put}
-use Rattle.journal_log.specs.tree-disk.Laws.{same_means, get_put_here, get_put_other}
+use Rattle.journal_log.specs.tree-disk.Laws.{same_means}
+use Rattle.journal_log.proofs.tree-disk.Laws.{get_put_here, get_put_other}
 use Rattle.journal_log.specs.tree-disk.Disk.{DiskModel, HasRead}
 use Rattle.journal_log.specs.tree-disk.Moments.{shows_weaker}
 use Rattle.journal_log.specs.tree-disk.Confined.{AgreesExcept, Among, Confined}
 use Rattle.journal_log.specs.tree-disk.Steps.{Makes}
-use Rattle.journal_log.specs.tree-disk.Unfailed.{IsEither, UnlessFailed, unfailed_weaker, unfailed_then, unfailed_confined}
+use Rattle.journal_log.specs.tree-disk.Unfailed.{IsEither, UnlessFailed}
+use Rattle.journal_log.proofs.tree-disk.Unfailed.{unfailed_weaker, unfailed_then, unfailed_confined}
 use Rattle.journal_log.specs.declared.put.Want.{Want}
 use Rattle.journal_log.specs.declared.put.Want.TheVariants as want
 use Rattle.journal_log.specs.declared.put.Put.{Put}
@@ -22,10 +24,11 @@ use Rattle.journal_log.specs.Targets.{is_target, node_of, with_targets}
 use Rattle.tree_journal.specs.Staging.{resolved, resolve, outcome}
 use Rattle.tree_journal.specs.Passes.{obstructs, cleared, all_cleared, with_target}
 use Rattle.tree_journal.specs.Visible.{differ_in_kind, ShowsNode, IsVisible, IsBetween, IsObstructedAt, IsPartCleared}
-use Rattle.tree_journal.proofs.WriteSets.{contains_first, contains_rest, first_not_later}
+use Rattle.tree_journal.proofs.WriteSets.{first_not_later}
 use Rattle.tree_journal.proofs.Staged.{outcome_target, outcome_outside}
 use Rattle.tree_journal.proofs.MakePass.{one_more_made, step_made}
 use Rattle.tree_journal.proofs.ClearPass.{get-cleared_other, cleared_away, cleared_kept, all_cleared_outside}
+use Rattle.journal_log.proofs.cny-base.Lists.{contains_first, contains_rest}
 
 -- ---- the first pass
 
@@ -69,9 +72,6 @@ drop_obstructed (p ∷ puts) (suc i) tree q at = wider p puts tree q (drop_obstr
 pub rest_cleared : (puts : List Put) (i : ℕ) (tree : Tree) → Rises puts → IsPartCleared puts tree (all_cleared (drop i puts) tree)
 rest_cleared puts i tree rises q = ⊎_elim (λ same. inl same) (λ gone. inr (gone.0, drop_obstructed puts i tree q gone.1)) (part_cleared (drop i puts) tree (rises_drop puts i rises) q)
 
-pub not_cleared : (puts : List Put) (tree t : Tree) → t ≡ tree → IsPartCleared puts tree t
-not_cleared puts tree t is q = inl (ap (λ (u : Tree). get u q) is)
-
 -- a step of it
 pub step_cleared : {D : Type 0} {disk : DiskModel D} (puts : List Put) (tree : Tree) (mid new : D) (before after : Tree) → disk.reads mid ≡ before
     → IsPartCleared puts tree before → IsPartCleared puts tree after → UnlessFailed disk mid new (IsEither (disk.reads mid) after) → UnlessFailed disk mid new (IsPartCleared puts tree)
@@ -107,9 +107,6 @@ between_both base before after a b t of_a of_b between q out = ⊎_elim
 
 pub between_either : (base : Name) (before after t : Tree) → IsEither before after t → IsBetween base before after t
 between_either base before after t is q out = ⊎_elim (λ same. inl (ap (λ (u : Tree). get u q) same)) (λ same. inr (ap (λ (u : Tree). get u q) same)) is
-
-pub between_start : (base : Name) (before after : Tree) → IsBetween base before after before
-between_start base before after q out = inl refl
 
 -- a run at the journal's own names alone
 pub between_own : {D : Type 0} {disk : DiskModel D} (base : Name) (names : Name → Bool) (old new : D) (after : Tree) → ((q : Name) → names q ≡ true → is_own base q ≡ true)

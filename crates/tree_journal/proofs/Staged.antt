@@ -8,15 +8,16 @@ use Rattle.std.specs.Fmt.{decimal}
 use Rattle.std.specs.List.{All, list_any}
 use Rattle.std.specs.FinMap.{get}
 use Rattle.journal_log.specs.cny-base.Path.{is_path, is_slash, has_slash, join, or_root, parent}
-use Rattle.journal_log.specs.cny-base.Below.{before_join, is_below, rest_below}
+use Rattle.journal_log.specs.cny-base.Below.{is_below}
+use Rattle.journal_log.proofs.cny-base.Below.{before_join, rest_below}
 use Rattle.journal_log.specs.cny-base.declared.node.Node.{Node}
 use Rattle.journal_log.specs.cny-base.declared.node.Node.TheVariants as node
 use Rattle.journal_log.specs.tree-disk.Tree.{Name, Tree, same_name, put, is_dir, is_file}
 use Rattle.journal_log.specs.tree-disk.Rows.{bytes_of}
-use Rattle.journal_log.specs.tree-disk.Laws.{get_put_here}
+use Rattle.journal_log.proofs.tree-disk.Laws.{get_put_here}
 use Rattle.journal_log.specs.tree-disk.Clear.{is_within}
-use Rattle.journal_log.specs.tree-disk.ClearLaws.{below_within, within_itself}
-use Rattle.journal_log.specs.tree-disk.Children.{child_longer}
+use Rattle.journal_log.proofs.tree-disk.ClearLaws.{below_within, within_itself}
+use Rattle.journal_log.proofs.tree-disk.Children.{child_longer, or_none}
 use Rattle.journal_log.specs.declared.put.Want.{Want}
 use Rattle.journal_log.specs.declared.put.Want.TheVariants as want
 use Rattle.journal_log.specs.declared.put.Put.{Put}
@@ -26,8 +27,10 @@ use Rattle.journal_log.specs.Targets.{is_dir_want, node_of, is_target, with_targ
 use Rattle.tree_journal.specs.Staging.{is_content, has_content, AllStaged, resolved, resolve, outcome}
 use Rattle.tree_journal.specs.Apply.{is_own_or_target}
 use Rattle.tree_journal.specs.Passes.{HasSize}
-use Rattle.tree_journal.proofs.WriteSets.{or_none, target_at, first_not_later, contains_cases, with_targets_outside, with_targets_inside}
+use Rattle.tree_journal.proofs.WriteSets.{target_at, first_not_later, with_targets_outside, with_targets_inside}
 use Rattle.tree_journal.proofs.OwnNames.{apart, staged_long, staged_not_root}
+use Rattle.journal_log.proofs.cny-base.Lists.{contains_cases}
+use Rattle.journal_log.proofs.StagedLaws.{remainder as last_digit}
 
 -- ---- the files of staged bytes
 
@@ -49,9 +52,6 @@ staged_longer base path n = omega (arith, ap length (long_join (staged base) (de
 
 no_slash_digit : (n : ℕ) → n < 10 → is_slash (48 + n) ≡ false
 no_slash_digit n lt = grind (arith, nat_tests)
-
-last_digit : (n : ℕ) → n % 10 < 10
-last_digit n = omega arith
 
 any_last : (xs : List ℕ) (x : ℕ) → list_any is_slash xs ≡ false → is_slash x ≡ false → list_any is_slash (xs ++ x ∷ []) ≡ false
 any_last [] x none last = or_none (is_slash x) false last refl
@@ -129,10 +129,6 @@ target_resolved base start (p ∷ puts) q = ap (λ (b : Bool). same_name q p.pat
 pub outcome_outside : (base : Name) (start : Tree) (puts : List Put) (tree : Tree) (q : Name) → is_target puts q ≡ false
     → get (with_targets (map (resolve base start) puts) tree) q ≡ get tree q
 outcome_outside base start puts tree q free = with_targets_outside (map (resolve base start) puts) tree q (target_resolved base start puts q ∙ free)
-
-pub outcome_inside : (base : Name) (start : Tree) (puts : List Put) (a b : Tree) (q : Name) → is_target puts q ≡ true
-    → get (with_targets (map (resolve base start) puts) a) q ≡ get (with_targets (map (resolve base start) puts) b) q
-outcome_inside base start puts a b q target = with_targets_inside (map (resolve base start) puts) a b q (target_resolved base start puts q ∙ target)
 
 -- at a target stands what is wanted
 pub outcome_target : (base : Name) (start : Tree) (puts : List Put) (tree : Tree) (p : Put) → Rises puts → Contains puts p

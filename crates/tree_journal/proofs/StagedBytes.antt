@@ -18,8 +18,8 @@ use Rattle.journal_log.specs.tree-disk.Tree.{Name, Tree, same_name, is_dir, chil
 use Rattle.journal_log.specs.tree-disk.Rows.{bytes_of}
 use Rattle.journal_log.specs.tree-disk.Laws.{same_means}
 use Rattle.journal_log.specs.tree-disk.Clear.{is_within, without_tree, without_each}
-use Rattle.journal_log.specs.tree-disk.ClearLaws.{below_within, join_below, within_join_below, or_cases, or_left, or_right}
-use Rattle.journal_log.specs.tree-disk.Children.{child_longer, covered_up, not_below_itself, stands_or_not}
+use Rattle.journal_log.proofs.tree-disk.ClearLaws.{below_within, join_below, within_join_below, or_cases}
+use Rattle.journal_log.proofs.tree-disk.Children.{child_longer, covered_up, not_below_itself, stands_or_not, or_none}
 use Rattle.journal_log.proofs.tree-disk.Clearing.{get-without_each, without_each-append}
 use Rattle.journal_log.specs.declared.put.Want.{Want}
 use Rattle.journal_log.specs.declared.put.Want.TheVariants as want
@@ -30,10 +30,12 @@ use Rattle.journal_log.specs.Numbers.{staged_want, with_numbers, IsNumbered, Num
 use Rattle.tree_journal.specs.Staging.{is_content, has_content, AllStaged, HoldsNoOthers, resolved, resolve}
 use Rattle.tree_journal.specs.Apply.{with_base}
 use Rattle.tree_journal.specs.Steps.{is_stray, HasNoStrays, HasRoom, HaveRoom, with_own_file, with_bytes, with_all_bytes, with_stage, with_staged, without_strays}
-use Rattle.tree_journal.proofs.WriteSets.{or_none, neither}
-use Rattle.tree_journal.proofs.OwnNames.{join_same, not_above, not_longer, within_below, staged_not_root, staged_is_path, staged_apart_log, base_not_in_staged}
+use Rattle.tree_journal.proofs.WriteSets.{neither}
+use Rattle.tree_journal.proofs.OwnNames.{not_above, not_longer, within_below, staged_not_root, staged_is_path, staged_apart_log, base_not_in_staged}
 use Rattle.tree_journal.proofs.OwnFiles.{get-own_file_other, get-own_file_here, get-base_other, base_stands}
 use Rattle.tree_journal.proofs.Staged.{file_within, file_apart, staged_longer, decimal_plain, parent_long, dir_long}
+use Rattle.journal_log.proofs.tree-disk.Names.{same_last as join_same}
+use Rattle.journal_log.proofs.cny-base.Bools.{or_left, or_right}
 
 -- ---- names that no write names are cleared
 
@@ -167,7 +169,7 @@ file_longer base path n =
     not_longer (staged_file base n) (staged base) (omega (arith, longer)) (λ is. absurd (omega (arith, longer, ap length is)))
 
 -- nothing is written for writes that are as they were
-no_bytes_written : (base : Name) (puts : List Put) (tree : Tree) → with_all_bytes base puts puts tree ≡ tree
+pub no_bytes_written : (base : Name) (puts : List Put) (tree : Tree) → with_all_bytes base puts puts tree ≡ tree
 no_bytes_written base [] tree = refl
 no_bytes_written base (p ∷ puts) tree = no_bytes_written base puts (with_bytes base p.want p.want tree) ∙ same p.want
   where
@@ -284,11 +286,11 @@ others_past_log base path made bytes tree clear q low free = get-own_file_other 
 -- ---- each staged file holds what its write wants
 
 module _ (base : Name) (path : is_path base ≡ true) (dir : is_path (staged base) ≡ true) where
-  abbrev IsOther : ℕ → ℕ → Type 0
+  abbrev pub IsOther : ℕ → ℕ → Type 0
   IsOther m n = (m ≡ n → ⊥) × (n < 2 ^ 64)
 
   -- files of other numbers stay
-  numbers_apart : (m : ℕ) → m < 2 ^ 64 → (puts : List Put) (numbers : List ℕ) (tree : Tree) → All (IsOther m) numbers
+  pub numbers_apart : (m : ℕ) → m < 2 ^ 64 → (puts : List Put) (numbers : List ℕ) (tree : Tree) → All (IsOther m) numbers
       → get (with_all_bytes base puts (with_numbers numbers puts) tree) (staged_file base m) ≡ get tree (staged_file base m)
   numbers_apart m fits [] numbers tree others = refl
   numbers_apart m fits (p ∷ puts) [] tree others = no_files (p ∷ puts) tree
@@ -312,7 +314,7 @@ module _ (base : Name) (path : is_path base ≡ true) (dir : is_path (staged bas
   abbrev pub IsBareAt : Tree → ℕ → Type 0
   IsBareAt tree n = (get tree (staged_file base n) ≡ None) × (n < 2 ^ 64)
 
-  same_room : (puts : List Put) (tree : Tree) → HaveRoom base puts puts tree
+  pub same_room : (puts : List Put) (tree : Tree) → HaveRoom base puts puts tree
   same_room [] tree = tt
   same_room (p ∷ puts) tree = (at p.want, same_room puts (with_bytes base p.want p.want tree))
     where
@@ -354,53 +356,53 @@ module _ (base : Name) (path : is_path base ≡ true) (dir : is_path (staged bas
   abbrev pub IsFree : List Put → ℕ → Type 0
   IsFree puts n = (names_staged puts n ≡ false) × (n < 2 ^ 64)
 
-  abbrev Holds : Tree → Tree → List Put → List Put → Type 0
+  abbrev pub Holds : Tree → Tree → List Put → List Put → Type 0
   Holds last first made puts = (map (resolve base last) made ≡ map (resolve base first) puts) × AllStaged base last made
 
-  holds_cons : (last first : Tree) (q p : Put) (made puts : List Put) → resolve base last q ≡ resolve base first p → has_content base last q.want ≡ true → Holds last first made puts → Holds last first (q ∷ made) (p ∷ puts)
+  pub holds_cons : (last first : Tree) (q p : Put) (made puts : List Put) → resolve base last q ≡ resolve base first p → has_content base last q.want ≡ true → Holds last first made puts → Holds last first (q ∷ made) (p ∷ puts)
   holds_cons last first q p made puts same stands rest = (
     ap (λ (x : Put). x ∷ map (resolve base last) made) same ∙ ap (λ (l : List Put). resolve base first p ∷ l) rest.0,
     All-cons (λ (x : Put). IsTrue (has_content base last x.want)) q made stands rest.1,
   )
 
-  as_write : (last first : Tree) (at : Name) (v w : Want) → resolved base last v ≡ resolved base first w
+  pub as_write : (last first : Tree) (at : Name) (v w : Want) → resolved base last v ≡ resolved base first w
       → (let one : Put = record { path = at; want = resolved base last v } in let two : Put = record { path = at; want = resolved base first w } in one ≡ two)
   as_write last first at v w same = let make : Want → Put = λ x. record { path = at; want = x } in ap make same
 
-  equal_itself : (n : ℕ) → (n == n) ≡ true
+  pub equal_itself : (n : ℕ) → (n == n) ≡ true
   equal_itself n = grind (arith, nat_tests)
 
-  both_so : (x y : Bool) → x ≡ true → y ≡ true → (x && y) ≡ true
+  pub both_so : (x y : Bool) → x ≡ true → y ≡ true → (x && y) ≡ true
   both_so true y left right = right
   both_so false y left right = absurd (cc left)
 
-  content_itself : (mode : ℕ) (bytes : List ℕ) → is_content (Some (node.File mode bytes)) (length bytes) (sha1 bytes) ≡ true
+  pub content_itself : (mode : ℕ) (bytes : List ℕ) → is_content (Some (node.File mode bytes)) (length bytes) (sha1 bytes) ≡ true
   content_itself mode bytes = both_so (length bytes == length bytes) (bytes_eq (sha1 bytes) (sha1 bytes)) (equal_itself (length bytes)) ((bytes_eq-Decides (sha1 bytes) (sha1 bytes)).1 refl)
 
-  free_rest : (p : Put) (puts : List Put) (n : ℕ) → IsFree (p ∷ puts) n → IsFree puts n
+  pub free_rest : (p : Put) (puts : List Put) (n : ℕ) → IsFree (p ∷ puts) n → IsFree puts n
   free_rest p puts n free = ((neither (is_staged_as n p.want) (names_staged puts n) free.0).1, free.1)
 
-  keeps_rest : (p : Put) (puts : List Put) (tree first : Tree) → Keeps (p ∷ puts) tree first → Keeps puts tree first
+  pub keeps_rest : (p : Put) (puts : List Put) (tree first : Tree) → Keeps (p ∷ puts) tree first → Keeps puts tree first
   keeps_rest p puts tree first keeps k named = keeps k (or_right (is_staged_as k p.want) (names_staged puts k) named)
 
-  keeps_written : (puts : List Put) (tree first : Tree) (n : ℕ) (bytes : List ℕ) → IsFree puts n → Keeps puts tree first → Keeps puts (with_own_file (staged_file base n) bytes tree) first
+  pub keeps_written : (puts : List Put) (tree first : Tree) (n : ℕ) (bytes : List ℕ) → IsFree puts n → Keeps puts tree first → Keeps puts (with_own_file (staged_file base n) bytes tree) first
   keeps_written puts tree first n bytes free keeps k named =
       let old = keeps k named in (
         get-own_file_other (staged_file base n) bytes tree (staged_file base k) (file_apart base path dir n k free.1 old.1 (λ is. absurd (cc (named, ap (names_staged puts) is, free.0)))) ∙ old.0,
         old.1,
       )
 
-  rest_other : (n : ℕ) (numbers : List ℕ) → n < 2 ^ 64 → All (λ m. n < m) numbers → All (λ m. m < 2 ^ 64) numbers → All (IsOther n) numbers
+  pub rest_other : (n : ℕ) (numbers : List ℕ) → n < 2 ^ 64 → All (λ m. n < m) numbers → All (λ m. m < 2 ^ 64) numbers → All (IsOther n) numbers
   rest_other n numbers fits later fit = λ k d lt. ((λ is. absurd (omega (arith, is, later k d lt))), fit k d lt)
 
-  free_other : (p : Put) (puts : List Put) (k : ℕ) (numbers : List ℕ) → names_staged (p ∷ puts) k ≡ true → All (IsFree (p ∷ puts)) numbers → All (IsOther k) numbers
+  pub free_other : (p : Put) (puts : List Put) (k : ℕ) (numbers : List ℕ) → names_staged (p ∷ puts) k ≡ true → All (IsFree (p ∷ puts)) numbers → All (IsOther k) numbers
   free_other p puts k numbers named free = All-weaker (IsFree (p ∷ puts)) (IsOther k) (λ n h. ((λ is. absurd (cc (named, ap (names_staged (p ∷ puts)) is, h.0))), h.1)) numbers free
 
-  fit_of : (puts : List Put) (numbers : List ℕ) → All (IsFree puts) numbers → All (λ m. m < 2 ^ 64) numbers
+  pub fit_of : (puts : List Put) (numbers : List ℕ) → All (IsFree puts) numbers → All (λ m. m < 2 ^ 64) numbers
   fit_of puts numbers free = All-weaker (IsFree puts) (λ m. m < 2 ^ 64) (λ n h. h.1) numbers free
 
   -- without numbers to give, nothing is written
-  kept_holds : (puts : List Put) (tree first : Tree) → Keeps puts tree first → AllStaged base first puts → Holds tree first puts puts
+  pub kept_holds : (puts : List Put) (tree first : Tree) → Keeps puts tree first → AllStaged base first puts → Holds tree first puts puts
   kept_holds [] tree first keeps stand = (refl, λ k d lt. absurd (omega (arith, lt)))
   kept_holds (p ∷ puts) tree first keeps stand = holds_cons tree first p p puts puts (as_write tree first p.path p.want p.want (same p.want (λ k named. (keeps k (here k named)).0)))
       (content p.want (λ k named. (keeps k (here k named)).0) (All-head (λ (x : Put). IsTrue (has_content base first x.want)) p puts stand))
@@ -507,9 +509,6 @@ room_for base path dir puts made is tree clear fits = subst (λ (l : List Put). 
 
 pub file_parent : (base : Name) → is_path base ≡ true → (n : ℕ) → n < 2 ^ 32 → parent (staged_file base n) ≡ staged base
 file_parent base path n fits = parent_long (staged base) (decimal n) (dir_long base path) (decimal_plain n (omega (arith, fits)))
-
-pub file_not_root : (base : Name) → is_path base ≡ true → (n : ℕ) → staged_file base n ≢ root
-file_not_root base path n is = absurd (omega (arith, ap length is, staged_longer base path n, dir_long base path))
 
 pub in_dir : (base : Name) → is_path base ≡ true → (n : ℕ) (at : Name) → at ≡ staged_file base n → (q : Name) → IsTrue (is_within at q) → IsTrue (is_within (staged base) q)
 in_dir base path n at is q h = ⊎_elim

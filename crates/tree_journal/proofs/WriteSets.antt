@@ -1,30 +1,21 @@
 -- Write sets, and what stands in a tree with all targets.
-use Rattle.std.proofs.Common.{◌≡◌, ◌⊎◌, inl, inr, ⊎_elim, ℕ, zero, suc, ◌+◌, ◌<◌, Bool, true, false, cond, ◌||◌, List, [], ◌∷◌, ◌++◌, length, get_or, take, drop, Contains, refl, sym, ◌∙◌, ap, subst, arith}
+use Rattle.std.proofs.Common.{◌≡◌, ⊎_elim, ℕ, ◌+◌, ◌<◌, Bool, true, false, cond, ◌||◌, List, [], ◌∷◌, ◌++◌, length, get_or, take, drop, Contains, refl, sym, ◌∙◌, ap}
 use Rattle.std.proofs.lemmas.Bool.{cases_Bool}
 use Rattle.std.proofs.lemmas.List.{take_more, drop_more}
 use Rattle.std.specs.FinMap.{get}
-use Rattle.std.specs.Ordering.{nat_cmp, is_eq}
-use Rattle.std.specs.declared.cmp.Ordering.{Ordering}
 use Rattle.std.specs.declared.cmp.Ordering.TheVariants.{Less}
-use Rattle.std.specs.Cmp.Lexicographic.{slice_cmp, nat_list_cmp_total}
-use Rattle.journal_log.specs.cny-base.Below.{is_below, below_rest, shorter_less}
+use Rattle.std.specs.Cmp.Lexicographic.{nat_list_cmp_total}
+use Rattle.journal_log.specs.cny-base.Below.{is_below}
+use Rattle.journal_log.proofs.cny-base.Below.{below_rest, shorter_less}
 use Rattle.journal_log.specs.tree-disk.Tree.{Name, Tree, same_name, put}
-use Rattle.journal_log.specs.tree-disk.Laws.{same_means, same_itself, get_put, get_put_here, get_put_other, same_tree}
+use Rattle.journal_log.specs.tree-disk.Laws.{same_means, get_put}
+use Rattle.journal_log.proofs.tree-disk.Laws.{get_put_other, same_tree}
 use Rattle.journal_log.specs.declared.put.Put.{Put}
 use Rattle.journal_log.specs.WriteSet.{Rises}
 use Rattle.journal_log.specs.Targets.{node_of, is_target, with_targets}
-
-abbrev pub name_cmp : Name → Name → Ordering
-name_cmp p q = slice_cmp nat_cmp p q
-
-pub not_itself : (p : Name) → name_cmp p p ≡ Less → ⊥
-not_itself p less = absurd (cc (ap is_eq less, same_itself p))
-
-pub not_back : (p q : Name) → name_cmp p q ≡ Less → name_cmp q p ≡ Less → ⊥
-not_back p q less more = not_itself p (nat_list_cmp_total.trans p q p less more)
-
-pub less_differs : (p q : Name) → name_cmp p q ≡ Less → same_name q p ≡ false
-less_differs p q less = ⊎_elim (λ same. absurd (not_itself p (ap (name_cmp p) (sym (same_means q p same)) ∙ less))) (λ other. other) (cases_Bool (same_name q p))
+use Rattle.journal_log.proofs.tree-disk.Order.{name_cmp, less_differs, not_itself}
+use Rattle.journal_log.proofs.cny-base.Lists.{contains_first, contains_rest}
+use Rattle.journal_log.proofs.Walking.{listed as is_target-from}
 
 -- what lies below comes later
 pub below_later : (p q : Name) → is_below p q ≡ true → name_cmp p q ≡ Less
@@ -35,29 +26,6 @@ below_later p q low = let rest = below_rest p q low in ap (name_cmp p) rest.1 �
 pub neither : (a b : Bool) → (a || b) ≡ false → (a ≡ false) × (b ≡ false)
 neither true b h = absurd (cc h)
 neither false b h = (refl, h)
-
-pub or_second : (a b : Bool) → b ≡ true → (a || b) ≡ true
-or_second true b h = refl
-or_second false b h = h
-
-pub or_none : (a b : Bool) → a ≡ false → b ≡ false → (a || b) ≡ false
-or_none true b h k = absurd (cc h)
-or_none false b h k = k
-
--- ---- elements of a list
-
-pub contains_first : {X : Type 0} (x : X) (xs : List X) → Contains (x ∷ xs) x
-contains_first x xs = (0, omega arith, refl)
-
-pub contains_rest : {X : Type 0} (x y : X) (xs : List X) → Contains xs y → Contains (x ∷ xs) y
-contains_rest x y xs h = (suc h.0, omega (arith, h.1), h.2)
-
-pub contains_cases : {X : Type 0} (x y : X) (xs : List X) → Contains (x ∷ xs) y → (x ≡ y) ⊎ Contains xs y
-contains_cases {X} x y xs h = at h.0 h.1 h.2
-  where
-    at : (k : ℕ) → k < length (x ∷ xs) → get_or (x ∷ xs) k y ≡ y → (x ≡ y) ⊎ Contains xs y
-    at zero lt is = inl is
-    at (suc k) lt is = inr (k, omega (arith, lt), is)
 
 -- ---- targets
 
@@ -70,15 +38,6 @@ target_at (r ∷ puts) path h = by (same_name path r.path) refl (target_at puts 
     by false is rest =
         let there = rest (sym (ap (λ (b : Bool). b || is_target puts path) is) ∙ h) in
         (there.0, contains_rest r there.0 puts there.1, there.2)
-
-target_by_index : (puts : List Put) (p : Put) (k : ℕ) → k < length puts → get_or puts k p ≡ p → is_target puts p.path ≡ true
-target_by_index [] p k lt is = absurd (omega arith)
-target_by_index (r ∷ puts) p zero lt is =
-    ap (λ (x : Put). same_name p.path x.path || is_target puts p.path) is ∙ ap (λ (b : Bool). b || is_target puts p.path) (same_itself p.path)
-target_by_index (r ∷ puts) p (suc k) lt is = or_second (same_name p.path r.path) _ (target_by_index puts p k (omega arith) is)
-
-pub is_target-from : (puts : List Put) (p : Put) → Contains puts p → is_target puts p.path ≡ true
-is_target-from puts p h = target_by_index puts p h.0 h.1 h.2
 
 -- ---- the order of a write set
 
@@ -125,19 +84,6 @@ with_targets_inside (r ∷ puts) a b q h = by (with_targets_inside puts (put a r
     by later false is =
         let same = here (same_name q r.path) (is_target puts q) is h in
         first a is ∙ ap (λ (t : Bool). cond t (node_of r.want) (get a q)) same ∙ sym (first b is ∙ ap (λ (t : Bool). cond t (node_of r.want) (get b q)) same)
-
--- at a target stands what is wanted
-pub with_targets_target : (puts : List Put) (tree : Tree) (p : Put) → Rises puts → Contains puts p → get (with_targets puts tree) p.path ≡ node_of p.want
-with_targets_target [] tree p rises in' = absurd (omega (arith, in'.1))
-with_targets_target (r ∷ puts) tree p rises in' = ⊎_elim
-    (λ is. subst (λ (x : Put). get (with_targets puts (put tree r.path (node_of r.want))) x.path ≡ node_of x.want) is
-    (with_targets_outside puts (put tree r.path (node_of r.want)) r.path (first_not_later r puts rises) ∙ get_put_here tree r.path (node_of r.want)))
-    (λ later. with_targets_target puts (put tree r.path (node_of r.want)) p rises.1 later)
-    (contains_cases r p puts in')
-
-pub with_targets_more : (puts : List Put) (tree : Tree) (p : Put) → with_targets (puts ++ p ∷ []) tree ≡ put (with_targets puts tree) p.path (node_of p.want)
-with_targets_more [] tree p = refl
-with_targets_more (r ∷ puts) tree p = with_targets_more puts (put tree r.path (node_of r.want)) p
 
 -- trees that agree outside the targets are one tree with them
 pub with_targets_agree : (puts : List Put) (a b : Tree) → ((q : Name) → is_target puts q ≡ false → get a q ≡ get b q) → with_targets puts a ≡ with_targets puts b

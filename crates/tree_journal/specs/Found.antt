@@ -1,5 +1,5 @@
 -- What recovery finds.
-use Rattle.std.specs.Prelude.{◌≡◌, ◌≢◌, ℕ, ◌<◌, ◌≤◌, length, Bool, true, false, ◌==◌, IsTrue, List, Option, Some, None, Result, IfOk, IfErr}
+use Rattle.std.specs.Prelude.{◌≡◌, ◌≢◌, ℕ, ◌<◌, ◌≤◌, length, Bool, false, ◌==◌, IsTrue, List, Option, Some, None, Result, IfOk, IfErr}
 use Rattle.std.specs.List.{All}
 use Rattle.journal_log.specs.cny-base.Count.{Rose}
 use Rattle.journal_log.specs.cny-base.Path.{is_path, join, parent, root}
@@ -18,6 +18,7 @@ use Rattle.journal_log.specs.Targets.{is_target}
 use Rattle.tree_journal.specs.CanBePut.{AllCanBePut, IsClearBelow}
 use Rattle.tree_journal.specs.Recovery.{HoldsLog, IsStagedPath, IsFirstUnstaged, IsFirstBlocked, HasBlockedLog, IsDamagedAt}
 use Rattle.tree_journal.specs.Staging.{has_content, AllStaged}
+pub use Rattle.journal_log.specs.cny-base.Answer.{IsAnswer}
 
 -- Why calls of a disk stop: a fault, or want of memory.
 abbrev pub IsFaultOr : Type 0 → Stop → Type 0
@@ -33,11 +34,6 @@ pub record Finds {D X : Type 0} (disk : DiskModel D) (P : Tree → X → Type 0)
   pub later : disk.faults old ≤ disk.faults new
   pub found : IsTrue disk.tells → HasRead disk old new (IfOk result (P (disk.reads old)))
   pub stops : IfErr result (IsFaultOr (Rose (disk.faults old) (disk.faults new)))
-
--- an answer to whether P holds
-pub record IsAnswer (P : Type 0) (answer : Bool) : Type 0 where
-  pub holds : answer ≡ true → P
-  pub fails : answer ≡ false → P → ⊥
 
 -- the path without its last name, and that it is shorter
 pub record IsAbove (path above : Name) : Type 0 where

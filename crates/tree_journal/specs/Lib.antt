@@ -7,5 +7,6 @@ pub mod Apply
 pub mod Steps
 pub mod Found
 pub mod Recovering
+pub mod Recovered
 pub use Rattle.journal_log.specs as journal-log
 pub use Rattle.journal_log.specs.tree-disk

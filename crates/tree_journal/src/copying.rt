@@ -1,10 +1,9 @@
 //! A file, copied piece by piece.
-ghost use Rattle.std.specs.Prelude.{◌≡◌, ◌<◌, ◌≤◌, ◌-◌, length, min, take, drop, IfOk, OnOk, IsTrue, Some};
+ghost use Rattle.std.specs.Prelude.{◌≡◌, ◌<◌, ◌≤◌, ◌-◌, length, min, take, drop, IfOk, IsTrue};
 ghost use Rattle.journal_log.specs.cny-base.declared.node.Node.TheVariants as node;
 ghost use Rattle.journal_log.specs.tree-disk.Disk.{one_name};
 ghost use Rattle.journal_log.specs.tree-disk.Rows.{bytes_at, is_file_at, can_append, with_append, with_node};
 ghost use Rattle.journal_log.specs.tree-disk.Steps.{Makes};
-ghost use Rattle.journal_log.specs.tree-disk.Tree.{same_name};
 ghost use Rattle.tree_journal.specs.Passes.{CanCopy};
 
 use journal_log::cny_base::{Path, Stop};

@@ -1,8 +1,7 @@
 //! What stands behind the commit flag.
-ghost use Rattle.std.specs.Prelude.{◌≡◌, IfOk, IfSome, IsTrue, Some};
+ghost use Rattle.std.specs.Prelude.{◌≡◌, IfOk, IfSome, Some};
 ghost use Rattle.std.specs.FinMap.{get};
-ghost use Rattle.journal_log.specs.cny-base.Path.{join};
-ghost use Rattle.journal_log.specs.Own.{gate, log};
+ghost use Rattle.journal_log.specs.Own.{log};
 ghost use Rattle.journal_log.specs.WriteSet.{IsLoggable};
 ghost use Rattle.tree_journal.specs.Found.{file_bytes, Finds, FindsLog};
 ghost use Rattle.tree_journal.specs.Recovery.{is_flag};

@@ -5,17 +5,20 @@
 
 mod blocked;
 mod copying;
+mod directory;
 mod flag;
 mod found;
 mod moving;
 mod passes;
+mod recovered;
 mod recovery;
-mod replay;
 mod staging;
 mod unstaged;
 mod writing;
 
+pub use directory::make_dir;
 pub use journal_log;
 pub use journal_log::{Put, Puts, Want, cny_base, tree_disk};
+pub use recovered::recover_disk;
 pub use recovery::recover;
 pub use writing::apply;

@@ -1,16 +1,14 @@
 //! The two passes that put all targets: what obstructs them is removed, the deepest path first, and then they are made,
 //! the shallowest first.
-ghost use Rattle.std.specs.Prelude.{◌≡◌, IsTrue, OnOk, Some};
+ghost use Rattle.std.specs.Prelude.{◌≡◌, IsTrue, Some};
 ghost use Rattle.std.specs.List.{All};
 ghost use Rattle.journal_log.specs.cny-base.Path.{is_path};
 ghost use Rattle.journal_log.specs.cny-base.declared.node.Node.TheVariants as node;
-ghost use Rattle.journal_log.specs.tree-disk.Confined.{IsSynced};
 ghost use Rattle.journal_log.specs.tree-disk.Disk.{one_name};
-ghost use Rattle.journal_log.specs.tree-disk.Rows.{with_node};
 ghost use Rattle.journal_log.specs.tree-disk.Steps.{Makes};
 ghost use Rattle.journal_log.specs.tree-disk.Tree.{put as with_put};
 ghost use Rattle.journal_log.specs.tree-disk.Unfailed.{IsEither, UnlessFailed};
-ghost use Rattle.journal_log.specs.Own.{staged, work};
+ghost use Rattle.journal_log.specs.Own.{gate, staged, work};
 ghost use Rattle.journal_log.specs.Targets.{is_target};
 ghost use Rattle.journal_log.specs.WriteSet.{CanBeLogged};
 ghost use Rattle.journal_log.specs.Rules.{AreLogged};
@@ -19,6 +17,7 @@ ghost use Rattle.tree_journal.specs.Passes.{all_cleared, all_put, cleared, is_ob
 ghost use Rattle.tree_journal.specs.Staging.{outcome};
 ghost use Rattle.tree_journal.specs.Visible.{IsBetween, IsPartCleared, IsVisible};
 
+use crate::flag::own_path;
 use crate::moving::{put_file, put_link};
 use journal_log::cny_base::{Mode, Path, Stop};
 use journal_log::tree_disk::{Look, TreeDisk, steps};
@@ -173,26 +172,23 @@ fn both_passes<D: TreeDisk>(
     make_targets(alloc, disk, base, dir, work_path, puts)
 }
 
-/// Puts all targets, and waits until they are kept. What stands at the work name goes first.
+/// Puts all targets. What stands at the work name goes first.
 pub fn put_targets<D: TreeDisk>(
     alloc: Global,
     disk: &mut D,
     base: &Path,
-    dir: &Path,
-    work_path: &Path,
     puts: &[Put],
 ) -> Result<(), Stop>
     requires base { IsTrue (is_path base.now) }
-    requires dir { dir.now ≡ staged base.now }
-    requires work { work_path.now ≡ work base.now }
+    requires gate { IsTrue (is_path (gate base.now)) }
     requires logged { AreLogged base.now puts.now }
     requires told { IsTrue D.disk.tells → CanReplay base.now puts.now (D.disk.reads disk.old) }
     ensures makes { Makes D.disk (is_work_or_target base.now puts.now) (λ tree. all_put base.now puts.now tree) disk.old disk.new result }
-    ensures synced { IsTrue D.disk.tells → OnOk result (IsSynced D.disk disk.new) }
     ensures seen { IsTrue D.disk.tells → UnlessFailed D.disk disk.old disk.new
         (IsVisible base.now (D.disk.reads disk.old) (outcome base.now puts.now (D.disk.reads disk.old))) }
 {
-    steps::clear_tree(alloc, disk, work_path)?;
-    both_passes(alloc, disk, base, dir, work_path, puts)?;
-    steps::sync(alloc, disk)
+    let dir = own_path(alloc, base, "p")?;
+    let work_path = own_path(alloc, base, "w")?;
+    steps::clear_tree(alloc, disk, &work_path)?;
+    both_passes(alloc, disk, base, &dir, &work_path, puts)
 }

@@ -16,8 +16,8 @@ ghost use Rattle.tree_journal.specs.Recovery.{is_committed, HasPutLog, HasReplay
 use crate::blocked::first_blocked;
 use crate::flag::own_path;
 use crate::found::{is_flag_set, read_log};
-use crate::replay::replay;
 use crate::unstaged::first_unstaged;
+use crate::writing::replay;
 use journal_log::Puts;
 use journal_log::cny_base::{Path, Refusal, Stop, Text, TextFault};
 use journal_log::tree_disk::{TreeDisk, steps};

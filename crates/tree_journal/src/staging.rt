@@ -16,7 +16,8 @@ ghost use Rattle.tree_journal.specs.Staging.{HoldsNoOthers};
 ghost use Rattle.tree_journal.specs.Steps.{with_all_bytes, with_bytes, with_own_file, with_stage, with_staged, without_strays, HasNoStrays, HasRoom, HaveRoom};
 
 use crate::blocked::child_of;
-use crate::flag::{make_base, own_path};
+use crate::directory::make_dir;
+use crate::flag::own_path;
 use crate::unstaged::path_of;
 use journal_log::cny_base::{Path, Stop, Text};
 use journal_log::tree_disk::{TreeDisk, steps};
@@ -30,7 +31,7 @@ pub fn stage<D: TreeDisk>(
     disk: &mut D,
     base: &Path,
     puts: &Puts,
-    numbered: &Puts,
+    numbered: &[Put],
 ) -> Result<(), Stop>
     requires base { IsTrue (is_path base.now) }
     requires short { length base.now ≤ 1011 }
@@ -43,7 +44,7 @@ pub fn stage<D: TreeDisk>(
 {
     let dir = own_path(alloc, base, "p")?;
     clear_stage(alloc, disk, &dir, puts)?;
-    write_all(alloc, disk, base, &dir, puts.get(), numbered.get())
+    write_all(alloc, disk, base, &dir, puts.get(), numbered)
 }
 
 fn clear_stage<D: TreeDisk>(
@@ -58,7 +59,7 @@ fn clear_stage<D: TreeDisk>(
     ensures makes { Makes D.disk (is_within dir.now) (λ tree. with_stage dir.now puts.now tree) disk.old disk.new result }
     ensures clear { IsTrue D.disk.tells → OnOk result (HasNoStrays dir.now puts.now (D.disk.reads disk.new)) }
 {
-    make_base(alloc, disk, dir)?;
+    make_dir(alloc, disk, dir)?;
     let names = steps::list(alloc, disk, dir)?;
     clear_strays(alloc, disk, dir, puts, names.get())
 }

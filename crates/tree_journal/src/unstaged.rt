@@ -1,5 +1,5 @@
 //! Which staged file of a log doesn't stand with its size and SHA-1.
-ghost use Rattle.std.specs.Prelude.{◌≡◌, ◌<◌, ◌≤◌, [], length, min, OnOk, IfOk, IfErr, IfSome, IsTrue};
+ghost use Rattle.std.specs.Prelude.{◌≡◌, ◌<◌, [], length, IfOk, IfErr, IsTrue};
 ghost use Rattle.std.specs.FinMap.{get};
 ghost use Rattle.std.specs.Fmt.{decimal};
 ghost use Rattle.journal_log.specs.cny-base.Path.{is_path, join};

@@ -1,24 +1,23 @@
-//! A write set, applied as a whole.
+//! A write set, applied as a whole: all writes and syncs in their order (`apply_in_order`), whose end (`replay`) is that of a
+//! recovery too.
 ghost use Rattle.std.specs.Prelude.{◌≡◌, ◌≤◌, IfErr, IsErrOf, IsTrue, OnErr, OnOk, length};
-ghost use Rattle.std.specs.List.{All};
 ghost use Rattle.journal_log.specs.cny-base.Count.{Rose};
-ghost use Rattle.journal_log.specs.cny-base.Path.{is_path, parent};
-ghost use Rattle.journal_log.specs.tree-disk.Rows.{is_dir_at};
+ghost use Rattle.journal_log.specs.cny-base.Path.{is_path};
 ghost use Rattle.journal_log.specs.cny-base.declared.stop.Stop.TheVariants as stop;
 ghost use Rattle.journal_log.specs.tree-disk.Confined.{Among, Confined, IsSynced, LeavesOnly};
 ghost use Rattle.journal_log.specs.tree-disk.Steps.{IsDiskStop, Makes};
 ghost use Rattle.journal_log.specs.tree-disk.Unfailed.{UnlessFailed};
-ghost use Rattle.journal_log.specs.Numbers.{IsNumbered};
 ghost use Rattle.journal_log.specs.Own.{gate, log};
 ghost use Rattle.journal_log.specs.Rules.{AreLogged};
-ghost use Rattle.journal_log.specs.WriteSet.{IsFormed};
-ghost use Rattle.tree_journal.specs.Apply.{goal, Applies, CanApply, HoldsStaged, IsAsBefore, IsAtRest, IsBeforeOrAfter, IsOneOf, is_own_or_target};
-ghost use Rattle.tree_journal.specs.Staging.{outcome, HoldsNoOthers};
-ghost use Rattle.tree_journal.specs.Steps.{is_log_or_staged, is_replay_name, with_log, committed, CanPrepare, IsOldOrNew, IsPrepared};
+ghost use Rattle.tree_journal.specs.Apply.{goal, Applies, CanApply, HoldsStaged, IsAtRest, IsBeforeOrAfter, IsOneOf, is_own_or_target};
+ghost use Rattle.tree_journal.specs.Recovery.{RecoversTo};
+ghost use Rattle.tree_journal.specs.Staging.{outcome};
+ghost use Rattle.tree_journal.specs.Steps.{is_replay_name, replayed, IsCommitted, IsLogOf};
 ghost use Rattle.tree_journal.specs.Visible.{IsVisible};
 
-use crate::flag::{make_base, own_path, write_own_file};
-use crate::replay::replay;
+use crate::directory::make_dir;
+use crate::flag::{own_path, write_own_file};
+use crate::passes::put_targets;
 use crate::staging::stage;
 use journal_log::cny_base::{Path, Stop};
 use journal_log::tree_disk::{TreeDisk, steps};
@@ -80,67 +79,55 @@ fn apply_staged<D: TreeDisk>(
     let log_path = own_path(alloc, base, "log")?;
     let numbered = numbered(alloc, puts)?;
     let log = encode_log(alloc, &numbered)?;
-    prepare(alloc, disk, base, puts, &numbered, &log_path, log.get())?;
-    commit(alloc, disk, base, &gate_path, numbered.get())
+    apply_in_order(
+        alloc,
+        disk,
+        base,
+        &gate_path,
+        &log_path,
+        puts,
+        numbered.get(),
+        log.get(),
+    )
 }
 
-// Makes the base, stages the bytes of the files, and writes the log behind a commit flag that isn't set. The first sync is
-// there since a name that is unsynced may lie below a base that has to be made: a crash could then leave anything at it.
-fn prepare<D: TreeDisk>(
+// All writes and syncs of `apply`, in their order. Until the flag is written a crash leaves a tree that recovers to that
+// before, and once it is synced one that recovers to that with all targets. The first sync is there since a name that is
+// unsynced may lie below a base that has to be made: a crash could then leave anything at it.
+fn apply_in_order<D: TreeDisk>(
     alloc: Global,
     disk: &mut D,
     base: &Path,
-    puts: &Puts,
-    numbered: &Puts,
+    gate_path: &Path,
     log_path: &Path,
+    puts: &Puts,
+    numbered: &[Put],
     bytes: &[u8],
 ) -> Result<(), Stop>
     requires base { IsTrue (is_path base.now) }
     requires short { length base.now ≤ 1011 }
+    requires gate { gate_path.now ≡ gate base.now }
+    requires gate_path { IsTrue (is_path gate_path.now) }
     requires log { log_path.now ≡ log base.now }
     requires log_path { IsTrue (is_path log_path.now) }
-    requires logged { AreLogged base.now numbered.now }
-    requires numbered { IsNumbered puts.now numbered.now }
-    requires formed { All (λ p. IsFormed p.want) numbered.now }
-    requires told { IsTrue D.disk.tells → CanPrepare D.disk base.now disk.old }
-    ensures makes { Makes D.disk (is_log_or_staged base.now) (λ tree. with_log base.now puts.now numbered.now bytes.now tree) disk.old disk.new result }
-    ensures clear { IsTrue D.disk.tells → OnOk result (HoldsNoOthers base.now numbered.now (D.disk.reads disk.new)) }
-    ensures any_moment { IsTrue D.disk.tells → LeavesOnly D.disk disk.old disk.new (IsAsBefore D.disk base.now disk.old) }
-    ensures synced { IsTrue D.disk.tells → OnOk result (IsSynced D.disk disk.new) }
+    requires written { IsLogOf base.now puts.now numbered.now bytes.now }
+    requires told { IsTrue D.disk.tells → CanApply D.disk base.now puts.now disk.old }
+    ensures { Applies D.disk base.now puts.now disk.old disk.new result }
 {
     steps::sync(alloc, disk)?;
-    write_log(alloc, disk, base, puts, numbered, log_path, bytes)
-}
-
-fn write_log<D: TreeDisk>(
-    alloc: Global,
-    disk: &mut D,
-    base: &Path,
-    puts: &Puts,
-    numbered: &Puts,
-    log_path: &Path,
-    bytes: &[u8],
-) -> Result<(), Stop>
-    requires base { IsTrue (is_path base.now) }
-    requires short { length base.now ≤ 1011 }
-    requires log { log_path.now ≡ log base.now }
-    requires log_path { IsTrue (is_path log_path.now) }
-    requires logged { AreLogged base.now numbered.now }
-    requires numbered { IsNumbered puts.now numbered.now }
-    requires formed { All (λ p. IsFormed p.want) numbered.now }
-    requires parent { IsTrue D.disk.tells → IsTrue (is_dir_at (D.disk.reads disk.old) (parent base.now)) }
-    ensures makes { Makes D.disk (is_log_or_staged base.now) (λ tree. with_log base.now puts.now numbered.now bytes.now tree) disk.old disk.new result }
-    ensures clear { IsTrue D.disk.tells → OnOk result (HoldsNoOthers base.now numbered.now (D.disk.reads disk.new)) }
-    ensures synced { IsTrue D.disk.tells → OnOk result (IsSynced D.disk disk.new) }
-{
-    make_base(alloc, disk, base)?;
+    make_dir(alloc, disk, base)?;
     stage(alloc, disk, base, puts, numbered)?;
-    write_own_file(alloc, disk, log_path, bytes)
+    write_own_file(alloc, disk, log_path, bytes)?;
+    steps::sync(alloc, disk)?;
+    write_own_file(alloc, disk, gate_path, b"O")?;
+    steps::sync(alloc, disk)?;
+    // The targets, a sync, the flag's removal, a sync: a recovery ends so too.
+    replay(alloc, disk, base, gate_path, numbered)
 }
 
-// Sets the commit flag: from the write of its one byte on, a crash leaves a tree that recovers to that with all targets.
-// Then it puts them.
-fn commit<D: TreeDisk>(
+/// The end of an application, and of a recovery behind a commit flag that is set: puts all targets of the log, and takes the
+/// flag away.
+pub fn replay<D: TreeDisk>(
     alloc: Global,
     disk: &mut D,
     base: &Path,
@@ -151,13 +138,16 @@ fn commit<D: TreeDisk>(
     requires gate { gate_path.now ≡ gate base.now }
     requires gate_path { IsTrue (is_path gate_path.now) }
     requires logged { AreLogged base.now puts.now }
-    requires told { IsTrue D.disk.tells → IsPrepared D.disk base.now puts.now disk.old }
-    ensures makes { Makes D.disk (is_replay_name base.now puts.now) (λ tree. committed base.now puts.now tree) disk.old disk.new result }
-    ensures any_moment { IsTrue D.disk.tells → LeavesOnly D.disk disk.old disk.new (IsOldOrNew base.now puts.now (D.disk.reads disk.old)) }
+    requires told { IsTrue D.disk.tells → IsCommitted D.disk base.now puts.now disk.old }
+    ensures makes { Makes D.disk (is_replay_name base.now puts.now) (λ tree. replayed base.now puts.now tree) disk.old disk.new result }
+    ensures any_moment { IsTrue D.disk.tells → LeavesOnly D.disk disk.old disk.new
+        (λ image. RecoversTo base.now image (outcome base.now puts.now (D.disk.reads disk.old))) }
     ensures synced { IsTrue D.disk.tells → OnOk result (IsSynced D.disk disk.new) }
     ensures seen { IsTrue D.disk.tells → UnlessFailed D.disk disk.old disk.new
         (IsVisible base.now (D.disk.reads disk.old) (outcome base.now puts.now (D.disk.reads disk.old))) }
 {
-    write_own_file(alloc, disk, gate_path, b"O")?;
-    replay(alloc, disk, base, gate_path, puts)
+    put_targets(alloc, disk, base, puts)?;
+    steps::sync(alloc, disk)?;
+    steps::remove(alloc, disk, gate_path)?;
+    steps::sync(alloc, disk)
 }

@@ -1,5 +1,5 @@
 -- The names of the changes since the last sync, and what stood then.
-use Rattle.std.proofs.Common.{◌≡◌, ◌⊎◌, inl, inr, ⊎_elim, ℕ, ◌-◌, ◌<◌, ◌≤◌, suc, zero, Bool, true, false, cond, ◌||◌, ◌&&◌, not, List, [], ◌∷◌, ◌++◌, length, take, drop, get_or, refl, sym, ◌∙◌, ap, subst, arith, String, string_bytes, take-append-drop}
+use Rattle.std.proofs.Common.{◌≡◌, ⊎_elim, ℕ, ◌-◌, ◌<◌, ◌≤◌, suc, zero, Bool, true, false, cond, ◌||◌, List, [], ◌∷◌, ◌++◌, length, take, drop, get_or, refl, sym, ◌∙◌, ap, subst, arith, String, string_bytes, take-append-drop}
 use Rattle.std.specs.declared.alloc.Global.{Global}
 use Rattle.std.specs.declared.cmp.Ordering.{Ordering}
 use Rattle.std.specs.declared.cmp.Ordering.TheVariants.{Less, Equal, Greater}
@@ -17,8 +17,13 @@ use Rattle.tree_nodes.specs.tree-disk.Disk.{one_name, two_names}
 use Rattle.tree_nodes.specs.tree-disk.Laws.{same_means}
 use Rattle.tree_memory.specs.declared.change.Change.{Change}
 use Rattle.tree_memory.specs.State.{State, settled, step, replay, state_of, tree_after, names_of, settles}
-use Rattle.tree_memory.specs.Replay.{reads_step}
+use Rattle.tree_memory.proofs.Replay.{reads_step}
 use Rattle.tree_memory.specs.Since.{any_names, keeps, after_all}
+use Rattle.tree_nodes.proofs.tree-disk.Nodes.{left_true as and_left}
+use Rattle.tree_nodes.proofs.tree-disk.Laws.{second as and_right}
+use Rattle.tree_nodes.proofs.cny-base.Bools.{joined}
+use Rattle.tree_nodes.proofs.cny-base.Again.{not_true}
+use Rattle.tree_nodes.proofs.tree-disk.ClearLaws.{or_cases}
 
 -- ---- the tree after some changes
 
@@ -41,10 +46,6 @@ turned true true = refl
 turned true false = refl
 turned false true = refl
 turned false false = refl
-
-joined : (x y z : Bool) → ((x || y) || z) ≡ (x || (y || z))
-joined true y z = refl
-joined false y z = refl
 
 abbrev is_text : Name → String Global → Bool
 is_text p k = is_eq (slice_cmp nat_cmp p (string_bytes k))
@@ -70,10 +71,6 @@ one_more old new k p spells is q =
 
 pub one_path : (p : Name) → is_path p ≡ true → (q : Name) → one_name p q ≡ true → is_path q ≡ true
 one_path p path q h = ap is_path (same_means q p h) ∙ path
-
-or_cases : (x y : Bool) → (x || y) ≡ true → (x ≡ true) ⊎ (y ≡ true)
-or_cases true y h = inl refl
-or_cases false y h = inr h
 
 pub both_more : (old mid new : BTreeSet (String Global)) (a b : Name) → ((q : Name) → contains_text mid q ≡ (contains_text old q || one_name a q)) → ((q : Name) → contains_text new q ≡ (contains_text mid q || one_name b q))
     → (q : Name) → contains_text new q ≡ (contains_text old q || two_names a b q)
@@ -134,18 +131,6 @@ quiet_step : (c : Change) (s : State) (v : Bool) → v ≡ false → (r : State)
 quiet_step c s true h r is = absurd (cc h)
 quiet_step c s false h r is = (ap (λ (x : State). x.synced) is, λ p. ap (λ (x : State). x.unsynced p) is)
 
-not_true : (b : Bool) → not b ≡ true → b ≡ false
-not_true true h = absurd (cc h)
-not_true false h = refl
-
-and_left : (x y : Bool) → (x && y) ≡ true → x ≡ true
-and_left true y h = refl
-and_left false y h = absurd (cc h)
-
-and_right : (x y : Bool) → (x && y) ≡ true → y ≡ true
-and_right true y h = h
-and_right false y h = absurd (cc h)
-
 or_none : (x : Bool) → x ≡ (x || false)
 or_none true = refl
 or_none false = refl
@@ -170,9 +155,6 @@ settled_mark (c ∷ changes) (suc k) s start h last =
 
 module _ (first : List (Name × Node)) (changes : List Change) (mark : ℕ) (within : mark ≤ length changes) (after : list_all keeps (drop mark changes) ≡ true)
     (last : (d : Change) → 0 < mark → settles (get_or changes (mark - 1) d) ≡ true) where
-  at_mark : State
-  at_mark = state_of first (take mark changes)
-
   marked : IsSettled (state_of first (take mark changes))
   marked = settled_mark changes mark (settled (from_entries first)) (record { synced = refl; unsynced = λ p. refl }) within last
 

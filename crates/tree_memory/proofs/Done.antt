@@ -7,16 +7,16 @@ use Rattle.tree_nodes.specs.cny-base.declared.text.OutOfMemory.{OutOfMemory}
 use Rattle.tree_nodes.specs.tree-disk.Tree.{Name, Tree, is_byte, WellFormed}
 use Rattle.tree_nodes.specs.tree-disk.Disk.{HasSynced}
 use Rattle.tree_nodes.specs.tree-disk.Rows.{with_append}
-use Rattle.tree_nodes.specs.tree-disk.Allowed.{part_well_formed}
+use Rattle.tree_nodes.proofs.tree-disk.Allowed.{part_well_formed}
 use Rattle.tree_nodes.specs.tree-disk.declared.disk.DiskStop.TheVariants.{Failed}
 use Rattle.tree_memory.specs.declared.change.Change.{Change}
 use Rattle.tree_memory.specs.declared.change.Change.TheVariants.{Append, Put, SetMode, Rename, Touch, TouchBoth, Sync, Edit}
 use Rattle.tree_memory.specs.declared.memory.MemoryTree.{MemoryTree}
 use Rattle.tree_memory.specs.State.{State, allows, tree_after, names_of, settles, failed_change, first_half}
-use Rattle.tree_memory.specs.Replay.{outside}
+use Rattle.tree_memory.proofs.Replay.{outside}
 use Rattle.tree_memory.specs.Memory.{memory_disk, state, faults_of, fails_next, does_part}
 use Rattle.tree_memory.specs.Calls.{IsCall, IsDone, CountsCall}
-use Rattle.tree_nodes.specs.tree-disk.Moments.{shows_step}
+use Rattle.tree_nodes.proofs.tree-disk.Moments.{shows_step}
 use Rattle.tree_memory.proofs.Moves.{OneMore, in_one_step, reads_pushed, unsynced_pushed, state_pushed, elapsed}
 
 -- ---- the change of a failed call

@@ -3,3 +3,4 @@ pub mod Moves
 pub mod Done
 pub mod Changed
 pub mod Crashed
+pub mod Replay

@@ -1,15 +1,16 @@
--- What the disk tells after one change more, and after none.
+-- What the disk tells after one change more.
 use Rattle.std.proofs.Common.{◌≡◌, inl, inr, ⊎_elim, ℕ, ◌+◌, ◌≤◌, Bool, true, false, cond, ◌||◌, [], ◌∷◌, ◌++◌, length, take, refl, sym, ◌∙◌, ap, subst, arith, length-append, Option}
 use Rattle.std.proofs.lemmas.Bool.{cases_lt}
 use Rattle.std.specs.FinMap.{from_entries}
 use Rattle.tree_nodes.specs.cny-base.declared.node.Node.{Node}
 use Rattle.tree_nodes.specs.tree-disk.Tree.{Name, put}
-use Rattle.tree_nodes.specs.tree-disk.Disk.{Unchanged, Elapses, InOneStep, IsCrashImage}
+use Rattle.tree_nodes.specs.tree-disk.Disk.{Elapses, InOneStep, IsCrashImage}
 use Rattle.tree_memory.specs.declared.change.Change.{Change}
 use Rattle.tree_memory.specs.declared.change.Change.TheVariants.{Edit}
 use Rattle.tree_memory.specs.declared.memory.MemoryTree.{MemoryTree}
 use Rattle.tree_memory.specs.State.{State, settled, state_of, step, replay, tree_after, names_of, settles}
-use Rattle.tree_memory.specs.Replay.{replay_push, reads_step, take_push, take_whole}
+use Rattle.tree_memory.specs.Replay.{take_whole}
+use Rattle.tree_memory.proofs.Replay.{replay_push, reads_step, take_push}
 use Rattle.tree_memory.specs.Memory.{memory_disk, state, state_then, IsEdited}
 
 unsynced_by : (change : Change) (s : State) (v : Bool) (p : Name) → v ≡ false
@@ -72,34 +73,6 @@ module _ {old new : MemoryTree} {change : Change} (more : OneMore old new change
   unsynced_pushed none p = ap (λ (s : State). s.unsynced p) state_pushed ∙ unsynced_by change (state old) (settles change) p none
 
 -- ---- no change
-pub record NoMore (old new : MemoryTree) : Type 0 where
-  pub first : new.first ≡ old.first
-  pub changes : new.changes.items ≡ old.changes.items
-
-module _ {old new : MemoryTree} (same : NoMore old new) where
-  pub state_same : state new ≡ state old
-  state_same = ap (λ f. state_of f new.changes.items) same.first ∙ ap (state_of old.first) same.changes
-
-  then_same : (k : ℕ) → state_then new k ≡ state_then old k
-  then_same k = ap (λ f. state_of f (take k new.changes.items)) same.first ∙ ap (λ l. state_of old.first (take k l)) same.changes
-
-  pub unchanged : Unchanged memory_disk old new
-  unchanged = record {
-    reads = ap (λ (s : State). s.reads) state_same;
-    unsynced = λ p. ap (λ (s : State). s.unsynced p) state_same;
-    visible = record {
-      later = omega (arith, ap length same.changes);
-      kept = λ k le. ap (λ (s : State). s.reads) (then_same k);
-      each = λ k lt le. absurd (omega (arith, ap length same.changes, lt, le));
-    };
-  }
-
-  pub still : Elapses memory_disk old new
-  still = record {
-    later = omega (arith, ap length same.changes);
-    kept = λ k t h was. record { moment = was.moment; since = was.since; passed = omega (arith, ap length same.changes, was.passed); image = subst (λ (s : State). IsCrashImage s.reads s.unsynced t) (sym (then_same was.moment)) was.image };
-    nothing_else = λ k t h was. inl (record { moment = was.moment; since = was.since; passed = omega (arith, ap length same.changes, was.passed); image = subst (λ (s : State). IsCrashImage s.reads s.unsynced t) (then_same was.moment) was.image });
-  }
 
 pub edited : {old new : MemoryTree} (p q : Name) (o : Option Node) → OneMore old new (Edit p o) → new.turns ≡ old.turns → p ≡ q → IsEdited (put (state old).reads q o) old new
 edited {old} {new} p q o more counts same = record {

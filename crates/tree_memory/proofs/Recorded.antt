@@ -6,7 +6,7 @@ use Rattle.std.specs.FinMap.{from_entries}
 use Rattle.tree_memory.specs.declared.change.Change.{Change}
 use Rattle.tree_memory.specs.declared.change.Change.TheVariants.{Sync}
 use Rattle.tree_memory.specs.State.{State, settled, state_of, tree_after}
-use Rattle.tree_memory.specs.Replay.{replay_push, reads_step}
+use Rattle.tree_memory.proofs.Replay.{replay_push, reads_step}
 
 -- a push that can't fail
 pub went : {X E P : Type 0} (r : Result X E) → (P → ⊥) → OnErr r P → is_ok r ≡ true

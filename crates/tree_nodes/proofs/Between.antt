@@ -11,8 +11,9 @@ use Rattle.tree_disk.specs.cny-base.Below.{begins_with}
 use Rattle.tree_disk.specs.cny-base.declared.node.Node.{Node}
 use Rattle.tree_disk.specs.Tree.{Name}
 use Rattle.tree_nodes.specs.Below.{front, has_prefix, entries_with_prefix}
+use Rattle.tree_disk.proofs.cny-base.Below.{same_cmp}
 
-abbrev R : Name → Name → Ordering
+abbrev pub R : Name → Name → Ordering
 R = slice_cmp nat_cmp
 
 -- from the text with a slash on, and before the text with the next byte
@@ -55,9 +56,6 @@ within_begins (a ∷ f) [] = refl
 within_begins (a ∷ f) (b ∷ q) =
     at_byte (nat_cmp a b) (R (f ++ 47 ∷ []) q) (R (f ++ 48 ∷ []) q) (begins_with (f ++ 47 ∷ []) q) (within_begins f q)
     ∙ ap (λ t. t && begins_with (f ++ 47 ∷ []) q) (sym (tie a b))
-
-same_cmp : (a : ℕ) → nat_cmp a a ≡ Equal
-same_cmp a = grind (arith, nat_tests)
 
 -- the range doesn't run backwards
 pub forward : (f : List ℕ) → is_gt (R (f ++ 47 ∷ []) (f ++ 48 ∷ [])) ≡ false

@@ -3,32 +3,33 @@ use Rattle.std.proofs.Common.{◌≡◌, ⊎_elim, ℕ, ◌<◌, suc, zero, Bool
 use Rattle.std.proofs.lemmas.Bool.{cases_Bool}
 use Rattle.std.proofs.lemmas.Bool.Decides.{nat_tests}
 use Rattle.std.specs.declared.alloc.Global.{Global}
-use Rattle.std.specs.declared.cmp.Ordering.{Ordering}
 use Rattle.std.specs.declared.cmp.Ordering.TheVariants.{Less}
-use Rattle.std.proofs.lemmas.List.{append-nil}
 use Rattle.std.specs.List.{list_any, AllByRecursion}
 use Rattle.std.specs.List.Sorted.{IsStrictlySortedBy}
-use Rattle.std.specs.Ordering.{nat_cmp, eq_by_cmp}
-use Rattle.std.specs.Cmp.Lexicographic.{slice_cmp, nat_list_cmp_total}
+use Rattle.std.specs.Ordering.{eq_by_cmp}
+use Rattle.std.specs.Cmp.Lexicographic.{nat_list_cmp_total}
 use Rattle.std.specs.String.{string_cmp}
 use Rattle.std.specs.FinMap.{get, from_entries, entries, entries-insert, contains_key-keys}
 use Rattle.std.specs.FinMap as fin
 use Rattle.std.specs.FinMap.Entries as Entries
 use Rattle.tree_disk.specs.cny-base.declared.node.Node.{Node}
 use Rattle.tree_disk.specs.cny-base.Path.{is_path, root, parent, last_name}
-use Rattle.tree_disk.specs.cny-base.Below.{begins_with, is_below, below_parent, child_below, none_below_root, parent_shorter}
-use Rattle.tree_disk.specs.Tree.{Name, Tree, same_name, is_child, children, is_dir, WellFormed}
+use Rattle.tree_disk.specs.cny-base.Below.{begins_with, is_below}
+use Rattle.tree_disk.proofs.cny-base.Below.{below_parent, child_below, none_below_root, parent_shorter}
+use Rattle.tree_disk.specs.Tree.{Name, Tree, same_name, is_child, children, WellFormed}
 use Rattle.tree_disk.specs.Rows.{is_childless}
-use Rattle.tree_disk.specs.Laws.{same_means, same_itself}
-use Rattle.tree_disk.specs.Allowed.{no_children}
+use Rattle.tree_disk.specs.Laws.{same_means}
+use Rattle.tree_disk.proofs.Laws.{same_itself, second}
+use Rattle.tree_disk.proofs.Allowed.{no_children}
 use Rattle.std.specs.Map.Iter.{TakesFirst}
 use Rattle.tree_nodes.specs.Stored.{by_bytes, tree_of}
 use Rattle.tree_nodes.specs.Below.{has_prefix, entries_with_prefix}
+use Rattle.tree_nodes.proofs.Between.{R}
+use Rattle.tree_disk.proofs.Children.{some_dir as dir_stands}
+use Rattle.tree_disk.proofs.cny-base.Bools.{or_right as either}
+use Rattle.tree_disk.proofs.Names.{no_path, not_same}
 
-abbrev R : Name → Name → Ordering
-R = slice_cmp nat_cmp
-
-clash : {A : Type 0} (b : Bool) → b ≡ true → b ≡ false → A
+pub clash : {A : Type 0} (b : Bool) → b ≡ true → b ≡ false → A
 clash b good bad = absurd (cc (good, bad))
 
 -- ---- the names of the tree are the keys of the map
@@ -76,10 +77,6 @@ names_stored es sorted = ap names (entries_stored es sorted) ∙ names_bytes es
 
 -- ---- each name of a tree is a path
 
-either : (x y : Bool) → y ≡ true → (x || y) ≡ true
-either true y h = refl
-either false y h = h
-
 each_listed : (P : Name → Type 0) (ns : List Name) → ((q : Name) → list_any (eq_by_cmp R q) ns ≡ true → P q) → AllByRecursion P ns
 each_listed P [] each = tt
 each_listed P (q ∷ ns) each =
@@ -104,10 +101,6 @@ starts (b ∷ q) path = slash (47 == b) (b == 47) _ (grind (arith, nat_tests)) p
     slash true y z same h = refl
     slash false true z same h = absurd (cc same)
     slash false false z same h = absurd (cc h)
-
-second : (x y : Bool) → (x && y) ≡ true → y ≡ true
-second true y h = h
-second false y h = absurd (cc h)
 
 prefix_by : (p q : Name) (b : Bool) → same_name p root ≡ b → is_path q ≡ true → parent q ≡ p → begins_with (cond b [] p ++ 47 ∷ []) q ≡ true
 prefix_by p q true top path above = starts q path
@@ -146,40 +139,7 @@ pub listed_with_prefix : (p : Name) (es : List (String Global × Node)) → IsSt
 listed_with_prefix p es sorted well =
     ap (map last_name) (prefix_filter p es (stored_paths es sorted well)) ∙ ap (λ l. map last_name (filter (is_child p) l)) (sym (names_stored es sorted))
 
--- one entry more
-listed_more : (p : Name) (k j : String Global × Node) (ks : List (String Global × Node)) (b : Bool) → listed p (ks ++ k ∷ []) ≡ listed p ks ++ listed p (k ∷ [])
-    → map last_name (cond b (string_bytes j.0 ∷ filter (is_child p) (texts (ks ++ k ∷ []))) (filter (is_child p) (texts (ks ++ k ∷ []))))
-    ≡ map last_name (cond b (string_bytes j.0 ∷ filter (is_child p) (texts ks)) (filter (is_child p) (texts ks))) ++ listed p (k ∷ [])
-listed_more p k j ks true rest = ap (λ l. last_name (string_bytes j.0) ∷ l) rest
-listed_more p k j ks false rest = rest
-
-listed_push : (p : Name) (k : String Global × Node) (ks : List (String Global × Node)) → listed p (ks ++ k ∷ []) ≡ listed p ks ++ listed p (k ∷ [])
-listed_push p k [] = refl
-listed_push p k (j ∷ ks) = listed_more p k j ks (is_child p (string_bytes j.0)) (listed_push p k ks)
-
-listed_alone : (p : Name) (k : String Global × Node) (b : Bool) → is_child p (string_bytes k.0) ≡ b → listed p (k ∷ []) ≡ cond b (last_name (string_bytes k.0) ∷ []) []
-listed_alone p k true is = ap (λ t. map last_name (cond t (string_bytes k.0 ∷ []) [])) is
-listed_alone p k false is = ap (λ t. map last_name (cond t (string_bytes k.0 ∷ []) [])) is
-
-pub listed_child : (p : Name) (k : String Global × Node) (ks : List (String Global × Node)) (found : List Name) (last : Name) → found ≡ listed p ks → is_child p (string_bytes k.0) ≡ true → last ≡ last_name (string_bytes k.0) → found ++ last ∷ [] ≡ listed p (ks ++ k ∷ [])
-listed_child p k ks found last so is name =
-    ap (λ l. l ++ last ∷ []) so ∙ ap (λ n. listed p ks ++ n ∷ []) name ∙ ap (λ l. listed p ks ++ l) (sym (listed_alone p k true is)) ∙ sym (listed_push p k ks)
-
-pub listed_other : (p : Name) (k : String Global × Node) (ks : List (String Global × Node)) (found : List Name) → found ≡ listed p ks → is_child p (string_bytes k.0) ≡ false → found ≡ listed p (ks ++ k ∷ [])
-listed_other p k ks found so is =
-    so ∙ sym (append-nil (listed p ks)) ∙ ap (λ l. listed p ks ++ l) (sym (listed_alone p k false is)) ∙ sym (listed_push p k ks)
-
 -- ---- a directory without children
-
-dir_stands : (o : Option Node) → is_dir o ≡ true → is_some o ≡ true
-dir_stands None h = absurd (cc h)
-dir_stands (Some node) h = refl
-
-no_path : (p : Name) → is_path p ≡ true → p ≡ [] → ⊥
-no_path p path is = absurd (cc (sym path ∙ ap is_path is))
-
-not_same : (q : Name) → (q ≡ root → ⊥) → same_name q root ≡ false
-not_same q other = ⊎_elim (λ h. absurd (other (same_means q root h))) (λ h. h) (cases_Bool (same_name q root))
 
 -- where a name stands below another, a child of that one stands; n bounds the length
 child_above : (n : ℕ) (t : Tree) (p q : Name) → WellFormed t → is_path p ≡ true → length q < n → is_some (get t q) ≡ true → is_below p q ≡ true → (c : Name) × (is_some (get t c) ≡ true) × (is_child p c ≡ true)

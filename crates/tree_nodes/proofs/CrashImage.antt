@@ -1,55 +1,34 @@
 -- What a crash leaves is an image.
-use Rattle.std.proofs.Common.{◌≡◌, ◌⊎◌, inl, inr, ⊎_elim, ℕ, ◌+◌, ◌<◌, suc, zero, Bool, true, false, cond, ◌||◌, ◌&&◌, not, List, [], ◌∷◌, length, Option, Some, None, refl, sym, ◌∙◌, ap, arith}
+use Rattle.std.proofs.Common.{◌≡◌, ◌⊎◌, inl, inr, ⊎_elim, ℕ, ◌+◌, ◌<◌, suc, zero, Bool, true, false, cond, ◌||◌, ◌&&◌, not, List, [], ◌∷◌, length, Option, None, refl, sym, ◌∙◌, ap, arith}
 use Rattle.std.proofs.lemmas.Bool.{cases_Bool}
 use Rattle.std.specs.Option.{is_some}
 use Rattle.std.specs.declared.cmp.Ordering.{Ordering}
 use Rattle.std.specs.declared.cmp.Ordering.TheVariants.{Less}
 use Rattle.std.specs.List.{list_any, AllByRecursion}
 use Rattle.std.specs.List.Sorted.{IsStrictlySortedBy}
-use Rattle.std.specs.Ordering.{nat_cmp, eq_by_cmp, is_eq}
-use Rattle.std.specs.Cmp.Lexicographic.{slice_cmp, nat_list_cmp_total}
+use Rattle.std.specs.Ordering.{eq_by_cmp, is_eq}
+use Rattle.std.specs.Cmp.Lexicographic.{nat_list_cmp_total}
 use Rattle.std.specs.FinMap.{get, keys, contains_key-keys}
 use Rattle.tree_disk.specs.cny-base.Path.{is_path, root, parent}
-use Rattle.tree_disk.specs.cny-base.Below.{is_below, below_parent, above_parent, child_below, parent_first, none_below_root, parent_shorter}
+use Rattle.tree_disk.specs.cny-base.Below.{is_below}
+use Rattle.tree_disk.proofs.cny-base.Below.{below_parent, above_parent, child_below, parent_first, none_below_root, parent_shorter}
 use Rattle.tree_disk.specs.cny-base.declared.node.Node.{Node}
 use Rattle.tree_disk.specs.Tree.{Name, Tree, same_name, put, is_dir, WellFormed}
-use Rattle.tree_disk.specs.Laws.{same_means, same_itself, get_put_here, get_put_other}
+use Rattle.tree_disk.specs.Laws.{same_means}
+use Rattle.tree_disk.proofs.Laws.{same_itself, get_put_here, get_put_other}
 use Rattle.tree_disk.specs.Disk.{IsCrashImage}
 use Rattle.tree_nodes.specs.Crash.{digit, meant, is_held, picked, left_by, AreInOrder, HoldsNodes}
-
-abbrev R : Name → Name → Ordering
-R = slice_cmp nat_cmp
+use Rattle.tree_nodes.proofs.Between.{R}
+use Rattle.tree_nodes.proofs.Children.{clash}
+use Rattle.tree_disk.proofs.cny-base.Bools.{or_left, or_right, first_false as false_left, second_false as false_right}
+use Rattle.tree_disk.proofs.Children.{some_dir as dir_stands, or_none as or_false}
+use Rattle.tree_disk.proofs.Names.{no_path}
 
 abbrev listed : Name → List Name → Bool
 listed p names = list_any (eq_by_cmp R p) names
 
-clash : {A : Type 0} (b : Bool) → b ≡ true → b ≡ false → A
-clash b good bad = absurd (cc (good, bad))
-
-or_right : (x y : Bool) → y ≡ true → (x || y) ≡ true
-or_right true y h = refl
-or_right false y h = h
-
-or_left : (x y : Bool) → x ≡ true → (x || y) ≡ true
-or_left true y h = refl
-or_left false y h = absurd (cc h)
-
-or_false : (x y : Bool) → x ≡ false → y ≡ false → (x || y) ≡ false
-or_false x y p q = ap (λ b. b || y) p ∙ q
-
-false_left : (x y : Bool) → (x || y) ≡ false → x ≡ false
-false_left true y h = absurd (cc h)
-false_left false y h = refl
-
-false_right : (x y : Bool) → (x || y) ≡ false → y ≡ false
-false_right true y h = absurd (cc h)
-false_right false y h = h
-
 not_same : (p q : Name) (o : Ordering) → R p q ≡ o → o ≡ Less → same_name p q ≡ false
 not_same p q o is less = ap is_eq (is ∙ less)
-
-turn_same : (p q : Name) → same_name p q ≡ false → same_name q p ≡ false
-turn_same p q h = ⊎_elim (λ e. clash (same_name p q) (ap (λ (n : Name). same_name p n) (same_means q p e) ∙ same_itself p) h) (λ e. e) (cases_Bool (same_name q p))
 
 -- ---- in order
 
@@ -61,13 +40,6 @@ before_all x p (y ∷ names) first all =
     (before_all x p names first all.1)
 
 -- ---- above a standing name
-
-no_path : (p : Name) → is_path p ≡ true → p ≡ [] → ⊥
-no_path p path is = absurd (cc (sym path ∙ ap is_path is))
-
-dir_stands : (o : Option Node) → is_dir o ≡ true → is_some o ≡ true
-dir_stands None h = absurd (cc h)
-dir_stands (Some node) h = refl
 
 -- what lies above a standing name is a directory; n bounds the length
 above_by : (n : ℕ) (t : Tree) (p q : Name) → WellFormed t → is_path p ≡ true → length q < n → is_some (get t q) ≡ true → is_below p q ≡ true → is_dir (get t p) ≡ true
@@ -114,9 +86,6 @@ held_by unsynced p (n ∷ names) any = ⊎_elim
     and_right false y h = absurd (cc h)
 
 module _ (reads synced : Tree) (unsynced : Name → Bool) (well : WellFormed reads) where
-  held_root : is_held reads unsynced root ≡ true
-  held_root = refl
-
   held_above : (p q : Name) → is_some (get reads q) ≡ true → unsynced q ≡ false → (p ≡ root) ⊎ (is_below p q ≡ true) → is_held reads unsynced p ≡ true
   held_above p q stands same = ⊎_elim
       (λ top. ap (is_held reads unsynced) top)

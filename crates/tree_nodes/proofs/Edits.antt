@@ -7,41 +7,23 @@ use Rattle.std.specs.Ordering.{nat_cmp, eq_by_cmp, is_eq}
 use Rattle.std.specs.Cmp.Lexicographic.{slice_cmp}
 use Rattle.std.specs.FinMap.{get, keys, contains_key-keys}
 use Rattle.tree_disk.specs.cny-base.Path.{is_path, root, parent, last_name}
-use Rattle.tree_disk.specs.cny-base.Below.{parent_first}
+use Rattle.tree_disk.proofs.cny-base.Below.{parent_first}
 use Rattle.tree_disk.specs.cny-base.declared.node.Node.{Node}
 use Rattle.tree_disk.specs.cny-base.declared.node.Node.TheVariants.{Dir, File, Link}
 use Rattle.tree_disk.specs.Tree.{Name, Tree, same_name, put, is_dir, is_child, is_node, may_stand, WellFormed}
 use Rattle.tree_disk.specs.Rows.{is_dir_at, is_childless}
-use Rattle.tree_disk.specs.Laws.{same_means, same_itself, same_tree, get_put, get_put_here, get_put_other}
-use Rattle.tree_disk.specs.Allowed.{put_well_formed, take_well_formed, no_children}
+use Rattle.tree_disk.specs.Laws.{same_means, get_put}
+use Rattle.tree_disk.proofs.Laws.{same_itself, same_tree, get_put_here, get_put_other, second as and_right}
+use Rattle.tree_disk.proofs.Allowed.{put_well_formed, take_well_formed, no_children}
 use Rattle.tree_nodes.specs.Edit.{can_edit}
-
-clash : {A : Type 0} (b : Bool) → b ≡ true → b ≡ false → A
-clash b good bad = absurd (cc (good, bad))
-
-not_true : (b : Bool) → not b ≡ true → b ≡ false
-not_true true h = absurd (cc h)
-not_true false h = refl
-
-not_false : (b : Bool) → not b ≡ false → b ≡ true
-not_false true h = refl
-not_false false h = absurd (cc h)
-
-and_left : (x y : Bool) → (x && y) ≡ true → x ≡ true
-and_left true y h = refl
-and_left false y h = absurd (cc h)
-
-and_right : (x y : Bool) → (x && y) ≡ true → y ≡ true
-and_right true y h = h
-and_right false y h = absurd (cc h)
+use Rattle.tree_nodes.proofs.Children.{clash}
+use Rattle.tree_disk.proofs.Nodes.{left_true as and_left}
+use Rattle.tree_disk.proofs.cny-base.Bools.{not_false}
+use Rattle.tree_disk.proofs.cny-base.Again.{not_true}
 
 and_false : (x y : Bool) → (x && y) ≡ false → (x ≡ false) ⊎ (y ≡ false)
 and_false true y h = inr h
 and_false false y h = inl refl
-
-dir_stands : (o : Option Node) → is_dir o ≡ true → is_some o ≡ true
-dir_stands None h = absurd (cc h)
-dir_stands (Some node) h = refl
 
 own_parent : (p : Name) → is_path p ≡ true → same_name (parent p) p ≡ true → p ≡ root
 own_parent p path h = ⊎_elim (λ top. top) (λ less. clash (same_name (parent p) p) h (ap is_eq less)) (parent_first p path)
@@ -76,9 +58,6 @@ edit_well t p (Some (File mode bytes)) well path is can = plain_well t p (File m
 edit_well t p (Some (Link target)) well path is can = plain_well t p (Link target) well path is can
 
 -- ---- and it doesn't
-
-no_zero : (n : ℕ) → (n == 0) ≡ false → n ≡ 0 → ⊥
-no_zero n h is = absurd (cc (sym h ∙ ap (λ (m : ℕ). m == 0) is))
 
 -- a name that passes a test, where some are left by it
 some_passes : (f : Name → Bool) (g : Name → List ℕ) (names : List Name) → (length (map g (filter f names)) == 0) ≡ false → (q : Name) × (list_any (eq_by_cmp (slice_cmp nat_cmp) q) names ≡ true) × (f q ≡ true)

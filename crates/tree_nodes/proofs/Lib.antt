@@ -8,3 +8,5 @@ pub mod Held
 pub mod CrashImage
 pub mod Left
 pub mod Tried
+pub use Rattle.tree_disk.proofs as tree-disk
+pub use Rattle.tree_disk.proofs.cny-base

@@ -1,28 +1,12 @@
 -- What moving a node does.
-use Rattle.std.proofs.Common.{◌≡◌, ⊎_elim, Bool, true, false, cond, Option, Some, None, is_some, refl, sym, ◌∙◌, ap, Result, Ok, Err, OnOk}
-use Rattle.std.proofs.lemmas.Bool.{cases_Bool}
+use Rattle.std.proofs.Common.{◌≡◌, Bool, true, false, cond, Option, Some, None, is_some, refl, sym, ◌∙◌, ap, Result, Ok, Err, OnOk}
 use Rattle.std.specs.FinMap.{get}
 use Rattle.tree_disk.specs.cny-base.declared.node.Node.{Node}
 use Rattle.tree_disk.specs.Tree.{Name, Tree, same_name, put}
-use Rattle.tree_disk.specs.Laws.{same_means, same_itself, get_put, get_put_here, get_put_other, same_tree}
+use Rattle.tree_disk.specs.Laws.{same_means, get_put}
+use Rattle.tree_disk.proofs.Laws.{get_put_here, get_put_other, same_tree, put_put as put_twice}
 use Rattle.tree_disk.specs.Rows.{with_rename}
-
-clash : {A : Type 0} (b : Bool) → b ≡ true → b ≡ false → A
-clash b good bad = absurd (cc (good, bad))
-
-pub turn_same : (p q : Name) → same_name p q ≡ false → same_name q p ≡ false
-turn_same p q h = ⊎_elim (λ e. clash (same_name p q) (ap (λ (n : Name). same_name p n) (same_means q p e) ∙ same_itself p) h) (λ e. e) (cases_Bool (same_name q p))
-
--- the last put at a name counts
-pub put_twice : (t : Tree) (p : Name) (a b : Option Node) → put (put t p a) p b ≡ put t p b
-put_twice t p a b = same_tree _ _ (λ q.
-    get_put (put t p a) p b q
-    ∙ at q (same_name q p) refl
-    ∙ sym (get_put t p b q))
-  where
-    at : (q : Name) (v : Bool) → same_name q p ≡ v → cond v b (get (put t p a) q) ≡ cond v b (get t q)
-    at q true is = refl
-    at q false is = get_put_other t p a q is
+use Rattle.tree_disk.proofs.Order.{other_way as turn_same}
 
 -- a rename onto itself takes the node away
 pub rename_same : (t : Tree) (from to : Name) → same_name from to ≡ true → with_rename t from to ≡ put t from None

@@ -10,23 +10,14 @@ use Rattle.std.specs.FinMap.Entries as Entries
 use Rattle.tree_disk.specs.cny-base.Path.{is_path, root, parent}
 use Rattle.tree_disk.specs.cny-base.declared.node.Node.{Node}
 use Rattle.tree_disk.specs.Tree.{Name, Tree, same_name, is_dir, is_node, may_stand, WellFormed}
-use Rattle.tree_disk.specs.Laws.{same_means, same_itself}
+use Rattle.tree_disk.specs.Laws.{same_means}
+use Rattle.tree_disk.proofs.Laws.{same_itself, second as right_true}
 use Rattle.tree_nodes.specs.Start.{stands_right, holds}
+use Rattle.tree_disk.proofs.Nodes.{left_true}
+use Rattle.tree_disk.proofs.cny-base.Bools.{both}
 
 abbrev listed : Name → List (Name × Node) → Bool
 listed q es = list_any (eq_by_cmp (slice_cmp nat_cmp) q) (map (λ e. e.0) es)
-
-left_true : (x y : Bool) → (x && y) ≡ true → x ≡ true
-left_true true y h = refl
-left_true false y h = h
-
-right_true : (x y : Bool) → (x && y) ≡ true → y ≡ true
-right_true true y h = h
-right_true false y h = absurd (cc h)
-
-both : (x y : Bool) → x ≡ true → y ≡ true → (x && y) ≡ true
-both true y h k = k
-both false y h k = h
 
 stands : (es : List (Name × Node)) (q : Name) → is_some (get (from_entries {R = slice_cmp nat_cmp} es) q) ≡ listed q es
 stands es q = ap is_some (get-from_entries nat_list_cmp_total es q) ∙ Entries.is_some-find (slice_cmp nat_cmp) q es

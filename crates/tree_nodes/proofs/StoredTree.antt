@@ -2,14 +2,13 @@
 use Rattle.std.proofs.Common.{◌≡◌, ℕ, Bool, true, false, cond, List, [], ◌∷◌, Option, Some, None, refl, sym, ◌∙◌, ap, subst, T, IsSome, is_some, Result, Ok, Err, OnOk, OnErr, string_bytes, String}
 use Rattle.std.specs.declared.alloc.Global.{Global}
 use Rattle.std.specs.Ordering.{nat_cmp, eq_by_cmp}
-use Rattle.std.specs.Cmp.{eq_by_cmp_equiv}
 use Rattle.std.specs.Cmp.Lexicographic.{slice_cmp, nat_list_cmp_total}
 use Rattle.std.specs.Map.{lookup, remove_entry, set_value}
 use Rattle.std.specs.BTreeMap.{is_at, insert_entry}
-use Rattle.std.specs.FinMap.{get, find, insert, remove, get-from_entries}
+use Rattle.std.specs.FinMap.{get, find, insert, get-from_entries}
 use Rattle.tree_disk.specs.cny-base.declared.node.Node.{Node}
 use Rattle.tree_disk.specs.Tree.{Name, Tree, put}
-use Rattle.tree_disk.specs.Laws.{get_put_here, put_put}
+use Rattle.tree_disk.proofs.Laws.{get_put_here, put_put}
 use Rattle.std.specs.FinMap.Entries as Entries
 use Rattle.std.specs.FinMap.{same_map, get-insert, get-remove, slice_cmp-IsAntisymmetric, nat_cmp-IsAntisymmetric}
 use Rattle.std.specs.declared.cmp.Ordering.{Ordering}
@@ -18,6 +17,7 @@ use Rattle.std.specs.Ordering.{match_ordering, is_eq}
 use Rattle.std.specs.String.{string_cmp}
 use Rattle.tree_disk.specs.Rows.{of_mode, with_mode, grown, with_append}
 use Rattle.tree_nodes.specs.Stored.{by_bytes, tree_of}
+use Rattle.tree_nodes.proofs.Between.{R}
 
 find_stored : (q : Name) (entries : List (String Global × Node)) → lookup (is_at (λ k. slice_cmp nat_cmp q (string_bytes k))) entries ≡ find (slice_cmp nat_cmp) q (by_bytes entries)
 find_stored q [] = refl
@@ -26,9 +26,6 @@ find_stored q (e ∷ entries) = ap (cond (eq_by_cmp (slice_cmp nat_cmp) q (strin
 -- a look-up in the map is one in the tree
 pub get_stored : (q : Name) (entries : List (String Global × Node)) → lookup (is_at (λ k. slice_cmp nat_cmp q (string_bytes k))) entries ≡ get (tree_of entries) q
 get_stored q entries = find_stored q entries ∙ sym (get-from_entries nat_list_cmp_total (by_bytes entries) q)
-
-abbrev pub R : Name → Name → Ordering
-R = slice_cmp nat_cmp
 
 -- ---- an insertion
 insert_bytes : (k : String Global) (v : Node) (entries : List (String Global × Node)) → by_bytes (insert_entry string_cmp entries k v) ≡ Entries.put R (string_bytes k) v (by_bytes entries)
@@ -59,9 +56,6 @@ same_from_tie Greater h = absurd h
 
 pub tied : (p q : Name) → eq_by_cmp R p q ≡ true → p ≡ q
 tied p q h = slice_cmp-IsAntisymmetric nat_cmp-IsAntisymmetric p q (same_from_tie (R p q) (subst T (sym h) tt))
-
-pub tie : (p : Name) → eq_by_cmp R p p ≡ true
-tie p = (eq_by_cmp_equiv nat_list_cmp_total).refl p
 
 abbrev pub at_name : Name → String Global → Bool
 at_name q = is_at (λ k. R q (string_bytes k))
@@ -125,12 +119,6 @@ written q w old new is some =
 -- ---- the same at a path that the key spells
 pub inserted_at : (p : Name) (k : String Global) (v : Node) (old new : List (String Global × Node)) → string_bytes k ≡ p → new ≡ insert_entry string_cmp old k v → tree_of new ≡ put (tree_of old) p (Some v)
 inserted_at p k v old new spells is = inserted k v old new is ∙ ap (λ q. insert (tree_of old) q v) spells
-
-pub removed_at : (p q : Name) (old new : List (String Global × Node)) → q ≡ p → new ≡ remove_entry (at_name q) old → lookup (at_name q) new ≡ None → tree_of new ≡ put (tree_of old) p None
-removed_at p q old new spells is none = removed q old new is none ∙ ap (remove (tree_of old)) spells
-
-pub written_to : (p q : Name) (w : Node) (old new : List (String Global × Node)) → q ≡ p → new ≡ set_value (at_name q) old w → IsSome (lookup (at_name q) old) → tree_of new ≡ put (tree_of old) p (Some w)
-written_to p q w old new spells is some = written q w old new is some ∙ ap (λ n. insert (tree_of old) n w) spells
 
 -- ---- a write through what a look-up lent
 pub get_at : (q : Name) (found : Option Node) (entries : List (String Global × Node)) → lookup (at_name q) entries ≡ found → get (tree_of entries) q ≡ found

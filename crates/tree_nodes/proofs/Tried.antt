@@ -4,12 +4,15 @@ use Rattle.std.specs.FinMap.{get}
 use Rattle.tree_disk.specs.cny-base.declared.node.Node.{Node}
 use Rattle.tree_disk.specs.cny-base.declared.node.Node.TheVariants.{Dir, File, Link}
 use Rattle.tree_disk.specs.Tree.{Name, Tree, WellFormed, same_name, put, is_dir, is_file}
-use Rattle.tree_disk.specs.Laws.{get_put, get_put_here, get_put_other, put_put, same_tree}
+use Rattle.tree_disk.specs.Laws.{get_put}
+use Rattle.tree_disk.proofs.Laws.{get_put_here, get_put_other, put_put, same_tree}
 use Rattle.tree_disk.specs.Rows.{can_set_mode, grown, is_empty_at, is_file_at, of_mode, with_append, with_mode, with_rename}
 use Rattle.tree_nodes.specs.declared.attempts.NotPut.{NotPut}
 use Rattle.tree_nodes.specs.Attempts.{IsTried, can_leave, can_take}
-use Rattle.tree_nodes.proofs.Moved.{turn_same}
 use Rattle.tree_nodes.proofs.StoredTree.{put_same}
+use Rattle.tree_disk.proofs.cny-base.Bools.{both, and_false as not_right}
+use Rattle.tree_disk.proofs.Looks.{nothing_grows}
+use Rattle.tree_disk.proofs.Order.{other_way as turn_same}
 
 -- what was tried leaves a tree
 pub tried_well : {E : Type 0} (r : Result Bool E) (can : Bool) (after old new : Tree) → IfOk r (IsTried can after old new) → OnErr r (new ≡ old) → WellFormed old → (can ≡ true → WellFormed after) → WellFormed new
@@ -22,9 +25,6 @@ pub tried_well_at : (done can : Bool) (after old new : Tree) → IsTried can aft
 tried_well_at true can after old new tried well keeps = subst WellFormed (sym (tried.done refl)) (keeps (sym tried.told))
 tried_well_at false can after old new tried well keeps = subst WellFormed (sym (tried.refused refl)) well
 
-clash : {A : Type 0} (b : Bool) → b ≡ true → b ≡ false → A
-clash b good bad = absurd (cc (good, bad))
-
 pub was_done : (can : Bool) (after old new : Tree) → can ≡ true → new ≡ after → IsTried can after old new true
 was_done can after old new is made = record { told = sym is; done = λ _. made; refused = λ bad. absurd (cc bad) }
 
@@ -35,9 +35,6 @@ was_refused can after old new is same = record { told = sym is; done = λ bad. a
 
 file_grows : (o : Option Node) (node : Node) → o ≡ Some node → (not (is_some o) || is_file o) ≡ is_file (Some node)
 file_grows o node is = ap (λ (x : Option Node). not (is_some x) || is_file x) is
-
-nothing_grows : (o : Option Node) → o ≡ None → (not (is_some o) || is_file o) ≡ true
-nothing_grows o is = ap (λ (x : Option Node). not (is_some x) || is_file x) is
 
 -- nothing stood there
 pub appended_new : (t new : Tree) (p : Name) (bytes : List ℕ) → get t p ≡ None → new ≡ with_append t p bytes → IsTried (is_empty_at t p || is_file_at t p) (with_append t p bytes) t new true
@@ -122,22 +119,10 @@ mode_tried did t new p mode told made = record {
 
 -- ---- a rename
 
-pub both : (x y : Bool) → x ≡ true → y ≡ true → (x && y) ≡ true
-both true y h k = k
-both false y h k = absurd (cc h)
-
 pub rename_allowed : (same leaves dir takes : Bool) → same ≡ false → dir ≡ true → (leaves && takes) ≡ true → (not same && (leaves && (dir && takes))) ≡ true
 rename_allowed true leaves dir takes apart is can = absurd (cc apart)
 rename_allowed false false dir takes apart is can = absurd (cc can)
 rename_allowed false true dir takes apart is can = both dir takes is can
-
-not_left : (x y : Bool) → x ≡ false → (x && y) ≡ false
-not_left true y h = absurd (cc h)
-not_left false y h = refl
-
-not_right : (x y : Bool) → y ≡ false → (x && y) ≡ false
-not_right true y h = h
-not_right false y h = refl
 
 moved_at : (t : Tree) (from to : Name) (n d : Node) → get t from ≡ Some n → (q : Name) (v : Bool) → same_name q from ≡ v
     → get (put (put (put t from (Some d)) to (Some n)) from None) q ≡ get (put (put t to (get t from)) from None) q
@@ -171,9 +156,6 @@ pub rename_done : (t lifted placed taken : Tree) (from to : Name) (n d : Node) �
     → IsTried (can_leave (get t from) && can_take (get t to)) (with_rename t from to) t taken true
 rename_done t lifted placed taken from to n d apart is leaves lift takes place took =
     was_done _ _ t taken (both _ _ leaves (ap can_take (sym (still_there t lifted from to d apart lift)) ∙ takes)) (moved_over t lifted placed taken from to n d is lift place took)
-
-pub rename_none : (t new : Tree) (from to : Name) → can_leave (get t from) ≡ false → new ≡ t → IsTried (can_leave (get t from) && can_take (get t to)) (with_rename t from to) t new false
-rename_none t new from to leaves_not same = was_refused _ _ t new (not_left _ _ leaves_not) same
 
 -- the node was put back into its place
 pub put_back : (t lifted kept new : Tree) (from : Name) (n m d : Node) → get t from ≡ Some n → lifted ≡ put t from (Some d) → kept ≡ lifted → m ≡ n → new ≡ put kept from (Some m) → new ≡ t

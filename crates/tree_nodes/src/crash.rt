@@ -1,5 +1,5 @@
 // What a crash leaves of a tree.
-ghost use Rattle.std.specs.Prelude.{◌≡◌, ◌&&◌, ℕ, None, cond, map, not, string_bytes, IfOk, IsTrue, OnOk};
+ghost use Rattle.std.specs.Prelude.{◌≡◌, ◌&&◌, None, cond, map, not, string_bytes, IfOk, IsTrue, OnOk};
 ghost use Rattle.std.specs.BTreeSet.{contains_text, IsOrdered};
 ghost use Rattle.std.specs.String.{string_cmp};
 ghost use Rattle.std.specs.FinMap.{get};

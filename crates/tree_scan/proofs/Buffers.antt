@@ -1,6 +1,6 @@
 -- What a read leaves in a buffer.
-use Rattle.std.proofs.Common.{◌≡◌, ℕ, ◌-◌, min, List, ◌++◌, length, take, drop, ◌∙◌, ap, sym, arith}
-use Rattle.std.proofs.lemmas.List.{length-take, length-drop, take_at, take_min}
+use Rattle.std.proofs.Common.{◌≡◌, ℕ, ◌-◌, min, List, ◌++◌, length, take, drop, ◌∙◌, ap, arith}
+use Rattle.std.proofs.lemmas.List.{length-take, length-drop, take_at}
 
 -- the bytes that were read: as many as there were
 pub read_count : (file old new : List ℕ) (at count : ℕ) → count ≡ min (length old) (length file - at) → new ≡ take count (drop at file) ++ drop count old
@@ -10,11 +10,3 @@ read_count file old new at count most is =
   where
     short : min count (length (drop at file)) ≡ count
     short = omega (arith, most, length-drop at file)
-
--- the same, as many as there was room for
-pub read_front : (file old new : List ℕ) (at count : ℕ) → count ≡ min (length old) (length file - at) → new ≡ take count (drop at file) ++ drop count old
-    → take count new ≡ take (length old) (drop at file)
-read_front file old new at count most is =
-    read_count file old new at count most is
-    ∙ ap (λ (k : ℕ). take k (drop at file)) (most ∙ ap (min (length old)) (sym (length-drop at file)))
-    ∙ take_min (length old) (drop at file)

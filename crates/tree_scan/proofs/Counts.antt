@@ -1,9 +1,10 @@
 -- Differing places, counted piece by piece.
 use Rattle.std.specs.Prelude.{◌==◌}
 use Rattle.std.proofs.Common.{◌≡◌, Bool, true, false, cond, not, ℕ, zero, suc, ◌+◌, ◌-◌, min, ◌≤◌, List, [], ◌∷◌, ◌++◌, length, take, take-add, drop, refl, sym, ◌∙◌, ap, arith}
-use Rattle.std.proofs.lemmas.List.{length-take, length-drop, take_all, take-take}
+use Rattle.std.proofs.lemmas.List.{length-take, length-drop, take-take}
 use Rattle.std.proofs.lemmas.List.Sums.{sum_by-cons}
 use Rattle.cny_lanes.specs.Compare.{count_of_differing, differing}
+use Rattle.tree_disk.proofs.cny-base.Lists.{rest_is}
 
 pub differing_none : (a : List ℕ) → count_of_differing a [] ≡ 0
 differing_none [] = refl
@@ -12,9 +13,6 @@ differing_none (x ∷ a) = refl
 none_dropped : (n : ℕ) → drop n (let l : List ℕ = [] in l) ≡ []
 none_dropped zero = refl
 none_dropped (suc n) = refl
-
-none_differing : (y : List ℕ) → count_of_differing [] y ≡ 0
-none_differing y = refl
 
 step : (x : ℕ) (a : List ℕ) (y : ℕ) (b : List ℕ) → count_of_differing (x ∷ a) (y ∷ b) ≡ cond (not (x == y)) 1 0 + count_of_differing a b
 step x a y b = sum_by-cons (λ (d : Bool). cond d 1 0) (not (x == y)) (differing a b)
@@ -78,10 +76,6 @@ few_differing (x ∷ a) (y ∷ b) =
     at_most_one : (t : Bool) → cond t 1 0 ≤ 1
     at_most_one true = omega arith
     at_most_one false = omega arith
-
--- the rest of some bytes, as a slice has it
-rest_is : (bytes : List ℕ) (at n : ℕ) → take n (take (length bytes - at) (drop at bytes)) ≡ take n (drop at bytes)
-rest_is bytes at n = ap (take n) (take_all (length bytes - at) (drop at bytes) (omega (arith, length-drop at bytes)))
 
 -- of a piece, as much as the file has there is enough
 pub piece_read : (file bytes : List ℕ) (at room read count : ℕ) → read ≡ min (length (take room (take (length bytes - at) (drop at bytes)))) (length file - at)

@@ -1,3 +1,5 @@
 pub mod Buffers
 pub mod Counts
 pub mod Seen
+pub mod MarkLaws
+pub use Rattle.tree_disk.proofs as tree-disk

@@ -5,11 +5,10 @@ ghost use Rattle.tree_disk.specs.Rows.{bytes_at, is_file_at};
 ghost use Rattle.tree_disk.specs.Steps.{IsDiskStop, Tests};
 ghost use Rattle.tree_scan.specs.Differing.{count_of_differing_bytes};
 
-use crate::pieces::{piece_room, room_for};
 use cny_lanes::count_different;
 use std::alloc::Global;
 use tree_disk::cny_base::{Path, Stop};
-use tree_disk::{TreeDisk, steps};
+use tree_disk::{TreeDisk, piece_room, room_for, steps};
 
 // How many bytes of a piece were read, and how many of them differ.
 #[derive(Clone, Copy)]

@@ -1,10 +1,10 @@
 use Rattle.std.proofs.Common.{length, drop, take, Ok, sym, ap, ◌∙◌}
 use Rattle.tree_disk.specs.Tree.{Tree}
 use Rattle.tree_disk.specs.Rows.{bytes_at}
-use Rattle.tree_disk.specs.StepLaws.{tests_answer}
+use Rattle.tree_disk.proofs.StepLaws.{tests_answer}
 use Rattle.content_store.specs.Difference.{first_difference}
-use Rattle.content_store.proofs.Deciding.{tests_next}
 use Rattle.content_store.proofs.Differences.{pieces_read}
+use Rattle.tree_disk.proofs.Deciding.{tests_next}
 use Rattle.content_store.proofs.compare.pieces_differ.Goals as goal
 
 pub returns-clause-tests : goal.returns-clause-tests

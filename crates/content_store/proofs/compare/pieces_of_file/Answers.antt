@@ -1,8 +1,9 @@
 use Rattle.std.proofs.Common.{◌≤◌, ◌-◌, length, length-drop, length-take, drop, Ok, refl, sym, ap, ◌∙◌, arith}
 use Rattle.tree_disk.specs.Rows.{bytes_at}
-use Rattle.tree_disk.specs.StepLaws.{tests_answer, tests_value}
-use Rattle.content_store.proofs.Deciding.{tests_next}
-use Rattle.content_store.proofs.Differences.{behind_found, behind_longer, behind_on, rest_is}
+use Rattle.tree_disk.proofs.StepLaws.{tests_answer, tests_value}
+use Rattle.content_store.proofs.Differences.{behind_found, behind_longer, behind_on}
+use Rattle.tree_disk.proofs.cny-base.Lists.{rest_is}
+use Rattle.tree_disk.proofs.Deciding.{tests_next}
 use Rattle.content_store.proofs.compare.pieces_of_file.Goals as goal
 
 pub returns-in-Some-clause-tests : goal.returns-in-Some-clause-tests

@@ -1,9 +1,9 @@
 use Rattle.std.proofs.Common.{◌≡◌, ◌≤◌, List, ℕ, length, length-drop, length-take, drop, take, Ok, refl, sym, ap, ◌∙◌, arith}
 use Rattle.tree_disk.specs.Rows.{bytes_at}
-use Rattle.tree_disk.specs.StepLaws.{tests_answer, tests_value}
+use Rattle.tree_disk.proofs.StepLaws.{tests_answer, tests_value}
 use Rattle.content_store.specs.Difference.{first_difference}
-use Rattle.content_store.proofs.Deciding.{tests_next}
 use Rattle.content_store.proofs.Differences.{behind_found_both, behind_longer, behind_on_both}
+use Rattle.tree_disk.proofs.Deciding.{tests_next}
 use Rattle.content_store.proofs.compare.pieces_of_files.Goals as goal
 
 pub returns-in-Some-clause-tests : goal.returns-in-Some-clause-tests

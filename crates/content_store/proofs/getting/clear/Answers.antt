@@ -1,6 +1,6 @@
 use Rattle.std.proofs.Common.{◌<◌, length, ap, ◌∙◌, sym, arith}
 use Rattle.tree_disk.specs.Clear.{is_within}
-use Rattle.tree_disk.specs.StepLaws.{makes_start}
+use Rattle.tree_disk.proofs.StepLaws.{makes_start}
 use Rattle.content_store.specs.Store.{content_path}
 use Rattle.content_store.proofs.Paths.{content_not_root, nothing_too_long, without_nothing}
 use Rattle.content_store.proofs.Deciding.{cleared_bare}

@@ -1,6 +1,6 @@
 use Rattle.std.proofs.Common.{◌<◌, length, None, Ok, ap, arith}
-use Rattle.tree_disk.specs.ClearLaws.{within_itself}
-use Rattle.tree_disk.specs.StepLaws.{tests_start}
+use Rattle.tree_disk.proofs.ClearLaws.{within_itself}
+use Rattle.tree_disk.proofs.StepLaws.{tests_start}
 use Rattle.content_store.specs.Store.{content_path, file_bytes}
 use Rattle.content_store.proofs.Paths.{nothing_too_long}
 use Rattle.content_store.proofs.getting.get.Goals as goal

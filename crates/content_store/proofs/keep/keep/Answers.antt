@@ -3,11 +3,12 @@ use Rattle.std.specs.Prelude.{IsTrue}
 use Rattle.tree_disk.specs.cny-base.Path.{parent}
 use Rattle.tree_disk.specs.Tree.{Tree}
 use Rattle.tree_disk.specs.Rows.{can_append, is_file_at, with_append}
-use Rattle.tree_disk.specs.StepLaws.{makes_after_test, tests_value}
+use Rattle.tree_disk.proofs.StepLaws.{makes_after_test, tests_value}
 use Rattle.content_store.specs.Outcome.{IsCollisionOf}
 use Rattle.content_store.proofs.Paths.{content_parent}
 use Rattle.content_store.proofs.Standing.{file_of_size, may_append, no_file_of_size, put_new_file, put_over_file, put_within}
-use Rattle.content_store.proofs.Deciding.{decides_makes, decides_test, stops_later, stops_makes, stops_test, tests_next}
+use Rattle.content_store.proofs.Deciding.{decides_makes, decides_test, stops_later, stops_makes, stops_test}
+use Rattle.tree_disk.proofs.Deciding.{tests_next}
 use Rattle.content_store.proofs.keep.keep.Goals as goal
 
 pub returns-in-Some-clause-decides : goal.returns-in-Some-clause-decides

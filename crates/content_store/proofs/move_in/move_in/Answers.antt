@@ -3,11 +3,12 @@ use Rattle.std.specs.Prelude.{IsTrue}
 use Rattle.tree_disk.specs.cny-base.Path.{parent}
 use Rattle.tree_disk.specs.Tree.{Tree}
 use Rattle.tree_disk.specs.Rows.{can_rename, is_file_at, with_rename}
-use Rattle.tree_disk.specs.StepLaws.{makes_after_test, tests_value}
+use Rattle.tree_disk.proofs.StepLaws.{makes_after_test, tests_value}
 use Rattle.content_store.specs.Outcome.{IsCollision}
 use Rattle.content_store.proofs.Paths.{content_parent}
 use Rattle.content_store.proofs.Standing.{file_of_size, may_rename, no_file_of_size, move_new_file, move_over_file, move_within}
-use Rattle.content_store.proofs.Deciding.{decides_makes, decides_test, decides_test_stop, stops_later, stops_makes, stops_test, tests_next}
+use Rattle.content_store.proofs.Deciding.{decides_makes, decides_test, decides_test_stop, stops_later, stops_makes, stops_test}
+use Rattle.tree_disk.proofs.Deciding.{tests_next}
 use Rattle.content_store.proofs.move_in.move_in.Goals as goal
 
 pub returns-in_err-look-clause-decides : goal.returns-in_err-look-clause-decides

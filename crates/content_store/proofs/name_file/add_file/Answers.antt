@@ -1,8 +1,8 @@
 use Rattle.std.proofs.Common.{◌≡◌, ◌++◌, ℕ, length, length-take, drop, take, take-add, refl, sym, ap, subst, ◌∙◌, arith}
 use Rattle.tree_disk.specs.Tree.{Tree}
 use Rattle.tree_disk.specs.Rows.{bytes_at}
-use Rattle.tree_disk.specs.StepLaws.{tests_answer}
-use Rattle.content_store.proofs.Deciding.{tests_next}
+use Rattle.tree_disk.proofs.StepLaws.{tests_answer}
+use Rattle.tree_disk.proofs.Deciding.{tests_next}
 use Rattle.content_store.proofs.name_file.add_file.Goals as goal
 
 pub pieces-preserved : goal.pieces-preserved

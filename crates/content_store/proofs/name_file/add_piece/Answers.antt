@@ -1,5 +1,5 @@
 use Rattle.std.proofs.Common.{◌++◌, subst}
-use Rattle.content_store.proofs.Differences.{read_front}
+use Rattle.tree_disk.proofs.cny-base.ByteLists.{read_front}
 use Rattle.content_store.proofs.name_file.add_piece.Goals as goal
 
 pub returns-clause-given : goal.returns-clause-given

@@ -2,11 +2,13 @@ use Rattle.std.proofs.Common.{ap, sym, ◌∙◌, Some}
 use Rattle.std.specs.FinMap.{get}
 use Rattle.tree_disk.specs.Tree.{Name, Tree}
 use Rattle.tree_disk.specs.Rows.{bytes_at, is_file_at}
-use Rattle.tree_disk.specs.StepLaws.{tests_value}
+use Rattle.tree_disk.proofs.StepLaws.{tests_value}
 use Rattle.content_store.specs.Store.{content_path, file_bytes}
 use Rattle.content_store.specs.Outcome.{IsCollision, PutStops}
 use Rattle.content_store.proofs.Standing.{moved_stands, same_move, same_move_names}
-use Rattle.content_store.proofs.Deciding.{decided_tree, decides_after, decides_as, decides_memory, decides_ok, decides_stop, decides_test_stop, passed_memory, stops_later, stops_passed, stops_test, tests_next}
+use Rattle.content_store.proofs.Deciding.{decided_tree, decides_after, decides_as, decides_memory, decides_ok, decides_stop, decides_test_stop, stops_later, stops_passed, stops_test}
+use Rattle.tree_disk.proofs.cny-base.Faults.{passed_memory}
+use Rattle.tree_disk.proofs.Deciding.{tests_next}
 use Rattle.content_store.proofs.putting.put_file.Goals as goal
 
 pub returns-in_err-size-clause-decides : goal.returns-in_err-size-clause-decides

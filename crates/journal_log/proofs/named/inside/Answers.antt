@@ -1,7 +1,8 @@
 use Rattle.std.proofs.Common.{◌≡◌, ◌∷◌, [], false}
 use Rattle.tree_disk.specs.cny-base.Below.{begins_with}
 use Rattle.journal_log.specs.Joined.{front_of}
-use Rattle.journal_log.proofs.Naming.{if_none, no_front, no_slash, then_none}
+use Rattle.journal_log.proofs.Naming.{no_front, no_slash, then_none}
+use Rattle.tree_disk.proofs.cny-base.Faults.{if_none}
 use Rattle.journal_log.proofs.named.inside.Goals as goal
 
 pub returns-in_err-rest-clause-none : goal.returns-in_err-rest-clause-none

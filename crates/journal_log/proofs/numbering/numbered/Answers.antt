@@ -1,6 +1,6 @@
 use Rattle.std.proofs.Common.{List, sym, subst}
 use Rattle.journal_log.specs.declared.put.Put.{Put}
-use Rattle.journal_log.specs.NumberLaws.{numbered_rises}
+use Rattle.journal_log.proofs.NumberLaws.{numbered_rises}
 use Rattle.journal_log.specs.Staged.{AreStagedNumbers}
 use Rattle.journal_log.proofs.FreeNumbers.{one_more, all_numbered}
 use Rattle.journal_log.proofs.numbering.numbered.Goals as goal

@@ -1,7 +1,7 @@
 use Rattle.std.proofs.Common.{◌≡◌, ℕ, [], ◌++◌, arith, sym, ◌∙◌, append-nil, List}
 use Rattle.tree_disk.specs.cny-base.StrField.{FitsStr, str}
 use Rattle.journal_log.proofs.Links.{behind_str, both_lengths}
-use Rattle.journal_log.proofs.Naming.{if_none}
+use Rattle.tree_disk.proofs.cny-base.Faults.{if_none}
 use Rattle.journal_log.proofs.read_put.two_strs.Goals as goal
 
 pub returns-in_err-second-clause-none : goal.returns-in_err-second-clause-none

@@ -3,7 +3,8 @@ use Rattle.std.specs.Str.{bytes_eq}
 use Rattle.std.proofs.lemmas.Map.Text.{is_eq-slice_cmp}
 use Rattle.tree_disk.specs.cny-base.Path.{is_path, parent, root}
 use Rattle.tree_disk.specs.Tree.{Name}
-use Rattle.tree_disk.specs.Laws.{same_means, same_itself}
+use Rattle.tree_disk.specs.Laws.{same_means}
+use Rattle.tree_disk.proofs.Laws.{same_itself}
 use Rattle.journal_log.proofs.Walking.{WalksUp, walk_begins, walk_goes_on, walk_ends, walk_shortens}
 use Rattle.journal_log.proofs.rules.has_dirs_above.Goals as goal
 

@@ -4,9 +4,10 @@ use Rattle.cny_base.specs.Path.{join}
 use Rattle.tree_disk.specs.Tree.{Name}
 use Rattle.tree_disk.specs.Rows.{without}
 use Rattle.tree_disk.specs.Clear.{is_within, without_each, without_tree}
-use Rattle.tree_disk.specs.Looks.{sees_nothing, sees_dir, dir_seen, nothing_seen}
-use Rattle.tree_disk.specs.StepLaws.{tests_value, makes_from_test, makes_after_test, makes_then, makes_then_stop, makes_test_stop, makes_test_then_stop, makes_wider}
-use Rattle.tree_disk.specs.ClearLaws.{below_within, itself_within, within_join_below}
+use Rattle.tree_disk.specs.Looks.{sees_nothing, sees_dir}
+use Rattle.tree_disk.proofs.Looks.{dir_seen, nothing_seen}
+use Rattle.tree_disk.proofs.StepLaws.{tests_value, makes_from_test, makes_after_test, makes_then, makes_then_stop, makes_test_stop, makes_test_then_stop, makes_wider}
+use Rattle.tree_disk.proofs.ClearLaws.{below_within, itself_within, within_join_below}
 use Rattle.tree_disk.proofs.Clearing.{without_after, without-leaf, without-nothing, may_remove_after, one_more_cleared}
 use Rattle.tree_disk.proofs.clear.+clear.Goals as goal
 

@@ -1,6 +1,6 @@
 use Rattle.std.proofs.Common.{ap, ◌∙◌}
 use Rattle.std.specs.FinMap.{get}
-use Rattle.tree_disk.specs.ClearLaws.{bare_without}
+use Rattle.tree_disk.proofs.ClearLaws.{bare_without}
 use Rattle.tree_disk.proofs.clear.clear_tree.Goals as goal
 
 pub returns-in-Ok-clause-cleared : goal.returns-in-Ok-clause-cleared

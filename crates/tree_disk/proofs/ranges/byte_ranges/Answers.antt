@@ -1,12 +1,9 @@
-use Rattle.std.proofs.Common.{◌≡◌, ℕ, suc, ◌<◌, Bool, true, false, ◌&&◌, nat_lt, List, [], ◌∷◌, get_or, refl, arith}
+use Rattle.std.proofs.Common.{◌≡◌, ℕ, suc, ◌<◌, true, nat_lt, List, [], ◌∷◌, get_or, refl, arith}
 use Rattle.std.proofs.lemmas.Bool.Decides.{nat_tests}
 use Rattle.std.specs.List.{list_all}
 use Rattle.tree_disk.specs.Tree.{is_byte}
+use Rattle.cny_base.proofs.Bools.{both}
 use Rattle.tree_disk.proofs.ranges.byte_ranges.Goals as goal
-
-both : (x y : Bool) → x ≡ true → y ≡ true → (x && y) ≡ true
-both true y left right = right
-both false y left right = absurd (cc left)
 
 all_bytes : (bytes : List ℕ) → ((i : ℕ) → get_or bytes i 0 < 256) → list_all is_byte bytes ≡ true
 all_bytes [] fits = refl

@@ -2,7 +2,8 @@ use Rattle.std.proofs.Common.{ap, sym, ◌∙◌, arith}
 use Rattle.std.specs.List.{list_all}
 use Rattle.cny_base.specs.Target.{is_target}
 use Rattle.tree_disk.specs.Tree.{is_byte, is_node}
-use Rattle.tree_disk.specs.Nodes.{is_node-Dir, is_node-File, is_node-Link}
+use Rattle.tree_disk.specs.Nodes.{is_node-Dir}
+use Rattle.tree_disk.proofs.Nodes.{is_node-File, is_node-Link}
 use Rattle.tree_disk.proofs.ranges.node_ranges.Goals as goal
 
 pub returns-in-Dir : goal.returns-in-Dir

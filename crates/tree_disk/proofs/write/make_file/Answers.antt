@@ -1,4 +1,4 @@
-use Rattle.tree_disk.specs.StepLaws.{makes_then}
+use Rattle.tree_disk.proofs.StepLaws.{makes_then}
 use Rattle.tree_disk.proofs.NewFile.{may_set_mode, with_file}
 use Rattle.tree_disk.proofs.write.make_file.Goals as goal
 

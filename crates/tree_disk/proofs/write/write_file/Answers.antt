@@ -1,5 +1,5 @@
 use Rattle.std.proofs.Common.{refl}
-use Rattle.tree_disk.specs.StepLaws.{makes_then}
+use Rattle.tree_disk.proofs.StepLaws.{makes_then}
 use Rattle.tree_disk.proofs.write.write_file.Goals as goal
 
 pub returns-clause-makes : goal.returns-clause-makes

@@ -1,10 +1,12 @@
 use Rattle.std.proofs.Common.{◌∙◌, sym, take, ◌+◌}
 use Rattle.std.proofs.lemmas.List.{get_or_default}
 use Rattle.std.proofs.lemmas.List.Elements.{All-nil}
-use Rattle.journal_log.specs.tree-disk.StepLaws.{tests_value}
-use Rattle.tree_journal.specs.Found.{AreClear, IsAnswer}
-use Rattle.tree_journal.proofs.Finding.{finds_start, finds_then, finds_stop, finds_memory, finds_answer, finds_test_answer, finds_after_test, passed_memory}
+use Rattle.journal_log.proofs.tree-disk.StepLaws.{tests_value}
+use Rattle.tree_journal.specs.Found.{AreClear}
+use Rattle.tree_journal.proofs.Finding.{finds_start, finds_then, finds_stop, finds_memory, finds_answer, finds_test_answer, finds_after_test}
 use Rattle.tree_journal.proofs.PutTest.{clear_by_look, clear_from_names, not_target_here, not_clear_here, one_more_clear, all_clear}
+use Rattle.journal_log.specs.cny-base.Answer.{IsAnswer}
+use Rattle.journal_log.proofs.cny-base.Faults.{passed_memory}
 use Rattle.tree_journal.proofs.blocked.+below.Goals as goal
 
 pub is_clear_below-returns-then-not-is_dir : goal.is_clear_below-returns-then-not-is_dir

@@ -1,5 +1,5 @@
 use Rattle.std.proofs.Common.{◌∙◌, sym}
-use Rattle.journal_log.specs.tree-disk.StepLaws.{tests_value}
+use Rattle.journal_log.proofs.tree-disk.StepLaws.{tests_value}
 use Rattle.tree_journal.proofs.Finding.{finds_weaker, finds_test_answer}
 use Rattle.tree_journal.proofs.PutTest.{way_by_target, way_by_look}
 use Rattle.tree_journal.proofs.blocked.+has_way.Goals as goal

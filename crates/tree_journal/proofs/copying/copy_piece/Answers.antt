@@ -1,9 +1,9 @@
 use Rattle.std.proofs.Common.{List, ℕ, ap}
 use Rattle.journal_log.specs.tree-disk.Disk.{one_name}
 use Rattle.journal_log.specs.tree-disk.Rows.{with_append}
-use Rattle.journal_log.specs.tree-disk.StepLaws.{makes_after_test, makes_test_stop, makes_test_then_stop, tests_value}
-use Rattle.tree_journal.proofs.Copies.{piece_read}
+use Rattle.journal_log.proofs.tree-disk.StepLaws.{makes_after_test, makes_test_stop, makes_test_then_stop, tests_value}
 use Rattle.tree_journal.proofs.Seen.{makes_answer}
+use Rattle.journal_log.proofs.cny-base.ByteLists.{read_front as piece_read}
 use Rattle.tree_journal.proofs.copying.copy_piece.Goals as goal
 
 pub returns-in_err-count-clause-makes : goal.returns-in_err-count-clause-makes

@@ -1,5 +1,5 @@
 use Rattle.std.proofs.Common.{◌+◌, ◌∙◌, arith}
-use Rattle.journal_log.specs.tree-disk.StepLaws.{makes_as, makes_then, makes_then_stop}
+use Rattle.journal_log.proofs.tree-disk.StepLaws.{makes_as, makes_then, makes_then_stop}
 use Rattle.tree_journal.proofs.Copies.{copy_starts, may_start, file_kept, may_grow, copy_grows, copy_ends, not_empty}
 use Rattle.tree_journal.proofs.Seen.{makes_answer}
 use Rattle.tree_journal.proofs.copying.copy_pieces.Goals as goal

@@ -1,7 +1,7 @@
 use Rattle.std.proofs.Common.{ap, ◌∙◌}
 use Rattle.journal_log.specs.cny-base.declared.node.Node.TheVariants as node
 use Rattle.journal_log.specs.tree-disk.Rows.{bytes_at, with_node}
-use Rattle.journal_log.specs.tree-disk.StepLaws.{makes_then}
+use Rattle.journal_log.proofs.tree-disk.StepLaws.{makes_then}
 use Rattle.journal_log.specs.tree-disk.Tree.{Name}
 use Rattle.std.specs.Fmt.{decimal}
 use Rattle.journal_log.specs.cny-base.Path.{is_path, join}

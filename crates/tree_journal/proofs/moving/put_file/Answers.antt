@@ -2,7 +2,7 @@ use Rattle.std.proofs.Common.{refl, ap, ◌∙◌}
 use Rattle.journal_log.specs.cny-base.declared.node.Node.TheVariants as node
 use Rattle.journal_log.specs.tree-disk.Disk.{one_name}
 use Rattle.journal_log.specs.tree-disk.Rows.{bytes_at, with_rename}
-use Rattle.journal_log.specs.tree-disk.StepLaws.{makes_then, makes_stop, makes_wider}
+use Rattle.journal_log.proofs.tree-disk.StepLaws.{makes_then, makes_stop, makes_wider}
 use Rattle.journal_log.specs.tree-disk.Tree.{Tree}
 use Rattle.journal_log.specs.Own.{staged_file}
 use Rattle.tree_journal.proofs.Copies.{may_rename, moves, work_within, both_within, work_own}

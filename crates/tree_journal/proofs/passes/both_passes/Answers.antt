@@ -1,7 +1,6 @@
-use Rattle.journal_log.specs.tree-disk.ClearLaws.{or_right}
-use Rattle.journal_log.specs.tree-disk.StepLaws.{makes_then, makes_stop, makes_wider}
+use Rattle.journal_log.proofs.tree-disk.StepLaws.{makes_then, makes_stop, makes_wider}
 use Rattle.journal_log.specs.tree-disk.Tree.{Name}
-use Rattle.journal_log.specs.tree-disk.Unfailed.{unfailed_then, unfailed_weaker}
+use Rattle.journal_log.proofs.tree-disk.Unfailed.{unfailed_then, unfailed_weaker}
 use Rattle.std.specs.Prelude.{IsTrue, List}
 use Rattle.journal_log.specs.declared.put.Put.{Put}
 use Rattle.journal_log.specs.Targets.{is_target}
@@ -10,6 +9,7 @@ use Rattle.tree_journal.specs.Staging.{outcome}
 use Rattle.tree_journal.proofs.ClearPass.{can_clear_all}
 use Rattle.tree_journal.proofs.MakePass.{can_make_pass, both_passes}
 use Rattle.tree_journal.proofs.Seen.{rest_cleared, cleared_visible, made_visible}
+use Rattle.journal_log.proofs.cny-base.Bools.{or_right}
 use Rattle.tree_journal.proofs.passes.both_passes.Goals as goal
 
 target_within : (base : Name) (puts : List Put) (q : Name) → IsTrue (is_target puts q) → IsTrue (is_work_or_target base puts q)

@@ -1,6 +1,6 @@
 use Rattle.std.proofs.Common.{inl, ap, sym, ◌∙◌}
 use Rattle.journal_log.specs.tree-disk.Rows.{without}
-use Rattle.journal_log.specs.tree-disk.StepLaws.{tests_value, makes_after_test, makes_from_test}
+use Rattle.journal_log.proofs.tree-disk.StepLaws.{tests_value, makes_after_test, makes_from_test}
 use Rattle.journal_log.specs.tree-disk.Disk.{one_name}
 use Rattle.journal_log.specs.tree-disk.Tree.{Tree}
 use Rattle.tree_journal.specs.Passes.{is_obstructed}

@@ -1,7 +1,7 @@
 use Rattle.std.proofs.Common.{◌≡◌, ℕ, ◌-◌, List, length, drop, ap, arith}
 use Rattle.std.proofs.lemmas.List.{drop_all}
-use Rattle.journal_log.specs.tree-disk.StepLaws.{makes_start, makes_then, makes_then_stop, makes_as}
-use Rattle.journal_log.specs.tree-disk.Unfailed.{unfailed_start, unfailed_then}
+use Rattle.journal_log.proofs.tree-disk.StepLaws.{makes_start, makes_then, makes_then_stop, makes_as}
+use Rattle.journal_log.proofs.tree-disk.Unfailed.{unfailed_start, unfailed_then}
 use Rattle.journal_log.specs.declared.put.Put.{Put}
 use Rattle.tree_journal.specs.Passes.{all_cleared}
 use Rattle.tree_journal.proofs.WriteSets.{own_target}

@@ -1,11 +1,12 @@
 use Rattle.std.proofs.Common.{inl, ap, refl, sym, ◌∙◌, Some}
 use Rattle.journal_log.specs.cny-base.declared.node.Node.TheVariants as node
 use Rattle.journal_log.specs.tree-disk.Rows.{with_mode}
-use Rattle.journal_log.specs.tree-disk.StepLaws.{tests_value, makes_after_test}
+use Rattle.journal_log.proofs.tree-disk.StepLaws.{tests_value, makes_after_test}
 use Rattle.journal_log.specs.tree-disk.Looks.{sees_dir}
 use Rattle.journal_log.specs.tree-disk.Tree.{Tree, put}
-use Rattle.tree_journal.proofs.MakePass.{dir_seen, may_set_dir_mode, with_dir_mode, may_make_missing_dir}
+use Rattle.tree_journal.proofs.MakePass.{may_set_dir_mode, with_dir_mode, may_make_missing_dir}
 use Rattle.tree_journal.proofs.Seen.{read_shows, step_shows}
+use Rattle.journal_log.proofs.tree-disk.Looks.{dir_seen}
 use Rattle.tree_journal.proofs.passes.make_dir_at.Goals as goal
 
 pub returns-in_err-look-clause-seen : goal.returns-in_err-look-clause-seen

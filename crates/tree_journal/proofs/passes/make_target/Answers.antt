@@ -1,9 +1,9 @@
 use Rattle.std.proofs.Common.{◌≡◌, true, IsTrue, Some, sym, ap, subst}
 use Rattle.journal_log.specs.cny-base.declared.node.Node.TheVariants as node
-use Rattle.journal_log.specs.tree-disk.ClearLaws.{or_right}
 use Rattle.journal_log.specs.tree-disk.Tree.{Name, same_name, put}
-use Rattle.journal_log.specs.tree-disk.StepLaws.{makes_as, makes_start, makes_wider}
-use Rattle.journal_log.specs.tree-disk.Unfailed.{UnlessFailed, unfailed_start, unfailed_weaker}
+use Rattle.journal_log.proofs.tree-disk.StepLaws.{makes_as, makes_start, makes_wider}
+use Rattle.journal_log.specs.tree-disk.Unfailed.{UnlessFailed}
+use Rattle.journal_log.proofs.tree-disk.Unfailed.{unfailed_start, unfailed_weaker}
 use Rattle.journal_log.specs.declared.put.Want.{Want}
 use Rattle.journal_log.specs.Targets.{is_dir_want, node_of}
 use Rattle.journal_log.specs.WriteSet.{CanBeLogged}
@@ -13,6 +13,7 @@ use Rattle.tree_journal.specs.Visible.{IsBetween}
 use Rattle.tree_journal.proofs.MakePass.{put_nothing, may_make_dir, may_move}
 use Rattle.tree_journal.proofs.Seen.{between_either}
 use Rattle.tree_journal.proofs.Staged.{content_size}
+use Rattle.journal_log.proofs.cny-base.Bools.{or_right}
 use Rattle.tree_journal.proofs.passes.make_target.Goals as goal
 
 pub returns-in-Nothing-clause-makes : goal.returns-in-Nothing-clause-makes

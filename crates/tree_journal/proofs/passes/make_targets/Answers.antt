@@ -3,10 +3,10 @@ use Rattle.std.proofs.lemmas.List.{take_all}
 use Rattle.std.proofs.lemmas.List.Elements.{All-contains}
 use Rattle.std.proofs.Common.{⊎_elim}
 use Rattle.journal_log.specs.tree-disk.Clear.{is_within}
-use Rattle.journal_log.specs.tree-disk.ClearLaws.{or_left, or_right, or_cases}
-use Rattle.journal_log.specs.tree-disk.StepLaws.{makes_start, makes_then, makes_then_stop, makes_as}
+use Rattle.journal_log.proofs.tree-disk.ClearLaws.{or_cases}
+use Rattle.journal_log.proofs.tree-disk.StepLaws.{makes_start, makes_then, makes_then_stop, makes_as}
 use Rattle.journal_log.specs.tree-disk.Tree.{Name, same_name}
-use Rattle.journal_log.specs.tree-disk.Unfailed.{unfailed_start, unfailed_then}
+use Rattle.journal_log.proofs.tree-disk.Unfailed.{unfailed_start, unfailed_then}
 use Rattle.journal_log.specs.declared.put.Put.{Put}
 use Rattle.journal_log.specs.Own.{work}
 use Rattle.journal_log.specs.WriteSet.{CanBeLogged}
@@ -16,6 +16,7 @@ use Rattle.tree_journal.specs.Staging.{resolve}
 use Rattle.tree_journal.proofs.WriteSets.{own_target, place_listed}
 use Rattle.tree_journal.proofs.MakePass.{can_make_next, can_make_now, one_more_made, step_made}
 use Rattle.tree_journal.proofs.Seen.{step_between}
+use Rattle.journal_log.proofs.cny-base.Bools.{or_left, or_right}
 use Rattle.tree_journal.proofs.passes.make_targets.Goals as goal
 
 name_within : (base : Name) (puts : List Put) (p : Put) → ((q : Name) → same_name q p.path ≡ true → is_target puts q ≡ true) → (q : Name) → IsTrue (is_work_or_name base p.path q) → IsTrue (is_work_or_target base puts q)

@@ -1,4 +1,5 @@
-use Rattle.tree_journal.proofs.Finding.{finds_start, finds_no_memory, finds_test_stop, finds_test_answer, passed_memory}
+use Rattle.tree_journal.proofs.Finding.{finds_start, finds_no_memory, finds_test_stop, finds_test_answer}
+use Rattle.journal_log.proofs.cny-base.Faults.{passed_memory}
 use Rattle.tree_journal.proofs.recovery.look_below.Goals as goal
 
 pub returns-in_err-path : goal.returns-in_err-path

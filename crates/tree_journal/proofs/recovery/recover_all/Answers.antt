@@ -1,6 +1,6 @@
 use Rattle.std.proofs.Common.{arith}
 use Rattle.journal_log.specs.tree-disk.Confined.{Among}
-use Rattle.journal_log.specs.tree-disk.ConfinedLaws.{confined_read, confined_then}
+use Rattle.journal_log.proofs.tree-disk.ConfinedLaws.{confined_read, confined_then}
 use Rattle.journal_log.specs.tree-disk.Steps.{no_name}
 use Rattle.tree_journal.proofs.Recovering.{fault_stops, made_stop, recovers_on, recovers_stopped}
 use Rattle.tree_journal.proofs.recovery.recover_all.Goals as goal

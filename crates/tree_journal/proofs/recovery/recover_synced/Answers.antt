@@ -1,12 +1,12 @@
 use Rattle.std.proofs.Common.{ap, sym, arith, ◌∙◌}
 use Rattle.std.specs.FinMap.{get}
 use Rattle.journal_log.specs.tree-disk.Confined.{Among}
-use Rattle.journal_log.specs.tree-disk.ConfinedLaws.{confined_read, confined_start}
+use Rattle.journal_log.proofs.tree-disk.ConfinedLaws.{confined_read, confined_start}
 use Rattle.journal_log.specs.tree-disk.Steps.{no_name}
 use Rattle.journal_log.specs.tree-disk.Tree.{Name}
 use Rattle.tree_journal.specs.Recovery.{is_committed, is_flag}
-use Rattle.tree_journal.proofs.Finding.{passed_memory}
 use Rattle.tree_journal.proofs.Recovering.{fault_stops, no_flag, recovers_clear, recovers_on, recovers_replayed, recovers_replay_stopped, recovers_stopped}
+use Rattle.journal_log.proofs.cny-base.Faults.{passed_memory}
 use Rattle.tree_journal.proofs.recovery.recover_synced.Goals as goal
 
 pub returns-in_err-gate_path : goal.returns-in_err-gate_path

@@ -1,6 +1,6 @@
 use Rattle.std.proofs.Common.{List, subst, sym}
 use Rattle.journal_log.specs.tree-disk.Confined.{Among}
-use Rattle.journal_log.specs.tree-disk.ConfinedLaws.{confined_read}
+use Rattle.journal_log.proofs.tree-disk.ConfinedLaws.{confined_read}
 use Rattle.journal_log.specs.tree-disk.Steps.{no_name}
 use Rattle.journal_log.specs.declared.put.Put.{Put}
 use Rattle.journal_log.specs.Rules.{AreLogged}

@@ -1,6 +1,8 @@
 use Rattle.tree_journal.specs.Recovery.{log_damaged}
-use Rattle.tree_journal.proofs.OwnNames.{log_part, staged_part, staged_shorter}
-use Rattle.tree_journal.proofs.Recovering.{err_if_ok, fault_stops, stops_on, read_start, read_ended, reads_joined, stopped_from}
+use Rattle.tree_journal.proofs.OwnNames.{log_part, staged_shorter}
+use Rattle.tree_journal.proofs.Recovering.{fault_stops, stops_on, read_start, read_ended, reads_joined, stopped_from}
+use Rattle.tree_journal.proofs.Finding.{if_ok_err as err_if_ok}
+use Rattle.journal_log.proofs.StagedLaws.{p_part as staged_part}
 use Rattle.tree_journal.proofs.recovery.whole_log.Goals as goal
 
 pub own_path-requires-clause-part : goal.own_path-requires-clause-part

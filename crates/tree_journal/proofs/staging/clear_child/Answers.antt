@@ -1,8 +1,8 @@
 use Rattle.std.proofs.Common.{Ok, refl, ap}
 use Rattle.journal_log.specs.tree-disk.Clear.{is_within, without_tree}
-use Rattle.journal_log.specs.tree-disk.ClearLaws.{below_within, within_join_below}
-use Rattle.journal_log.specs.tree-disk.StepLaws.{makes_as, makes_memory, makes_start, makes_wider}
-use Rattle.tree_journal.proofs.Finding.{passed_memory}
+use Rattle.journal_log.proofs.tree-disk.ClearLaws.{below_within, within_join_below}
+use Rattle.journal_log.proofs.tree-disk.StepLaws.{makes_as, makes_memory, makes_start, makes_wider}
+use Rattle.journal_log.proofs.cny-base.Faults.{passed_memory}
 use Rattle.tree_journal.proofs.staging.clear_child.Goals as goal
 
 pub returns-in_err-child : goal.returns-in_err-child

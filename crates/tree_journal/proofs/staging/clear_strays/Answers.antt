@@ -1,7 +1,7 @@
 use Rattle.std.proofs.Common.{List, Ok, refl, ap, sym, ◌∙◌}
 use Rattle.std.proofs.lemmas.List.{get_or_default, take_all}
 use Rattle.journal_log.specs.tree-disk.Clear.{is_within}
-use Rattle.journal_log.specs.tree-disk.StepLaws.{makes_as, makes_memory, makes_start, makes_then, makes_then_stop}
+use Rattle.journal_log.proofs.tree-disk.StepLaws.{makes_as, makes_memory, makes_start, makes_then, makes_then_stop}
 use Rattle.journal_log.specs.tree-disk.Tree.{Name}
 use Rattle.journal_log.specs.Staged.{names_staged_at}
 use Rattle.tree_journal.specs.Steps.{without_strays}

@@ -3,17 +3,19 @@ use Rattle.std.specs.Prelude.{codes}
 use Rattle.journal_log.specs.cny-base.Path.{parent}
 use Rattle.journal_log.specs.tree-disk.Clear.{is_within}
 use Rattle.journal_log.specs.tree-disk.Rows.{is_dir_at}
-use Rattle.journal_log.specs.tree-disk.StepLaws.{makes_memory, makes_start, makes_stop, makes_then, makes_wider}
-use Rattle.journal_log.specs.tree-disk.Tree.{Name, Tree}
+use Rattle.journal_log.proofs.tree-disk.StepLaws.{makes_memory, makes_start, makes_stop, makes_then, makes_wider}
+use Rattle.journal_log.specs.tree-disk.Tree.{Name}
 use Rattle.journal_log.specs.declared.put.Put.{Put}
 use Rattle.journal_log.specs.Own.{staged}
 use Rattle.tree_journal.specs.Staging.{HoldsNoOthers}
 use Rattle.tree_journal.specs.Steps.{with_stage, with_all_bytes, HasNoStrays, HaveRoom}
 use Rattle.tree_journal.proofs.Applying.{numbers_fit, same_length}
-use Rattle.tree_journal.proofs.Finding.{passed_memory}
 use Rattle.tree_journal.proofs.OwnFiles.{ends_so}
-use Rattle.tree_journal.proofs.OwnNames.{staged_part, short_own, staged_is_path, staged_not_root, parent_join}
+use Rattle.tree_journal.proofs.OwnNames.{short_own, staged_is_path, staged_not_root}
 use Rattle.tree_journal.proofs.StagedBytes.{no_others, room_for, stage_dir}
+use Rattle.journal_log.proofs.tree-disk.Names.{parent_join}
+use Rattle.journal_log.proofs.cny-base.Faults.{passed_memory}
+use Rattle.journal_log.proofs.StagedLaws.{p_part as staged_part}
 use Rattle.tree_journal.proofs.staging.stage.Goals as goal
 
 pub own_path-requires-clause-part : goal.own_path-requires-clause-part
@@ -40,37 +42,28 @@ within dir base q is h = subst (λ (p : Name). is_within p q ≡ true) is h
 pub returns-in_err-clear_stage-clause-makes : goal.returns-in_err-clear_stage-clause-makes
 returns-in_err-clear_stage-clause-makes g c = makes_stop (makes_wider (λ q h. within _ c.args.base.now q c.in_ok-dir.ensures.path h) c.in_err-clear_stage.ensures.makes) c.from_residual-in_err-clear_stage.ensures.1
 
-pub write_all-requires-clause-logged : goal.write_all-requires-clause-logged
-write_all-requires-clause-logged g c = rw c.get-2.ensures.value c.requires.logged
-
 pub write_all-requires-clause-same_number : goal.write_all-requires-clause-same_number
-write_all-requires-clause-same_number g c = ap length c.get.ensures.value ∙ same_length c.args.puts.now c.args.numbered.now c.requires.numbered ∙ sym (ap length c.get-2.ensures.value)
+write_all-requires-clause-same_number g c = ap length c.get.ensures.value ∙ same_length c.args.puts.now c.args.numbered.now c.requires.numbered
 
 pub write_all-requires-clause-told : goal.write_all-requires-clause-told
 write_all-requires-clause-told g c = λ tells.
     rw (c.in_ok-clear_stage.ensures.makes.ended tells, c.in_ok-dir.ensures.path) (stage_dir c.args.base.now c.requires.base c.requires.short c.args.puts.now _)
-
-listed_room : (base : Name) (tree : Tree) (a b m n : List Put) → a ≡ b → m ≡ n → HaveRoom base b n tree → HaveRoom base a m tree
-listed_room base tree a b m n first second room = subst (λ (l : List Put). HaveRoom base l m tree) (sym first) (subst (λ (l : List Put). HaveRoom base b l tree) (sym second) room)
 
 pub write_all-requires-clause-bare : goal.write_all-requires-clause-bare
 write_all-requires-clause-bare g c = λ tells.
     let base = c.args.base.now in
     let dir = staged_is_path base c.requires.base c.requires.short in
     let tree = g.D.TreeDisk.disk.reads c.clear_stage.new.disk in
-    listed_room base tree c.get.result.now c.args.puts.now c.get-2.result.now c.args.numbered.now c.get.ensures.value c.get-2.ensures.value
+    subst (λ (l : List Put). HaveRoom base l c.args.numbered.now tree) (sym c.get.ensures.value)
     (room_for base c.requires.base dir c.args.puts.now c.args.numbered.now c.requires.numbered tree
     (subst (λ (p : Name). HasNoStrays p c.args.puts.now tree) c.in_ok-dir.ensures.path (c.in_ok-clear_stage.ensures.clear tells))
     (numbers_fit c.args.puts.now c.args.numbered.now c.requires.numbered c.requires.formed))
 
-same_lists : (base : Name) (tree : Tree) (a b m n : List Put) → a ≡ b → m ≡ n → with_all_bytes base a m tree ≡ with_all_bytes base b n tree
-same_lists base tree a b m n first second = ap (λ (l : List Put). with_all_bytes base l m tree) first ∙ ap (λ (l : List Put). with_all_bytes base b l tree) second
-
 pub returns-clause-makes : goal.returns-clause-makes
 returns-clause-makes g c =
-    makes_then {next = with_all_bytes c.args.base.now c.get.result.now c.get-2.result.now} (makes_wider (λ q h. within _ c.args.base.now q c.in_ok-dir.ensures.path h) c.in_ok-clear_stage.ensures.makes) (λ p h. h) c.write_all.ensures
-    (λ tells. ap (λ (p : Name). with_all_bytes c.args.base.now c.get.result.now c.get-2.result.now (with_stage p c.args.puts.now (g.D.TreeDisk.disk.reads c.args.disk.now))) c.in_ok-dir.ensures.path
-    ∙ same_lists c.args.base.now (with_stage (staged c.args.base.now) c.args.puts.now (g.D.TreeDisk.disk.reads c.args.disk.now)) c.get.result.now c.args.puts.now c.get-2.result.now c.args.numbered.now c.get.ensures.value c.get-2.ensures.value)
+    makes_then {next = with_all_bytes c.args.base.now c.get.result.now c.args.numbered.now} (makes_wider (λ q h. within _ c.args.base.now q c.in_ok-dir.ensures.path h) c.in_ok-clear_stage.ensures.makes) (λ p h. h) c.write_all.ensures
+    (λ tells. ap (λ (p : Name). with_all_bytes c.args.base.now c.get.result.now c.args.numbered.now (with_stage p c.args.puts.now (g.D.TreeDisk.disk.reads c.args.disk.now))) c.in_ok-dir.ensures.path
+    ∙ ap (λ (l : List Put). with_all_bytes c.args.base.now l c.args.numbered.now (with_stage (staged c.args.base.now) c.args.puts.now (g.D.TreeDisk.disk.reads c.args.disk.now))) c.get.ensures.value)
 
 pub returns-clause-clear : goal.returns-clause-clear
 returns-clause-clear g c = λ tells.
@@ -78,6 +71,6 @@ returns-clause-clear g c = λ tells.
     let puts = c.args.puts.now in
     let made = c.args.numbered.now in
     let tree = g.D.TreeDisk.disk.reads c.clear_stage.new.disk in
-    ends_so g.D.TreeDisk.disk.tells (with_all_bytes base c.get.result.now c.get-2.result.now tree) _ _ _ _ c.write_all.ensures.ended tells
-    (λ done. subst (HoldsNoOthers base made) (sym (done ∙ same_lists base tree c.get.result.now puts c.get-2.result.now made c.get.ensures.value c.get-2.ensures.value))
+    ends_so g.D.TreeDisk.disk.tells (with_all_bytes base c.get.result.now made tree) _ _ _ _ c.write_all.ensures.ended tells
+    (λ done. subst (HoldsNoOthers base made) (sym (done ∙ ap (λ (l : List Put). with_all_bytes base l made tree) c.get.ensures.value))
     (no_others base puts made c.requires.numbered tree (subst (λ (p : Name). HasNoStrays p puts tree) c.in_ok-dir.ensures.path (c.in_ok-clear_stage.ensures.clear tells))))

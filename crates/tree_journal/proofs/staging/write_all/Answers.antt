@@ -2,7 +2,7 @@ use Rattle.std.proofs.Common.{inr, List, take, refl, ap, arith, ◌∙◌}
 use Rattle.std.proofs.lemmas.List.{take_all}
 use Rattle.std.proofs.lemmas.List.Elements.{All-contains}
 use Rattle.journal_log.specs.tree-disk.Clear.{is_within}
-use Rattle.journal_log.specs.tree-disk.StepLaws.{makes_as, makes_start, makes_then, makes_then_stop}
+use Rattle.journal_log.proofs.tree-disk.StepLaws.{makes_as, makes_start, makes_then, makes_then_stop}
 use Rattle.journal_log.specs.tree-disk.Tree.{is_dir}
 use Rattle.journal_log.specs.declared.put.Put.{Put}
 use Rattle.journal_log.specs.Own.{staged}

@@ -3,15 +3,15 @@ use Rattle.std.specs.FinMap.{get}
 use Rattle.std.specs.Fmt.{decimal}
 use Rattle.journal_log.specs.cny-base.Path.{is_path, join, parent}
 use Rattle.journal_log.specs.tree-disk.Clear.{is_within}
-use Rattle.journal_log.specs.tree-disk.ClearLaws.{itself_within}
+use Rattle.journal_log.proofs.tree-disk.ClearLaws.{itself_within}
 use Rattle.journal_log.specs.tree-disk.Rows.{is_dir_at}
-use Rattle.journal_log.specs.tree-disk.StepLaws.{makes_as, makes_memory, makes_start, makes_wider}
+use Rattle.journal_log.proofs.tree-disk.StepLaws.{makes_as, makes_memory, makes_start, makes_wider}
 use Rattle.journal_log.specs.tree-disk.Tree.{Name}
 use Rattle.journal_log.specs.Own.{staged}
 use Rattle.tree_journal.specs.Steps.{with_own_file}
-use Rattle.tree_journal.proofs.Finding.{passed_memory}
 use Rattle.tree_journal.proofs.OwnFiles.{may_write_bare, written_bare}
 use Rattle.tree_journal.proofs.StagedBytes.{file_parent, in_dir}
+use Rattle.journal_log.proofs.cny-base.Faults.{passed_memory}
 use Rattle.tree_journal.proofs.staging.write_staged.Goals as goal
 
 pub path_of-requires : goal.path_of-requires

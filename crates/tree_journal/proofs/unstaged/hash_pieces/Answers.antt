@@ -1,7 +1,7 @@
 use Rattle.std.proofs.Common.{◌+◌, ◌∙◌, length, take, refl, ap, subst, arith}
 use Rattle.sha1.specs.Sha1.{Holds}
 use Rattle.journal_log.specs.tree-disk.Rows.{bytes_at}
-use Rattle.journal_log.specs.tree-disk.StepLaws.{tests_value}
+use Rattle.journal_log.proofs.tree-disk.StepLaws.{tests_value}
 use Rattle.journal_log.specs.tree-disk.Tree.{Tree}
 use Rattle.tree_journal.proofs.Finding.{finds_start, finds_then, finds_answer, finds_test_stop, finds_test_answer}
 use Rattle.tree_journal.proofs.FirstUnstaged.{hashed_more, hashed_all, piece_is_last}

@@ -4,7 +4,7 @@ use Rattle.std.specs.Str.{bytes_eq}
 use Rattle.journal_log.specs.tree-disk.Rows.{look_of}
 use Rattle.tree_journal.specs.Staging.{is_content}
 use Rattle.journal_log.specs.tree-disk.declared.disk.Look.{Look}
-use Rattle.journal_log.specs.tree-disk.StepLaws.{tests_value}
+use Rattle.journal_log.proofs.tree-disk.StepLaws.{tests_value}
 use Rattle.tree_journal.specs.Found.{sees_size}
 use Rattle.tree_journal.proofs.Finding.{finds_test_stop, finds_test_answer, finds_after_test, finds_answer, finds_stop}
 use Rattle.tree_journal.proofs.FirstUnstaged.{other_size, of_size, same_size, size_equal}

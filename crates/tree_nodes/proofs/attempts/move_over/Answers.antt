@@ -1,7 +1,7 @@
 use Rattle.std.proofs.Common.{◌∙◌, ap, Some, is_some}
 use Rattle.std.specs.FinMap.{get}
 use Rattle.tree_disk.specs.cny-base.declared.node.Node.TheVariants.{Dir}
-use Rattle.tree_disk.specs.Laws.{get_put_here}
+use Rattle.tree_disk.proofs.Laws.{get_put_here}
 use Rattle.tree_nodes.specs.Stored.{tree_of}
 use Rattle.tree_nodes.proofs.StoredTree.{removed}
 use Rattle.tree_nodes.proofs.Tried.{put_back, rename_done, rename_refused}

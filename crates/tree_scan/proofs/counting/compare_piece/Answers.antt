@@ -2,7 +2,7 @@ use Rattle.std.proofs.Common.{◌≡◌, ℕ, ◌-◌, min, length, drop, take, 
 use Rattle.std.proofs.lemmas.List.{length-take, length-drop}
 use Rattle.cny_lanes.specs.Compare.{count_of_differing}
 use Rattle.tree_disk.specs.Rows.{bytes_at}
-use Rattle.tree_disk.specs.StepLaws.{tests_answer}
+use Rattle.tree_disk.proofs.StepLaws.{tests_answer}
 use Rattle.tree_scan.proofs.Buffers.{read_count}
 use Rattle.tree_scan.proofs.Counts.{differing_common, few_differing}
 use Rattle.tree_scan.proofs.counting.compare_piece.Goals as goal

@@ -3,10 +3,10 @@ use Rattle.std.specs.Prelude.{unwrap_or}
 use Rattle.cny_lanes.specs.Compare.{count_of_differing}
 use Rattle.tree_disk.specs.Looks.{size_seen}
 use Rattle.tree_disk.specs.Rows.{bytes_at}
-use Rattle.tree_disk.specs.StepLaws.{tests_answer, tests_value}
+use Rattle.tree_disk.proofs.StepLaws.{tests_answer, tests_value}
 use Rattle.tree_scan.proofs.Counts.{differing_front}
-use Rattle.tree_scan.specs.Following.{tests_next}
 use Rattle.tree_scan.proofs.Seen.{size_or_zero}
+use Rattle.tree_disk.proofs.Deciding.{tests_next}
 use Rattle.tree_scan.proofs.counting.differing.Goals as goal
 
 pub returns-clause-tests : goal.returns-clause-tests

@@ -3,9 +3,9 @@ use Rattle.std.proofs.lemmas.List.{length-take, length-drop, take_all}
 use Rattle.cny_lanes.specs.Compare.{count_of_differing}
 use Rattle.tree_disk.specs.Rows.{bytes_at}
 use Rattle.tree_disk.specs.Tree.{Tree}
-use Rattle.tree_disk.specs.StepLaws.{tests_answer, tests_start, tests_value}
+use Rattle.tree_disk.proofs.StepLaws.{tests_answer, tests_start, tests_value}
 use Rattle.tree_scan.proofs.Counts.{counted_on, differing_none, differing_past, piece_read}
-use Rattle.tree_scan.specs.Following.{tests_next}
+use Rattle.tree_disk.proofs.Deciding.{tests_next}
 use Rattle.tree_scan.proofs.counting.pieces_differing.Goals as goal
 
 pub pieces-init : goal.pieces-init

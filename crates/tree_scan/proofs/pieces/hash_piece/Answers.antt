@@ -1,6 +1,6 @@
 use Rattle.std.proofs.Common.{◌++◌, subst}
 use Rattle.sha1.specs.Sha1.{Holds}
-use Rattle.tree_scan.proofs.Buffers.{read_front}
+use Rattle.tree_disk.proofs.cny-base.ByteLists.{read_front}
 use Rattle.tree_scan.proofs.pieces.hash_piece.Goals as goal
 
 pub returns-clause-given : goal.returns-clause-given

@@ -2,8 +2,8 @@ use Rattle.std.proofs.Common.{◌≡◌, ◌+◌, ◌++◌, ℕ, length, length-
 use Rattle.sha1.specs.Sha1.{Holds}
 use Rattle.tree_disk.specs.Tree.{Tree}
 use Rattle.tree_disk.specs.Rows.{bytes_at}
-use Rattle.tree_disk.specs.StepLaws.{tests_answer, tests_value}
-use Rattle.tree_scan.specs.Following.{tests_next}
+use Rattle.tree_disk.proofs.StepLaws.{tests_answer, tests_value}
+use Rattle.tree_disk.proofs.Deciding.{tests_next}
 use Rattle.tree_scan.proofs.pieces.hash_pieces.Goals as goal
 
 pub returns-then-count-eq0-clause-given : goal.returns-then-count-eq0-clause-given

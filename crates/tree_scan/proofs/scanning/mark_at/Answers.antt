@@ -1,7 +1,7 @@
 use Rattle.std.proofs.Common.{◌∙◌, sym, ap, Ok}
-use Rattle.tree_disk.specs.StepLaws.{tests_answer, tests_value}
-use Rattle.tree_scan.specs.Following.{tests_next}
+use Rattle.tree_disk.proofs.StepLaws.{tests_answer, tests_value}
 use Rattle.tree_scan.proofs.Seen.{mark_of_file}
+use Rattle.tree_disk.proofs.Deciding.{tests_next}
 use Rattle.tree_scan.proofs.scanning.mark_at.Goals as goal
 
 pub returns-clause-tests : goal.returns-clause-tests

@@ -1,6 +1,6 @@
 use Rattle.std.proofs.Common.{sym, subst}
 use Rattle.tree_nodes.specs.tree-disk.Disk.{NamesOf}
-use Rattle.tree_nodes.specs.tree-disk.Laws.{children_paths}
+use Rattle.tree_nodes.proofs.tree-disk.Laws.{children_paths}
 use Rattle.tree_memory.proofs.calls.MemoryTreeTreeDisk.list.Goals as goal
 
 pub returns-clause-names : goal.returns-clause-names

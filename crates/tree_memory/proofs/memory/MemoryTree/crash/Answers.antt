@@ -1,7 +1,7 @@
 use Rattle.std.specs.FinMap.{from_entries}
 use Rattle.std.proofs.Common.{refl}
 use Rattle.tree_memory.specs.State.{settled}
-use Rattle.tree_memory.specs.Replay.{agrees_replay}
+use Rattle.tree_memory.proofs.Replay.{agrees_replay}
 use Rattle.tree_memory.proofs.memory.MemoryTree.crash.Goals as goal
 
 pub returns-in_err-nodes-clause-agrees : goal.returns-in_err-nodes-clause-agrees

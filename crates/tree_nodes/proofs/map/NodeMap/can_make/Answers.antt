@@ -1,7 +1,7 @@
 use Rattle.std.proofs.Common.{◌∙◌, sym, ap}
 use Rattle.tree_disk.specs.cny-base.Path.{is_path}
 use Rattle.tree_disk.specs.Rows.{can_make}
-use Rattle.tree_disk.specs.Allowed.{make_well_formed}
+use Rattle.tree_disk.proofs.Allowed.{make_well_formed}
 use Rattle.tree_nodes.proofs.map.NodeMap.can_make.Goals as goal
 
 pub returns-clause-keeps : goal.returns-clause-keeps

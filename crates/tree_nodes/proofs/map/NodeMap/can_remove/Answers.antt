@@ -1,5 +1,5 @@
 use Rattle.std.proofs.Common.{◌∙◌, sym}
-use Rattle.tree_disk.specs.Allowed.{remove_well_formed}
+use Rattle.tree_disk.proofs.Allowed.{remove_well_formed}
 use Rattle.tree_nodes.proofs.map.NodeMap.can_remove.Goals as goal
 
 pub returns-clause-keeps : goal.returns-clause-keeps

@@ -2,9 +2,10 @@ use Rattle.std.proofs.Common.{◌∙◌, sym, ap, subst}
 use Rattle.tree_disk.specs.cny-base.Path.{parent}
 use Rattle.tree_disk.specs.Tree.{Name, WellFormed}
 use Rattle.tree_disk.specs.Rows.{is_dir_at}
-use Rattle.tree_disk.specs.Allowed.{append_well_formed}
+use Rattle.tree_disk.proofs.Allowed.{append_well_formed}
 use Rattle.tree_nodes.specs.Stored.{tree_of}
-use Rattle.tree_nodes.proofs.Tried.{both, tried_well}
+use Rattle.tree_nodes.proofs.Tried.{tried_well}
+use Rattle.tree_disk.proofs.cny-base.Bools.{both}
 use Rattle.tree_nodes.proofs.map.NodeMap.try_append.Goals as goal
 
 pub returns-clause-keeps : goal.returns-clause-keeps

@@ -2,7 +2,7 @@ use Rattle.std.proofs.Common.{◌∙◌, sym, ap, subst}
 use Rattle.tree_disk.specs.cny-base.Path.{parent}
 use Rattle.tree_disk.specs.Tree.{Name, WellFormed, same_name}
 use Rattle.tree_disk.specs.Rows.{is_dir_at}
-use Rattle.tree_disk.specs.Allowed.{rename_well_formed}
+use Rattle.tree_disk.proofs.Allowed.{rename_well_formed}
 use Rattle.tree_nodes.specs.Stored.{tree_of}
 use Rattle.tree_nodes.proofs.Tried.{rename_allowed, tried_well}
 use Rattle.tree_nodes.proofs.map.NodeMap.try_rename.Goals as goal

@@ -1,7 +1,7 @@
 use Rattle.std.proofs.Common.{◌∙◌, ap, arith}
 use Rattle.tree_disk.specs.Tree.{Name}
 use Rattle.tree_disk.specs.Rows.{can_set_mode, with_mode}
-use Rattle.tree_disk.specs.Allowed.{mode_well_formed}
+use Rattle.tree_disk.proofs.Allowed.{mode_well_formed}
 use Rattle.tree_nodes.proofs.Tried.{mode_tried, tried_well_at}
 use Rattle.tree_nodes.proofs.map.NodeMap.try_set_mode.Goals as goal
 
