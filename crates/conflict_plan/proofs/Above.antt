@@ -1,13 +1,11 @@
 -- Parents of planned paths, and decisions after a look at the disk.
-use Rattle.std.proofs.Common.{◌≡◌, ⊎_elim, ℕ, Bool, true, false, cond, not, ◌&&◌, ◌||◌, List, Option, Some, None, is_some, Result, Ok, Err, IsTrue, IfErr, refl, sym, ◌∙◌, ap, subst}
-use Rattle.std.proofs.lemmas.Bool.{cases_Bool}
+use Rattle.std.proofs.Common.{◌≡◌, ℕ, Bool, true, false, cond, not, ◌&&◌, ◌||◌, List, Option, Some, None, is_some, Result, Ok, Err, IsTrue, IfErr, refl, sym, ◌∙◌, ap, subst}
 use Rattle.std.specs.FinMap.{get}
 use Rattle.trove_stream.specs.cny-base.Path.{parent, root}
 use Rattle.trove_stream.specs.cny-base.declared.refusal.Refusal.{Refusal}
 use Rattle.trove_stream.specs.cny-base.declared.stop.Stop.{Stop}
 use Rattle.trove_stream.specs.cny-base.declared.stop.Stop.TheVariants.{Refused, Memory, Failed, Damaged, FarFailed, FarDamaged}
 use Rattle.tree_scan.specs.tree-disk.Disk.{DiskModel}
-use Rattle.tree_scan.specs.tree-disk.Laws.{same_means}
 use Rattle.tree_scan.specs.tree-disk.Rows.{is_dir_at}
 use Rattle.tree_scan.specs.tree-disk.Steps.{Found, Tests}
 use Rattle.tree_scan.specs.tree-disk.Tree.{Name, Tree, WellFormed, is_child, same_name}
@@ -24,9 +22,7 @@ use Rattle.conflict_plan.specs.Drafts.{drafted, Decided, RefusesAtMost}
 use Rattle.conflict_plan.specs.Making.{fate_at, makes_in}
 use Rattle.conflict_plan.specs.Orphans.{has_way, is_dir_fate, IsSeenPlan}
 use Rattle.conflict_plan.proofs.Remaining.{some_stands}
-
-pub not_root : (path : Name) → (path ≡ root → ⊥) → same_name path root ≡ false
-not_root path other = ⊎_elim (λ same. absurd (other (same_means path root same))) (λ no. no) (cases_Bool (same_name path root))
+use Rattle.tree_scan.proofs.tree-disk.Names.{not_same as not_root}
 
 cond_or : (b old : Bool) → cond b true old ≡ (b || old)
 cond_or true old = refl

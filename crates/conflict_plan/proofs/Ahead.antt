@@ -22,10 +22,6 @@ abbrev pub ahead_of : List Draft → Result (List Draft) Refusal → Result (Lis
 ahead_of made (Ok drafts) = Ok (made ++ drafts)
 ahead_of made (Err why) = Err why
 
-pub none_ahead : (rest : Result (List Draft) Refusal) → rest ≡ ahead_of [] rest
-none_ahead (Ok drafts) = refl
-none_ahead (Err why) = refl
-
 ahead_with : (made : List Draft) (draft : Draft) (rest : Result (List Draft) Refusal) → ahead_of made (then_drafts (Ok (Some draft)) rest) ≡ ahead_of (made ++ draft ∷ []) rest
 ahead_with made draft (Ok drafts) = ap Ok (sym (append_assoc made (draft ∷ []) drafts))
 ahead_with made draft (Err why) = refl

@@ -1,6 +1,5 @@
 -- From what is recorded and what stands to the plan, or to the first refusal.
 use Rattle.std.proofs.Common.{◌≡◌, ℕ, Bool, true, false, ◌&&◌, List, [], ◌∷◌, map, Option, Some, None, T, refl, sym, ◌∙◌, ap}
-use Rattle.std.proofs.lemmas.List.Elements.{All-from_recursion}
 use Rattle.std.specs.List.{All, AllByRecursion}
 use Rattle.std.specs.FinMap.{entries_sorted, entries, is_sorted, keys}
 use Rattle.std.specs.FinMap.Entries.{below_all}
@@ -25,16 +24,17 @@ use Rattle.conflict_plan.specs.Claims.{Claim, claims, first_record, owners, owne
 use Rattle.conflict_plan.specs.Entries.{entry_of, first_refusal, first_shared, owned_at, owned_by}
 use Rattle.conflict_plan.specs.Making.{child_remains}
 use Rattle.conflict_plan.specs.Orphans.{least_orphan}
-use Rattle.conflict_plan.specs.Plan.{change_of, conflict_at, mark_after, outcome_at, planned_at, planned_cmp, refusal_of, ArePlanned, HasChild, IsAnswer, IsFirstConflict, IsFirstOrphan, IsFirstShared, IsPlan}
+use Rattle.conflict_plan.specs.Plan.{change_of, conflict_at, mark_after, outcome_at, planned_at, planned_cmp, refusal_of, ArePlanned, HasChild, IsFirstConflict, IsFirstOrphan, IsFirstShared, IsPlan}
 use Rattle.conflict_plan.specs.Records.{record_of}
 use Rattle.conflict_plan.specs.Table.{path_outcome}
 use Rattle.conflict_plan.proofs.Building.{HavePaths, IsBuilt, built, change_by, found_planned, not_found_not_planned, plan_of, refusal_by}
 use Rattle.conflict_plan.proofs.Entered.{At, AreRising, IsFirstAt, first_found, found_at, none_found}
 use Rattle.conflict_plan.proofs.Noting.{recorded_by, shared_of}
-use Rattle.conflict_plan.proofs.Order.{name_cmp}
 use Rattle.conflict_plan.proofs.Orphaned.{AreLater, AreSorted, least_first, least_none}
 use Rattle.conflict_plan.proofs.Remaining.{AreAfter, RisePlanned, remains_means, same_answer}
 use Rattle.conflict_plan.proofs.Tables.{draft_refusal, unrecorded_stays}
+use Rattle.trove_stream.specs.cny-base.Answer.{IsAnswer}
+use Rattle.tree_scan.proofs.tree-disk.Order.{name_cmp}
 
 first_T : (a b : Bool) → T (a && b) → T a
 first_T true b is = tt
@@ -91,11 +91,11 @@ module _ {old fresh : List TroveParts} {es : List At} (entries : AreEntries old 
 
 -- ---- shared paths
 
-abbrev owned_in : Name → Option Recorded → Option Refusal
+abbrev pub owned_in : Name → Option Recorded → Option Refusal
 owned_in path None = None
 owned_in path (Some r) = owned_at path r.fresh
 
-abbrev owned_as : Name → Option (List ℕ × List ℕ) → Option Refusal
+abbrev pub owned_as : Name → Option (List ℕ × List ℕ) → Option Refusal
 owned_as path None = None
 owned_as path (Some two) = Some (refusal.Owned path two.0 two.1)
 
@@ -148,10 +148,10 @@ tree_sorted : (tree : Tree) → AreSorted (keys tree)
 tree_sorted tree = sorted_by (entries tree) (entries_sorted tree)
 
 module _ {old fresh : List TroveParts} {es : List At} (entries : AreFound old fresh es) where
-  owned_here : (path : Name) → owned_in path (found_at es path) ≡ owned_as path (owners_at fresh path)
+  pub owned_here : (path : Name) → owned_in path (found_at es path) ≡ owned_as path (owners_at fresh path)
   owned_here path = ap (owned_in path) (entries.found path) ∙ recorded_refusal path (claims old path) (claims fresh path)
 
-  unshared_where : (path : Name) (o : Option Recorded) → found_at es path ≡ o → ((r : Recorded) → o ≡ Some r → owned_at path r.fresh ≡ None) → owners_at fresh path ≡ None
+  pub unshared_where : (path : Name) (o : Option Recorded) → found_at es path ≡ o → ((r : Recorded) → o ≡ Some r → owned_at path r.fresh ≡ None) → owners_at fresh path ≡ None
   unshared_where path None none free = no_owners path (owners_at fresh path) (sym (owned_here path) ∙ ap (owned_in path) none)
   unshared_where path (Some r) found free = no_owners path (owners_at fresh path) (sym (owned_here path) ∙ ap (owned_in path) found ∙ free r refl)
 

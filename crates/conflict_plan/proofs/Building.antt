@@ -7,7 +7,8 @@ use Rattle.trove_stream.specs.cny-base.Reserved.{is_pinned}
 use Rattle.trove_stream.specs.cny-base.declared.options.Options.{Options}
 use Rattle.trove_stream.specs.cny-base.declared.refusal.Refusal.{Refusal}
 use Rattle.trove_stream.specs.file-stream.declared.record.FileRec.{FileRec}
-use Rattle.tree_scan.specs.tree-disk.Laws.{same_means, same_itself}
+use Rattle.tree_scan.specs.tree-disk.Laws.{same_means}
+use Rattle.tree_scan.proofs.tree-disk.Laws.{same_itself}
 use Rattle.tree_scan.specs.tree-disk.Tree.{Name, Tree, same_name}
 use Rattle.tree_scan.specs.declared.mark.Mark.{Mark}
 use Rattle.tree_scan.specs.Marks.{fingerprint_at}
@@ -24,9 +25,10 @@ use Rattle.conflict_plan.specs.Plan.{change_of, planned_at}
 use Rattle.conflict_plan.specs.Settled.{settled, with_settled}
 use Rattle.conflict_plan.specs.Table.{outcome_by, path_outcome}
 use Rattle.conflict_plan.proofs.Entered.{At, AreBehind, AreRising, found_at, found_behind}
-use Rattle.conflict_plan.proofs.Order.{name_cmp, IsUpTo, other_sym}
+use Rattle.conflict_plan.proofs.Order.{IsUpTo}
 use Rattle.conflict_plan.proofs.Remaining.{AreAfter, ArePaths, RisePlanned, none_after, planned_here, planned_other, remains_on}
 use Rattle.conflict_plan.proofs.Tables.{after_draft, change_at, draft_step, err_of, with_change}
+use Rattle.tree_scan.proofs.tree-disk.Order.{name_cmp, other_way as other_sym}
 
 -- ---- drafts
 

@@ -17,9 +17,9 @@ use Rattle.conflict_plan.specs.declared.planned.Planned.{Planned}
 use Rattle.conflict_plan.specs.declared.table.Outcome.{Outcome}
 use Rattle.conflict_plan.specs.declared.table.Outcome.TheVariants.{Stays, Removed, Written, Unowned, Edited}
 use Rattle.conflict_plan.specs.Drafts.{IsTableRefusal, RefusesAtMost}
-use Rattle.conflict_plan.specs.Entries.{IsRefusedSo}
 use Rattle.conflict_plan.specs.Plan.{outcome_at, refusal_of, EndsSo, IsFirstConflict, IsFirstRefusal, IsPlanRefusal, IsPlanStop, IsUnshared, Plans, RefusesShared, TellsShared}
 use Rattle.conflict_plan.proofs.Assembled.{IsConflictFirst, IsOwnedFirst}
+use Rattle.trove_stream.specs.cny-base.Refusals.{IsRefusalOrMemory as IsRefusedSo}
 
 -- a stop passed on by `?`
 ends_stop : {X Y : Type 0} (view : X → Y) (told : Bool) (expected : Result Y Refusal) (good : List Planned → Type 0) (bad : Refusal → Type 0) (e : Stop) (r : Result (List Planned) Stop) (before now : ℕ)

@@ -10,11 +10,13 @@ use Rattle.std.specs.declared.cmp.Ordering.TheVariants.{Less}
 use Rattle.std.specs.Ordering.{nat_cmp}
 use Rattle.std.specs.Cmp.Lexicographic.{slice_cmp}
 use Rattle.trove_stream.specs.cny-base.declared.refusal.Refusal.{Refusal}
-use Rattle.tree_scan.specs.tree-disk.Laws.{same_means, same_itself}
+use Rattle.tree_scan.specs.tree-disk.Laws.{same_means}
+use Rattle.tree_scan.proofs.tree-disk.Laws.{same_itself}
 use Rattle.tree_scan.specs.tree-disk.Tree.{Name, same_name}
 use Rattle.conflict_plan.specs.declared.records.Recorded.{Recorded}
 use Rattle.conflict_plan.specs.Entries.{first_refusal, or_later}
-use Rattle.conflict_plan.proofs.Order.{name_cmp, less_other, less_then}
+use Rattle.conflict_plan.proofs.Order.{less_other, less_then}
+use Rattle.tree_scan.proofs.tree-disk.Order.{name_cmp}
 
 abbrev pub At : Type 0
 At = Name × Recorded
@@ -64,7 +66,7 @@ found_here e es = ap (λ b. cond b (Some e.1) (found_at es e.0)) (same_itself e.
 pub found_other : (e : At) (es : List At) (q : Name) → same_name q e.0 ≡ false → found_at (e ∷ es) q ≡ found_at es q
 found_other e es q other = ap (λ b. cond b (Some e.1) (found_at es q)) other
 
-clash : (r : Recorded) (o : Option Recorded) → o ≡ None → o ≡ Some r → ⊥
+pub clash : (r : Recorded) (o : Option Recorded) → o ≡ None → o ≡ Some r → ⊥
 clash r o none some = absurd (cc (none, some))
 
 -- a later entry has another path

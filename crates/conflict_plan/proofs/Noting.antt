@@ -53,10 +53,6 @@ old_kept (c ∷ cs) first fresh = old_kept cs first fresh
 abbrev with_fresh : Option FileRec → FileRec → List ℕ → Option (List ℕ) → Option Recorded
 with_fresh old rec first second = Some (record { old = old; fresh = Some (record { rec = rec; first = first; second = second }) })
 
-or_true : (b : Bool) → (b || true) ≡ true
-or_true true = refl
-or_true false = refl
-
 second_kept : (cs : List Claim) (old : Option FileRec) (rec : FileRec) (first second : List ℕ)
     → noted_all Fresh cs (with_fresh old rec first (Some second)) ≡ with_fresh old rec first (Some second)
 second_kept [] old rec first second = refl

@@ -11,8 +11,9 @@ use Rattle.trove_stream.specs.cny-base.declared.options.Options.{Options}
 use Rattle.trove_stream.specs.cny-base.declared.refusal.Refusal.{Refusal}
 use Rattle.trove_stream.specs.cny-base.declared.refusal.Refusal.TheVariants as refusal
 use Rattle.trove_stream.specs.declared.parts.TroveParts.{TroveParts}
-use Rattle.tree_scan.specs.tree-disk.Children.{path_short}
-use Rattle.tree_scan.specs.tree-disk.Laws.{same_means, same_itself}
+use Rattle.tree_scan.proofs.tree-disk.Children.{path_short}
+use Rattle.tree_scan.specs.tree-disk.Laws.{same_means}
+use Rattle.tree_scan.proofs.tree-disk.Laws.{same_itself}
 use Rattle.tree_scan.specs.tree-disk.Tree.{Name, Tree, WellFormed, is_child, same_name}
 use Rattle.tree_scan.specs.Marks.{fingerprint_at, is_nothing}
 use Rattle.conflict_plan.specs.declared.planned.Planned.{Planned}
@@ -20,12 +21,14 @@ use Rattle.conflict_plan.specs.declared.table.Outcome.TheVariants.{Stays}
 use Rattle.conflict_plan.specs.Claims.{owners_at, record_at}
 use Rattle.conflict_plan.specs.Drafts.{is_left_dir}
 use Rattle.conflict_plan.specs.Making.{child_remains}
-use Rattle.conflict_plan.specs.Plan.{change_of, conflict_at, mark_after, outcome_at, planned_at, planned_cmp, planned_mark, ArePlanned, HasChild, IsAnswer, IsFirst, IsFirstOrphan, IsFirstRefusal, IsOrphan, IsPlan}
+use Rattle.conflict_plan.specs.Plan.{change_of, conflict_at, mark_after, outcome_at, planned_at, planned_cmp, planned_mark, ArePlanned, HasChild, IsFirst, IsFirstOrphan, IsFirstRefusal, IsOrphan, IsPlan}
 use Rattle.conflict_plan.specs.Table.{outcome_by}
 use Rattle.conflict_plan.proofs.Assembled.{IsConflictFirst, IsOwnedFirst}
-use Rattle.conflict_plan.proofs.Order.{name_cmp, child_parent, less_then, placed}
+use Rattle.conflict_plan.proofs.Order.{child_parent, less_then, placed}
 use Rattle.conflict_plan.proofs.Remaining.{AreAfter, RisePlanned, none_after, planned_here, planned_other, remains_means, some_stands}
 use Rattle.conflict_plan.proofs.Tables.{dir_stands, left_was_dir, remains_other}
+use Rattle.trove_stream.specs.cny-base.Answer.{IsAnswer}
+use Rattle.tree_scan.proofs.tree-disk.Order.{name_cmp}
 
 -- ---- plans that say the same of each path
 

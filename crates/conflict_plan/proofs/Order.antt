@@ -1,39 +1,25 @@
 -- The order of names, and of names directly below others.
 use Rattle.std.proofs.Common.{◌≡◌, ◌≢◌, ◌⊎◌, inl, inr, ⊎_elim, Bool, true, false, not, ◌&&◌, refl, sym, ◌∙◌, ap, subst}
-use Rattle.std.proofs.lemmas.Bool.{cases_Bool}
 use Rattle.std.specs.declared.cmp.Ordering.{Ordering}
 use Rattle.std.specs.declared.cmp.Ordering.TheVariants.{Less, Equal, Greater}
-use Rattle.std.specs.Ordering.{nat_cmp, is_eq, ordering_reverse}
-use Rattle.std.specs.Cmp.Lexicographic.{slice_cmp, nat_list_cmp_total}
-use Rattle.trove_stream.specs.cny-base.Below.{parent_first, shorter_less}
+use Rattle.std.specs.Ordering.{is_eq, ordering_reverse}
+use Rattle.std.specs.Cmp.Lexicographic.{nat_list_cmp_total}
+use Rattle.trove_stream.proofs.cny-base.Below.{parent_first, shorter_less}
 use Rattle.trove_stream.specs.cny-base.Path.{is_path, join, parent, root}
-use Rattle.tree_scan.specs.tree-disk.ClearLaws.{join_is}
-use Rattle.tree_scan.specs.tree-disk.Laws.{same_means, same_itself}
+use Rattle.tree_scan.proofs.tree-disk.ClearLaws.{join_is}
+use Rattle.tree_scan.specs.tree-disk.Laws.{same_means}
+use Rattle.tree_scan.proofs.tree-disk.Laws.{same_itself}
 use Rattle.tree_scan.specs.tree-disk.Tree.{Name, is_child, same_name}
-
-abbrev pub name_cmp : Name → Name → Ordering
-name_cmp p q = slice_cmp nat_cmp p q
+use Rattle.tree_scan.proofs.tree-disk.Order.{name_cmp, not_back as not_both_less, not_itself as not_less_itself}
 
 pub same_sym : (p q : Name) → same_name p q ≡ true → same_name q p ≡ true
 same_sym p q same = subst (λ x. same_name x p ≡ true) (same_means p q same) (same_itself p)
 
-pub other_sym : (p q : Name) → same_name p q ≡ false → same_name q p ≡ false
-other_sym p q other = ⊎_elim (λ same. absurd (cc (same_sym q p same, other))) (λ o. o) (cases_Bool (same_name q p))
-
 pub less_other : (p q : Name) → name_cmp p q ≡ Less → same_name p q ≡ false
 less_other p q less = ap is_eq less
 
-pub more_other : (p q : Name) → name_cmp p q ≡ Less → same_name q p ≡ false
-more_other p q less = other_sym p q (less_other p q less)
-
-pub not_less_itself : (p : Name) → name_cmp p p ≡ Less → ⊥
-not_less_itself p less = absurd (cc (less_other p p less, same_itself p))
-
 pub less_then : (p q r : Name) → name_cmp p q ≡ Less → name_cmp q r ≡ Less → name_cmp p r ≡ Less
 less_then p q r one other = nat_list_cmp_total.trans p q r one other
-
-pub not_both_less : (p q : Name) → name_cmp p q ≡ Less → name_cmp q p ≡ Less → ⊥
-not_both_less p q one other = not_less_itself p (less_then p q p one other)
 
 -- before, the same, or behind
 pub placed : (p q : Name) → (name_cmp p q ≡ Less) ⊎ ((p ≡ q) ⊎ (name_cmp q p ≡ Less))
@@ -63,7 +49,7 @@ first_true : (x y : Bool) → (not x && y) ≡ true → x ≡ false
 first_true true y is = absurd (cc is)
 first_true false y is = refl
 
-second_true : (x y : Bool) → (not x && y) ≡ true → y ≡ true
+pub second_true : (x y : Bool) → (not x && y) ≡ true → y ≡ true
 second_true true y is = absurd (cc is)
 second_true false y is = is
 

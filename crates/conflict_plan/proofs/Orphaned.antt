@@ -1,8 +1,7 @@
 -- Paths of the result whose parent isn't a directory.
 use Rattle.std.proofs.Common.{◌≡◌, ◌⊎◌, inl, inr, ⊎_elim, ℕ, Bool, true, false, cond, not, ◌&&◌, ◌||◌, List, [], ◌∷◌, map, Option, Some, None, is_some, refl, sym, ◌∙◌, ap, subst}
 use Rattle.std.specs.FinMap.{get, keys, contains_key-keys}
-use Rattle.std.specs.List.{AllByRecursion, filter, list_any}
-use Rattle.std.specs.List.Sorted.{IsStrictlySortedBy}
+use Rattle.std.specs.List.{filter, list_any}
 use Rattle.std.specs.declared.cmp.Ordering.{Ordering}
 use Rattle.std.specs.declared.cmp.Ordering.TheVariants.{Less, Equal, Greater}
 use Rattle.std.specs.Ordering.{nat_cmp, is_lt}
@@ -12,7 +11,8 @@ use Rattle.trove_stream.specs.cny-base.declared.node.Node.{Node}
 use Rattle.trove_stream.specs.cny-base.declared.node.Node.TheVariants as node
 use Rattle.trove_stream.specs.file-stream.declared.record.FileRec.{FileRec}
 use Rattle.trove_stream.specs.file-stream.declared.record.FileRec.TheVariants as rec
-use Rattle.tree_scan.specs.tree-disk.Laws.{same_means, same_itself}
+use Rattle.tree_scan.specs.tree-disk.Laws.{same_means}
+use Rattle.tree_scan.proofs.tree-disk.Laws.{same_itself, second as and_second}
 use Rattle.tree_scan.specs.tree-disk.Rows.{is_dir_at}
 use Rattle.tree_scan.specs.tree-disk.Tree as disk
 use Rattle.tree_scan.specs.tree-disk.Tree.{Name, Tree, WellFormed, children, is_child, same_name}
@@ -22,8 +22,13 @@ use Rattle.conflict_plan.specs.Making.{fate_at, fate_of, is_gone}
 use Rattle.conflict_plan.specs.Orphans.{first_remaining, has_way, is_dir_fate, least_orphan, left_below, lesser, orphan_by, wants_dir}
 use Rattle.conflict_plan.specs.Plan.{IsFirst, IsOrphan, mark_after, mark_of_want, planned_at, planned_mark}
 use Rattle.conflict_plan.proofs.Building.{AreSeenIn}
-use Rattle.conflict_plan.proofs.Order.{name_cmp, IsUpTo, child_behind, child_other, child_parent, less_other, not_behind, parent_child, placed, up_to_then}
-use Rattle.conflict_plan.proofs.Remaining.{RisePlanned, after_not_gone, and_both, and_first, and_second, fate_by, fate_planned, joined_child, not_false, not_true, or_both, or_left, or_right, planned_behind, planned_here, planned_other, planned_path, remains_after, some_stands, wanted_stands}
+use Rattle.conflict_plan.proofs.Order.{IsUpTo, child_behind, child_other, child_parent, less_other, not_behind, parent_child, placed, up_to_then}
+use Rattle.conflict_plan.proofs.Remaining.{RisePlanned, after_not_gone, fate_by, fate_planned, joined_child, not_true, planned_behind, planned_here, planned_other, planned_path, remains_after, some_stands, wanted_stands}
+use Rattle.tree_scan.proofs.tree-disk.Order.{name_cmp}
+use Rattle.trove_stream.proofs.cny-base.Bools.{both as and_both, first_false as or_false_first, second_false as or_false_second, or_left, or_right}
+use Rattle.tree_scan.proofs.tree-disk.Nodes.{left_true as and_first}
+use Rattle.trove_stream.proofs.cny-base.Again.{not_true as not_false}
+use Rattle.tree_scan.proofs.tree-disk.ClearLaws.{or_cases as or_both}
 
 -- ---- directories of the result
 
@@ -63,15 +68,6 @@ AreLater p (n ∷ names) = (name_cmp p n ≡ Less) × AreLater p names
 abbrev pub AreSorted : List Name → Type 0
 AreSorted [] = Unit {0}
 AreSorted (n ∷ names) = AreLater n names × AreSorted names
-
-later_keys : (p : Name) (names : List Name) → AllByRecursion (λ y. slice_cmp nat_cmp p y ≡ Less) names → AreLater p names
-later_keys p [] all = tt
-later_keys p (n ∷ names) all = (all.0, later_keys p names all.1)
-
-pub sorted_keys : (names : List Name) → IsStrictlySortedBy (slice_cmp nat_cmp) names → AreSorted names
-unfolding IsStrictlySortedBy
-sorted_keys [] sorted = tt
-sorted_keys (n ∷ names) sorted = (later_keys n names sorted.0, sorted_keys names sorted.1)
 
 later_listed : (p q : Name) (names : List Name) → AreLater p names → list_any (same_name q) names ≡ true → name_cmp p q ≡ Less
 later_listed p q [] later listed = absurd (cc listed)
@@ -165,14 +161,6 @@ kept_orphan plan tree x found well planned no_dir is =
           ∙ ap (λ o. is_dir (planned_mark o (fingerprint_at tree x.path))) planned ∙ sym (want_dir x.want) ∙ no_dir;
     })
 
-or_false_first : (x y : Bool) → (x || y) ≡ false → x ≡ false
-or_false_first true y is = absurd (cc is)
-or_false_first false y is = refl
-
-or_false_second : (x y : Bool) → (x || y) ≡ false → y ≡ false
-or_false_second true y is = absurd (cc is)
-or_false_second false y is = is
-
 own_orphan : (plan : List Planned) (tree : Tree) (x : Planned) → planned_at plan x.path ≡ Some x → is_some x.want ≡ true → has_way plan tree x.path ≡ false → IsOrphan (mark_after plan tree) x.path
 own_orphan plan tree x planned wanted no_way = record {
   not_root = or_false_first (same_name x.path root) (is_dir_fate (fate_at plan (parent x.path)) (is_dir_at tree (parent x.path))) no_way;
@@ -180,7 +168,7 @@ own_orphan plan tree x planned wanted no_way = record {
   no_way = sym (dir_after plan tree (parent x.path)) ∙ or_false_second (same_name x.path root) (is_dir_fate (fate_at plan (parent x.path)) (is_dir_at tree (parent x.path))) no_way;
 }
 
-orphan_is : (plan : List Planned) (tree : Tree) (x : Planned) (found : Name) → WellFormed tree → planned_at plan x.path ≡ Some x → orphan_by plan tree x ≡ Some found → IsOrphan (mark_after plan tree) found
+pub orphan_is : (plan : List Planned) (tree : Tree) (x : Planned) (found : Name) → WellFormed tree → planned_at plan x.path ≡ Some x → orphan_by plan tree x ≡ Some found → IsOrphan (mark_after plan tree) found
 orphan_is plan tree x found well planned is = at (is_some x.want && not (has_way plan tree x.path)) refl is
   where
     by_dir : (b : Bool) → (is_dir x.was && not (wants_dir x.want)) ≡ b → cond b (first_remaining plan x.path (children tree x.path)) None ≡ Some found → IsOrphan (mark_after plan tree) found
@@ -291,7 +279,7 @@ below_found plan tree q x well sorted seen stands is orphan = at (is_some x.want
 tree_dir_after : (plan : List Planned) (tree : Tree) (p : Name) → planned_at plan p ≡ None → disk.is_dir (get tree p) ≡ true → is_dir (mark_after plan tree p) ≡ true
 tree_dir_after plan tree p none dir = ap (λ o. is_dir (planned_mark o (fingerprint_at tree p))) none ∙ sym (stands_dir (get tree p)) ∙ dir
 
-found_by : (plan : List Planned) (tree : Tree) (q : Name) → WellFormed tree → AreSorted (keys tree) → AreSeenIn tree plan → IsOrphan (mark_after plan tree) q → IsFoundBy plan tree q
+pub found_by : (plan : List Planned) (tree : Tree) (q : Name) → WellFormed tree → AreSorted (keys tree) → AreSeenIn tree plan → IsOrphan (mark_after plan tree) q → IsFoundBy plan tree q
 found_by plan tree q well sorted seen orphan = at (planned_at plan q) refl
   where
     above : is_some (get tree q) ≡ true → (o : Option Planned) → planned_at plan (parent q) ≡ o → IsFoundBy plan tree q
@@ -350,11 +338,7 @@ lesser_none (Some one) (Some other) is = at (is_lt (slice_cmp nat_cmp other one)
     at true is = absurd (cc is)
     at false is = absurd (cc is)
 
--- what is found of the paths of a plan, where they are those of another
-pub record AreOf (plan xs : List Planned) : Type 0 where
-  pub each : (q : Name) (x : Planned) → planned_at xs q ≡ Some x → planned_at plan q ≡ Some x
-
-least_of_one : (plan : List Planned) (tree : Tree) (xs : List Planned) (a : Name) → RisePlanned xs → least_orphan plan tree xs ≡ Some a
+pub least_of_one : (plan : List Planned) (tree : Tree) (xs : List Planned) (a : Name) → RisePlanned xs → least_orphan plan tree xs ≡ Some a
     → (x : Planned) × (planned_at xs x.path ≡ Some x) × (orphan_by plan tree x ≡ Some a)
 least_of_one plan tree [] a rise is = absurd (cc is)
 least_of_one plan tree (x ∷ xs) a rise is = ⊎_elim
@@ -368,7 +352,7 @@ clash : (a : Name) (o : Option Name) → o ≡ None → o ≡ Some a → ⊥
 clash a o none some = absurd (cc (none, some))
 
 -- whatever is found of one of the paths, the least comes no later
-least_up_to : (plan : List Planned) (tree : Tree) (xs : List Planned) (q : Name) (x : Planned) (b : Name) → planned_at xs q ≡ Some x → orphan_by plan tree x ≡ Some b
+pub least_up_to : (plan : List Planned) (tree : Tree) (xs : List Planned) (q : Name) (x : Planned) (b : Name) → planned_at xs q ≡ Some x → orphan_by plan tree x ≡ Some b
     → (o : Option Name) → least_orphan plan tree xs ≡ o → (a : Name) × (o ≡ Some a) × IsUpTo a b
 least_up_to plan tree [] q x b is finds o least = absurd (cc is)
 least_up_to plan tree (y ∷ xs) q x b is finds None least =

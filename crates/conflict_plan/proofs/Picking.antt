@@ -1,14 +1,13 @@
 -- What is planned on every disk is picked of the entries, in their order.
-use Rattle.std.proofs.Common.{◌≡◌, ◌⊎◌, inl, inr, ℕ, ◌+◌, ◌<◌, Bool, true, false, ◌||◌, List, [], ◌∷◌, ◌++◌, append_assoc, length, map, drop, get_or, Option, Some, None, Result, Ok, Err, refl, sym, ◌∙◌, ap, subst}
+use Rattle.std.proofs.Common.{◌≡◌, ◌⊎◌, inl, inr, ℕ, ◌+◌, ◌<◌, true, false, ◌||◌, List, [], ◌∷◌, ◌++◌, append_assoc, length, map, drop, get_or, Option, Some, None, Result, Ok, Err, refl, sym, ◌∙◌, ap, subst}
 use Rattle.std.proofs.lemmas.List.{drop_more}
 use Rattle.std.proofs.lemmas.List.Elements.{All-from_recursion}
-use Rattle.std.specs.List.{All, AllByRecursion}
+use Rattle.std.specs.List.{AllByRecursion}
 use Rattle.std.specs.List.Sorted.{IsStrictlySortedBy}
 use Rattle.std.specs.Option.{is_some}
 use Rattle.std.specs.declared.cmp.Ordering.TheVariants.{Less}
 use Rattle.trove_stream.specs.cny-base.Reserved.{is_pinned}
 use Rattle.trove_stream.specs.cny-base.declared.options.Options.{Options}
-use Rattle.trove_stream.specs.cny-base.declared.refusal.Refusal.{Refusal}
 use Rattle.trove_stream.specs.declared.parts.TroveParts.{TroveParts}
 use Rattle.tree_scan.specs.tree-disk.Tree.{Name}
 use Rattle.tree_scan.specs.declared.mark.Mark.{Mark}
@@ -24,12 +23,13 @@ use Rattle.conflict_plan.specs.Table.{path_outcome}
 use Rattle.trove_stream.specs.cny-base.declared.stop.Stop.{Stop}
 use Rattle.std.specs.Prelude.{IfOk}
 use Rattle.conflict_plan.specs.Entries.{entry_of}
-use Rattle.conflict_plan.specs.Picked.{planned_of, AreKept, ArePicked, BeginsWith, IsPickedDraft, IsPickedOf, KeepsFirst}
+use Rattle.conflict_plan.specs.Picked.{planned_of, AreKept, ArePicked, IsPickedDraft, IsPickedOf}
 use Rattle.conflict_plan.specs.Plan.{planned_cmp, ArePlannable, IsPlannable}
 use Rattle.conflict_plan.proofs.Assembled.{AreEntries, found_entry}
 use Rattle.conflict_plan.proofs.Entered.{At, AreBehind, AreRising, found_at, found_here, found_other, later_other}
 use Rattle.conflict_plan.proofs.Noting.{recorded_by}
-use Rattle.conflict_plan.proofs.Order.{name_cmp}
+use Rattle.tree_scan.proofs.tree-disk.Order.{name_cmp}
+use Rattle.trove_stream.proofs.cny-base.Bools.{first_false}
 
 -- ---- one draft
 
@@ -53,10 +53,6 @@ decided_picked options e was (Err stop) loose is = tt
 
 -- ---- drafts, from the first entry to the last
 
-none_picked : (es : List Entry) → ArePicked es []
-none_picked [] = refl
-none_picked (e ∷ es) = inl (none_picked es)
-
 -- what is still to be picked of the later entries comes behind what was made
 abbrev pub PicksOn : List Entry → ℕ → List Draft → Type 0
 PicksOn all n made = (rest : List Planned) → ArePicked (drop n all) rest → ArePicked all (map planned_of made ++ rest)
@@ -66,7 +62,7 @@ map_one [] draft = refl
 map_one (d ∷ made) draft = ap (λ l. d.planned ∷ l) (map_one made draft)
 
 module _ (all : List Entry) (n : ℕ) (e : Entry) (within : n < length all) (is_e : e ≡ get_or all n e) (made : List Draft) where
-  split : drop n all ≡ e ∷ drop (n + 1) all
+  pub split : drop n all ≡ e ∷ drop (n + 1) all
   split = drop_more all n e within ∙ ap (λ x. x ∷ drop (n + 1) all) (sym is_e)
 
   pub picks_none : PicksOn all n made → PicksOn all (n + 1) made
@@ -85,13 +81,6 @@ pub record KeepsBehind (all front : List Draft) (plan : List Planned) : Type 0 w
   pub split : all ≡ front ++ behind
   pub kept : AreKept behind plan
 
-pub keeps_start : (all : List Draft) → KeepsBehind all all []
-keeps_start all = record { behind = []; split = sym (append_nil all); kept = refl }
-  where
-    append_nil : (l : List Draft) → l ++ [] ≡ l
-    append_nil [] = refl
-    append_nil (x ∷ l) = ap (λ m. x ∷ m) (append_nil l)
-
 pub keeps_one : (all front left : List Draft) (draft : Draft) (plan next : List Planned) → front ≡ left ++ draft ∷ [] → (next ≡ plan) ⊎ (next ≡ draft.planned ∷ plan)
     → KeepsBehind all front plan → KeepsBehind all left next
 keeps_one all front left draft plan next is step keeps = record {
@@ -103,9 +92,6 @@ keeps_one all front left draft plan next is step keeps = record {
     at : (next ≡ plan) ⊎ (next ≡ draft.planned ∷ plan) → AreKept (draft ∷ keeps.behind) next
     at (inl same) = inl (subst (AreKept keeps.behind) (sym same) keeps.kept)
     at (inr more) = inr (record { rest = plan; split = more; others = keeps.kept })
-
-pub keeps_all : (all front : List Draft) (plan : List Planned) → front ≡ [] → KeepsBehind all front plan → AreKept all plan
-keeps_all all front plan none keeps = subst (λ l. AreKept l plan) (sym (keeps.split ∙ ap (λ l. l ++ keeps.behind) none)) keeps.kept
 
 -- ---- both together
 
@@ -136,7 +122,7 @@ kept_picked (e ∷ es) (d ∷ ds) plan (inr begins) (inr keeps) = inr (record {
 -- ---- the entries of two lists
 
 -- each entry is what the map has at its path
-found_each : (es : List At) → AreRising es → AllByRecursion (λ (e : At). found_at es e.0 ≡ Some e.1) es
+pub found_each : (es : List At) → AreRising es → AllByRecursion (λ (e : At). found_at es e.0 ≡ Some e.1) es
 found_each [] rising = tt
 found_each (e ∷ es) rising = (found_here e es, later es rising.0 (found_each es rising.1))
   where
@@ -162,10 +148,6 @@ picked_rises (e ∷ es) plan rising (inr begins) =
       picked_rises es begins.rest rising.1 begins.others,
     )
 
-first_false : (a b : Bool) → (a || b) ≡ false → a ≡ false
-first_false true b is = absurd (cc is)
-first_false false b is = refl
-
 recorded_one : (o f : List Claim) (r : Recorded) → recorded_by o f ≡ Some r → (is_some (first_record o) || is_some (first_record f)) ≡ true
 recorded_one [] [] r is = absurd (cc is)
 recorded_one [] (c ∷ cs) r is = refl
@@ -186,7 +168,7 @@ module _ (old fresh : List TroveParts) (all : List At) (entries : AreEntries old
       at (inl none) same = inl none
       at (inr is) same = inr (is ∙ same)
 
-  each_plannable : (es : List At) (plan : List Planned) → AllByRecursion (λ (e : At). found_at all e.0 ≡ Some e.1) es → ArePicked (map entry_of es) plan → AllByRecursion (IsPlannable old fresh) plan
+  pub each_plannable : (es : List At) (plan : List Planned) → AllByRecursion (λ (e : At). found_at all e.0 ≡ Some e.1) es → ArePicked (map entry_of es) plan → AllByRecursion (IsPlannable old fresh) plan
   each_plannable [] plan found picked = subst (AllByRecursion (IsPlannable old fresh)) (sym picked) tt
   each_plannable (e ∷ es) plan found (inl picked) = each_plannable es plan found.1 picked
   each_plannable (e ∷ es) plan found (inr begins) =

@@ -1,23 +1,30 @@
 -- Names directly below a path that remain.
-use Rattle.std.proofs.Common.{◌≡◌, ◌≢◌, ◌⊎◌, inl, inr, ⊎_elim, ℕ, Bool, true, false, cond, not, ◌&&◌, ◌||◌, List, [], ◌∷◌, map, Option, Some, None, is_some, refl, sym, ◌∙◌, ap, subst}
+use Rattle.std.proofs.Common.{◌≡◌, ◌≢◌, ◌⊎◌, inl, inr, ⊎_elim, ℕ, Bool, true, false, cond, not, ◌||◌, List, [], ◌∷◌, map, Option, Some, None, is_some, refl, sym, ◌∙◌, ap, subst}
 use Rattle.std.proofs.lemmas.Bool.{cases_Bool}
 use Rattle.std.specs.FinMap.{get, keys, contains_key-keys}
 use Rattle.std.specs.List.{filter, list_any}
 use Rattle.std.specs.declared.cmp.Ordering.TheVariants.{Less}
-use Rattle.trove_stream.specs.cny-base.Joins.{join_parent}
+use Rattle.trove_stream.proofs.cny-base.Joins.{join_parent}
 use Rattle.trove_stream.specs.cny-base.Path.{is_path, join, last_name, root}
 use Rattle.trove_stream.specs.cny-base.declared.node.Node.{Node}
 use Rattle.trove_stream.specs.cny-base.declared.node.Node.TheVariants as node
 use Rattle.trove_stream.specs.file-stream.declared.record.FileRec.{FileRec}
 use Rattle.trove_stream.specs.file-stream.declared.record.FileRec.TheVariants as rec
-use Rattle.tree_scan.specs.tree-disk.Laws.{same_means, same_itself}
+use Rattle.tree_scan.specs.tree-disk.Laws.{same_means}
+use Rattle.tree_scan.proofs.tree-disk.Laws.{same_itself, second as and_second}
 use Rattle.tree_scan.specs.tree-disk.Tree.{Name, Tree, WellFormed, children, is_child, same_name}
 use Rattle.tree_scan.specs.Marks.{fingerprint, fingerprint_at, fingerprint_of_record, is_nothing}
 use Rattle.conflict_plan.specs.declared.making.Fate.{Fate}
 use Rattle.conflict_plan.specs.declared.planned.Planned.{Planned}
 use Rattle.conflict_plan.specs.Making.{child_remains, fate_at, fate_of, has_made, is_gone, makes_in}
-use Rattle.conflict_plan.specs.Plan.{HasChild, IsAnswer, mark_after, mark_of_want, planned_at, planned_mark}
-use Rattle.conflict_plan.proofs.Order.{name_cmp, IsUpTo, child_behind, child_parent, joined_behind, less_other, more_other, not_behind, up_to_then}
+use Rattle.conflict_plan.specs.Plan.{HasChild, mark_after, mark_of_want, planned_at, planned_mark}
+use Rattle.conflict_plan.proofs.Order.{IsUpTo, child_behind, child_parent, joined_behind, less_other, not_behind, up_to_then}
+use Rattle.trove_stream.specs.cny-base.Answer.{IsAnswer}
+use Rattle.tree_scan.proofs.tree-disk.Order.{name_cmp, less_differs as more_other}
+use Rattle.trove_stream.proofs.cny-base.Bools.{both as and_both, or_left, or_right}
+use Rattle.tree_scan.proofs.tree-disk.Nodes.{left_true as and_first}
+use Rattle.trove_stream.proofs.cny-base.Again.{not_true as not_false}
+use Rattle.tree_scan.proofs.tree-disk.ClearLaws.{or_cases as or_both}
 
 -- ---- plans, by their paths
 
@@ -73,7 +80,7 @@ record_stands (rec.Dir mode owner) = refl
 record_stands (rec.File mode owner flags size name) = refl
 record_stands (rec.Link target) = refl
 
-node_stands : (o : Option Node) → is_some o ≡ true → is_nothing (fingerprint o) ≡ false
+pub node_stands : (o : Option Node) → is_some o ≡ true → is_nothing (fingerprint o) ≡ false
 node_stands None is = absurd (cc is)
 node_stands (Some (node.Dir mode)) is = refl
 node_stands (Some (node.File mode bytes)) is = refl
@@ -109,18 +116,6 @@ pub after_not_gone : (plan : List Planned) (tree : Tree) (q : Name) → is_nothi
 after_not_gone plan tree q stands = ap is_gone (fate_planned plan q) ∙ not_gone_by (planned_at plan q) tree q stands
 
 -- ---- children that are listed
-
-pub or_both : (x y : Bool) → (x || y) ≡ true → (x ≡ true) ⊎ (y ≡ true)
-or_both true y is = inl refl
-or_both false y is = inr is
-
-pub or_left : (x y : Bool) → x ≡ true → (x || y) ≡ true
-or_left true y is = refl
-or_left false y is = absurd (cc is)
-
-pub or_right : (x y : Bool) → y ≡ true → (x || y) ≡ true
-or_right true y is = refl
-or_right false y is = is
 
 -- a listed name directly below the path, whose last name passes the test
 pub record IsListed (p : Name) (test : List ℕ → Bool) (names : List Name) (q : Name) : Type 0 where
@@ -179,18 +174,6 @@ pub record IsMade (plan : List Planned) (p : Name) : Type 0 where
   pub child : is_child p path ≡ true
   pub wanted : is_some planned.want ≡ true
 
-pub and_first : (x y : Bool) → (x && y) ≡ true → x ≡ true
-and_first true y is = refl
-and_first false y is = absurd (cc is)
-
-pub and_second : (x y : Bool) → (x && y) ≡ true → y ≡ true
-and_second true y is = is
-and_second false y is = absurd (cc is)
-
-pub and_both : (x y : Bool) → x ≡ true → y ≡ true → (x && y) ≡ true
-and_both true y one other = other
-and_both false y one other = absurd (cc one)
-
 pub made_is : (plan : List Planned) (p : Name) → RisePlanned plan → has_made plan p ≡ true → IsMade plan p
 made_is [] p rise made = absurd (cc made)
 made_is (x ∷ plan) p rise made = ⊎_elim
@@ -232,10 +215,6 @@ made_child plan tree p made =
     (made.path, made.child, ap (λ o. is_nothing (planned_mark o (fingerprint_at tree made.path))) made.is ∙ wanted_stands made.planned.want made.wanted)
 
 -- ---- whether a name remains below
-
-pub not_false : (b : Bool) → not b ≡ true → b ≡ false
-not_false true is = absurd (cc is)
-not_false false is = refl
 
 pub not_true : (b : Bool) → b ≡ false → not b ≡ true
 not_true true is = absurd (cc is)

@@ -1,5 +1,5 @@
 -- What is planned has the fingerprint of what stands.
-use Rattle.std.proofs.Common.{◌≡◌, ℕ, ◌+◌, ◌-◌, ◌<◌, Bool, true, false, cond, List, [], ◌∷◌, ◌++◌, get_or, length, reverse, take, arith, Option, Some, None, Result, Ok, Err, refl, sym, ◌∙◌, ap, subst}
+use Rattle.std.proofs.Common.{◌≡◌, ℕ, ◌+◌, ◌-◌, ◌<◌, Bool, true, false, cond, List, [], ◌∷◌, ◌++◌, get_or, length, reverse, take, arith, Option, Some, None, Result, Ok, Err, refl, sym, ◌∙◌, ap, subst, ◌≢◌}
 use Rattle.std.proofs.lemmas.List.Elements.{All-from_recursion, All-get_or}
 use Rattle.std.proofs.lemmas.List.{get_or-reverse, length-reverse, reverse-append, take_more}
 use Rattle.std.specs.List.{All, AllByRecursion}
@@ -12,7 +12,8 @@ use Rattle.tree_scan.specs.tree-disk.Rows.{is_dir_at}
 use Rattle.tree_scan.specs.tree-disk.Tree as disk
 use Rattle.tree_scan.specs.tree-disk.Tree.{Name, Tree}
 use Rattle.tree_scan.specs.declared.mark.Mark.{Mark}
-use Rattle.tree_scan.specs.Marks.{fingerprint, fingerprint_at, is_dir}
+use Rattle.tree_scan.specs.declared.mark.Mark.TheVariants as mark
+use Rattle.tree_scan.specs.Marks.{fingerprint, fingerprint_at, is_dir, is_nothing}
 use Rattle.conflict_plan.specs.declared.drafting.Draft.{Draft}
 use Rattle.conflict_plan.specs.declared.entries.Entry.{Entry}
 use Rattle.conflict_plan.specs.declared.planned.Planned.{Planned}
@@ -24,7 +25,10 @@ use Rattle.conflict_plan.specs.Settled.{settled_on, with_settled, IsSeen}
 use Rattle.conflict_plan.specs.Table.{path_outcome}
 use Rattle.conflict_plan.proofs.Building.{AreSeenIn}
 
-stands_dir : (o : Option Node) → is_dir (fingerprint o) ≡ disk.is_dir o
+pub not_nothing : (was : Mark) → is_nothing was ≡ false → was ≢ mark.Nothing
+not_nothing was stands is = absurd (cc (sym (ap is_nothing is) ∙ stands))
+
+pub stands_dir : (o : Option Node) → is_dir (fingerprint o) ≡ disk.is_dir o
 stands_dir None = refl
 stands_dir (Some (node.Dir mode)) = refl
 stands_dir (Some (node.File mode bytes)) = refl

@@ -4,7 +4,7 @@ use Rattle.trove_stream.specs.cny-base.Reserved.{is_pinned}
 use Rattle.trove_stream.specs.cny-base.declared.options.Options.{Options}
 use Rattle.trove_stream.specs.cny-base.declared.refusal.Refusal.{Refusal}
 use Rattle.trove_stream.specs.file-stream.declared.record.FileRec.{FileRec}
-use Rattle.trove_stream.specs.file-stream.Record.{is_dir}
+use Rattle.trove_stream.specs.file-stream.Record.{is_dir, flags_of}
 use Rattle.tree_scan.specs.tree-disk.Tree.{Name, Tree}
 use Rattle.tree_scan.specs.declared.mark.Mark.{Mark}
 use Rattle.tree_scan.specs.declared.mark.Mark.TheVariants as mark
@@ -19,17 +19,11 @@ use Rattle.conflict_plan.specs.Drafts.{draft_by, draft_of, drafted, is_left_dir,
 use Rattle.conflict_plan.specs.Making.{child_remains}
 use Rattle.conflict_plan.specs.Plan.{change_of, refusal_of}
 use Rattle.conflict_plan.specs.Settled.{with_settled}
-use Rattle.conflict_plan.specs.Table.{flags_of, is_recorded_so, matches, outcome_by, path_outcome, recorded_outcome, unrecorded_outcome, otherwise_outcome}
+use Rattle.conflict_plan.specs.Table.{is_recorded_so, matches, outcome_by, path_outcome, recorded_outcome, unrecorded_outcome, otherwise_outcome}
+use Rattle.tree_scan.proofs.tree-disk.Laws.{second as and_second}
+use Rattle.trove_stream.proofs.cny-base.Bools.{or_left as or_first, or_right as or_second}
 
 -- ---- where nothing is to do
-
-or_second : (x y : Bool) → y ≡ true → (x || y) ≡ true
-or_second true y is = refl
-or_second false y is = is
-
-or_first : (x y : Bool) → x ≡ true → (x || y) ≡ true
-or_first true y is = refl
-or_first false y is = absurd (cc is)
 
 same_stays : (old : Option FileRec) (fresh : FileRec) (was : Mark) (options : Options) → is_recorded_so old fresh ≡ true → recorded_outcome old fresh was options ≡ Stays
 same_stays old fresh was options same =
@@ -65,10 +59,6 @@ dir_stands mark.Nothing is = absurd (cc is)
 dir_stands (mark.Dir mode) is = refl
 dir_stands (mark.File mode size name) is = refl
 dir_stands (mark.Link target) is = refl
-
-and_second : (x y : Bool) → (x && y) ≡ true → y ≡ true
-and_second true y is = is
-and_second false y is = absurd (cc is)
 
 -- The row of directories alone depends on it.
 pub remains_left : (old fresh : Option FileRec) (was : Mark) (options : Options) → is_left_dir old fresh was ≡ true → (remains : Bool)

@@ -1,7 +1,6 @@
 -- The paths that two lists record, in their order.
-use Rattle.std.specs.Prelude.{◌≡◌, ℕ, List, [], ◌∷◌, Option, Some, None}
+use Rattle.std.specs.Prelude.{ℕ, List, [], ◌∷◌, Option, Some, None}
 use Rattle.trove_stream.specs.cny-base.declared.refusal.Fault.{Fault}
-use Rattle.trove_stream.specs.cny-base.declared.refusal.Fault.TheVariants.{Refused, Memory}
 use Rattle.trove_stream.specs.cny-base.declared.refusal.Refusal.{Refusal}
 use Rattle.trove_stream.specs.cny-base.declared.refusal.Refusal.TheVariants.{Owned}
 use Rattle.tree_scan.specs.tree-disk.Tree.{Name}
@@ -9,6 +8,7 @@ use Rattle.conflict_plan.specs.declared.entries.Entry.{Entry}
 use Rattle.conflict_plan.specs.declared.records.Recorded.{Recorded}
 use Rattle.conflict_plan.specs.declared.records.Shared.{Shared}
 use Rattle.conflict_plan.specs.Records.{record_of, second_of}
+pub use Rattle.trove_stream.specs.cny-base.Refusals.{IsRefusalOrMemory as IsRefusedSo}
 
 abbrev pub entry_of : Name × Recorded → Entry
 entry_of e = record { path = e.0; old = e.1.old; fresh = record_of e.1.fresh }
@@ -34,10 +34,6 @@ first_refusal refusal (e ∷ es) = or_later (refusal e.0 e.1) (first_refusal ref
 -- the refusal of the first path that two troves can't share
 abbrev pub first_shared : List (Name × Recorded) → Option Refusal
 first_shared es = first_refusal (λ path recorded. owned_at path recorded.fresh) es
-
-abbrev pub IsRefusedSo : Option Refusal → Fault → Type 0
-IsRefusedSo expected (Refused why) = expected ≡ Some why
-IsRefusedSo expected Memory = Unit {0}
 
 abbrev pub IsOwnedOrMemory : Name → Option Shared → Fault → Type 0
 IsOwnedOrMemory path shared fault = IsRefusedSo (owned_at path shared) fault

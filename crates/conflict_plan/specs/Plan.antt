@@ -25,6 +25,7 @@ use Rattle.conflict_plan.specs.declared.table.Outcome.{Outcome}
 use Rattle.conflict_plan.specs.declared.table.Outcome.TheVariants.{Stays, Removed, Written, Unowned, Edited}
 use Rattle.conflict_plan.specs.Claims.{record_at, owners_at}
 use Rattle.conflict_plan.specs.Table.{path_outcome}
+pub use Rattle.trove_stream.specs.cny-base.Answer.{IsAnswer}
 
 -- ---- what a plan leaves
 
@@ -85,11 +86,6 @@ conflict_at old fresh options tree path = refusal_of (outcome_at old fresh optio
 
 abbrev pub planned_cmp : Planned → Planned → Ordering
 planned_cmp a b = slice_cmp nat_cmp a.path b.path
-
--- an answer to whether P holds
-pub record IsAnswer (P : Type 0) (answer : Bool) : Type 0 where
-  pub holds : answer ≡ true → P
-  pub fails : answer ≡ false → P → ⊥
 
 -- The paths rise, and at each path the plan is what the table says, by whether the result has a name directly below it: just the
 -- paths that differ, each with what stands and with its target.

@@ -2,21 +2,13 @@
 use Rattle.std.specs.Prelude.{ℕ, Bool, false, ◌&&◌, ◌||◌, if◌then◌else◌, List, Option, Some, None}
 use Rattle.trove_stream.specs.cny-base.Reserved.{is_pinned}
 use Rattle.trove_stream.specs.cny-base.declared.options.Options.{Options}
-use Rattle.trove_stream.specs.file-stream.declared.record.Flags.{Flags}
 use Rattle.trove_stream.specs.file-stream.declared.record.FileRec.{FileRec}
-use Rattle.trove_stream.specs.file-stream.declared.record.FileRec.TheVariants as rec
-use Rattle.trove_stream.specs.file-stream.Record.{is_dir}
+use Rattle.trove_stream.specs.file-stream.Record.{flags_of, is_dir}
 use Rattle.tree_scan.specs.declared.mark.Mark.{Mark}
 use Rattle.tree_scan.specs.Marks as marks
 use Rattle.tree_scan.specs.Marks.{fingerprint_of_record, same_mark, is_nothing}
 use Rattle.conflict_plan.specs.declared.table.Outcome.{Outcome}
 use Rattle.conflict_plan.specs.declared.table.Outcome.TheVariants.{Stays, Removed, Written, Unowned, Edited}
-
--- a directory and a link have no flags
-abbrev pub flags_of : FileRec → Flags
-flags_of (rec.Dir mode owner) = record { config = false; initial = false; transient = false }
-flags_of (rec.File mode owner flags size name) = flags
-flags_of (rec.Link target) = record { config = false; initial = false; transient = false }
 
 -- what stands is what the record describes
 abbrev pub matches : Mark → FileRec → Bool

@@ -5,7 +5,7 @@ ghost use Rattle.conflict_plan.specs.Table.{recorded_outcome, unrecorded_outcome
 
 use tree_scan::{Mark, are_same_marks};
 use trove_stream::cny_base::{Options, Path};
-use trove_stream::file_stream::{FileRec, Flags};
+use trove_stream::file_stream::FileRec;
 
 /// What becomes of a path.
 #[derive(Clone, Copy, Debug, PartialEq, Eq)]
@@ -22,27 +22,11 @@ pub enum Outcome {
     Edited,
 }
 
-// The flags of a record; a directory and a link have none.
-fn flags_of(rec: &FileRec) -> Flags
-    ensures { result ≡ spec.flags_of rec.now }
-{
-    let none = Flags {
-        config: false,
-        initial: false,
-        transient: false,
-    };
-    match rec {
-        FileRec::Dir { .. } => none,
-        FileRec::File { flags, .. } => *flags,
-        FileRec::Link { .. } => none,
-    }
-}
-
 // What becomes of a path that the new list doesn't record, and where something stands.
 fn unrecorded_outcome(old: &FileRec, was: &Mark, remains: bool, options: &Options) -> Outcome
     ensures { result ≡ unrecorded_outcome old.now was.now remains options.now }
 {
-    let flags = flags_of(old);
+    let flags = old.flags();
     let recorded_dir = old.is_dir();
     let dir = was.is_dir();
     let unchanged = was.is_of(old);
@@ -76,7 +60,7 @@ fn new_outcome(was: &Mark, options: &Options) -> Outcome
 fn changed_outcome(old: &FileRec, fresh: &FileRec, was: &Mark, options: &Options) -> Outcome
     ensures { result ≡ spec.changed_outcome old.now fresh.now was.now options.now }
 {
-    let flags = flags_of(fresh);
+    let flags = fresh.flags();
     if was.is_of(old) || flags.transient {
         return Outcome::Written;
     }
@@ -111,7 +95,7 @@ fn recorded_outcome(
     let recorded_dir = fresh.is_dir();
     let dir = was.is_dir();
     let unchanged = is_recorded_so(old, fresh);
-    let flags = flags_of(fresh);
+    let flags = fresh.flags();
     let file = was.is_file();
     let same = was.is_of(fresh);
     if (recorded_dir && dir) || unchanged || (flags.initial && file) || same {

@@ -11,16 +11,13 @@ use Rattle.trove_stream.specs.declared.parts.TroveParts.{TroveParts}
 use Rattle.dep_closure.specs.Closed.{provides_of}
 use Rattle.dep_closure.specs.Slots.{IsServed, IsBefore, IsServedBefore, IsLowered, IsNoLoss, IsHarmless}
 use Rattle.dep_closure.proofs.Meeting.{PassedSoFar, one_passed, passed_weaker}
-use Rattle.dep_closure.proofs.Names.{not_less_itself}
+use Rattle.trove_stream.proofs.cny-base.ByteLists.{not_less_itself}
 
 before_more : (bound : Option (List ℕ)) (other name : List ℕ) → slice_cmp nat_cmp other name ≡ Less → IsBefore bound name → IsBefore bound other
 before_more None other name below before = tt
 before_more (Some first) other name below before = nat_list_cmp_total.trans other name first below before
 
 -- ---- a bound that is as low as another
-
-pub lowered_same : (troves : List ℕ → Option TroveParts) (bound : Option (List ℕ)) → IsLowered troves bound bound
-lowered_same troves bound = record { lower = λ name before. before; unserved = λ unserved. unserved }
 
 pub lowered_more : (troves : List ℕ → Option TroveParts) (a b c : Option (List ℕ)) → IsLowered troves a b → IsLowered troves b c → IsLowered troves a c
 lowered_more troves a b c one two = record {

@@ -1,5 +1,5 @@
 -- Edits of a list that is closed.
-use Rattle.std.proofs.Common.{◌≡◌, ℕ, ◌<◌, Bool, true, false, cond, IsTrue, IsSome, List, length, get_or, take, Option, Some, None, is_some, Result, Ok, Err, OnErr, String, All, Contains, refl, sym, ap, ◌∙◌, subst, inl, inr, ⊎_elim, arith}
+use Rattle.std.proofs.Common.{◌≡◌, ℕ, ◌<◌, Bool, true, false, cond, IsTrue, IsSome, List, length, get_or, take, Option, Some, None, is_some, String, All, Contains, refl, sym, ap, ◌∙◌, subst, inl, inr, ⊎_elim, arith}
 use Rattle.std.specs.BTreeMap.{BTreeMap, IsOrdered, is_at, keys}
 use Rattle.std.specs.BTreeSet.{BTreeSet}
 use Rattle.std.specs.Cmp.Lexicographic.{slice_cmp}
@@ -17,11 +17,13 @@ use Rattle.trove_stream.specs.cny-base.declared.refusal.Fault.TheVariants.{Refus
 use Rattle.cny_dep.specs.Dep.{Dependency}
 use Rattle.trove_stream.specs.declared.parts.TroveParts.{TroveParts}
 use Rattle.dep_closure.specs.Closed.{provides_of, IsMet, IsClosed, HasAllMet, IsFirstUnmet, IsUnmetOrMemory}
-use Rattle.dep_closure.specs.Changed.{or_else, trove_after, IsChanged, RefusesChange}
+use Rattle.dep_closure.specs.Changed.{trove_after, IsChanged, RefusesChange}
 use Rattle.dep_closure.specs.Slots.{Slots, slot, slot_or, put_slot, held, held_after, listed, all_held, IsMetBy, IsClosedBy, IsFirstAt, IsUnmetAt, notes, IsNoted, AreNoted, IsKept, IsBefore, IsServedBefore, IsNoLoss, AreHarmless, IsPassed, IsFaulty}
 use Rattle.dep_closure.proofs.Meeting.{as_good}
-use Rattle.dep_closure.proofs.Names.{is_there, is_named, contained, one_list, listed_rises, look_up, is_key}
+use Rattle.dep_closure.proofs.Names.{listed_rises, look_up, is_key}
 use Rattle.dep_closure.proofs.Noted.{still_noted}
+use Rattle.trove_stream.proofs.Names.{contained, is_named, is_there, one_list}
+use Rattle.trove_stream.specs.Either.{or_else}
 
 -- ---- closed by names, and as a list
 
@@ -227,10 +229,6 @@ module _ {Y : Type 0} (gone : List (List ℕ)) (come : List TroveParts) (slots e
 pub refuses : (gone : List (List ℕ)) (come old new : List TroveParts) (fault : Fault) → IsChanged gone come old new → IsUnmetOrMemory new fault → RefusesChange gone come old fault
 refuses gone come old new (Refused refusal) changed unmet = (new, changed, unmet)
 refuses gone come old new Memory changed unmet = tt
-
-pub on_err : {T E P : Type 0} (r : Result T E) → P → OnErr r P
-on_err (Ok x) h = tt
-on_err (Err e) h = h
 
 -- ---- slots of a list
 

@@ -1,5 +1,5 @@
 -- Requirements that a list meets.
-use Rattle.std.proofs.Common.{◌≡◌, ℕ, ◌<◌, ◌⊎◌, inl, inr, ⊎_elim, Bool, true, false, ◌||◌, IsTrue, List, [], ◌∷◌, length, get_or, slice_get, Option, Some, None, is_some, unwrap_or, Bor, String, All, Contains, refl, sym, ap, ◌∙◌, subst, true≢false}
+use Rattle.std.proofs.Common.{◌≡◌, ℕ, ◌<◌, ◌⊎◌, inl, inr, ⊎_elim, Bool, true, false, ◌||◌, IsTrue, List, [], ◌∷◌, length, get_or, slice_get, Option, Some, None, is_some, unwrap_or, Bor, String, Contains, refl, sym, ap, ◌∙◌, subst, true≢false}
 use Rattle.std.specs.BTreeMap.{BTreeMap, is_at}
 use Rattle.std.specs.BTreeSet.{BTreeSet}
 use Rattle.std.specs.Cmp.Lexicographic.{slice_cmp}
@@ -7,14 +7,14 @@ use Rattle.std.specs.List.{list_any}
 use Rattle.std.specs.Option.{option_copied}
 use Rattle.std.specs.Ordering.{nat_cmp}
 use Rattle.std.proofs.lemmas.List.Elements.{All-nil, All-weaker, All-contains}
-use Rattle.std.proofs.lemmas.Option.{slice_get-get_or, slice_get_within, get_or_from_slice_get}
+use Rattle.std.proofs.lemmas.Option.{slice_get-get_or}
 use Rattle.cny_dep.specs.Dep.{Dependency}
 use Rattle.cny_dep.specs.Satisfies.{Satisfies}
 use Rattle.trove_stream.specs.declared.parts.TroveParts.{TroveParts}
 use Rattle.dep_closure.specs.Closed.{own_provide, provides_of}
-use Rattle.dep_closure.specs.Slots.{IsMetBy, IsFirstOfBy, notes, AreNoted}
+use Rattle.dep_closure.specs.Slots.{IsMetBy, notes, AreNoted}
 use Rattle.dep_closure.proofs.Names.{same, same_means}
-use Rattle.dep_closure.proofs.Provided.{first}
+use Rattle.trove_stream.proofs.cny-base.Lists.{contains_first as first}
 
 pub at_place : {A : Type 0} (xs : List A) (i : ℕ) (x : A) → i < length xs → x ≡ get_or xs i x → Contains xs x
 at_place xs i x within is = (i, within, sym is)
@@ -27,9 +27,6 @@ stands_at {A} xs i x within is = slice_get-get_or xs i x within ∙ ap (λ (y : 
 -- each of the names is among those that are left, or passed
 pub record PassedSoFar (P : List ℕ → Type 0) (all left : List (List ℕ)) : Type 0 where
   pub each : (name : List ℕ) → list_any (is_at (slice_cmp nat_cmp name)) all ≡ true → (list_any (is_at (slice_cmp nat_cmp name)) left ≡ true) ⊎ P name
-
-pub none_passed : (P : List ℕ → Type 0) (all left : List (List ℕ)) → left ≡ all → PassedSoFar P all left
-none_passed P all left is = record { each = λ name among. inl (ap (list_any (is_at (slice_cmp nat_cmp name))) is ∙ among) }
 
 pub one_passed : (P : List ℕ → Type 0) (all left rest : List (List ℕ)) (key : List ℕ) → PassedSoFar P all left → left ≡ key ∷ rest → P key → PassedSoFar P all rest
 one_passed P all left rest key so_far is own = record {
@@ -93,10 +90,6 @@ pub met_noted : {Y : Type 0} (troves : List ℕ → Option TroveParts) (provider
 met_noted troves providers noted require met =
     subst (λ (dep : List ℕ). IsTrue (notes providers dep met.name)) met.by.satisfies.name
     (All-contains (λ (dep : Dependency). IsTrue (notes providers dep.name met.name)) (provides_of met.trove) met.by.provide (noted.noted met.name met.trove met.there) met.by.provided)
-
-pub first_refutes : (troves : List ℕ → Option TroveParts) (required : List Dependency) (require : Dependency) → IsFirstOfBy troves required require → All (IsMetBy troves) required → ⊥
-first_refutes troves required require is all =
-    is.unmet (subst (IsMetBy troves) (get_or_from_slice_get required is.number require require is.there) (all is.number require (slice_get_within required is.number require is.there)))
 
 pub other_trove : (o : Option TroveParts) (t u : TroveParts) → o ≡ Some t → o ≡ Some u → t ≡ u
 other_trove o t u one other = ap (λ (p : Option TroveParts). unwrap_or p t) (sym one ∙ other)

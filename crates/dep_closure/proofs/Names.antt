@@ -1,23 +1,21 @@
 -- Lists of troves in the order of their names, and troves found by their names.
-use Rattle.std.proofs.Common.{◌≡◌, ℕ, Bool, true, false, cond, ◌||◌, IsSome, List, [], ◌∷◌, ◌++◌, Option, Some, None, is_some, option_to_list, unwrap_or, Ordering, Contains, refl, sym, ap, ◌∙◌, subst, ⊎_elim, true≢false}
+use Rattle.std.proofs.Common.{◌≡◌, ℕ, Bool, true, false, cond, ◌||◌, IsSome, List, [], ◌∷◌, ◌++◌, Option, Some, None, is_some, option_to_list, refl, sym, ap, ◌∙◌, subst, true≢false}
 use Rattle.std.specs.BTreeMap.{is_at}
 use Rattle.std.specs.Cmp.{Equal-is}
-use Rattle.std.specs.Cmp.Lexicographic.{slice_cmp, nat_list_cmp_total, bytes_decides}
+use Rattle.std.specs.Cmp.Lexicographic.{slice_cmp, nat_list_cmp_total}
 use Rattle.std.specs.FinMap.{nat_cmp-IsAntisymmetric, slice_cmp-IsAntisymmetric}
 use Rattle.std.specs.List.{list_any, AllByRecursion}
 use Rattle.std.specs.List.Sorted.{IsStrictlySortedBy}
 use Rattle.std.specs.Map.{lookup, keys_of}
-use Rattle.std.specs.Ordering.{nat_cmp, is_eq, ordering_reverse}
+use Rattle.std.specs.Ordering.{nat_cmp, is_eq}
 use Rattle.std.specs.Str.{bytes_eq}
-use Rattle.std.specs.declared.cmp.Ordering.TheVariants.{Less, Equal, Greater}
+use Rattle.std.specs.declared.cmp.Ordering.TheVariants.{Less}
 use Rattle.std.proofs.lemmas.Cmp.{tied_itself}
-use Rattle.std.proofs.lemmas.List.Elements.{All-from_recursion, All-contains}
-use Rattle.std.proofs.lemmas.Map.Keys.{sorted_head, sorted_tail}
-use Rattle.std.proofs.lemmas.Option.{none-some}
-use Rattle.trove_stream.specs.Installed.{by_name, IsRising, trove_of}
+use Rattle.trove_stream.specs.Installed.{IsRising, trove_of}
 use Rattle.trove_stream.specs.declared.parts.TroveParts.{TroveParts}
 use Rattle.dep_closure.specs.Slots.{listed}
-use Rattle.dep_closure.proofs.Provided.{nothing_in, first, later, first_or_later}
+use Rattle.trove_stream.proofs.cny-base.ByteLists.{bytes_mean}
+use Rattle.trove_stream.proofs.Names.{found_first, found_other}
 
 -- ---- names
 
@@ -31,99 +29,9 @@ same_means x y h = slice_cmp-IsAntisymmetric nat_cmp-IsAntisymmetric x y ((Equal
 pub same_itself : (x : List ℕ) → same x x ≡ true
 same_itself x = ap is_eq (tied_itself nat_list_cmp_total x)
 
-pub bytes_mean : (x y : List ℕ) → bytes_eq x y ≡ true → x ≡ y
-bytes_mean x y h = (bytes_decides x y).0 h
-
-pub bytes_itself : (x : List ℕ) → bytes_eq x x ≡ true
-bytes_itself x = (bytes_decides x x).1 refl
-
-pub not_less_itself : (x : List ℕ) → slice_cmp nat_cmp x x ≡ Less → ⊥
-not_less_itself x less = let own : slice_cmp nat_cmp x x ≡ Equal = tied_itself nat_list_cmp_total x in absurd (cc (own, less))
-
 -- ---- one trove of a name
 
--- no trove of a list whose names are all above this one has it
-pub none_named : (name : List ℕ) (list : List TroveParts) → AllByRecursion (λ (u : TroveParts). slice_cmp nat_cmp name u.id.name ≡ Less) list → trove_of name list ≡ None
-none_named name [] all = refl
-none_named name (u ∷ us) all = at (none_named name us all.1) (bytes_eq u.id.name name) refl
-  where
-    at : trove_of name us ≡ None → (b : Bool) → bytes_eq u.id.name name ≡ b → cond b (Some u) (trove_of name us) ≡ None
-    at none true is = absurd (not_less_itself name (ap (slice_cmp nat_cmp name) (sym (bytes_mean u.id.name name is)) ∙ all.0))
-    at none false is = none
-
-pub found_first : (t : TroveParts) (list : List TroveParts) → trove_of t.id.name (t ∷ list) ≡ Some t
-found_first t list = ap (λ (b : Bool). cond b (Some t) (trove_of t.id.name list)) (bytes_itself t.id.name)
-
-pub found_other : (t : TroveParts) (list : List TroveParts) (name : List ℕ) → bytes_eq t.id.name name ≡ false → trove_of name (t ∷ list) ≡ trove_of name list
-found_other t list name other = ap (λ (b : Bool). cond b (Some t) (trove_of name list)) other
-
--- a trove that is found is in the list
-pub is_there : (list : List TroveParts) (name : List ℕ) (t : TroveParts) → trove_of name list ≡ Some t → Contains list t
-is_there [] name t found = absurd (none-some t found)
-is_there (x ∷ xs) name t found = at (is_there xs name t) (bytes_eq x.id.name name) refl
-  where
-    at : (trove_of name xs ≡ Some t → Contains xs t) → (b : Bool) → bytes_eq x.id.name name ≡ b → Contains (x ∷ xs) t
-    at rest true is =
-        let one : x ≡ t = ap (λ (o : Option TroveParts). unwrap_or o x) (sym (ap (λ (b : Bool). cond b (Some x) (trove_of name xs)) is) ∙ found) in
-        subst (Contains (x ∷ xs)) one (first x xs)
-    at rest false is = later x t xs (rest (sym (found_other x xs name is) ∙ found))
-
--- and has the name
-pub is_named : (list : List TroveParts) (name : List ℕ) (t : TroveParts) → trove_of name list ≡ Some t → t.id.name ≡ name
-is_named [] name t found = absurd (none-some t found)
-is_named (x ∷ xs) name t found = at (is_named xs name t) (bytes_eq x.id.name name) refl
-  where
-    at : (trove_of name xs ≡ Some t → t.id.name ≡ name) → (b : Bool) → bytes_eq x.id.name name ≡ b → t.id.name ≡ name
-    at rest true is =
-        let one : x ≡ t = ap (λ (o : Option TroveParts). unwrap_or o x) (sym (ap (λ (b : Bool). cond b (Some x) (trove_of name xs)) is) ∙ found) in
-        subst (λ (u : TroveParts). u.id.name ≡ name) one (bytes_mean x.id.name name is)
-    at rest false is = rest (sym (found_other x xs name is) ∙ found)
-
--- a trove of a rising list is found by its name
-pub contained : (list : List TroveParts) → IsRising list → (t : TroveParts) → Contains list t → trove_of t.id.name list ≡ Some t
-contained [] rises t h = absurd (nothing_in t h)
-contained (x ∷ xs) rises t h = ⊎_elim
-    (λ e. subst (λ (u : TroveParts). trove_of u.id.name (x ∷ xs) ≡ Some u) e (found_first x xs))
-    (λ there. at (contained xs (sorted_tail by_name x xs rises) t there) there (bytes_eq x.id.name t.id.name) refl)
-    (first_or_later x t xs h)
-  where
-    at : trove_of t.id.name xs ≡ Some t → Contains xs t → (b : Bool) → bytes_eq x.id.name t.id.name ≡ b → trove_of t.id.name (x ∷ xs) ≡ Some t
-    at rest there true is =
-        let less : slice_cmp nat_cmp x.id.name t.id.name ≡ Less = All-contains (λ (u : TroveParts). slice_cmp nat_cmp x.id.name u.id.name ≡ Less) xs t (All-from_recursion (λ (u : TroveParts). slice_cmp nat_cmp x.id.name u.id.name ≡ Less) xs (sorted_head by_name x xs rises)) there in
-        absurd (not_less_itself x.id.name (ap (slice_cmp nat_cmp x.id.name) (bytes_mean x.id.name t.id.name is) ∙ less))
-    at rest there false is = found_other x xs t.id.name is ∙ rest
-
 -- ---- one list
-
-behind : (name next : List ℕ) (list : List TroveParts) → slice_cmp nat_cmp name next ≡ Less → AllByRecursion (λ (u : TroveParts). slice_cmp nat_cmp next u.id.name ≡ Less) list
-    → AllByRecursion (λ (u : TroveParts). slice_cmp nat_cmp name u.id.name ≡ Less) list
-behind name next [] less all = tt
-behind name next (u ∷ us) less all = (nat_list_cmp_total.trans name next u.id.name less all.0, behind name next us less all.1)
-
--- rising lists in which each name finds the same are equal
-pub one_list : (xs ys : List TroveParts) → IsRising xs → IsRising ys → ((name : List ℕ) → trove_of name xs ≡ trove_of name ys) → xs ≡ ys
-one_list [] [] rx ry alike = refl
-one_list [] (y ∷ ys) rx ry alike = absurd (none-some y (alike y.id.name ∙ found_first y ys))
-one_list (x ∷ xs) [] rx ry alike = absurd (none-some x (sym (alike x.id.name) ∙ found_first x xs))
-one_list (x ∷ xs) (y ∷ ys) rx ry alike = at (one_list xs ys (sorted_tail by_name x xs rx) (sorted_tail by_name y ys ry)) (slice_cmp nat_cmp x.id.name y.id.name) refl
-  where
-    rest : x.id.name ≡ y.id.name → (name : List ℕ) (b : Bool) → bytes_eq x.id.name name ≡ b → trove_of name xs ≡ trove_of name ys
-    rest names name true is =
-        ap (λ (n : List ℕ). trove_of n xs) (sym (bytes_mean x.id.name name is)) ∙ none_named x.id.name xs (sorted_head by_name x xs rx)
-        ∙ sym (ap (λ (n : List ℕ). trove_of n ys) (sym (bytes_mean x.id.name name is) ∙ names) ∙ none_named y.id.name ys (sorted_head by_name y ys ry))
-    rest names name false is = sym (found_other x xs name is) ∙ alike name ∙ found_other y ys name (ap (λ (n : List ℕ). bytes_eq n name) (sym names) ∙ is)
-
-    at : (((name : List ℕ) → trove_of name xs ≡ trove_of name ys) → xs ≡ ys) → (o : Ordering) → slice_cmp nat_cmp x.id.name y.id.name ≡ o → x ∷ xs ≡ y ∷ ys
-    at tails Less less = absurd (none-some x (sym (none_named x.id.name (y ∷ ys) (less, behind x.id.name y.id.name ys less (sorted_head by_name y ys ry))) ∙ sym (alike x.id.name) ∙ found_first x xs))
-    at tails Greater more =
-        let less : slice_cmp nat_cmp y.id.name x.id.name ≡ Less = nat_list_cmp_total.antisymm y.id.name x.id.name ∙ ap ordering_reverse more in
-        absurd (none-some y (sym (none_named y.id.name (x ∷ xs) (less, behind y.id.name x.id.name xs less (sorted_head by_name x xs rx))) ∙ alike y.id.name ∙ found_first y ys))
-    at tails Equal equal =
-        let names : x.id.name ≡ y.id.name = slice_cmp-IsAntisymmetric nat_cmp-IsAntisymmetric x.id.name y.id.name equal in
-        let found : Some x ≡ Some y = sym (found_first x xs) ∙ alike x.id.name ∙ ap (λ (n : List ℕ). trove_of n (y ∷ ys)) names ∙ found_first y ys in
-        let one : x ≡ y = ap (λ (o : Option TroveParts). unwrap_or o x) found in
-        ap (λ (z : TroveParts). z ∷ xs) one
-        ∙ ap (λ (l : List TroveParts). y ∷ l) (tails (λ name. rest names name (bytes_eq x.id.name name) refl))
 
 -- ---- the troves of some names
 
@@ -150,7 +58,7 @@ module _ (troves : List ℕ → Option TroveParts) (named : (name : List ℕ) (t
         rest,
       )
 
-  either : (b : Bool) (o : Option TroveParts) → o ≡ None → cond b o None ≡ o
+  pub either : (b : Bool) (o : Option TroveParts) → o ≡ None → cond b o None ≡ o
   either true o none = refl
   either false o none = sym none
 

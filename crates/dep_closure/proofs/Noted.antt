@@ -11,7 +11,7 @@ use Rattle.std.proofs.lemmas.List.Elements.{All-more, All-weaker}
 use Rattle.cny_dep.specs.Dep.{Dependency}
 use Rattle.trove_stream.specs.declared.parts.TroveParts.{TroveParts}
 use Rattle.dep_closure.specs.Slots.{notes, IsNoted}
-use Rattle.dep_closure.proofs.Names.{bytes_mean, bytes_itself}
+use Rattle.trove_stream.proofs.cny-base.ByteLists.{bytes_itself, bytes_mean}
 
 -- whether a name is in the set that stands there, if one does
 abbrev is_in : Option (BTreeSet (List ℕ)) → List ℕ → Bool

@@ -1,24 +1,10 @@
 -- What a trove provides.
-use Rattle.std.proofs.Common.{◌≡◌, ℕ, ◌⊎◌, ⊎_elim, inl, inr, List, [], ◌∷◌, All, Contains, refl, sym, subst, arith}
-use Rattle.std.proofs.lemmas.List.Elements.{All-head, All-nil, Contains-append_left, Contains-append_right, Contains-append_cases, Contains-push, Contains-push_cases}
+use Rattle.std.proofs.Common.{◌≡◌, ℕ, ⊎_elim, List, [], ◌∷◌, All, Contains, refl, sym, subst}
+use Rattle.std.proofs.lemmas.List.Elements.{All-head, All-nil}
 use Rattle.cny_dep.specs.Dep.{Dependency}
 use Rattle.cny_dep.specs.Satisfies.{Satisfies}
 use Rattle.dep_closure.specs.Closed.{IsSatisfiedBy}
-
-pub nothing_in : {A : Type 0} (x : A) → Contains [] x → ⊥
-nothing_in x h = omega (arith, h.1)
-
-pub first : {A : Type 0} (x : A) (xs : List A) → Contains (x ∷ xs) x
-first x xs = Contains-append_left (x ∷ []) xs x (Contains-push [] x)
-
-pub later : {A : Type 0} (x y : A) (xs : List A) → Contains xs y → Contains (x ∷ xs) y
-later x y xs h = Contains-append_right (x ∷ []) xs y h
-
-pub first_or_later : {A : Type 0} (x y : A) (xs : List A) → Contains (x ∷ xs) y → (x ≡ y) ⊎ Contains xs y
-first_or_later x y xs h = ⊎_elim
-    (λ here. ⊎_elim (λ none. absurd (nothing_in y none)) inl (Contains-push_cases [] x y here))
-    inr
-    (Contains-append_cases (x ∷ []) xs y h)
+use Rattle.trove_stream.proofs.cny-base.Lists.{contains_first as first, contains_cases as first_or_later, contains_rest as later, nothing_in}
 
 -- ---- flags
 

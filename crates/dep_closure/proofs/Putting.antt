@@ -1,5 +1,5 @@
 -- Slots into which troves are put, one after another.
-use Rattle.std.proofs.Common.{◌≡◌, ℕ, ◌+◌, ◌<◌, Bool, true, false, cond, ◌||◌, List, [], ◌∷◌, ◌++◌, length, get_or, take, IsSome, Option, Some, None, is_some, option_to_list, refl, sym, ap, ◌∙◌, subst, inl, inr, ⊎_elim, ◌⊎◌, append_assoc, append-nil, true≢false}
+use Rattle.std.proofs.Common.{◌≡◌, ℕ, ◌+◌, ◌<◌, Bool, true, false, cond, ◌||◌, List, [], ◌∷◌, ◌++◌, length, get_or, take, IsSome, Option, Some, None, is_some, refl, sym, ap, ◌∙◌, subst, inl, inr, ⊎_elim, ◌⊎◌, true≢false}
 use Rattle.std.proofs.lemmas.List.{take_more}
 use Rattle.std.specs.BTreeMap.{IsOrdered, is_at}
 use Rattle.std.specs.Cmp.{both_ways}
@@ -10,8 +10,10 @@ use Rattle.std.specs.Str.{bytes_eq}
 use Rattle.std.proofs.lemmas.Map.Keys.{sorted_head, sorted_tail}
 use Rattle.trove_stream.specs.Installed.{by_name, IsRising, trove_of}
 use Rattle.trove_stream.specs.declared.parts.TroveParts.{TroveParts}
-use Rattle.dep_closure.specs.Slots.{Slots, slot, slot_or, put_slot, held, held_after, listed}
-use Rattle.dep_closure.proofs.Names.{same, same_means, same_itself, bytes_mean, bytes_itself, none_named, found_other}
+use Rattle.dep_closure.specs.Slots.{Slots, slot, slot_or, put_slot, held, held_after}
+use Rattle.dep_closure.proofs.Names.{same, same_means, same_itself}
+use Rattle.trove_stream.proofs.cny-base.ByteLists.{bytes_itself, bytes_mean}
+use Rattle.trove_stream.proofs.Names.{found_other, none_named}
 
 -- a later trove of a name takes the place of an earlier one
 abbrev pub put_all : List TroveParts → Option (Option TroveParts) → List ℕ → Option (Option TroveParts)
@@ -183,15 +185,3 @@ made_more old edits slots left now rest key edit so_far was taken put ordered = 
 pub held_none : (b : Bool) (before now : Option (Option TroveParts)) → now ≡ cond b (Some None) before → (b ≡ true → before ≡ None) → slot_or now None ≡ slot_or before None
 held_none true before now is was = ap (λ (o : Option (Option TroveParts)). slot_or o None) is ∙ ap (λ (o : Option (Option TroveParts)). slot_or o None) (sym (was refl))
 held_none false before now is was = ap (λ (o : Option (Option TroveParts)). slot_or o None) is
-
--- the troves of one name more
-pub listed_more : (troves : List ℕ → Option TroveParts) (all left rest : List (List ℕ)) (key : List ℕ) (before now : List TroveParts) → before ++ listed troves left ≡ listed troves all
-    → left ≡ key ∷ rest → now ≡ before ++ option_to_list (troves key) → now ++ listed troves rest ≡ listed troves all
-listed_more troves all left rest key before now so_far is is_now =
-    ap (λ (l : List TroveParts). l ++ listed troves rest) is_now
-    ∙ append_assoc before (option_to_list (troves key)) (listed troves rest)
-    ∙ ap (λ (names : List (List ℕ)). before ++ listed troves names) (sym is)
-    ∙ so_far
-
-pub listed_all : (troves : List ℕ → Option TroveParts) (all left : List (List ℕ)) (before : List TroveParts) → before ++ listed troves left ≡ listed troves all → left ≡ [] → before ≡ listed troves all
-listed_all troves all left before so_far is = sym (append-nil before) ∙ ap (λ (names : List (List ℕ)). before ++ listed troves names) (sym is) ∙ so_far

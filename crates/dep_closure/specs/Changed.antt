@@ -1,5 +1,5 @@
 -- A list without some names and with some troves.
-use Rattle.std.specs.Prelude.{◌≡◌, ℕ, if◌then◌else◌, List, Option, Some, None}
+use Rattle.std.specs.Prelude.{◌≡◌, ℕ, if◌then◌else◌, List, Option, None}
 use Rattle.std.specs.List.{list_any}
 use Rattle.std.specs.Str.{bytes_eq}
 use Rattle.trove_stream.specs.cny-base.declared.refusal.Fault.{Fault}
@@ -7,11 +7,7 @@ use Rattle.trove_stream.specs.cny-base.declared.refusal.Fault.TheVariants.{Refus
 use Rattle.trove_stream.specs.Installed.{IsRising, trove_of}
 use Rattle.trove_stream.specs.declared.parts.TroveParts.{TroveParts}
 use Rattle.dep_closure.specs.Closed.{IsUnmetOrMemory}
-
--- the first, or else the second
-abbrev pub or_else : Option TroveParts → Option TroveParts → Option TroveParts
-or_else None second = second
-or_else (Some t) second = Some t
+pub use Rattle.trove_stream.specs.Either.{or_else}
 
 -- what has this name after the change: the trove that comes; else nothing, where the name goes; else what had it before
 abbrev pub trove_after : List (List ℕ) → List TroveParts → List TroveParts → List ℕ → Option TroveParts

@@ -1,14 +1,13 @@
 -- Branches of one text are one branch, so that they have one depth.
-use Rattle.std.proofs.Common.{◌≡◌, ℕ, ◌+◌, ◌<◌, ◌≤◌, ◌^◌, Bool, true, false, ◌&&◌, IsTrue, List, [], ◌∷◌, ◌++◌, length, Option, Some, None, nat_le, nat_lt, refl, ap, ◌∙◌, append-nil, length-append, arith}
+use Rattle.std.proofs.Common.{◌≡◌, ℕ, ◌+◌, ◌<◌, ◌≤◌, ◌^◌, true, false, ◌&&◌, IsTrue, List, [], ◌∷◌, ◌++◌, length, None, nat_le, refl, ap, append-nil, length-append, arith}
 use Rattle.std.specs.Cmp.{first_so, second_so}
 use Rattle.std.specs.Fmt.{decimal}
 use Rattle.std.specs.List.{list_all}
 use Rattle.std.proofs.lemmas.Bool.Decides.{nat_tests}
 use Rattle.std.proofs.lemmas.Fmt.{decimal_nonempty, length-decimal-le}
-use Rattle.trove_stream.specs.cny-base.declared.limits.TheConstants.{VERSION_LIMIT}
 use Rattle.cny_version.specs.declared.revision.Revision.{Revision}
 use Rattle.cny_version.specs.Revision.{count_text, build_text, revision_text, fits_32_bits, is_build, is_count, is_revision, is_upstream, ends_above_zero}
-use Rattle.cny_version.specs.Version.{branch_text, depth, version_text, IsVersion, WholeBranch, WholeVersion}
+use Rattle.cny_version.specs.Version.{branch_text, depth, version_text, IsVersion, WholeVersion}
 
 -- ---- a revision of three bytes, which fits each depth
 

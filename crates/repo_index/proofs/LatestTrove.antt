@@ -1,22 +1,22 @@
 -- What is known of the latest trove, and of the refusals.
-use Rattle.std.proofs.Common.{◌≡◌, ◌<◌, ◌↔◌, ⊎_elim, inl, inr, ℕ, ◌==◌, ◌&&◌, Bool, true, false, cond, not, nat_lt, IsTrue, List, length, Option, Some, None, is_some, Result, Ok, Err, refl, sym, ap, subst, ◌∙◌, arith}
-use Rattle.std.specs.Prelude.{IsErrOf, IfErr, IsSome, OnOk}
-use Rattle.std.specs.Cmp.{first_so, second_so}
+use Rattle.std.proofs.Common.{◌≡◌, ℕ, ◌&&◌, true, not, IsTrue, List, Option, Some, is_some, sym, ap, subst, ◌∙◌}
+use Rattle.std.specs.Prelude.{IsSome}
+use Rattle.std.specs.Cmp.{first_so}
 use Rattle.std.specs.Option.{ForSome, option_map}
 use Rattle.std.specs.Str.{bytes_eq}
-use Rattle.std.proofs.lemmas.Bool.Decides.{nat_tests}
-use Rattle.std.proofs.lemmas.Option.{none-some, same_Some}
+use Rattle.std.proofs.lemmas.Option.{same_Some}
 use Rattle.cny_version.specs.declared.revision.Revision.{Revision}
 use Rattle.cny_version.specs.Revision.{is_revision}
 use Rattle.cny_version.specs.Version.{branch_text, depth, version_text, IsVersion, WholeBranch, WholeVersion}
 use Rattle.trove_stream.specs.trove-parts.declared.id.TroveId.{TroveId}
 use Rattle.trove_stream.specs.declared.parts.TroveParts.{TroveParts}
 use Rattle.trove_stream.specs.Trove.{has_build, is_source, HasRightBuild}
-use Rattle.repo_index.specs.Catalogue.{has_name, has_source, is_of}
-use Rattle.repo_index.specs.Next.{kept_source, latest_revision, latest_trove, revision_of}
-use Rattle.repo_index.proofs.Texts.{equal_bytes}
+use Rattle.repo_index.specs.Catalogue.{has_source, is_of}
+use Rattle.repo_index.specs.Next.{kept_source, latest_trove, revision_of}
 use Rattle.repo_index.proofs.Branches.{same_branch}
 use Rattle.repo_index.proofs.Searches.{last_found}
+use Rattle.trove_stream.specs.Installed.{has_name}
+use Rattle.cny_version.proofs.cny-base.ByteLists.{bytes_mean as equal_bytes}
 
 pub for_one : {A : Type 0} (P : A → Type 0) (y : A) → P y → ForSome (Some y) P
 for_one P y h = λ x same. subst P (same_Some y x same) h

@@ -1,7 +1,6 @@
 pub mod Searching
 pub mod Indexing
 pub mod Placing
-pub mod Texts
 pub mod Branches
 pub mod Searches
 pub mod LatestTrove
@@ -9,3 +8,9 @@ pub mod Refusing
 pub mod Passing
 pub mod Renewed
 pub mod NextLists
+pub mod PlacesLaws
+pub use Rattle.trove_stream.proofs.cny-base
+pub use Rattle.trove_stream.proofs.file-stream
+pub use Rattle.trove_stream.proofs as trove-stream
+pub use Rattle.trove_stream.proofs.cny-dep
+pub use Rattle.trove_stream.proofs.trove-parts

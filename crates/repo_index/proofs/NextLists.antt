@@ -1,5 +1,5 @@
 -- Lists of troves with the next version of the first one.
-use Rattle.std.proofs.Common.{◌≡◌, ◌<◌, length, get_or, arith, List, [], ◌∷◌, map, is_some, All, Option, Some, None, Result, Ok, Err, refl, sym, ap, subst, ◌∙◌}
+use Rattle.std.proofs.Common.{◌≡◌, ◌<◌, length, get_or, arith, List, [], ◌∷◌, map, is_some, All, Option, None, Ok, refl, sym, ap, subst, ◌∙◌}
 use Rattle.trove_stream.specs.cny-base.declared.refusal.Fault.{Fault}
 use Rattle.trove_stream.specs.cny-base.declared.refusal.Fault.TheVariants.{Refused, Memory}
 use Rattle.trove_stream.specs.cny-base.declared.refusal.Refusal.{Refusal}
@@ -8,8 +8,9 @@ use Rattle.trove_stream.specs.trove-parts.declared.id.TroveId.{TroveId}
 use Rattle.trove_stream.specs.declared.parts.TroveParts.{TroveParts}
 use Rattle.trove_stream.specs.Trove.{has_build}
 use Rattle.repo_index.specs.Next.{next_refusal, next_troves, next_version, trove_with, unless_refused, HasOneVersion}
-use Rattle.repo_index.specs.Steps.{IsErrOrMemory, IsRefusalOrMemory}
+use Rattle.repo_index.specs.Steps.{IsErrOrMemory}
 use Rattle.repo_index.proofs.Renewed.{next_build}
+use Rattle.cny_version.specs.cny-base.Refusals.{IsRefusalOrMemory}
 
 module _ (committed : List TroveParts) where
   pub none_next : (l : List TroveParts) → l ≡ [] → next_troves committed l ≡ Ok l

@@ -7,16 +7,12 @@ use Rattle.std.proofs.lemmas.Option.{slice_get-get_or, get_or_from_slice_get, no
 use Rattle.trove_stream.specs.trove-parts.declared.id.TroveId.{TroveId}
 use Rattle.trove_stream.specs.trove-parts.Order.{id_eq, id_equiv}
 use Rattle.trove_stream.specs.declared.parts.TroveParts.{TroveParts}
-use Rattle.repo_index.specs.Catalogue.{places_from, places_of, has_id, has_name, found, HasDistinctIds}
+use Rattle.repo_index.specs.Catalogue.{places_from, places_of, has_id, found, HasDistinctIds}
 use Rattle.repo_index.specs.Places.{IsPlaceOf}
+use Rattle.cny_version.proofs.cny-base.Lists.{contains_first, contains_rest}
+use Rattle.trove_stream.specs.Installed.{has_name}
 
 -- ---- the place of an item that passes is among the places
-
-contains_first : {A : Type 0} (x : A) (xs : List A) → Contains (x ∷ xs) x
-contains_first x xs = (0, omega arith, refl)
-
-contains_rest : {A : Type 0} (x y : A) (xs : List A) → Contains xs y → Contains (x ∷ xs) y
-contains_rest x y xs h = (suc h.0, omega (arith, h.1), h.2)
 
 contains_if : (b : Bool) (n : ℕ) (xs : List ℕ) (m : ℕ) → Contains xs m → Contains (cond b (n ∷ xs) xs) m
 contains_if true n xs m h = contains_rest n m xs h
@@ -50,9 +46,6 @@ one_place troves id i j distinct first second =
 
 -- ---- distinct ids
 
-pub distinct_none : HasDistinctIds []
-distinct_none = λ i j t u at other same. absurd (none-some t at)
-
 -- an item of a longer list is one of the shorter one, or the last
 pushed_at : (troves : List TroveParts) (t x : TroveParts) (i : ℕ) → slice_get (troves ++ t ∷ []) i ≡ Some x → (slice_get troves i ≡ Some x) ⊎ ((i ≡ length troves) × (t ≡ x))
 pushed_at [] t x zero at = inr (refl, same_Some t x at)
@@ -83,13 +76,6 @@ distinct_push troves t distinct none = λ i j x y at other same. by i j x y (pus
     by i j x y (inl at) (inr last) same = absurd (absent i x at (ap (λ (u : TroveParts). id_eq x.id u.id) last.1 ∙ same))
     by i j x y (inr last) (inl other) same = absurd (absent j y other (id_equiv.symm y.id t.id ∙ ap (λ (u : TroveParts). id_eq u.id y.id) last.1 ∙ same))
     by i j x y (inr last) (inr end) same = last.0 ∙ sym end.0
-
--- ---- the test of one place
-
-pub at_place : (troves : List TroveParts) (id : TroveId) (place : ℕ) (t : TroveParts) → slice_get troves place ≡ Some t → IsPlaceOf troves id place → id_eq t.id id ≡ true
-at_place troves id place t at is =
-    let same : t ≡ is.trove = same_Some t is.trove (sym at ∙ is.stands) in
-    ap (λ (u : TroveParts). id_eq u.id id) same ∙ ap (λ (other : TroveId). id_eq other id) is.id_is ∙ id_equiv.refl id
 
 -- ---- a search through places
 

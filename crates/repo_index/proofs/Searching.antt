@@ -1,24 +1,17 @@
 -- What is found at the places of the items that pass a test.
-use Rattle.std.proofs.Common.{◌≡◌, ℕ, ◌+◌, Bool, true, false, cond, ◌&&◌, List, [], ◌∷◌, ◌++◌, length, filter, find, filter_map, slice_get, Option, Some, None, option_copied, refl, sym, ap, ◌∙◌, true≢false, append_assoc, arith}
+use Rattle.std.proofs.Common.{◌≡◌, ℕ, ◌+◌, Bool, true, false, cond, ◌&&◌, List, [], ◌∷◌, ◌++◌, length, filter, find, filter_map, slice_get, Option, Some, refl, sym, ap, ◌∙◌, true≢false, append_assoc, arith}
 use Rattle.std.specs.Cmp.{first_so}
 use Rattle.std.specs.List.{cons_option}
-use Rattle.std.specs.Slice.{IsItemAt}
 use Rattle.std.specs.Str.{bytes_eq}
 use Rattle.std.proofs.lemmas.List.{length_push}
-use Rattle.std.proofs.lemmas.Option.{slice_get_past, slice_get_read}
 use Rattle.trove_stream.specs.cny-flavor.Canonical.{flavor_text}
 use Rattle.cny_version.specs.Version.{version_text}
 use Rattle.trove_stream.specs.trove-parts.declared.id.TroveId.{TroveId}
 use Rattle.trove_stream.specs.declared.parts.TroveParts.{TroveParts}
-use Rattle.repo_index.specs.Catalogue.{places_from, has_id, has_name}
-use denote.Ref.{Bor}
+use Rattle.repo_index.specs.Catalogue.{places_from, has_id}
+use Rattle.trove_stream.specs.Installed.{has_name}
 
 -- ---- items at their places
-
--- what `get` lends
-pub item_at : {A : Type 0} (xs : List A) (i : ℕ) (r : Option (Bor A)) → IsItemAt xs i r → option_copied r ≡ slice_get xs i
-item_at xs i None is = sym (slice_get_past xs i is.3)
-item_at xs i (Some x) is = sym (slice_get_read xs (length xs) i x.now refl is.3.0 is.1)
 
 slice_get-middle : {A : Type 0} (before : List A) (x : A) (after : List A) → slice_get (before ++ x ∷ after) (length before) ≡ Some x
 slice_get-middle [] x after = refl

@@ -1,5 +1,5 @@
 -- The catalogue, and what is searched for in it. Each look-up is a search of the whole list.
-use Rattle.std.specs.Prelude.{◌≡◌, ℕ, ◌+◌, Bool, true, false, ◌&&◌, if◌then◌else◌, List, [], ◌∷◌, ◌++◌, filter, slice_get, Option, Some, None, IsSome, IsTrue}
+use Rattle.std.specs.Prelude.{◌≡◌, ℕ, ◌+◌, Bool, true, false, ◌&&◌, if◌then◌else◌, List, [], ◌∷◌, ◌++◌, filter, slice_get, Contains, Option, Some, None, IsSome, IsTrue}
 use Rattle.std.specs.List.{find, last_or, list_any}
 use Rattle.std.specs.Str.{bytes_eq}
 use Rattle.trove_stream.specs.cny-base.declared.refusal.Fault.{Fault}
@@ -14,6 +14,7 @@ use Rattle.trove_stream.specs.trove-parts.Id.{id_text_of}
 use Rattle.trove_stream.specs.trove-parts.Order.{id_eq}
 use Rattle.trove_stream.specs.trove-parts.declared.files.FileAt.{FileAt}
 use Rattle.trove_stream.specs.declared.parts.TroveParts.{TroveParts}
+pub use Rattle.trove_stream.specs.Installed.{has_name}
 
 -- how many commits there are, and the troves in the order in which they were committed
 pub record CatalogueParts : Type 0 where
@@ -26,6 +27,10 @@ no_commits = record { commits = 0; troves = [] }
 -- one trove more, behind the others
 abbrev pub with_trove : CatalogueParts → TroveParts → CatalogueParts
 with_trove c t = record { commits = c.commits; troves = c.troves ++ t ∷ [] }
+
+-- each of the troves is one of those that are committed
+abbrev pub AreCommitted : List TroveParts → List TroveParts → Type 0
+AreCommitted committed troves = (t : TroveParts) → Contains troves t → Contains committed t
 
 -- one commit more
 abbrev pub with_commit : CatalogueParts → CatalogueParts
@@ -50,9 +55,6 @@ IsExistsOrMemory troves id (Refused refusal) = (refusal ≡ Exists (id_text_of i
 IsExistsOrMemory troves id Memory = Unit {0}
 
 -- ---- by name
-
-abbrev pub has_name : List ℕ → TroveParts → Bool
-has_name name t = bytes_eq t.id.name name
 
 -- the places of the items that pass the test, where the first has the place n
 abbrev pub places_from : {A : Type 0} → ℕ → (A → Bool) → List A → List ℕ

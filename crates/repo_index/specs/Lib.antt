@@ -1,6 +1,5 @@
 pub mod Catalogue
 pub mod Places
-pub mod PlacesLaws
 pub mod Keys
 pub mod Index
 pub mod Next

@@ -3,7 +3,7 @@ ghost use Rattle.std.specs.Prelude.{◌≡◌, ◌++◌, ◌∷◌, [], ◌||◌
 ghost use Rattle.std.specs.List.{list_any};
 ghost use Rattle.std.specs.Str.{bytes_eq};
 ghost use Rattle.trove_stream.specs.declared.parts.TroveParts.{TroveParts};
-ghost use Rattle.repo_index.specs.Catalogue.{places_of, has_content, records_content, is_content, is_file_of, is_file_sized};
+ghost use Rattle.repo_index.specs.Catalogue.{is_content, is_file_of, is_file_sized};
 ghost use Rattle.trove_stream.specs.file-stream.Record.{has_name_and_size};
 ghost use Rattle.repo_index.specs.Keys.{places_in, knows, knows_sized, Extends};
 ghost use Rattle.repo_index.specs.Index.{IsIndexOf};

@@ -2,7 +2,7 @@
 ghost use Rattle.std.specs.Prelude.{◌≡◌, ◌++◌, ◌∷◌, [], All, map, is_some, IfOk, OnOk};
 ghost use Rattle.trove_stream.specs.cny-base.Name.{kind_of_name};
 ghost use Rattle.trove_stream.specs.trove-parts.Id.{IsTroveId};
-ghost use Rattle.trove_stream.specs.Trove.{has_build, IsTrove};
+ghost use Rattle.trove_stream.specs.Trove.{has_build};
 ghost use Rattle.repo_index.specs.Next as spec;
 ghost use Rattle.repo_index.specs.Next.{is_package};
 
@@ -71,24 +71,6 @@ fn refs_with(
     Ok(refs)
 }
 
-// The trove of these parts, which are those of one.
-fn trove_of(parts: TroveParts) -> Trove
-    requires { IsTrove parts }
-    ensures { result ≡ parts }
-{
-    let TroveParts {
-        id,
-        files,
-        refs,
-        requires_,
-        provides,
-    } = parts;
-    match Trove::make(id, files, refs, requires_, provides) {
-        Ok(trove) => trove,
-        Err(_) => unreachable!(),
-    }
-}
-
 /// The trove with this version.
 pub(crate) fn trove_with(
     alloc: Global,
@@ -107,7 +89,7 @@ pub(crate) fn trove_with(
     } = trove.into_parts();
     let refs = refs_with(alloc, &id, refs, version)?;
     let id = id_with(&id, version)?;
-    Ok(trove_of(TroveParts {
+    Ok(Trove::from_parts(TroveParts {
         id,
         files,
         refs,

@@ -8,11 +8,11 @@ use Rattle.journal_log.specs.tree-disk.Tree.{Name, Tree}
 use Rattle.content_store.specs.Store.{file_bytes}
 use Rattle.repo_index.specs.Catalogue.{CatalogueParts, no_commits}
 use Rattle.repo_load.specs.State.{Commit, troves_of, catalogue_of, AreFollowing, HasRefs, IsCommit}
-use Rattle.repo_load.specs.Files.{commit_file, HoldsCatalogue, HoldsCommit, HoldsFirst}
-use Rattle.repo_load.specs.Following.{troves_push, following_push}
-use Rattle.repo_load.specs.Holding.{first_push}
+use Rattle.repo_load.specs.Files.{commit_file, HoldsCommit, HoldsFirst}
+use Rattle.repo_load.proofs.Following.{troves_push, following_push}
+use Rattle.repo_load.proofs.Holding.{first_push}
 use Rattle.repo_load.specs.Damage.{IsBadCommit, IsDamagedCommit}
-use Rattle.repo_load.specs.Loading.{AreRead, IsCatalogue, IsFirstUnresolved, LacksCommit}
+use Rattle.repo_load.specs.Loading.{AreRead, IsFirstUnresolved, LacksCommit}
 use Rattle.repo_load.proofs.Resolved.{size_of}
 
 pub none_read : (told : Bool) (tree : Tree) (catalogue : CatalogueParts) (counts : List ℕ) → catalogue ≡ no_commits → counts ≡ [] → AreRead told tree catalogue counts
@@ -23,17 +23,6 @@ none_read told tree catalogue counts none no_counts = record {
   following = tt;
   is = none;
   counts_are = no_counts;
-}
-
--- the same of another tree that is the same where it is told
-pub read_of : (told : Bool) (x y : Tree) (catalogue : CatalogueParts) (counts : List ℕ) → (IsTrue told → x ≡ y) → AreRead told x catalogue counts → AreRead told y catalogue counts
-read_of told x y catalogue counts same read = record {
-  commits = read.commits;
-  first = λ tells. subst (λ (t : Tree). HoldsFirst t 1 read.commits) (same tells) (read.first tells);
-  few = read.few;
-  following = read.following;
-  is = read.is;
-  counts_are = read.counts_are;
 }
 
 module _ (told : Bool) (tree : Tree) (catalogue : CatalogueParts) (counts : List ℕ) (read : AreRead told tree catalogue counts) where
@@ -106,17 +95,6 @@ module _ (told : Bool) (tree : Tree) (catalogue : CatalogueParts) (counts : List
       stands o bytes some none = absurd (cc (some, ap file_bytes none))
 
   -- ---- at the end
-
-  pub whole_catalogue : All (HasRefs (troves_of read.commits)) (troves_of read.commits) → IsCatalogue catalogue
-  whole_catalogue refs = record { commits = read.commits; rules = record { few = read.few; following = read.following; refs = refs }; is = read.is }
-
-  pub whole_held : IsTrue told → get tree (commit_file (catalogue.commits + 1)) ≡ None → All (HasRefs (troves_of read.commits)) (troves_of read.commits) → HoldsCatalogue tree catalogue
-  whole_held tells last refs = record {
-    commits = read.commits;
-    holds = record { first = read.first tells; last = subst (λ (n : ℕ). get tree (commit_file (n + 1)) ≡ None) number_is last };
-    rules = record { few = read.few; following = read.following; refs = refs };
-    is = read.is;
-  }
 
   pub missing_ref : (path : Name) (number : ℕ) → IsTrue told → get tree (commit_file (catalogue.commits + 1)) ≡ None → IsFirstUnresolved read.commits number → path ≡ commit_file number
       → IsDamagedCommit tree path

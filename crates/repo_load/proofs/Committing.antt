@@ -4,7 +4,7 @@ use Rattle.std.specs.Prelude.{IsTrue}
 use Rattle.std.specs.FinMap.{get}
 use Rattle.repo_index.specs.cny-base.declared.limits.TheConstants.{COMMITS_LIMIT}
 use Rattle.journal_log.specs.tree-disk.Tree.{Tree}
-use Rattle.journal_log.specs.tree-disk.Laws.{get_put_here, get_put_other}
+use Rattle.journal_log.proofs.tree-disk.Laws.{get_put_here, get_put_other}
 use Rattle.journal_log.specs.Targets.{with_targets, node_of}
 use Rattle.content_store.specs.Store.{content_path, file_bytes, stored}
 use Rattle.repo_index.specs.trove-stream.Trove.{IsTrove}
@@ -12,14 +12,10 @@ use Rattle.repo_load.specs.State.{AreFollowing, Commit, troves_of, records_conte
 use Rattle.repo_load.specs.Files.{commit_bytes, commit_file, contents_dir, FitsTrove, HoldsCommit, HoldsFirst, StoresRepository}
 use Rattle.repo_load.specs.Steps.{commit_put, IsCommitReady}
 use Rattle.repo_load.proofs.FileNames.{commit_differs, content_differs}
-use Rattle.repo_load.specs.Holding.{CommitsDiffer, first_push, first_stays, one_list}
-use Rattle.repo_load.specs.Following.{following_at}
+use Rattle.repo_load.proofs.Holding.{CommitsDiffer, first_push, first_stays, one_list, some_bytes as some_equal}
+use Rattle.repo_load.proofs.Following.{following_at}
 
 -- ---- one state
-
-some_equal : (a b : List ℕ) (o : Option (List ℕ)) → o ≡ Some a → o ≡ Some b → a ≡ b
-some_equal a b None one other = absurd (cc one)
-some_equal a b (Some c) one other = cc (one, other)
 
 -- what the one state has under a name the other has too
 has : (x : Tree) (r s : RepositoryState) → StoresRepository x r → StoresRepository x s → r.commits ≡ s.commits → (name bytes : List ℕ) → r.contents name ≡ Some bytes → s.contents name ≡ Some bytes
@@ -53,17 +49,17 @@ commit_before x x1 r new h ready = record {
   contents = λ name bytes is. ap file_bytes (ready.kept name bytes is) ∙ h.contents name bytes is;
 }
 
-abbrev made : Tree → RepositoryState → ℕ → Commit → Tree
+abbrev pub made : Tree → RepositoryState → ℕ → Commit → Tree
 made x1 r mode troves = with_targets (commit_put (length r.commits + 1) mode troves ∷ []) x1
 
-new_held : (x1 : Tree) (r : RepositoryState) (mode : ℕ) (troves : Commit) → (troves ≡ [] → ⊥) → All IsTrove troves → All FitsTrove troves → HoldsCommit (made x1 r mode troves) (length r.commits + 1) troves
+pub new_held : (x1 : Tree) (r : RepositoryState) (mode : ℕ) (troves : Commit) → (troves ≡ [] → ⊥) → All IsTrove troves → All FitsTrove troves → HoldsCommit (made x1 r mode troves) (length r.commits + 1) troves
 new_held x1 r mode troves full are fits = record {
   bytes = commit_bytes troves;
   file = ap file_bytes (get_put_here x1 (commit_file (length r.commits + 1)) (node_of (commit_put (length r.commits + 1) mode troves).want));
   stream = record { full = full; troves_are = are; fits = fits; text = refl };
 }
 
-other_file : (x1 : Tree) (r : RepositoryState) (mode : ℕ) (troves : Commit) (k : ℕ) → length r.commits + 1 < 2 ^ 64 → k < 2 ^ 64 → (k ≡ length r.commits + 1 → ⊥)
+pub other_file : (x1 : Tree) (r : RepositoryState) (mode : ℕ) (troves : Commit) (k : ℕ) → length r.commits + 1 < 2 ^ 64 → k < 2 ^ 64 → (k ≡ length r.commits + 1 → ⊥)
     → get (made x1 r mode troves) (commit_file k) ≡ get x1 (commit_file k)
 other_file x1 r mode troves k fits small other =
     get_put_other x1 (commit_file (length r.commits + 1)) (node_of (commit_put (length r.commits + 1) mode troves).want) (commit_file k) (commit_differs k (length r.commits + 1) small fits other)

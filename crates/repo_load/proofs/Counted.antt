@@ -1,17 +1,12 @@
 -- How many troves each commit has, file by file.
-use Rattle.std.proofs.Common.{◌≡◌, ℕ, zero, suc, ◌+◌, ◌<◌, List, [], ◌∷◌, ◌++◌, length, map, None, refl, sym, ◌∙◌, ap, subst, arith, length-append}
-use Rattle.std.specs.FinMap.{get}
+use Rattle.std.proofs.Common.{◌≡◌, ℕ, zero, suc, ◌+◌, ◌<◌, List, [], ◌∷◌, ◌++◌, length, map, refl, sym, ◌∙◌, ap, subst, arith, length-append}
 use Rattle.journal_log.specs.tree-disk.Tree.{Tree}
-use Rattle.content_store.specs.Store.{file_bytes}
 use Rattle.repo_index.specs.Catalogue.{CatalogueParts}
 use Rattle.repo_load.specs.State.{Commit}
-use Rattle.repo_load.specs.Files.{commit_file, HoldsCatalogue, HoldsCommit, HoldsFirst}
-use Rattle.repo_load.specs.Holding.{CommitsDiffer, one_held, next_held}
-use Rattle.repo_load.specs.Loading.{HasCount, HoldsCounts}
+use Rattle.repo_load.specs.Files.{HoldsCatalogue, HoldsCommit, HoldsFirst}
+use Rattle.repo_load.proofs.Holding.{CommitsDiffer, one_held, next_held}
+use Rattle.repo_load.specs.Loading.{HasCount}
 use Rattle.repo_load.proofs.Resolved.{size_of}
-
-pub nothing_held : (tree : Tree) (number : ℕ) → get tree (commit_file number) ≡ None → (troves : Commit) → HoldsCommit tree number troves → ⊥
-nothing_held tree number none troves held = absurd (cc (held.file, ap file_bytes none))
 
 -- the last of a list
 record IsLast (commits : List Commit) : Type 0 where
@@ -34,10 +29,6 @@ first_front tree n (c ∷ a) b holds = (holds.0, first_front tree (n + 1) a b ho
 sizes_push : (a : List Commit) (c : Commit) → map size_of (a ++ c ∷ []) ≡ map size_of a ++ length c ∷ []
 sizes_push [] c = refl
 sizes_push (d ∷ a) c = ap (λ (l : List ℕ). length d ∷ l) (sizes_push a c)
-
-pub no_counts : (tree : Tree) (counts : List ℕ) → counts ≡ [] → (commits : List Commit) → HoldsFirst tree 1 commits → length commits ≡ 0 → counts ≡ map size_of commits
-no_counts tree counts none [] holds long = none
-no_counts tree counts none (c ∷ commits) holds long = absurd (cc long)
 
 -- one commit more
 pub one_counted : CommitsDiffer → (tree : Tree) (counts : List ℕ) (before number count : ℕ) → number ≡ before + 1
@@ -74,11 +65,3 @@ not_lacking tree catalogue before number holds few number_is lacks =
     let found = held_at_number tree 1 holds.commits before holds.holds.first (omega (arith, few, commits_are tree catalogue holds)) in
     let here : 1 + before ≡ number = omega (arith, number_is) in
     lacks found.0 (subst (λ (k : ℕ). HoldsCommit tree k found.0) here found.1)
-
-pub all_counted : (tree : Tree) (catalogue : CatalogueParts) (counts : List ℕ) (before : ℕ) → HoldsCatalogue tree catalogue → before ≡ catalogue.commits
-    → ((commits : List Commit) → HoldsFirst tree 1 commits → length commits ≡ before → counts ≡ map size_of commits) → HoldsCounts tree counts
-all_counted tree catalogue counts before holds is so_far = record {
-  commits = holds.commits;
-  holds = holds.holds;
-  counts_are = so_far holds.commits holds.holds.first (sym (is ∙ commits_are tree catalogue holds));
-}

@@ -1,35 +1,36 @@
 -- Names that count for what is stored, and names that are prepared for a commit.
-use Rattle.std.proofs.Common.{◌≡◌, ◌⊎◌, inl, inr, ⊎_elim, ℕ, ◌+◌, ◌*◌, ◌<◌, ◌≤◌, ◌^◌, Bool, true, false, ◌&&◌, ◌||◌, List, [], ◌∷◌, ◌++◌, length, get_or, drop, Some, IsTrue, refl, sym, ◌∙◌, ap, subst, arith, length-append}
+use Rattle.std.proofs.Common.{◌≡◌, ◌⊎◌, inl, inr, ⊎_elim, ℕ, ◌+◌, ◌<◌, ◌≤◌, ◌^◌, Bool, true, false, ◌||◌, List, [], ◌∷◌, ◌++◌, length, get_or, drop, Some, refl, sym, ◌∙◌, ap, subst, arith, length-append}
 use Rattle.std.specs.Fmt.{decimal}
-use Rattle.std.specs.Cmp.{first_so, second_so}
-use Rattle.std.specs.Int.{is_in_range}
+use Rattle.std.specs.Cmp.{second_so}
 use Rattle.std.specs.List.{list_all, list_any}
 use Rattle.std.specs.Str.{bytes_eq}
 use Rattle.std.specs.FinMap.{get}
 use Rattle.std.proofs.lemmas.List.Folds.{list_all-append}
 use Rattle.hex.specs.Hex.{encode_lower, lower_digits}
 use Rattle.hex.proofs.HexLemmas.{length-encode_with}
-use Rattle.repo_index.specs.cny-base.Below.{is_below, below_rest}
-use Rattle.repo_index.specs.cny-base.declared.limits.TheConstants.{COMMITS_LIMIT}
+use Rattle.repo_index.specs.cny-base.Below.{is_below}
+use Rattle.repo_index.proofs.cny-base.Below.{below_rest}
 use Rattle.repo_index.specs.file-stream.declared.record.FileRec.{FileRec}
 use Rattle.repo_index.specs.file-stream.declared.record.FileRec.TheVariants.{Dir, File, Link}
 use Rattle.repo_index.specs.file-stream.Record.{has_name_and_size}
-use Rattle.repo_index.specs.trove-parts.declared.files.FileAt.{FileAt}
 use Rattle.repo_index.specs.trove-stream.declared.parts.TroveParts.{TroveParts}
 use Rattle.journal_log.specs.tree-disk.Tree.{Name, Tree, same_name}
 use Rattle.journal_log.specs.tree-disk.Laws.{same_means}
 use Rattle.journal_log.specs.tree-disk.Clear.{is_within}
-use Rattle.journal_log.specs.tree-disk.ClearLaws.{or_cases}
+use Rattle.journal_log.proofs.tree-disk.ClearLaws.{or_cases}
 use Rattle.journal_log.specs.Own.{gate, is_own}
 use Rattle.content_store.specs.Store.{content_path, file_bytes, IsContentName}
 use Rattle.content_store.proofs.Paths.{same_content_path}
 use Rattle.repo_index.specs.Catalogue.{CatalogueParts, has_content, is_content, is_file_of, names_content}
-use Rattle.repo_load.specs.Counts.{Counts, IsCommitName, IsContentOfState, IsPreparedName, IsUnnamedContent}
+use Rattle.repo_load.specs.Counts.{Counts, IsCommitName, IsContentOfState, IsPreparedName}
 use Rattle.repo_load.specs.Files.{commit_file, contents_dir, repository_base, HoldsCommits, StoresRepository}
-use Rattle.repo_load.specs.Holding.{first_stays}
+use Rattle.repo_load.proofs.Holding.{first_stays}
 use Rattle.repo_load.specs.State.{catalogue_of, records_content, trove_records, Commit, IsRepository, RepositoryState, troves_of}
 use Rattle.repo_load.proofs.Digests.{digest_is_name}
-use Rattle.repo_load.proofs.FileNames.{commit_differs, decimal_low, is_low}
+use Rattle.repo_load.proofs.FileNames.{commit_differs, twice}
+use Rattle.journal_log.proofs.cny-base.FileNames.{is_low}
+use Rattle.journal_log.proofs.tree-disk.Names.{within_rest}
+use Rattle.journal_log.proofs.FileNames.{digits_low as decimal_low}
 
 -- ---- trees that are equal where it counts
 
@@ -49,10 +50,10 @@ counted_state x y r h same = record {
   contents = λ name bytes is. ap file_bytes (same (content_path contents_dir name) (inr (record { name = name; bytes = bytes; holds = is; is = refl }))) ∙ h.contents name bytes is;
 }
 
-commit_not_own : (n : ℕ) → is_own repository_base (commit_file n) ≡ false
+pub commit_not_own : (n : ℕ) → is_own repository_base (commit_file n) ≡ false
 commit_not_own n = refl
 
-content_not_own : (name : List ℕ) → is_own repository_base (content_path contents_dir name) ≡ false
+pub content_not_own : (name : List ℕ) → is_own repository_base (content_path contents_dir name) ≡ false
 content_not_own name = refl
 
 pub counted_not_own : (r : RepositoryState) (q : Name) → Counts r q → is_own repository_base q ≡ false
@@ -60,16 +61,6 @@ counted_not_own r q (inl is) = ap (is_own repository_base) is.is ∙ commit_not_
 counted_not_own r q (inr is) = ap (is_own repository_base) is.is ∙ content_not_own is.name
 
 -- ---- the byte behind the base's slash, and those around it
-
-within_rest : (p q : Name) → is_within p q ≡ true → (rest : Name) × (q ≡ p ++ rest)
-within_rest p q h = ⊎_elim
-    (λ same. ([], same_means q p same ∙ sym (nil p)))
-    (λ low. let r = below_rest p q low in (47 ∷ r.0, r.1))
-    (or_cases (same_name q p) (is_below p q) h)
-  where
-    nil : (l : Name) → l ++ [] ≡ l
-    nil [] = refl
-    nil (a ∷ l) = ap (λ m. a ∷ m) (nil l)
 
 -- what lies within a name below the base has its letter
 within_letter : (c : ℕ) (more q : Name) → is_within (repository_base ++ 47 ∷ c ∷ more) q ≡ true → get_or q 12 0 ≡ c
@@ -135,9 +126,6 @@ is_named r name bytes is holds = recorded_is_named name (length bytes) (troves_o
 pub is_name : (r : RepositoryState) (name bytes : List ℕ) → IsRepository r → r.contents name ≡ Some bytes → IsContentName name
 is_name r name bytes is holds = subst IsContentName (is.named name bytes holds).0 (digest_is_name bytes)
 
-twice : (n : ℕ) → n ≡ 20 → 2 * n ≡ 40
-twice n is = omega arith
-
 digits_long : (name : List ℕ) → IsContentName name → length (encode_lower name) ≡ 40
 digits_long name is = length-encode_with lower_digits name ∙ twice (length name) is.long
 
@@ -169,9 +157,6 @@ prepared_state r q is prepared (inl commit) =
 prepared_state r q is prepared (inr content) = prepared_content r q is prepared content
 
 -- ---- the commit flag
-
-gate_letter : get_or (gate repository_base) 12 0 ≡ 103
-gate_letter = refl
 
 pub prepared_flag : (c : CatalogueParts) → IsPreparedName c (gate repository_base) → ⊥
 prepared_flag c (inl base) = base_is_short 0 (gate repository_base) base refl

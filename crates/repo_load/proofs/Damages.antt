@@ -1,6 +1,5 @@
 -- A damaged file is the first one, and then the tree stores no repository.
 use Rattle.std.proofs.Common.{◌≡◌, inl, inr, ◌+◌, ◌≤◌, List, [], ◌∷◌, ◌++◌, length, All, refl, sym, ◌∙◌, ap, subst, arith, length-append}
-use Rattle.std.proofs.lemmas.List.Elements.{All-nil, All-cons, All-head, All-tail}
 use Rattle.std.specs.FinMap.{get}
 use Rattle.repo_index.specs.cny-base.declared.limits.TheConstants.{COMMITS_LIMIT}
 use Rattle.repo_index.specs.trove-stream.declared.parts.TroveParts.{TroveParts}
@@ -8,18 +7,11 @@ use Rattle.journal_log.specs.tree-disk.Tree.{Name, Tree}
 use Rattle.repo_load.specs.State.{Commit, troves_of, AreFollowing, AreCommits, HasRefs}
 use Rattle.repo_load.specs.Files.{commit_file, HoldsFirst, HoldsCommits}
 use Rattle.repo_load.specs.Damage.{IsBadCommit, HasMissingRef, IsDamagedCommit}
-use Rattle.repo_load.specs.Holding.{CommitsDiffer, Prefix, equal_lists, is_longer, is_shorter, prefix_of, next_held, one_list, held_stands}
-use Rattle.repo_load.specs.Following.{troves_append, following_at}
+use Rattle.repo_load.proofs.Holding.{CommitsDiffer, Prefix, equal_lists, is_longer, is_shorter, prefix_of, next_held, one_list, held_stands}
+use Rattle.repo_load.proofs.Following.{troves_append, following_at}
+use Rattle.journal_log.proofs.cny-base.Lists.{left_all, right_all}
 
 -- ---- lists
-
-left_all : {A : Type 0} (P : A → Type 0) (xs ys : List A) → All P (xs ++ ys) → All P xs
-left_all P [] ys all = All-nil P
-left_all P (x ∷ xs) ys all = All-cons P x xs (All-head P x (xs ++ ys) all) (left_all P xs ys (All-tail P x (xs ++ ys) all))
-
-right_all : {A : Type 0} (P : A → Type 0) (xs ys : List A) → All P (xs ++ ys) → All P ys
-right_all P [] ys all = all
-right_all P (x ∷ xs) ys all = right_all P xs ys (All-tail P x (xs ++ ys) all)
 
 -- the troves of one commit among those of all
 pub of_commit : (P : TroveParts → Type 0) (a : List Commit) (c : Commit) (b : List Commit) → All P (troves_of (a ++ c ∷ b)) → All P c

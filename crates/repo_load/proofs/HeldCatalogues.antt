@@ -7,18 +7,19 @@ use Rattle.repo_index.specs.cny-base.declared.limits.TheConstants.{COMMITS_LIMIT
 use Rattle.repo_index.specs.trove-parts.declared.id.TroveId.{TroveId}
 use Rattle.repo_index.specs.trove-stream.declared.parts.TroveParts.{TroveParts}
 use Rattle.journal_log.specs.tree-disk.Tree.{Name, Tree}
-use Rattle.journal_log.specs.tree-disk.Laws.{get_put_here, get_put_other}
-use Rattle.journal_log.specs.Own.{is_own, StoresSame}
+use Rattle.journal_log.proofs.tree-disk.Laws.{get_put_here, get_put_other}
+use Rattle.journal_log.specs.Own.{StoresSame}
 use Rattle.journal_log.specs.Targets.{with_targets, node_of}
 use Rattle.content_store.specs.Store.{content_path, file_bytes}
 use Rattle.repo_index.specs.Catalogue.{has_id, found, CatalogueParts}
 use Rattle.repo_load.specs.State.{AreCommits, Commit, catalogue_of, troves_of, HasRefs, IsCommit, RepositoryState}
 use Rattle.repo_load.specs.Files.{commit_bytes, commit_file, contents_dir, repository_base, FitsTrove, HoldsCatalogue, HoldsCommit, HoldsCommits, HoldsFirst, StoresRepository}
 use Rattle.repo_load.specs.Damage.{HasMissingRef, IsBadCommit, IsDamagedCommit}
-use Rattle.repo_load.specs.Following.{following_push, troves_push}
-use Rattle.repo_load.specs.Holding.{CommitsDiffer, first_push, first_stays, held_stays, one_list}
+use Rattle.repo_load.proofs.Following.{following_push, troves_push}
+use Rattle.repo_load.proofs.Holding.{CommitsDiffer, first_push, first_stays, held_stays, one_list}
 use Rattle.repo_load.specs.Steps.{catalogue_with, commit_put, KeepsCommits, MayFollow}
 use Rattle.repo_load.proofs.FileNames.{commit_differs}
+use Rattle.repo_load.proofs.CountedNames.{commit_not_own, content_not_own}
 
 -- ---- one catalogue
 
@@ -63,7 +64,7 @@ rules_after commits troves rules may =
           (All-weaker (HasRefs (troves_of commits)) (HasRefs (troves_of commits ++ troves)) (refs_stay (troves_of commits) troves) (troves_of commits) rules.refs) may.refs);
     }
 
-abbrev made : Tree → ℕ → ℕ → Commit → Tree
+abbrev pub made : Tree → ℕ → ℕ → Commit → Tree
 made x1 n mode troves = with_targets (commit_put n mode troves ∷ []) x1
 
 new_held : (x1 : Tree) (n mode : ℕ) (troves : Commit) (before : List TroveParts) → IsCommit before troves → All FitsTrove troves → HoldsCommit (made x1 n mode troves) n troves
@@ -101,12 +102,6 @@ held_after x x1 c troves mode h kept may fits =
     (after_of x x1 h.commits troves mode h.holds h.rules (subst (λ (d : CatalogueParts). KeepsCommits d.commits x x1) h.is kept) (subst (λ (d : CatalogueParts). MayFollow d troves) h.is may) fits)
 
 -- ---- trees that store the same for the journal
-
-commit_not_own : (n : ℕ) → is_own repository_base (commit_file n) ≡ false
-commit_not_own n = refl
-
-content_not_own : (name : List ℕ) → is_own repository_base (content_path contents_dir name) ≡ false
-content_not_own name = refl
 
 module _ (x y : Tree) (same : StoresSame repository_base x y) where
   same_commit : (n : ℕ) → get y (commit_file n) ≡ get x (commit_file n)

@@ -1,10 +1,11 @@
 -- A commit joined trove by trove.
-use Rattle.std.proofs.Common.{◌≡◌, ◌≢◌, List, [], ◌∷◌, ◌++◌, length, All, None, refl, sym, ◌∙◌, ap, subst, append_assoc, append-nil}
-use Rattle.std.proofs.lemmas.List.Elements.{All-nil, All-head, All-tail, All-push}
+use Rattle.std.proofs.Common.{◌≡◌, List, [], ◌∷◌, ◌++◌, All, None, sym, ◌∙◌, ap, subst, append_assoc, append-nil}
+use Rattle.std.proofs.lemmas.List.Elements.{All-push}
 use Rattle.repo_index.specs.trove-stream.declared.parts.TroveParts.{TroveParts}
-use Rattle.repo_index.specs.trove-stream.Trove.{IsTrove}
 use Rattle.repo_index.specs.Catalogue.{CatalogueParts, found, with_trove}
-use Rattle.repo_load.specs.State.{Commit, IsAllowed, AreNew, IsCommit}
+use Rattle.repo_load.specs.State.{Commit, AreNew, IsCommit}
+use Rattle.repo_index.specs.trove-stream.Forbidden.{IsAllowed}
+use Rattle.journal_log.proofs.cny-base.Lists.{all_at}
 
 -- these of the troves are added, and those are left
 pub record AreJoinedTo (old : CatalogueParts) (troves : Commit) (now : CatalogueParts) (left : List TroveParts) : Type 0 where
@@ -14,20 +15,7 @@ pub record AreJoinedTo (old : CatalogueParts) (troves : Commit) (now : Catalogue
   pub allowed : All IsAllowed done
   pub new_ids : AreNew old.troves done
 
-pub none_joined : (old : CatalogueParts) (troves left : List TroveParts) → left ≡ troves → AreJoinedTo old troves old left
-none_joined old troves left same = record {
-  done = [];
-  is = sym same;
-  now_is = ap (λ (l : List TroveParts). record { commits = old.commits; troves = l }) (sym (append-nil old.troves));
-  allowed = All-nil IsAllowed;
-  new_ids = tt;
-}
-
-all_at : {A : Type 0} (P : A → Type 0) (xs : List A) (x : A) (ys : List A) → All P (xs ++ x ∷ ys) → P x
-all_at P [] x ys all = All-head P x ys all
-all_at P (y ∷ xs) x ys all = all_at P xs x ys (All-tail P y (xs ++ x ∷ ys) all)
-
-new_push : (before done : List TroveParts) (t : TroveParts) → AreNew before done → found t.id (before ++ done) ≡ None → AreNew before (done ++ t ∷ [])
+pub new_push : (before done : List TroveParts) (t : TroveParts) → AreNew before done → found t.id (before ++ done) ≡ None → AreNew before (done ++ t ∷ [])
 new_push before [] t all is = (subst (λ (l : List TroveParts). found t.id l ≡ None) (append-nil before) is, tt)
 new_push before (u ∷ done) t all is =
     (all.0, new_push (before ++ u ∷ []) done t all.1 (subst (λ (l : List TroveParts). found t.id l ≡ None) (sym (append_assoc before (u ∷ []) done)) is))
@@ -57,26 +45,3 @@ not_joined old troves now left t rest so_far next never commit =
       subst (λ (c : CatalogueParts). found t.id c.troves ≡ None) (sym so_far.now_is)
           (new_at old.troves so_far.done t rest (subst (AreNew old.troves) all commit.new_ids)),
     )
-
-no_left : (left : List TroveParts) → length left ≡ 0 → left ≡ []
-no_left [] none = refl
-no_left (t ∷ left) none = absurd (cc none)
-
-all_done : (old : CatalogueParts) (troves : Commit) (now : CatalogueParts) (left : List TroveParts) (so_far : AreJoinedTo old troves now left) → left ≡ [] → so_far.done ≡ troves
-all_done old troves now left so_far none = sym (so_far.is ∙ ap (λ (l : List TroveParts). so_far.done ++ l) none ∙ append-nil so_far.done)
-
-pub is_commit : (old : CatalogueParts) (troves : Commit) (now : CatalogueParts) (left : List TroveParts) → AreJoinedTo old troves now left → length left ≡ 0
-    → troves ≢ [] → All IsTrove troves → IsCommit old.troves troves
-is_commit old troves now left so_far none full troves_are =
-    let whole = all_done old troves now left so_far (no_left left none) in
-    record {
-      full = full;
-      troves_are = troves_are;
-      allowed = subst (All IsAllowed) whole so_far.allowed;
-      new_ids = subst (AreNew old.troves) whole so_far.new_ids;
-    }
-
-pub is_joined : (old : CatalogueParts) (troves : Commit) (now : CatalogueParts) (left : List TroveParts) → AreJoinedTo old troves now left → length left ≡ 0
-    → now ≡ record { commits = old.commits; troves = old.troves ++ troves }
-is_joined old troves now left so_far none =
-    so_far.now_is ∙ ap (λ (l : List TroveParts). record { commits = old.commits; troves = old.troves ++ l }) (all_done old troves now left so_far (no_left left none))

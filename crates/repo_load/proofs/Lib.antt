@@ -6,7 +6,6 @@ pub mod Committing
 pub mod HeldCatalogues
 pub mod Digests
 pub mod CountedNames
-mod Handing
 mod Written
 pub mod Joined
 pub mod Resolved
@@ -14,4 +13,10 @@ pub mod CommitsRead
 pub mod Counted
 pub mod Stored
 pub mod Sourced
+pub mod ContentsLaws
+pub mod Following
+pub mod Holding
+pub mod LooksLaws
 pub use Rattle.content_store.proofs as content-store
+pub use Rattle.repo_index.proofs.cny-base
+pub use Rattle.journal_log.proofs.tree-disk

@@ -1,9 +1,9 @@
 -- References of the troves of one commit after another.
 use Rattle.std.proofs.Common.{◌≡◌, ℕ, ◌+◌, ◌-◌, List, [], ◌∷◌, ◌++◌, length, map, min, take, drop, All, refl, sym, ◌∙◌, ap, subst, arith, append_assoc, append-nil, length-append}
-use Rattle.std.proofs.lemmas.List.Elements.{All-nil, All-append}
+use Rattle.std.proofs.lemmas.List.Elements.{All-append}
 use Rattle.repo_index.specs.trove-stream.declared.parts.TroveParts.{TroveParts}
 use Rattle.repo_load.specs.State.{Commit, troves_of, HasRefs}
-use Rattle.repo_load.specs.Following.{troves_push}
+use Rattle.repo_load.proofs.Following.{troves_push}
 use Rattle.repo_load.specs.Loading.{IsFirstUnresolved}
 
 abbrev pub size_of : Commit → ℕ
@@ -17,16 +17,6 @@ pub record AreResolvedTo (commits : List Commit) (left : List ℕ) (rest : List 
   pub left_is : left ≡ map size_of back
   pub rest_is : rest ≡ troves_of back
   pub resolved : All (HasRefs (troves_of commits)) (troves_of front)
-
-pub none_resolved : (commits : List Commit) (left : List ℕ) (rest : List TroveParts) → left ≡ map size_of commits → rest ≡ troves_of commits → AreResolvedTo commits left rest
-none_resolved commits left rest counts troves = record {
-  front = [];
-  back = commits;
-  is = refl;
-  left_is = counts;
-  rest_is = troves;
-  resolved = All-nil (HasRefs (troves_of commits));
-}
 
 -- the next commit of those that are left
 record IsNext (back : List Commit) (count : ℕ) (behind : List ℕ) (rest : List TroveParts) : Type 0 where

@@ -7,7 +7,7 @@ use Rattle.content_store.specs.Contents.{StopsFor}
 use Rattle.content_store.specs.declared.contents.FarStop.{FarStop}
 use Rattle.repo_load.specs.declared.repo_contents.RepoContents.{RepoContents}
 use Rattle.repo_load.specs.Contents.{FindsContent, IsDamagedContent}
-use Rattle.repo_load.specs.ContentsLaws.{damaged_lacks}
+use Rattle.repo_load.proofs.ContentsLaws.{damaged_lacks}
 use Rattle.repo_load.specs.Looks.{Looks}
 use Rattle.repo_load.specs.RepoContents.{repo_contents, IsFarStop}
 

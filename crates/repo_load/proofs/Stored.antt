@@ -1,16 +1,11 @@
 -- What a tree that stores a state gives.
-use Rattle.std.proofs.Common.{◌≡◌, ℕ, List, ◌∙◌, ap}
+use Rattle.std.proofs.Common.{ℕ, List}
 use Rattle.journal_log.specs.tree-disk.Tree.{Name, Tree}
-use Rattle.repo_index.specs.Catalogue.{CatalogueParts}
-use Rattle.repo_load.specs.State.{Commit, catalogue_of, troves_of, AreCommits, RepositoryState}
-use Rattle.repo_load.specs.Files.{HoldsCatalogue, HoldsCommits, StoresRepository}
+use Rattle.repo_load.specs.State.{Commit, troves_of, AreCommits, RepositoryState}
+use Rattle.repo_load.specs.Files.{HoldsCommits, StoresRepository}
 use Rattle.repo_load.specs.Damage.{IsDamagedCommit}
 use Rattle.repo_load.specs.Contents.{IsDamagedContent}
-use Rattle.repo_load.specs.ContentsLaws.{named_is_recorded}
-
-pub same_catalogue : ((x : Tree) (one other : List Commit) → HoldsCommits x one → HoldsCommits x other → one ≡ other)
-    → (x : Tree) (r : RepositoryState) (c : CatalogueParts) → StoresRepository x r → HoldsCatalogue x c → c ≡ catalogue_of r.commits
-same_catalogue one x r c stores holds = holds.is ∙ ap catalogue_of (one x holds.commits r.commits holds.holds stores.commits)
+use Rattle.repo_load.proofs.ContentsLaws.{named_is_recorded}
 
 pub no_damaged_commit : ((x : Tree) (path : Name) (commits : List Commit) → IsDamagedCommit x path → HoldsCommits x commits → AreCommits commits → ⊥)
     → (x : Tree) (r : RepositoryState) (path : Name) → StoresRepository x r → IsDamagedCommit x path → ⊥

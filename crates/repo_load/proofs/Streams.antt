@@ -3,19 +3,15 @@ use Rattle.std.proofs.Common.{◌≡◌, ℕ, List, [], ◌∷◌, ◌++◌, All
 use Rattle.std.proofs.lemmas.List.{append_cancel_left}
 use Rattle.std.proofs.lemmas.List.Elements.{All-head, All-tail}
 use Rattle.cny_stream.specs.Item.{item_bytes}
-use Rattle.cny_stream.specs.ItemLaws.{same_item}
-use Rattle.repo_index.specs.file-stream.declared.encoding.Encoding.{Encoding}
+use Rattle.cny_stream.proofs.ItemLaws.{same_item}
 use Rattle.repo_index.specs.file-stream.declared.encoding.Encoding.TheVariants.{Compact}
 use Rattle.repo_index.specs.trove-parts.Items.{items_bytes}
 use Rattle.repo_index.specs.trove-stream.declared.parts.TroveParts.{TroveParts}
-use Rattle.repo_index.specs.trove-stream.Stream.{stream_bytes, trove_bytes}
+use Rattle.repo_index.specs.trove-stream.Stream.{trove_bytes}
 use Rattle.repo_index.specs.trove-stream.Trove.{IsTrove}
 use Rattle.repo_load.specs.State.{Commit}
 use Rattle.repo_load.specs.Files.{magic, end_bytes, FitsTrove, IsCommitStream}
-
--- no bytes are the streams of two troves
-abbrev pub TrovesDiffer : Type 0
-TrovesDiffer = (one other : Encoding) (a b : TroveParts) → IsTrove a → IsTrove b → stream_bytes one a ≡ stream_bytes other b → a ≡ b
+use Rattle.repo_index.proofs.trove-stream.Distinct.{TrovesDiffer}
 
 -- the items of troves and the end
 abbrev pub text_of : Commit → List ℕ

@@ -1,13 +1,10 @@
 pub mod State
 pub mod Files
-pub mod Holding
-pub mod Following
 pub mod Reading
 pub mod Damage
 pub mod Steps
 pub mod Counts
 pub mod Looks
-pub mod LooksLaws
 pub mod Seen
 pub mod Loading
 pub mod Contents

@@ -5,11 +5,11 @@ use Rattle.repo_index.specs.cny-base.declared.limits.TheConstants.{COMMITS_LIMIT
 use Rattle.repo_index.specs.trove-parts.declared.id.TroveId.{TroveId}
 use Rattle.repo_index.specs.trove-stream.declared.parts.TroveParts.{TroveParts}
 use Rattle.repo_index.specs.trove-stream.Trove.{IsTrove}
-use Rattle.repo_index.specs.trove-stream.Forbidden.{first_forbidden}
 use Rattle.content_store.specs.Contents.{ContentMap}
 use Rattle.repo_index.specs.Catalogue.{CatalogueParts, found}
 -- what troves record of contents
 pub use Rattle.repo_index.specs.Catalogue.{trove_records, records_content}
+pub use Rattle.repo_index.specs.trove-stream.Forbidden.{IsAllowed}
 
 -- a commit: its troves in their order
 abbrev pub Commit : Type 0
@@ -20,10 +20,6 @@ abbrev pub troves_of : List Commit → List TroveParts
 troves_of commits = flat_map (λ (troves : Commit). troves) commits
 
 -- ---- the rules of commits
-
--- the trove records no path that no trove may record
-abbrev pub IsAllowed : TroveParts → Type 0
-IsAllowed t = first_forbidden t.files ≡ None
 
 -- the id of each trove is none of those of the troves before it
 abbrev pub AreNew : List TroveParts → List TroveParts → Type 0

@@ -1,7 +1,6 @@
 //! How many troves each commit has.
-ghost use Rattle.std.specs.Prelude.{◌≡◌, ◌+◌, ◌≤◌, IfOk, IsTrue, length};
+ghost use Rattle.std.specs.Prelude.{◌≡◌, ◌+◌, IfOk, IsTrue, length};
 ghost use Rattle.repo_load.specs.Files.{HoldsCatalogue};
-ghost use Rattle.repo_load.specs.State.{Commit};
 ghost use Rattle.repo_load.specs.Loading.{HasCount, HoldsCounts, LacksCount};
 ghost use Rattle.repo_load.specs.Looks.{no_damage, Looks};
 

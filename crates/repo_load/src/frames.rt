@@ -1,5 +1,5 @@
 //! Which names a stored state depends on.
-ghost use Rattle.std.specs.Prelude.{◌≡◌, ◌+◌, ◌≤◌, ◌^◌, ◌<◌, ℕ, List, false, length};
+ghost use Rattle.std.specs.Prelude.{◌≡◌, ◌+◌, ◌^◌, ◌<◌, List, false, length};
 ghost use Rattle.std.specs.FinMap.{get};
 ghost use Rattle.journal_log.specs.tree-disk.Tree.{Name, Tree};
 ghost use Rattle.journal_log.specs.Own.{gate, is_own};

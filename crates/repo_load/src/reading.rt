@@ -1,14 +1,14 @@
 //! The file of a commit.
-ghost use Rattle.std.specs.Prelude.{◌≡◌, IfErr, IfOk, IfSome, Ok};
+ghost use Rattle.std.specs.Prelude.{IfErr, IfOk, IfSome, Ok};
 ghost use Rattle.std.specs.FinMap.{get};
 ghost use Rattle.journal_log.specs.tree-disk.Steps.{IsDiskStop, Tests};
-ghost use Rattle.content_store.specs.Store.{file_bytes};
 ghost use Rattle.repo_load.specs.Loading.{HasStream, LacksCommit, ReadsCommit};
 ghost use Rattle.repo_load.specs.Looks.{Looks};
 ghost use Rattle.repo_load.specs.Seen.{seen_as};
 
 use crate::commit_reading::{Troves, decode_commit};
 use crate::names::commit_path;
+use content_store::file_at;
 use journal_log::tree_disk::{TreeDisk, steps};
 use repo_index::cny_base::{Bytes, Path, Stop, TextFault};
 use std::alloc::Global;
@@ -20,20 +20,6 @@ pub(crate) enum Seen {
     File(Bytes),
     /// A directory or a link.
     Other,
-}
-
-// The bytes of the file at a path, where one stands.
-fn file_at<D: TreeDisk>(alloc: Global, disk: &mut D, path: &Path) -> Result<Option<Bytes>, Stop>
-    ensures tests { Tests D.disk (λ found. found)
-        (λ tree. Ok (file_bytes (get tree path.now)))
-        disk.old disk.new result }
-    ensures stops { IfErr result IsDiskStop }
-{
-    let look = steps::look(alloc, disk, path)?;
-    match look.size() {
-        Some(_) => steps::read_whole(alloc, disk, path, u64::MAX),
-        None => Ok(None),
-    }
 }
 
 // What stands at a path.

@@ -1,9 +1,8 @@
 //! A repository as a source of contents.
 ghost use Rattle.std.specs.Prelude.{◌≡◌, IsTrue};
-ghost use Rattle.content_store.specs.Contents.{ContentMap};
 ghost use Rattle.repo_load.specs.Files.{HoldsCatalogue, StoresRepository};
 ghost use Rattle.repo_load.specs.State.{RepositoryState};
-ghost use Rattle.repo_load.specs.RepoContents.{repo_contents, repo_source, HoldsContents, IsFarStop, IsLookStop};
+ghost use Rattle.repo_load.specs.RepoContents.{repo_contents, repo_source, IsFarStop, IsLookStop};
 
 use crate::contents::content;
 use crate::laws::stored_state;

@@ -1,11 +1,9 @@
 //! Laws of repositories.
-ghost use Rattle.std.specs.Prelude.{◌≡◌, ◌+◌, ◌≤◌, ◌++◌, ◌∷◌, [], ℕ, List, All, length};
+ghost use Rattle.std.specs.Prelude.{◌≡◌, ◌+◌, ◌++◌, ◌∷◌, [], ℕ, List, All, length};
 ghost use Rattle.journal_log.specs.tree-disk.Tree.{Name, Tree};
 ghost use Rattle.journal_log.specs.Targets.{with_targets};
-ghost use Rattle.repo_index.specs.cny-base.declared.limits.TheConstants.{COMMITS_LIMIT};
-ghost use Rattle.repo_index.specs.Catalogue.{CatalogueParts};
 ghost use Rattle.repo_load.specs.State.{Commit, AreCommits, RepositoryState, IsRepository};
-ghost use Rattle.repo_load.specs.Files.{FitsTrove, HoldsCatalogue, HoldsCommits, IsCommitStream, StoresRepository};
+ghost use Rattle.repo_load.specs.Files.{FitsTrove, HoldsCommits, IsCommitStream, StoresRepository};
 ghost use Rattle.repo_load.specs.Damage.{IsDamagedCommit};
 ghost use Rattle.repo_load.specs.Steps.{commit_put, IsCommitReady};
 

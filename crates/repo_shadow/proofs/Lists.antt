@@ -1,46 +1,12 @@
 -- The elements of lists: of those that a function makes, and those that a search finds.
-use Rattle.std.proofs.Common.{◌≡◌, ℕ, zero, suc, ◌<◌, ◌⊎◌, ⊎_elim, inl, inr, Bool, true, false, cond, List, [], ◌∷◌, ◌++◌, length, get_or, map, find, is_some, Contains, All, Option, Some, None, refl, sym, ap, subst, ◌∙◌, true≢false, arith}
+use Rattle.std.proofs.Common.{◌≡◌, ◌⊎◌, ⊎_elim, inl, inr, Bool, true, false, cond, List, [], ◌∷◌, map, find, is_some, Contains, Option, Some, None, refl, sym, ap, subst, ◌∙◌, true≢false}
 use Rattle.std.specs.Option.{option_map}
-use Rattle.std.proofs.lemmas.List.Elements.{Contains-get_or}
 use Rattle.std.proofs.lemmas.Option.{none-some, same_Some}
+use Rattle.cny_version.proofs.cny-base.Lists.{contains_cases, contains_first, contains_rest, nothing_in}
 
 -- ---- elements
 
-nothing_in : {A : Type 0} (x : A) → Contains [] x → ⊥
-nothing_in x h = let within = h.1 in omega (arith, within)
-
-pub contains_first : {A : Type 0} (x : A) (xs : List A) → Contains (x ∷ xs) x
-contains_first x xs = (0, omega arith, refl)
-
-pub contains_rest : {A : Type 0} (x y : A) (xs : List A) → Contains xs y → Contains (x ∷ xs) y
-contains_rest x y xs h = (suc h.0, omega (arith, h.1), h.2)
-
-pub contains_cases : {A : Type 0} (x y : A) (xs : List A) → Contains (x ∷ xs) y → (x ≡ y) ⊎ Contains xs y
-contains_cases {A} x y xs h = at h.0 h.1 h.2
-  where
-    at : (k : ℕ) → k < length (x ∷ xs) → get_or (x ∷ xs) k y ≡ y → (x ≡ y) ⊎ Contains xs y
-    at zero within is = inl is
-    at (suc k) within is = inr (k, omega (arith, within), is)
-
-pub all_from : {A : Type 0} (P : A → Type 0) (xs : List A) → ((x : A) → Contains xs x → P x) → All P xs
-all_from P xs each = λ k d within. each (get_or xs k d) (Contains-get_or xs k d within)
-
 -- ---- lists that a function makes
-
-module _ {A B : Type 0} (f : A → B) where
-  pub contains_map : (xs : List A) (x : A) → Contains xs x → Contains (map f xs) (f x)
-  contains_map [] x h = absurd (nothing_in x h)
-  contains_map (y ∷ xs) x h = ⊎_elim
-      (λ same. subst (λ (z : A). Contains (f y ∷ map f xs) (f z)) same (contains_first (f y) (map f xs)))
-      (λ later. contains_rest (f y) (f x) (map f xs) (contains_map xs x later))
-      (contains_cases y x xs h)
-
-  pub from_map : (xs : List A) (y : B) → Contains (map f xs) y → (x : A) × Contains xs x × (f x ≡ y)
-  from_map [] y h = absurd (nothing_in y h)
-  from_map (x ∷ xs) y h = ⊎_elim
-      (λ same. (x, contains_first x xs, same))
-      (λ later. (let rest : (z : A) × Contains xs z × (f z ≡ y) = from_map xs y later in (rest.0, contains_rest x rest.0 xs rest.1, rest.2)))
-      (contains_cases (f x) y (map f xs) h)
 
 pub map_same : {A B : Type 0} (f g : A → B) (xs : List A) → ((x : A) → Contains xs x → f x ≡ g x) → map f xs ≡ map g xs
 map_same f g [] same = refl
@@ -83,10 +49,6 @@ module _ {A : Type 0} (p : A → Bool) where
       by None none = absurd (true≢false (sym passes ∙ find_none xs none x among))
       by (Some y) some = refl
 
-pub not_some : {A : Type 0} (o : Option A) → is_some o ≡ false → o ≡ None
-not_some None none = refl
-not_some (Some x) some = absurd (true≢false some)
-
 pub is_some_of : {A : Type 0} (o : Option A) → is_some o ≡ true → (x : A) × (o ≡ Some x)
 is_some_of None none = absurd (true≢false (sym none))
 is_some_of (Some x) some = (x, refl)
@@ -94,7 +56,3 @@ is_some_of (Some x) some = (x, refl)
 pub mapped_none : {A B : Type 0} (f : A → B) (o : Option A) → option_map f o ≡ None → o ≡ None
 mapped_none f None none = refl
 mapped_none f (Some x) some = absurd (none-some (f x) (sym some))
-
-pub map-push : {A B : Type 0} (f : A → B) (xs : List A) (x : A) → map f (xs ++ x ∷ []) ≡ map f xs ++ f x ∷ []
-map-push f [] x = refl
-map-push {A} {B} f (y ∷ xs) x = ap (λ (l : List B). f y ∷ l) (map-push f xs x)

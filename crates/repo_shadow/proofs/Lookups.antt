@@ -1,8 +1,8 @@
 -- Ids of the troves of a list, as a look-up finds them.
-use Rattle.std.proofs.Common.{◌≡◌, ℕ, true, List, get_or, is_some, slice_get, Contains, All, Option, Some, None, sym, ap, ◌∙◌, true≢false}
+use Rattle.std.proofs.Common.{◌≡◌, ℕ, true, List, is_some, slice_get, Contains, All, Option, Some, None, sym, ap, ◌∙◌, true≢false}
 use Rattle.std.specs.Prelude.{IfSome, IsSome, IsTrue}
 use Rattle.std.proofs.lemmas.List.Elements.{All-contains}
-use Rattle.std.proofs.lemmas.Option.{slice_get-get_or, slice_get_within, same_Some}
+use Rattle.std.proofs.lemmas.Option.{slice_get-get_or}
 use Rattle.repo_index.specs.trove-parts.declared.id.TroveId.{TroveId}
 use Rattle.repo_index.specs.trove-parts.Id.{IsTroveId}
 use Rattle.repo_index.specs.trove-parts.Order.{id_eq}
@@ -11,15 +11,11 @@ use Rattle.repo_index.specs.trove-stream.Trove.{IsTrove}
 use Rattle.repo_index.specs.Catalogue.{has_id, found}
 use Rattle.repo_index.specs.Places.{IsPlaceOf}
 use Rattle.repo_shadow.specs.Within.{HasId, RefersWithin, AllReferWithin, AllRefsAreFound}
-use Rattle.repo_shadow.proofs.Lists.{all_from, find_some, is_some_of}
+use Rattle.repo_shadow.proofs.Lists.{find_some, is_some_of}
+use Rattle.cny_version.proofs.cny-base.Lists.{all_from, contains_at}
 
 place_in : {A : Type 0} (xs : List A) (x : A) → Contains xs x → (i : ℕ) × (slice_get xs i ≡ Some x)
 place_in {A} xs x among = (among.0, slice_get-get_or xs among.0 x among.1 ∙ ap (λ (y : A). Some y) among.2)
-
-contains_at : {A : Type 0} (xs : List A) (i : ℕ) (x : A) → slice_get xs i ≡ Some x → Contains xs x
-contains_at {A} xs i x at =
-    let within = slice_get_within xs i x at in
-    (i, within, same_Some (get_or xs i x) x (sym (slice_get-get_or xs i x within) ∙ at))
 
 -- a place is found exactly where a trove has the id
 pub from_place : (troves : List TroveParts) (id : TroveId) (place : Option ℕ) → IfSome place (IsPlaceOf troves id) → is_some place ≡ true → HasId troves id

@@ -13,13 +13,15 @@ use Rattle.repo_index.specs.trove-parts.declared.id.TroveId.{TroveId}
 use Rattle.repo_index.specs.trove-parts.Order.{id_eq, id_equiv}
 use Rattle.repo_index.specs.trove-stream.declared.parts.TroveParts.{TroveParts}
 use Rattle.repo_index.specs.Catalogue.{has_id, found}
-use Rattle.trove_spec.specs.Expansion.{IsClosedIn, HasRisingNames, by_name_cmp}
+use Rattle.trove_spec.specs.Expansion.{IsClosedIn}
 use Rattle.repo_shadow.specs.declared.way.Way.{Way}
 use Rattle.repo_shadow.specs.Moved.{moved_id, moved_ref, moved_trove, moved_troves, moved_ids, is_too_long, too_large_refusal, too_large, exists_refusal, is_taken, taken}
 use Rattle.repo_shadow.specs.Steps.{Fits, CanMove, wholly_moved}
 use Rattle.repo_shadow.specs.Within.{HasId, RefersWithin, AllReferWithin}
-use Rattle.repo_shadow.proofs.Lists.{contains_cases, all_from, contains_map, from_map, map_same, find_none, is_found, not_some, mapped_none}
+use Rattle.repo_shadow.proofs.Lists.{map_same, find_none, is_found, mapped_none}
 use Rattle.repo_shadow.proofs.Versions.{last_moved}
+use Rattle.cny_version.proofs.cny-base.Lists.{all_from, contains_cases, contains_map, from_map, not_some}
+use Rattle.repo_index.specs.trove-stream.NameOrder.{by_name_cmp, HasRisingNames}
 
 -- ---- names that strictly rise
 
@@ -77,7 +79,7 @@ module _ (troves : List TroveParts) (moving : List TroveParts) (within : AllRefe
 
     -- ---- what they become
 
-    moves : (id : TroveId) → HasId moving id → moved_ref way label moving id ≡ moved_id way label id
+    pub moves : (id : TroveId) → HasId moving id → moved_ref way label moving id ≡ moved_id way label id
     moves id to =
         ap (λ (b : Bool). cond b (moved_id way label id) id)
         (is_found (has_id id) moving to.trove to.there (ap (λ (i : TroveId). id_eq i id) to.id_is ∙ id_equiv.refl id))

@@ -1,9 +1,7 @@
 -- Why troves aren't moved, one after the other.
-use Rattle.std.proofs.Common.{◌≡◌, Bool, true, false, cond, List, [], ◌∷◌, find, Option, Some, None, Result, inl, inr, refl, sym, ap, subst, ◌∙◌}
+use Rattle.std.proofs.Common.{◌≡◌, Bool, true, false, cond, List, [], ◌∷◌, find, Option, Some, None, inl, inr, refl, sym, ap, ◌∙◌}
 use Rattle.std.specs.Option.{option_map}
-use Rattle.std.specs.Result.{IfErr, IsErrAnd}
 use Rattle.std.proofs.lemmas.Option.{none-some}
-use Rattle.std.proofs.lemmas.Result.{err_from_is_err_and}
 use Rattle.repo_index.specs.cny-base.declared.refusal.Fault.{Fault}
 use Rattle.repo_index.specs.cny-base.declared.refusal.Fault.TheVariants.{Refused, Memory}
 use Rattle.repo_index.specs.cny-base.declared.refusal.Refusal.{Refusal}
@@ -14,13 +12,8 @@ use Rattle.trove_spec.specs.Expansion.{IsExpansion, IsUnexpanded, first_of_same_
 use Rattle.trove_spec.specs.Resolve.{or_else}
 use Rattle.repo_shadow.specs.declared.way.Way.{Way}
 use Rattle.repo_shadow.specs.Moved.{moved_version, moved_id, moved_ids, same_label, is_too_long, too_large_refusal, too_large, exists_refusal, is_taken, taken, first_refusal, IsUnmoved}
-use Rattle.repo_shadow.specs.Steps.{IsRefusalOrMemory, IsTooLongOrMemory, Fits}
-
--- a fault that is handed on
-pub handed_on : {T : Type 0} (P : Fault → Type 0) (r : Result T Fault) (fault : Fault) → IsErrAnd r (λ y. y ≡ fault) → P fault → IfErr r P
-handed_on {T} P r fault handed is =
-    let same = err_from_is_err_and r handed in
-    subst (λ (other : Result T Fault). IfErr other P) (sym same.1) (subst P (sym same.2) is)
+use Rattle.repo_shadow.specs.Steps.{IsTooLongOrMemory, Fits}
+use Rattle.cny_version.specs.cny-base.Refusals.{IsRefusalOrMemory}
 
 first_none : {A : Type 0} (o p : Option A) → or_else o p ≡ None → o ≡ None
 first_none None p none = refl

@@ -1,12 +1,9 @@
 -- Troves of which the id and all references are moved.
-use Rattle.std.proofs.Common.{◌≡◌, ℕ, suc, ◌≤◌, ◌==◌, Bool, true, false, List, [], ◌∷◌, length, get_or, map, is_some, Contains, All, Ordering, refl, sym, ap, subst, ◌∙◌, true≢false, arith}
-use Rattle.std.specs.Cmp.{first_so, second_so}
+use Rattle.std.proofs.Common.{◌≡◌, ℕ, suc, ◌≤◌, true, List, [], ◌∷◌, length, get_or, map, is_some, Contains, All, Ordering, refl, sym, ap, subst, ◌∙◌}
 use Rattle.std.specs.Cmp.Lexicographic.{slice_cmp, texts_ties}
 use Rattle.std.specs.List.Sorted.{IsStrictlySortedBy}
 use Rattle.std.specs.Ordering.{nat_cmp, ordering_then, is_eq}
-use Rattle.std.specs.Str.{bytes_eq}
-use Rattle.std.specs.declared.cmp.Ordering.TheVariants.{Less, Equal, Greater}
-use Rattle.std.proofs.lemmas.Bool.Decides.{nat_tests}
+use Rattle.std.specs.declared.cmp.Ordering.TheVariants.{Less}
 use Rattle.std.proofs.lemmas.Cmp.{tied_itself}
 use Rattle.std.proofs.lemmas.List.Elements.{All-map, All-from_recursion, recursion_from_All, Contains-get_or}
 use Rattle.repo_index.specs.cny-base.Name.{kind_of_name}
@@ -25,30 +22,13 @@ use Rattle.repo_index.specs.trove-stream.Trove.{IsTrove, KeepsKind, IsComponentO
 use Rattle.repo_shadow.specs.declared.way.Way.{Way}
 use Rattle.repo_shadow.specs.Moved.{moved_version, moved_id}
 use Rattle.repo_shadow.specs.Steps.{wholly_moved}
-use Rattle.repo_shadow.proofs.Lists.{contains_first, contains_rest}
 use Rattle.repo_shadow.proofs.Versions.{moved_revision}
-
-pub equal_bytes : (a b : List ℕ) → bytes_eq a b ≡ true → a ≡ b
-equal_bytes [] [] is = refl
-equal_bytes [] (y ∷ ys) is = absurd (cc is)
-equal_bytes (x ∷ xs) [] is = absurd (cc is)
-equal_bytes (x ∷ xs) (y ∷ ys) is =
-    ap (λ (n : ℕ). n ∷ xs) (equal_byte x y (first_so (x == y) (bytes_eq xs ys) is)) ∙ ap (λ l. y ∷ l) (equal_bytes xs ys (second_so (x == y) (bytes_eq xs ys) is))
-  where
-    equal_byte : (m n : ℕ) → (m == n) ≡ true → m ≡ n
-    equal_byte m n same = grind (arith, nat_tests)
+use Rattle.cny_version.proofs.cny-base.Lists.{contains_first, contains_rest}
+use Rattle.trove_spec.proofs.InOrder.{first_decides}
+use Rattle.cny_version.proofs.cny-base.Bools.{not_true}
+use Rattle.cny_version.proofs.cny-base.ByteLists.{bytes_mean as equal_bytes}
 
 -- ---- ids that strictly rise, no two of one name
-
-not_true : (b : Bool) → (b ≡ true → ⊥) → b ≡ false
-not_true true never = absurd (never refl)
-not_true false never = refl
-
--- the first of three orders decides, where it isn't equal
-first_decides : (o p q : Ordering) → ordering_then (ordering_then o p) q ≡ Less → is_eq o ≡ false → o ≡ Less
-first_decides Less p q less apart = refl
-first_decides Equal p q less apart = absurd (true≢false apart)
-first_decides Greater p q less apart = less
 
 names_less : (r s : TroveId) → id_cmp r s ≡ Less → (r.name ≡ s.name → r ≡ s) → slice_cmp nat_cmp r.name s.name ≡ Less
 names_less r s less apart =

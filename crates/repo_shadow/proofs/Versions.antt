@@ -1,5 +1,5 @@
 -- Versions and ids as they are moved.
-use Rattle.std.proofs.Common.{◌≡◌, ◌↔◌, ◌<◌, inl, inr, false, List, [], ◌∷◌, ◌++◌, length, Result, Ok, Err, refl, sym, ap, ◌∙◌, true≢false}
+use Rattle.std.proofs.Common.{◌≡◌, ◌↔◌, ◌<◌, inl, inr, false, length, Result, Ok, Err, refl, sym, ap, ◌∙◌, true≢false}
 use Rattle.std.specs.Prelude.{IsErrOf, OnOk, IfErr}
 use Rattle.std.proofs.lemmas.Bool.{lt-ltb, le-ltb, cases_lt}
 use Rattle.repo_index.specs.cny-base.declared.limits.TheConstants.{VERSION_LIMIT}
@@ -9,21 +9,18 @@ use Rattle.repo_index.specs.cny-base.declared.refusal.Refusal.{Refusal}
 use Rattle.repo_index.specs.cny-base.declared.refusal.What.TheVariants as what
 use Rattle.cny_version.specs.Label.{LabelParts}
 use Rattle.cny_version.specs.TooLarge.{TooLargeOrMemory}
-use Rattle.cny_version.specs.Version.{WholeVersion, last_of, last_label, version_text}
+use Rattle.cny_version.specs.Version.{WholeVersion, last_label, version_text}
 use Rattle.repo_index.specs.trove-parts.declared.id.TroveId.{TroveId}
 use Rattle.repo_shadow.specs.declared.way.Way.{Way}
 use Rattle.repo_shadow.specs.declared.way.Way.TheVariants.{Shadow, Branch}
 use Rattle.repo_shadow.specs.Moved.{moved_version, is_long_version, too_large_version}
 use Rattle.repo_shadow.specs.Steps.{Fits, IsTooLongOrMemory}
+use Rattle.cny_version.proofs.VersionSteps.{last_snoc as last_push}
 
 -- the revision stays
 pub moved_revision : (way : Way) (label : LabelParts) (v : WholeVersion) → (moved_version way label v).revision ≡ v.revision
 moved_revision Shadow label v = refl
 moved_revision Branch label v = refl
-
-last_push : (first : LabelParts) (shadows : List LabelParts) (label : LabelParts) → last_of first (shadows ++ label ∷ []) ≡ label
-last_push first [] label = refl
-last_push first (s ∷ shadows) label = last_push s shadows label
 
 -- the last label is the one onto which it moves
 pub last_moved : (way : Way) (label : LabelParts) (v : WholeVersion) → last_label (moved_version way label v).branch ≡ label

@@ -1,19 +1,14 @@
 -- What the steps of moving find and make.
-use Rattle.std.specs.Prelude.{◌≡◌, true, false, map, All, Contains, Option, Some}
+use Rattle.std.specs.Prelude.{◌≡◌, true, false, map, All, Contains}
 use Rattle.repo_index.specs.cny-base.declared.refusal.Fault.{Fault}
 use Rattle.repo_index.specs.cny-base.declared.refusal.Fault.TheVariants.{Refused, Memory}
-use Rattle.repo_index.specs.cny-base.declared.refusal.Refusal.{Refusal}
 use Rattle.cny_version.specs.Label.{LabelParts}
 use Rattle.cny_version.specs.Version.{WholeVersion}
 use Rattle.repo_index.specs.trove-parts.declared.id.TroveId.{TroveId}
 use Rattle.repo_index.specs.trove-stream.declared.parts.TroveParts.{TroveParts}
 use Rattle.repo_shadow.specs.declared.way.Way.{Way}
 use Rattle.repo_shadow.specs.Moved.{moved_id, is_long_version, is_too_long, too_large_version}
-
--- this refusal, where there is one; or memory ran out
-abbrev pub IsRefusalOrMemory : Option Refusal → Fault → Type 0
-IsRefusalOrMemory found (Refused refused) = found ≡ Some refused
-IsRefusalOrMemory found Memory = Unit {0}
+pub use Rattle.cny_version.specs.cny-base.Refusals.{IsRefusalOrMemory}
 
 -- The version is too long, and the refusal says so; or memory ran out.
 abbrev pub IsTooLongOrMemory : WholeVersion → Fault → Type 0

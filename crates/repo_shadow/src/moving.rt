@@ -2,7 +2,6 @@
 ghost use Rattle.std.specs.Prelude.{◌≡◌, All, map, IfOk, IfErr};
 ghost use Rattle.repo_index.specs.cny-base.declared.refusal.Fault.TheVariants as fault;
 ghost use Rattle.repo_index.specs.trove-parts.Id.{IsTroveId};
-ghost use Rattle.repo_index.specs.trove-stream.Trove.{IsTrove};
 ghost use Rattle.repo_shadow.specs.Moved as spec;
 ghost use Rattle.repo_shadow.specs.Steps.{Fits, CanMove, wholly_moved};
 
@@ -28,24 +27,6 @@ fn moved_refs(alloc: Global, refs: &[TroveId], label: &Label, way: Way) -> Resul
     Ok(Refs::new(made))
 }
 
-// The trove of these parts, which are those of one.
-fn trove_of(parts: TroveParts) -> Trove
-    requires { IsTrove parts }
-    ensures { result ≡ parts }
-{
-    let TroveParts {
-        id,
-        files,
-        refs,
-        requires_,
-        provides,
-    } = parts;
-    match Trove::make(id, files, refs, requires_, provides) {
-        Ok(trove) => trove,
-        Err(_) => unreachable!(),
-    }
-}
-
 // The trove with its id and its references moved.
 fn moved_trove(alloc: Global, trove: Trove, label: &Label, way: Way) -> Result<Trove, Fault>
     requires { CanMove way label.now trove }
@@ -61,7 +42,7 @@ fn moved_trove(alloc: Global, trove: Trove, label: &Label, way: Way) -> Result<T
     } = trove.into_parts();
     let id = moved_id(alloc, &id, label, way)?;
     let refs = moved_refs(alloc, refs.get(), label, way)?;
-    Ok(trove_of(TroveParts {
+    Ok(Trove::from_parts(TroveParts {
         id,
         files,
         refs,

@@ -5,31 +5,31 @@ use Rattle.std.specs.Fmt.{decimal}
 use Rattle.std.proofs.lemmas.Bool.{cases_Bool}
 use Rattle.std.proofs.lemmas.List.Elements.{All-cons, All-nil}
 use Rattle.std.specs.FinMap.{get}
-use Rattle.repo_load.specs.cny-base.Below.{is_below, below_parent}
-use Rattle.repo_load.specs.cny-base.Path.{is_path, parent}
+use Rattle.repo_load.specs.cny-base.Below.{is_below}
+use Rattle.repo_load.proofs.cny-base.Below.{below_parent}
+use Rattle.repo_load.specs.cny-base.Path.{parent}
 use Rattle.repo_load.specs.cny-base.declared.limits.TheConstants.{COMMITS_LIMIT}
 use Rattle.repo_load.specs.cny-base.declared.node.Node.{Node}
 use Rattle.repo_load.specs.cny-base.declared.node.Node.TheVariants as node
 use Rattle.repo_load.specs.trove-stream.declared.parts.TroveParts.{TroveParts}
 use Rattle.repo_load.specs.trove-stream.Trove.{IsTrove}
 use Rattle.repo_load.specs.tree-disk.Tree.{Name, Tree, is_byte, is_dir, WellFormed}
-use Rattle.repo_load.specs.tree-disk.Nodes.{is_node-File}
-use Rattle.repo_load.specs.tree-disk.Allowed.{put_well_formed}
-use Rattle.repo_load.specs.tree-disk.Children.{none_below}
+use Rattle.repo_load.proofs.tree-disk.Nodes.{is_node-File}
+use Rattle.repo_load.proofs.tree-disk.Allowed.{put_well_formed}
+use Rattle.repo_load.proofs.tree-disk.Children.{none_below}
 use Rattle.repo_load.specs.tree-disk.Rows.{is_dir_at}
 use Rattle.repo_load.specs.tree-disk.Disk.{DiskModel, IsDisk}
 use Rattle.repo_load.specs.tree-disk.Confined.{Confined, DiffersOnlyAt, IsUnsyncedOr, LeavesOnly}
-use Rattle.repo_load.specs.tree-disk.ConfinedLaws.{leaves_then, leaves_weaker}
+use Rattle.repo_load.proofs.tree-disk.ConfinedLaws.{leaves_then, leaves_weaker}
 use Rattle.repo_load.specs.journal-log.declared.put.Put.{Put}
 use Rattle.repo_load.specs.journal-log.Own.{gate, StoresSame}
 use Rattle.repo_load.specs.journal-log.WriteSet.{CanBeNamed}
-use Rattle.tree_journal.specs.Apply.{goal, with_base, CanApply, IsAsBefore, IsOneOf}
+use Rattle.tree_journal.specs.Apply.{goal, CanApply, IsOneOf}
 use Rattle.tree_journal.specs.Apply as apply
 use Rattle.tree_journal.specs.CanBePut.{AllCanBePut, CanBePut, HasWay}
 use Rattle.tree_journal.specs.Recovery.{at_rest, is_committed, is_flag}
 use Rattle.tree_journal.specs.Staging.{has_content, outcome}
 use Rattle.tree_journal.proofs.OwnFiles.{base_kept}
-use Rattle.tree_journal.proofs.OwnNames.{parent_join}
 use Rattle.change_set.specs.declared.change.Carried.{Carried}
 use Rattle.repo_index.specs.Catalogue.{CatalogueParts}
 use Rattle.repo_load.specs.Counts.{IsPreparedName}
@@ -38,33 +38,32 @@ use Rattle.repo_load.specs.Steps.{commit_put}
 use Rattle.repo_load.proofs.CountedNames.{prepared_commits, prepared_flag}
 use Rattle.repo_load.proofs.FileNames.{base_is_path, commit_is_path, decimal_plain}
 use Rattle.repository.specs.Outcome.{IsAtRest}
-use Rattle.repository.specs.Preparing.{file_mode, with_file, IsReadied, IsReady, IsWritten, RecoversSo}
+use Rattle.repository.specs.Preparing.{with_file, IsReadied, IsReady, IsWritten, RecoversSo}
 use Rattle.repository.proofs.Readying.{commit_not_root}
+use Rattle.change_rel.specs.cny-base.Modes.{file_mode}
+use Rattle.tree_journal.proofs.tree-disk.Names.{parent_join, no_path as not_empty}
 
 abbrev pub puts_of : CatalogueParts → List TroveParts → List Put
 puts_of c troves = commit_put (c.commits + 1) file_mode troves ∷ []
 
-stores_itself : (t : Tree) → StoresSame repository_base t t
+pub stores_itself : (t : Tree) → StoresSame repository_base t t
 stores_itself t q out = refl
 
 -- with the base made a directory nothing changes but the commit's file
-goal_is : (c : CatalogueParts) (troves : List TroveParts) (t : Tree) → is_dir_at t repository_base ≡ true → goal repository_base (puts_of c troves) t ≡ with_file c troves t
+pub goal_is : (c : CatalogueParts) (troves : List TroveParts) (t : Tree) → is_dir_at t repository_base ≡ true → goal repository_base (puts_of c troves) t ≡ with_file c troves t
 goal_is c troves t dir = ap (λ (u : Tree). outcome repository_base (puts_of c troves) u) (base_kept repository_base t dir)
 
 -- ---- the write can be put
 
-parent_is : (n : ℕ) → n < 2 ^ 64 → parent (commit_file n) ≡ repository_base
+pub parent_is : (n : ℕ) → n < 2 ^ 64 → parent (commit_file n) ≡ repository_base
 parent_is n fits = parent_join repository_base (107 ∷ 46 ∷ decimal n) base_is_path (decimal_plain n fits)
-
-not_empty : (q : Name) → is_path q ≡ true → q ≡ [] → ⊥
-not_empty q path empty = absurd (cc (path, ap is_path empty))
 
 some_dir : (o : Option Node) → is_dir o ≡ true → o ≡ None → ⊥
 some_dir None dir none = absurd (cc dir)
 some_dir (Some n) dir none = absurd (cc none)
 
 -- what lies above the file of a commit is a directory
-way_of : (t : Tree) (n : ℕ) (puts : List Put) → n < 2 ^ 64 → WellFormed t → is_dir_at t repository_base ≡ true → HasWay puts t (commit_file n)
+pub way_of : (t : Tree) (n : ℕ) (puts : List Put) → n < 2 ^ 64 → WellFormed t → is_dir_at t repository_base ≡ true → HasWay puts t (commit_file n)
 way_of t n puts fits well base q q_path low free = ⊎_elim
     (λ same. ap (λ (p : Name). is_dir (get t p)) (same ∙ parent_is n fits) ∙ base)
     (λ high. ⊎_elim (λ dir. dir)
@@ -72,32 +71,29 @@ way_of t n puts fits well base q q_path low free = ⊎_elim
     (cases_Bool (is_dir (get t q))))
     (below_parent q (commit_file n) (not_empty q q_path) low)
 
-none_no_dir : (o : Option Node) → o ≡ None → is_dir o ≡ false
+pub none_no_dir : (o : Option Node) → o ≡ None → is_dir o ≡ false
 none_no_dir o is = ap is_dir is
 
-next_free : (t : Tree) (c : CatalogueParts) → HoldsCatalogue t c → get t (commit_file (c.commits + 1)) ≡ None
+pub next_free : (t : Tree) (c : CatalogueParts) → HoldsCatalogue t c → get t (commit_file (c.commits + 1)) ≡ None
 next_free t c h = ap (λ (k : CatalogueParts). get t (commit_file (k.commits + 1))) h.is ∙ h.holds.last
 
 module _ {D : Type 0} {disk : DiskModel D} (laws : IsDisk disk) (c : CatalogueParts) (contents : List Carried) (troves : List TroveParts) (few : c.commits < COMMITS_LIMIT) (old mid : D)
     (rests : IsAtRest disk c old) (confined : Confined disk (IsPreparedName c) old mid) where
-  x : Tree
-  x = disk.reads old
-
-  number_fits : c.commits + 1 < 2 ^ 64
+  pub number_fits : c.commits + 1 < 2 ^ 64
   number_fits = omega (arith, few)
 
   pub gate_stays : (image : Tree) → get image (gate repository_base) ≡ get (disk.reads old) (gate repository_base) → is_committed repository_base image ≡ false
   gate_stays image same = ap is_flag same ∙ rests.flag_clear
 
-  gate_mid : get (disk.reads mid) (gate repository_base) ≡ get (disk.reads old) (gate repository_base)
+  pub gate_mid : get (disk.reads mid) (gate repository_base) ≡ get (disk.reads old) (gate repository_base)
   gate_mid = confined.reads (gate repository_base) (prepared_flag c)
 
-  gate_synced : disk.unsynced mid (gate repository_base) ≡ false
+  pub gate_synced : disk.unsynced mid (gate repository_base) ≡ false
   gate_synced = ⊎_elim
       (λ un. absurd (⊎_elim (λ was. cc (was, rests.flag_synced)) (λ is. prepared_flag c is) (confined.unsynced (gate repository_base) un)))
       (λ synced. synced) (cases_Bool (disk.unsynced mid (gate repository_base)))
 
-  free_mid : get (disk.reads mid) (commit_file (c.commits + 1)) ≡ None
+  pub free_mid : get (disk.reads mid) (commit_file (c.commits + 1)) ≡ None
   free_mid = confined.reads (commit_file (c.commits + 1)) (λ prepared. prepared_commits c (commit_file (c.commits + 1)) (omega (arith, few)) prepared (record { number = c.commits + 1; few = omega arith; is = refl }))
       ∙ next_free (disk.reads old) c rests.holds
 
@@ -125,10 +121,10 @@ module _ {D : Type 0} {disk : DiskModel D} (laws : IsDisk disk) (c : CataloguePa
 
   -- ---- images
 
-  abbrev Names : Name → Type 0
+  abbrev pub Names : Name → Type 0
   Names = IsUnsyncedOr disk old (IsPreparedName c)
 
-  gate_not : Names (gate repository_base) → ⊥
+  pub gate_not : Names (gate repository_base) → ⊥
   gate_not (inl was) = absurd (cc (was, rests.flag_synced))
   gate_not (inr is) = prepared_flag c is
 
@@ -142,7 +138,7 @@ module _ {D : Type 0} {disk : DiskModel D} (laws : IsDisk disk) (c : CataloguePa
   pub readied : IsReady c contents (disk.reads mid) → IsReadied c contents (disk.reads old) (disk.reads mid)
   readied ready = record { kept = confined.reads; ready = ready }
 
-  written_goal : All IsTrove troves → All FitsTrove troves → IsReady c contents (disk.reads mid) → IsWritten c contents troves (disk.reads old) (goal repository_base (puts_of c troves) (disk.reads mid))
+  pub written_goal : All IsTrove troves → All FitsTrove troves → IsReady c contents (disk.reads mid) → IsWritten c contents troves (disk.reads old) (goal repository_base (puts_of c troves) (disk.reads mid))
   written_goal are fits ready = record { troves_are = are; fits = fits; readied = disk.reads mid; is_readied = readied ready; same = λ q out. ap (λ (t : Tree). get t q) (goal_is c troves (disk.reads mid) ready.base) }
 
   pub later_image : All IsTrove troves → All FitsTrove troves → IsReady c contents (disk.reads mid) → (image : Tree) → apply.IsBeforeOrAfter disk repository_base (puts_of c troves) mid image → RecoversSo Names c contents troves (disk.reads old) image

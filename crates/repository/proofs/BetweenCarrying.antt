@@ -19,14 +19,18 @@ use Rattle.change_set.specs.declared.change.Carried.{Carried}
 use Rattle.change_set.specs.ChangeSet.{content_cmp, has_record, HasContents, IsContentOf}
 use Rattle.repo_load.specs.tree-disk.Tree.{Name, Tree}
 use Rattle.repo_load.specs.content-store.Store.{content_path, stored}
-use Rattle.repo_index.specs.Catalogue.{has_content, is_file_of, is_file_sized, names_content, records_content, trove_records, HasDistinctIds}
+use Rattle.repo_index.specs.Catalogue.{AreCommitted, has_content, is_file_of, is_file_sized, names_content, records_content, trove_records, HasDistinctIds}
 use Rattle.repo_load.specs.Files.{contents_dir}
 use Rattle.repo_load.specs.Contents.{IsRecorded}
-use Rattle.repository.specs.Between.{name_of, old_files, old_of, AreCommitted, AreContents, AreParts, AreStored, IsPartOf, IsSound, RecordsContent, Sends}
+use Rattle.repository.specs.Between.{name_of, old_files, old_of, AreContents, AreParts, AreStored, IsPartOf, IsSound, RecordsContent, Sends}
 use Rattle.repository.specs.Damage.{IsDamagedBetween}
 use Rattle.repository.specs.BetweenSteps.{AllFit, AreNames, HasOther, IsDamagedAmong, IsHashed}
-use Rattle.repository.proofs.Members.{all_from, any_of, contains_cases, contains_first, contains_map, named_record, nothing_in, or_later, sized_record}
+use Rattle.repository.proofs.Members.{named_record, sized_record}
 use Rattle.repository.proofs.Searched.{found_is}
+use Rattle.change_rel.proofs.cny-base.Lists.{all_from, contains_cases, contains_first, contains_map, nothing_in}
+use Rattle.change_rel.proofs.cny-base.Recorded.{any_of}
+use Rattle.change_rel.proofs.cny-base.Bools.{or_later}
+use Rattle.repo_load.proofs.Holding.{some_bytes as same_bytes}
 
 -- ---- what is sent is recorded
 
@@ -62,10 +66,6 @@ pub rising_of : (old fresh : List TroveParts) (names : List (List ℕ)) (content
 rising_of old fresh names contents are is = rising_contents contents (subst (λ (l : List (List ℕ)). IsStrictlySortedBy name_cmp l) (sym is) are.rising)
 
 -- ---- damage
-
-pub same_bytes : (a b : List ℕ) (o : Option (List ℕ)) → o ≡ Some a → o ≡ Some b → a ≡ b
-same_bytes a b None one other = absurd (cc one)
-same_bytes a b (Some c) one other = cc (one, other)
 
 -- a content that is damaged for the catalogue is so for the new troves
 pub damaged_name : (troves old fresh : List TroveParts) (names : List (List ℕ)) → AreCommitted troves fresh → AreNames old fresh names → (tree : Tree) (path : Name) → IsDamagedAmong troves names tree path → IsDamagedBetween old fresh tree path

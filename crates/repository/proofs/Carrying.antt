@@ -2,7 +2,7 @@
 use Rattle.std.proofs.Common.{◌≡◌, ℕ, zero, suc, ◌<◌, Bool, true, false, ◌&&◌, ◌||◌, List, [], ◌∷◌, length, get_or, Ordering, ⊎_elim, inl, inr, refl, sym, ◌∙◌, ap, subst, arith, add-one}
 use Rattle.std.specs.Prelude.{◌==◌, nat_eq}
 use Rattle.std.proofs.lemmas.Bool.Decides.{nat_tests}
-use Rattle.std.specs.List.{list_any, AllByRecursion, HoldsAt}
+use Rattle.std.specs.List.{list_any, HoldsAt}
 use Rattle.std.specs.List.Sorted.{IsStrictlySortedBy, IsSortedBy, IsNonDecreasingBy, IsPartitionPoint}
 use Rattle.std.specs.Cmp.Lexicographic.{slice_cmp, nat_list_cmp_total}
 use Rattle.std.specs.Ordering.{nat_cmp, is_eq, is_lt, ordering_index, ordering_reverse}
@@ -16,18 +16,12 @@ use Rattle.repo_load.specs.tree-disk.Laws.{same_means}
 use Rattle.change_set.specs.declared.change.Carried.{Carried}
 use Rattle.change_set.specs.ChangeSet.{content_cmp}
 use Rattle.repository.specs.Tests.{is_carried}
-use Rattle.repository.proofs.Lists.{and_first}
-use Rattle.repository.proofs.Making.{any_found}
-use Rattle.repository.proofs.Sources.{equal_bytes, none_behind, not_before, same_bytes}
-
--- how the name of a content compares with the one that is looked for
-abbrev pub against : List ℕ → Carried → Ordering
-against name content = slice_cmp nat_cmp content.name name
-
-rec_at : (P : Carried → Type 0) (cs : List Carried) (i : ℕ) (e : Carried) → AllByRecursion P cs → i < length cs → e ≡ get_or cs i e → P e
-rec_at P [] i e all lt is = absurd (omega arith)
-rec_at P (c ∷ cs) zero e all lt is = subst P (sym is) all.0
-rec_at P (c ∷ cs) (suc i) e all lt is = rec_at P cs i e all.1 (omega arith) is
+use Rattle.repository.proofs.Sources.{none_behind}
+use Rattle.change_set.proofs.Carrying.{against, rec_at}
+use Rattle.change_rel.proofs.cny-base.ByteLists.{equal_bytes, same_bytes}
+use Rattle.tree_journal.proofs.tree-disk.Order.{not_before}
+use Rattle.tree_journal.proofs.tree-disk.Nodes.{left_true as and_first}
+use Rattle.change_rel.proofs.cny-base.Lists.{one_passes as any_found}
 
 or_false : (a b : Bool) → b ≡ false → (a || b) ≡ a
 or_false true b is = refl

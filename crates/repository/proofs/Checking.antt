@@ -1,7 +1,6 @@
 -- How tests that read a disk follow one another.
 use Rattle.std.proofs.Common.{◌≡◌, ◌≢◌, ℕ, ◌+◌, ◌<◌, ◌≤◌, Bool, true, false, IsTrue, List, [], ◌∷◌, ◌++◌, length, drop, get_or, Contains, Option, Some, None, Result, Ok, Err, IsErrAnd, refl, sym, ◌∙◌, ap, subst, arith}
 use Rattle.std.specs.Prelude.{◌==◌}
-use Rattle.std.proofs.lemmas.Bool.Decides.{nat_tests}
 use Rattle.std.proofs.lemmas.List.Elements.{Contains-get_or}
 use Rattle.repo_load.specs.cny-base.declared.refusal.Fault.{Fault}
 use Rattle.repo_load.specs.cny-base.declared.refusal.Fault.TheVariants as fault
@@ -11,16 +10,20 @@ use Rattle.repo_load.specs.cny-base.declared.stop.Stop.TheVariants.{Refused, Mem
 use Rattle.repo_load.specs.cny-base.Stop.{stop_of_fault}
 use Rattle.repo_load.specs.tree-disk.Tree.{Name, Tree}
 use Rattle.repo_load.specs.tree-disk.Disk.{DiskModel, IsDisk}
-use Rattle.repo_load.specs.tree-disk.Moments.{rose_before, same_on, same_start, time_on, time_start}
+use Rattle.repo_load.specs.tree-disk.Moments.{same_on, same_start, time_on, time_start}
+use Rattle.repo_load.proofs.tree-disk.Moments.{rose_before}
 use Rattle.change_set.specs.declared.change.Carried.{Carried}
 use Rattle.change_set.specs.declared.change.Part.{Part}
 use Rattle.repo_load.specs.content-store.Contents.{ContentMap}
 use Rattle.repo_index.specs.Catalogue.{CatalogueParts}
 use Rattle.repo_load.specs.trove-stream.declared.parts.TroveParts.{TroveParts}
-use Rattle.repository.specs.Tests.{collides, collision, files_of, later_refusal, missing_content, missing_ref, or_then, refs_of, too_many}
+use Rattle.repository.specs.Tests.{collides, collision, later_refusal, missing_content, missing_ref, or_then, refs_of, too_many}
 use Rattle.repository.specs.Parts.{AreMade}
 use Rattle.repository.specs.Verdict.{CheckEnds, Checks, IsVerdict}
-use Rattle.repository.proofs.Lists.{drop_none, front_at}
+use Rattle.change_rel.specs.trove-stream.FilesOf.{files_of}
+use Rattle.change_rel.proofs.Members.{drop_all as drop_none}
+use Rattle.change_rel.proofs.trove-stream.Merging.{front_at}
+use Rattle.change_rel.proofs.cny-base.Allowed.{is_zero as no_length}
 
 -- a stop passed on by `?`, of an earlier count
 ends_stop : (told : Bool) (o p : Option Refusal) (Q S : Name → Type 0) (e : Stop) (r : Result (Unit {0}) Stop) (a b c : ℕ) → a ≤ b → IsErrAnd r (λ s. s ≡ e)
@@ -107,9 +110,6 @@ pub later_is : (c : CatalogueParts) (held : ContentMap) (contents : List Carried
     → later_refusal c held contents troves ≡ or_then (missing_ref (c.troves ++ troves) (refs_of troves)) (or_then (missing_content c.troves contents (files_of troves)) (or_then (collision held contents) (too_many c.commits)))
 later_is c held contents [] full = absurd (full refl)
 later_is c held contents (t ∷ troves) full = refl
-
-no_length : (n : ℕ) → (n == 0) ≡ true → n ≡ 0
-no_length n is = grind (arith, nat_tests)
 
 pub empty_list : (troves : List TroveParts) (b : Bool) → b ≡ (length troves == 0) → b ≡ true → troves ≡ []
 empty_list [] b is yes' = refl

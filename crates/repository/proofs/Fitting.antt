@@ -1,17 +1,14 @@
 -- Contents that are read one after another, and their sizes.
-use Rattle.std.proofs.Common.{◌≡◌, ℕ, ◌+◌, ◌<◌, ⊎_elim, List, [], ◌∷◌, ◌++◌, length, get_or, take, map, All, Contains, refl, sym, ap, ◌∙◌, subst}
+use Rattle.std.proofs.Common.{◌≡◌, ℕ, ◌+◌, ◌<◌, ⊎_elim, List, [], ◌∷◌, ◌++◌, length, get_or, take, map, All, Contains, sym, ap, ◌∙◌, subst}
 use Rattle.std.proofs.lemmas.List.{take_more}
 use Rattle.std.proofs.lemmas.List.Elements.{All-push, Contains-push_cases}
 use Rattle.change_set.specs.declared.change.Carried.{Carried}
 use Rattle.repo_load.specs.tree-disk.Tree.{Tree}
 use Rattle.repository.specs.Between.{name_of, AreStored}
 use Rattle.repository.specs.BetweenSteps.{IsHashed, IsStoredAs}
+use Rattle.change_rel.proofs.cny-base.Lists.{map_push}
 
 -- ---- one content more
-
-map_push : {A B : Type 0} (f : A → B) (xs : List A) (x : A) → map f (xs ++ x ∷ []) ≡ map f xs ++ f x ∷ []
-map_push f [] x = refl
-map_push {B = B} f (y ∷ xs) x = ap (λ (l : List B). f y ∷ l) (map_push f xs x)
 
 pub stored_push : (tree : Tree) (contents new : List Carried) (c : Carried) → new ≡ contents ++ c ∷ [] → AreStored tree contents → IsStoredAs tree c → AreStored tree new
 stored_push tree contents new c is all own = subst (AreStored tree) (sym is) (All-push (IsStoredAs tree) contents c all own)

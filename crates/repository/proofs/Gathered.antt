@@ -18,7 +18,7 @@ use Rattle.repo_load.specs.trove-stream.declared.parts.TroveParts.{TroveParts}
 use Rattle.change_rel.specs.Sending.{AreSent, SendsName}
 use Rattle.repository.specs.Between.{old_files, Sends}
 use Rattle.repository.specs.BetweenSteps.{AreNames}
-use Rattle.repository.proofs.Members.{nothing_in}
+use Rattle.change_rel.proofs.cny-base.Lists.{nothing_in}
 
 -- the names of one trove behind those that were gathered
 pub appended : (names new sent : List (List ℕ)) (old fresh : List FileAt) → new ≡ names ++ sent → AreSent old fresh sent → (name : List ℕ) → Contains new name ↔ (Contains names name ⊎ SendsName old fresh name)

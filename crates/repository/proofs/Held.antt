@@ -14,7 +14,7 @@ use Rattle.repo_index.specs.Catalogue.{has_content}
 use Rattle.repo_load.specs.Files.{contents_dir, StoresRepository}
 use Rattle.repo_load.specs.State.{records_content, troves_of, RepositoryState}
 use Rattle.repo_load.proofs.CountedNames.{recorded_is_named}
-use Rattle.repo_load.specs.ContentsLaws.{named_is_recorded}
+use Rattle.repo_load.proofs.ContentsLaws.{named_is_recorded}
 use Rattle.repo_load.specs.Contents.{FindsContent, IsDamagedContent, IsRecorded}
 use Rattle.repository.specs.Outcome.{committed_contents, if_recorded, is_recorded}
 use Rattle.repository.specs.Tests.{collides, collision_at}

@@ -19,10 +19,11 @@ pub mod Written
 pub mod Readable
 pub mod Outcomes
 pub mod Ordering
-mod Members
+pub mod Members
 mod Searched
 mod Told
 mod Gathered
 mod Fitting
-mod BetweenCarrying
+pub mod BetweenCarrying
 mod SetLaws
+pub use Rattle.change_set.proofs as change-set

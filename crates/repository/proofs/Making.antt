@@ -7,7 +7,7 @@ use Rattle.repo_load.specs.cny-base.declared.refusal.Fault.{Fault}
 use Rattle.repo_load.specs.cny-base.declared.refusal.Fault.TheVariants as fault
 use Rattle.repo_load.specs.trove-stream.Forbidden.{first_forbidden, IsReservedOrMemory}
 use Rattle.change_set.specs.Contents.{IfRefused}
-use Rattle.std.proofs.lemmas.List.Elements.{All-cons, All-head, All-nil, All-push, All-tail, Contains-append_right, Contains-get_or}
+use Rattle.std.proofs.lemmas.List.Elements.{All-cons, All-head, All-nil, All-push, All-tail}
 use Rattle.std.proofs.lemmas.List.Folds.{list_any_at}
 use Rattle.repo_load.specs.cny-base.declared.refusal.Refusal.{Refusal}
 use Rattle.repo_load.specs.trove-parts.declared.files.FileAt.{FileAt}
@@ -18,9 +18,15 @@ use Rattle.change_set.specs.declared.change.Part.{Part}
 use Rattle.change_set.specs.declared.change.Part.TheVariants.{Whole, Relative}
 use Rattle.change_set.specs.ChangeSet.{has_record, IsPart}
 use Rattle.repo_index.specs.Catalogue.{CatalogueParts, found, IsExistsOrMemory}
-use Rattle.repo_load.specs.State.{AreNew, IsAllowed, records_content, trove_records}
+use Rattle.repo_load.specs.State.{AreNew, records_content, trove_records}
 use Rattle.repository.specs.Parts.{AreMade, HasPart, IsFirstRefused, IsPartRefused, IsTroveRefused, MakesTrove, MakeTroves, exists_already, path_reserved}
-use Rattle.repository.proofs.Lists.{none_some, or_either, or_first, or_second, some_append, split_at}
+use Rattle.repository.proofs.Lists.{some_append}
+use Rattle.repo_load.proofs.Joined.{new_push}
+use Rattle.change_rel.proofs.cny-base.Faults.{stopped}
+use Rattle.change_rel.specs.trove-stream.Forbidden.{IsAllowed}
+use Rattle.change_rel.proofs.cny-base.Lists.{one_passes as any_found, not_some as none_some, split_at}
+use Rattle.tree_journal.proofs.tree-disk.ClearLaws.{or_cases as or_either}
+use Rattle.change_rel.proofs.cny-base.Bools.{or_left as or_first, or_right as or_second}
 
 -- ---- one more part
 
@@ -30,11 +36,6 @@ make_push committed [] [] part trove make one = (one, tt)
 make_push committed [] (t ∷ troves) part trove make one = absurd make
 make_push committed (p ∷ parts) [] part trove make one = absurd make
 make_push committed (p ∷ parts) (t ∷ troves) part trove make one = (make.0, make_push committed parts troves part trove make.1 one)
-
-new_push : (before done : List TroveParts) (t : TroveParts) → AreNew before done → found t.id (before ++ done) ≡ None → AreNew before (done ++ t ∷ [])
-new_push before [] t all is = (subst (λ (l : List TroveParts). found t.id l ≡ None) (append-nil before) is, tt)
-new_push before (u ∷ done) t all is =
-    (all.0, new_push (before ++ u ∷ []) done t all.1 (subst (λ (l : List TroveParts). found t.id l ≡ None) (sym (append_assoc before (u ∷ []) done)) is))
 
 pub none_made : (committed : List TroveParts) → AreMade committed [] []
 none_made committed = record { make = tt; new_ids = tt; allowed = All-nil IsAllowed }
@@ -67,16 +68,6 @@ made_troves_are committed (p ∷ parts) (t ∷ troves) are make =
 
 -- ---- what a part records, its trove records
 
-pub any_found : {A : Type 0} (P : A → Bool) (xs : List A) → list_any P xs ≡ true → (x : A) × Contains xs x × (P x ≡ true)
-any_found {A = A} P [] h = absurd (cc h)
-any_found {A = A} P (x ∷ xs) h = ⊎_elim
-    (λ here. (x, Contains-get_or (x ∷ xs) 0 x (omega arith), here))
-    (λ there. let rest = any_found P xs there in (rest.0, contains_behind x xs rest.0 rest.1, rest.2))
-    (or_either (P x) (list_any P xs) h)
-  where
-    contains_behind : (y : A) (ys : List A) (z : A) → Contains ys z → Contains (y ∷ ys) z
-    contains_behind y ys z c = Contains-append_right (y ∷ []) ys z c
-
 found_any : {A : Type 0} (P : A → Bool) (xs : List A) (x : A) → Contains xs x → P x ≡ true → list_any P xs ≡ true
 found_any P xs x c is = list_any_at P xs c.0 x c.1 (ap P c.2 ∙ is)
 
@@ -97,10 +88,6 @@ parts_record committed (p ∷ parts) (t ∷ troves) name size make h = ⊎_elim
     (or_either (has_record name size p) (list_any (has_record name size) parts) h)
 
 -- ---- refusals
-
--- a test that stopped
-abbrev stopped : Fault → Result (Unit {0}) Fault
-stopped e = Err e
 
 pub check_refused : (before : List TroveParts) (t : TroveParts) (e : Fault) → is_some (found t.id before) ≡ false
     → MatchOption (first_forbidden t.files) (IsOk (stopped e)) (λ path. IsErrAnd (stopped e) (IsReservedOrMemory path)) → IfRefused (IsTroveRefused before t) e

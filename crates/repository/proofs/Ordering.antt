@@ -22,11 +22,13 @@ use Rattle.repo_load.specs.Looks.{Ends, Looks}
 use Rattle.repository.specs.Outcome.{committed_contents}
 use Rattle.repository.specs.Order.{kept_stop, later_stop, or_stop, refusing, source_stop, sources_stop, IsFirstStop, StopsAs}
 use Rattle.repository.specs.Parts.{AreMade, IsFirstRefused}
-use Rattle.repository.specs.Tests.{collides, collision_at, files_of, missing_content, missing_ref, refs_of, too_many}
+use Rattle.repository.specs.Tests.{collides, collision_at, missing_content, missing_ref, refs_of, too_many}
 use Rattle.repository.specs.Preparing.{StopsBefore, Writes}
 use Rattle.repository.specs.Verdict.{IsVerdict}
 use Rattle.repository.proofs.Held.{kept_at, none_damaged, none_named}
-use Rattle.repository.proofs.Lists.{drop_none, front_at}
+use Rattle.change_rel.specs.trove-stream.FilesOf.{files_of}
+use Rattle.change_rel.proofs.Members.{drop_all as drop_none}
+use Rattle.change_rel.proofs.trove-stream.Merging.{front_at}
 
 -- ---- one after another
 

@@ -1,5 +1,5 @@
 -- How a commit ends.
-use Rattle.std.proofs.Common.{◌≡◌, ◌≢◌, inl, inr, ⊎_elim, ℕ, ◌+◌, ◌≤◌, Bool, IsTrue, List, [], ◌∷◌, ◌++◌, length, All, Option, Result, Ok, Err, IfErr, IsErrAnd, refl, sym, ◌∙◌, ap, subst, arith, length-append}
+use Rattle.std.proofs.Common.{◌≡◌, ◌≢◌, inl, inr, ⊎_elim, ℕ, ◌+◌, Bool, IsTrue, List, [], ◌∷◌, ◌++◌, length, All, Option, Result, Ok, Err, IsErrAnd, refl, sym, ◌∙◌, ap, subst, arith, length-append}
 use Rattle.std.specs.FinMap.{get}
 use Rattle.repo_load.specs.cny-base.declared.stop.Stop.{Stop}
 use Rattle.repo_load.specs.cny-base.declared.stop.Stop.TheVariants.{Refused, Memory, Failed, Damaged, FarFailed, FarDamaged}
@@ -9,9 +9,8 @@ use Rattle.repo_load.specs.trove-stream.Trove.{IsTrove}
 use Rattle.repo_load.specs.tree-disk.Tree.{Name, Tree}
 use Rattle.repo_load.specs.tree-disk.Disk.{DiskModel, HasRead, IsDisk}
 use Rattle.repo_load.specs.tree-disk.Confined.{AgreesExcept, IsUnsynced, IsUnsyncedOr, LeavesOnly}
-use Rattle.repo_load.specs.tree-disk.ConfinedLaws.{confined_read, leaves_then, leaves_weaker}
-use Rattle.repo_load.specs.tree-disk.Moments.{rose_before}
-use Rattle.repo_load.specs.journal-log.Own.{gate, StoresSame}
+use Rattle.repo_load.proofs.tree-disk.ConfinedLaws.{confined_read, leaves_then, leaves_weaker}
+use Rattle.repo_load.specs.journal-log.Own.{gate}
 use Rattle.tree_journal.specs.Recovery.{at_rest, is_committed, is_flag}
 use Rattle.change_set.specs.declared.change.Carried.{Carried}
 use Rattle.change_set.specs.declared.change.ChangeSet.{ChangeSet}
@@ -22,11 +21,11 @@ use Rattle.repo_load.specs.Counts.{Counts, IsPreparedName}
 use Rattle.repo_load.specs.Files.{repository_base, HoldsCatalogue, StoresRepository}
 use Rattle.repo_load.specs.State.{catalogue_of, RepositoryState}
 use Rattle.repo_load.specs.Steps.{catalogue_with, MayFollow}
-use Rattle.repo_load.specs.Following.{troves_push}
+use Rattle.repo_load.proofs.Following.{troves_push}
 use Rattle.repo_load.proofs.HeldCatalogues.{rules_after}
 use Rattle.repo_load.specs.Loading.{IsCatalogue}
 use Rattle.repo_load.proofs.CountedNames.{counted_state, prepared_state}
-use Rattle.repository.specs.Outcome.{committed_contents, AreSound, AtEveryMoment, CanBeRead, EndsSo, HasCause, HasMoments, IsAtRest, IsDone, IsSettled, MayJoin, StopsSo, TestEnds, TestsChange}
+use Rattle.repository.specs.Outcome.{committed_contents, AreSound, AtEveryMoment, CanBeRead, EndsSo, HasMoments, IsAtRest, IsDone, IsSettled, MayJoin, StopsSo, TestsChange}
 use Rattle.repository.specs.Preparing.{IsWritten, RecoversSo, StopsBefore, Writes}
 use Rattle.repository.specs.Steps.{after_commit, catalogue_after, ids_of, IsStep, RecoversToEither}
 use Rattle.repository.specs.Tests.{Passes}
@@ -34,6 +33,7 @@ use Rattle.repository.proofs.Held.{held_is}
 use Rattle.repository.proofs.Readable.{carried_read, nothing_read}
 use Rattle.repository.proofs.States.{written_catalogue, written_state}
 use Rattle.repository.proofs.Stepping.{may_follow}
+use Rattle.repository.proofs.Applied.{stores_itself}
 
 -- the catalogue of a repository that a tree stores
 abbrev pub OneCatalogue : Type 0
@@ -74,9 +74,6 @@ module _ (one : OneCatalogue) (x : Tree) (r : RepositoryState) (c : CataloguePar
 
 -- ---- a disk that was only read
 
-stores_itself : (t : Tree) → StoresSame repository_base t t
-stores_itself t q out = refl
-
 module _ {D : Type 0} {disk : DiskModel D} (laws : IsDisk disk) where
   still_before : (c : CatalogueParts) (r next : RepositoryState) (d : D) → IsAtRest disk c d → StoresRepository (disk.reads d) r → IsSettled disk d r → (image : Tree) → AgreesExcept (IsUnsynced disk d) image (disk.reads d) → RecoversToEither r next image
   still_before c r next d rests h settled image agrees = inl (record {
@@ -112,34 +109,6 @@ module _ {D : Type 0} {disk : DiskModel D} (laws : IsDisk disk) where
 -- ---- how it ends
 
 module _ {D : Type 0} {disk : DiskModel D} (laws : IsDisk disk) (change : ChangeSet) (c : CatalogueParts) where
-  read_as : {A B : Type 0} {old new : D} → HasRead disk old new A → B → HasRead disk old new B
-  read_as read b = record { answer = b; same = read.same; time = read.time }
-
-  -- the tests stopped
-  tests_so : {old new : D} (e : Stop) → IsTrue disk.tells → HasRead disk old new (Unit {0}) → TestEnds disk.tells change c (disk.reads old) (Err e) (disk.faults old) (disk.faults new) → StopsSo disk change c c old new e
-  tests_so (Refused refusal) tells read ends = (read_as read (ends tells), refl)
-  tests_so (Damaged path) tells read ends = (read_as read (ends tells), refl)
-  tests_so Failed tells read ends = tt
-  tests_so Memory tells read ends = tt
-  tests_so FarFailed tells read ends = ends
-  tests_so (FarDamaged path) tells read ends = ends
-
-  pub ends_tests : {old new : D} (e : Stop) (r : Result (List TroveId) Stop) → IsTrue disk.tells → TestsChange disk change c old new (Err e) → IsErrAnd r (λ s. s ≡ e) → EndsSo disk change c c old new r
-  ends_tests e (Ok ids) tells tests is = absurd is
-  ends_tests {old = old} {new = new} e (Err s) tells tests is = subst (λ x. EndsSo disk change c c old new (Err x)) (sym is) (tests_so e tells (tests.same tells) tests.ends)
-
-  tests_cause : (told : Bool) (tree : Tree) (a b : ℕ) (e : Stop) → TestEnds told change c tree (Err e) a b → HasCause a b e
-  tests_cause told tree a b (Refused refusal) ends = tt
-  tests_cause told tree a b (Damaged path) ends = tt
-  tests_cause told tree a b Failed ends = ends
-  tests_cause told tree a b Memory ends = tt
-  tests_cause told tree a b FarFailed ends = ends
-  tests_cause told tree a b (FarDamaged path) ends = ends
-
-  pub causes_tests : {old new : D} (e : Stop) (r : Result (List TroveId) Stop) → TestsChange disk change c old new (Err e) → IsErrAnd r (λ s. s ≡ e) → IfErr r (HasCause (disk.faults old) (disk.faults new))
-  causes_tests e (Ok ids) tests is = tt
-  causes_tests {old = old} {new = new} e (Err s) tests is = subst (HasCause (disk.faults old) (disk.faults new)) (sym is) (tests_cause disk.tells (disk.reads old) (disk.faults old) (disk.faults new) e tests.ends)
-
   pub rests_read : {A : Type 0} (k : CatalogueParts) (old new : D) → HasRead disk old new A → IsAtRest disk k old → IsAtRest disk k new
   rests_read k old new read rests = record {
     holds = subst (λ (t : Tree). HoldsCatalogue t k) (sym read.same.reads) rests.holds;
@@ -187,19 +156,7 @@ module _ {D : Type 0} {disk : DiskModel D} (laws : IsDisk disk) (change : Change
   ends_write {mid = mid} {new = new} old c' e (Err s) tells writes is =
       subst (λ x. EndsSo disk change c c' old new (Err x)) (sym is) (stops_write old new c' disk.tells (disk.faults mid) (disk.faults new) e tells writes.ends)
 
-  cause_write : (told : Bool) (a b n : ℕ) (e : Stop) → a ≤ b → StopsBefore told b n e → HasCause a n e
-  cause_write told a b n (Refused refusal) le stops = tt
-  cause_write told a b n (Damaged path) le stops = tt
-  cause_write told a b n Failed le stops = rose_before a b n le stops
-  cause_write told a b n Memory le stops = tt
-  cause_write told a b n FarFailed le stops = stops
-  cause_write told a b n (FarDamaged path) le stops = stops
-
-  pub causes_write : {old mid new : D} {troves : List TroveParts} (e : Stop) (r : Result (List TroveId) Stop) → disk.faults old ≤ disk.faults mid → Writes disk c change.contents troves mid new (Err e) → IsErrAnd r (λ s. s ≡ e) → IfErr r (HasCause (disk.faults old) (disk.faults new))
-  causes_write e (Ok ids) le writes is = tt
-  causes_write {old = old} {mid = mid} {new = new} e (Err s) le writes is = subst (HasCause (disk.faults old) (disk.faults new)) (sym is) (cause_write disk.tells (disk.faults old) (disk.faults mid) (disk.faults new) e le writes.ends)
-
-  after_some : (troves : List TroveParts) → troves ≢ [] → catalogue_with troves c ≡ catalogue_after troves c
+  pub after_some : (troves : List TroveParts) → troves ≢ [] → catalogue_with troves c ≡ catalogue_after troves c
   after_some [] full = absurd (full refl)
   after_some (t ∷ troves) full = refl
 

@@ -3,7 +3,8 @@ use Rattle.std.proofs.Common.{◌≡◌, ⊎_elim, ℕ, Bool, true, false, ◌&&
 use Rattle.std.specs.Prelude.{not, is_some}
 use Rattle.std.proofs.lemmas.Bool.{cases_Bool}
 use Rattle.std.specs.FinMap.{get}
-use Rattle.repo_load.specs.cny-base.Below.{is_below, below_rest}
+use Rattle.repo_load.specs.cny-base.Below.{is_below}
+use Rattle.repo_load.proofs.cny-base.Below.{below_rest}
 use Rattle.repo_load.specs.cny-base.declared.node.Node.{Node}
 use Rattle.repo_load.specs.cny-base.declared.refusal.Refusal.{Refusal}
 use Rattle.repo_load.specs.cny-base.declared.stop.Stop.{Stop}
@@ -13,17 +14,15 @@ use Rattle.repo_load.specs.tree-disk.Laws.{same_means}
 use Rattle.repo_load.specs.tree-disk.Rows.{is_dir_at, is_file_at, with_append}
 use Rattle.repo_load.specs.tree-disk.Disk.{DiskModel}
 use Rattle.repo_load.specs.tree-disk.Clear.{is_within, IsBare}
-use Rattle.repo_load.specs.tree-disk.ClearLaws.{itself_within, or_cases, within_itself}
+use Rattle.repo_load.proofs.tree-disk.ClearLaws.{itself_within, or_cases, within_itself}
 use Rattle.repo_load.specs.tree-disk.Confined.{Among, Confined}
-use Rattle.repo_load.specs.tree-disk.ConfinedLaws.{confined_wider}
+use Rattle.repo_load.proofs.tree-disk.ConfinedLaws.{confined_wider}
 use Rattle.repo_load.specs.content-store.Outcome.{placed, put_names, put_outcome, CanPut, Decides, IsCollisionOf, PutStops}
-use Rattle.repo_load.specs.content-store.Store.{content_path, file_bytes}
+use Rattle.repo_load.specs.content-store.Store.{content_path}
 use Rattle.repo_load.specs.Files.{contents_dir}
 use Rattle.repository.specs.Preparing.{StopsBefore}
-
--- a put that stopped
-abbrev stopped : {X : Type 0} → Stop → Result X Stop
-stopped e = Err e
+use Rattle.change_rel.proofs.cny-base.Stops.{stopped}
+use Rattle.repo_load.proofs.content-store.Absent.{no_bytes as empty_at}
 
 -- ---- the directory
 
@@ -40,10 +39,6 @@ pub dir_stays : (old mid : Tree) (name : List ℕ) → AgreesOutside (is_within 
 dir_stays old mid name same dir = ap is_dir (same contents_dir (dir_not_within name)) ∙ dir
 
 -- ---- nothing stands under the name
-
-empty_at : (o : Option Node) → o ≡ None → file_bytes o ≡ None
-empty_at None is = refl
-empty_at (Some n) is = absurd (cc is)
 
 pub none_at : (tree : Tree) (path : Name) → IsBare tree path → get tree path ≡ None
 none_at tree path bare = bare path (within_itself path)

@@ -5,10 +5,11 @@ use Rattle.repo_load.specs.cny-base.declared.stop.Stop.TheVariants.{Refused, Mem
 use Rattle.repo_load.specs.tree-disk.Tree.{Name, Tree}
 use Rattle.repo_load.specs.tree-disk.Disk.{DiskModel}
 use Rattle.repo_load.specs.tree-disk.Confined.{Among, Confined}
-use Rattle.repo_load.specs.tree-disk.ConfinedLaws.{confined_on, confined_then, confined_wider}
-use Rattle.repo_load.specs.tree-disk.Moments.{rose_before}
+use Rattle.repo_load.proofs.tree-disk.ConfinedLaws.{confined_on, confined_then, confined_wider}
+use Rattle.repo_load.proofs.tree-disk.Moments.{rose_before}
 use Rattle.repo_load.specs.tree-disk.Steps.{Ended, Makes}
 use Rattle.repository.specs.Preparing.{EndsWith, Prepares, StopsBefore}
+use Rattle.change_rel.proofs.cny-base.Stops.{stopped}
 
 -- a stop of an earlier count
 stops_earlier : (told : Bool) (a b c : ℕ) (e : Stop) → a ≤ b → StopsBefore told b c e → StopsBefore told a c e
@@ -26,10 +27,6 @@ ends_stop told P a b c e (Err s) le is stops = subst (λ x. EndsWith told P (Err
 -- the same of one count
 pub stopped_ends : (told : Bool) (P : Type 0) (a c : ℕ) (e : Stop) (r : Result (Unit {0}) Stop) → IsErrAnd r (λ s. s ≡ e) → StopsBefore told a c e → EndsWith told P r a c
 stopped_ends told P a c e r is stops = ends_stop told P a a c e r (omega arith) is stops
-
--- the stop of a change
-abbrev stopped : {X : Type 0} → Stop → Result X Stop
-stopped e = Err e
 
 pub made_stops : (X : Type 0) (told : Bool) (after new : Tree) (e : Stop) (a c : ℕ) → Ended told after new (stopped {X = X} e) a c → StopsBefore told a c e
 made_stops X told after new Failed a c ended = ended

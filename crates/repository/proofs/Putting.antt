@@ -9,7 +9,7 @@ use Rattle.repo_load.specs.tree-disk.Tree.{Name, Tree, is_dir}
 use Rattle.repo_load.specs.tree-disk.Rows.{is_dir_at}
 use Rattle.repo_load.specs.tree-disk.Disk.{DiskModel, IsDisk}
 use Rattle.repo_load.specs.tree-disk.Confined.{AgreesExcept}
-use Rattle.repo_load.specs.tree-disk.ConfinedLaws.{confined_start}
+use Rattle.repo_load.proofs.tree-disk.ConfinedLaws.{confined_start}
 use Rattle.change_set.specs.declared.change.Carried.{Carried}
 use Rattle.change_set.specs.ChangeSet.{content_cmp}
 use Rattle.repo_load.specs.content-store.Store.{content_path, file_bytes, IsContentName}
@@ -20,7 +20,7 @@ use Rattle.repo_load.proofs.CountedNames.{content_apart}
 use Rattle.repo_load.proofs.Digests.{digest_is_name}
 use Rattle.repository.specs.Preparing.{AreStored, IsCarriedName, IsPutName, IsStored, Prepares}
 use Rattle.repository.proofs.Placing.{dir_not_within}
-use Rattle.repository.proofs.Sources.{not_before}
+use Rattle.tree_journal.proofs.tree-disk.Order.{not_before}
 
 pub put_is_unnamed : (c : CatalogueParts) (content : Carried) → content.name ≡ sha1 content.bytes → (q : Name) → IsPutName c content q → IsUnnamedContent c q
 put_is_unnamed c content hash q put = record { name = content.name; name_is = subst IsContentName (sym hash) (digest_is_name content.bytes); unnamed = put.unnamed; within = put.within }

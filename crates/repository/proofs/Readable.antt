@@ -1,12 +1,11 @@
 -- The contents that a commit carries can be read once its file stands, whatever else is damaged.
-use Rattle.std.proofs.Common.{◌≡◌, ◌≢◌, inl, inr, ⊎_elim, ℕ, ◌+◌, true, false, List, [], ◌∷◌, ◌++◌, length, get_or, All, Option, Some, None, refl, sym, ◌∙◌, ap, subst, arith}
+use Rattle.std.proofs.Common.{◌≡◌, ◌≢◌, inl, inr, ⊎_elim, ℕ, ◌+◌, true, false, List, [], ◌++◌, length, get_or, Option, Some, None, refl, sym, ◌∙◌, ap, arith}
 use Rattle.std.proofs.lemmas.Bool.{cases_Bool}
 use Rattle.std.proofs.lemmas.List.Folds.{list_any-append}
-use Rattle.std.specs.FinMap.{get}
 use Rattle.sha1.specs.Sha1.{sha1}
 use Rattle.repo_load.specs.trove-stream.declared.parts.TroveParts.{TroveParts}
 use Rattle.repo_load.specs.tree-disk.Tree.{Name, Tree}
-use Rattle.repo_load.specs.tree-disk.Laws.{get_put_other}
+use Rattle.repo_load.proofs.tree-disk.Laws.{get_put_other}
 use Rattle.repo_load.specs.journal-log.Targets.{node_of}
 use Rattle.change_set.specs.declared.change.Carried.{Carried}
 use Rattle.change_set.specs.declared.change.ChangeSet.{ChangeSet}
@@ -17,20 +16,21 @@ use Rattle.repo_load.specs.Contents.{FindsContent, IsDamagedContent, IsRecorded}
 use Rattle.repo_load.specs.Counts.{IsPreparedName}
 use Rattle.repo_load.specs.Files.{commit_file, contents_dir}
 use Rattle.repo_load.specs.State.{records_content, trove_records}
-use Rattle.repo_load.specs.Steps.{catalogue_with, commit_put}
+use Rattle.repo_load.specs.Steps.{commit_put}
 use Rattle.repo_load.proofs.CountedNames.{content_apart}
 use Rattle.repo_load.proofs.FileNames.{content_differs}
 use Rattle.repository.specs.Outcome.{committed_contents, is_recorded, AreSound, CanBeRead}
 use Rattle.repository.specs.Parts.{MakeTroves}
-use Rattle.repository.specs.Preparing.{file_mode, IsReadied, IsStored, IsWritten}
+use Rattle.repository.specs.Preparing.{IsStored, IsWritten}
 use Rattle.repository.specs.Tests.{collides, Passes}
 use Rattle.repository.proofs.Held.{kept_at, recorded_means, recorded_same}
-use Rattle.repository.proofs.Lists.{or_second}
 use Rattle.repository.proofs.Making.{parts_record}
 use Rattle.repository.proofs.Putting.{is_name}
 use Rattle.repository.proofs.Readying.{content_not_behind}
 use Rattle.repository.proofs.Sources.{no_collision, same_content}
 use Rattle.repository.proofs.Stepping.{passed_all}
+use Rattle.change_rel.specs.cny-base.Modes.{file_mode}
+use Rattle.change_rel.proofs.cny-base.Bools.{or_right as or_second}
 
 -- ---- names
 

@@ -1,18 +1,19 @@
 -- A disk that is made ready for the file of a commit.
-use Rattle.std.proofs.Common.{◌≡◌, ◌≢◌, inl, inr, ⊎_elim, ℕ, ◌+◌, Bool, true, false, cond, List, get_or, None, Ok, refl, ◌∙◌, ap, arith}
+use Rattle.std.proofs.Common.{◌≡◌, ◌≢◌, inl, inr, ⊎_elim, ℕ, ◌+◌, Bool, true, false, cond, List, get_or, None, refl, ◌∙◌, ap, arith}
 use Rattle.std.proofs.lemmas.Bool.{cases_Bool}
 use Rattle.std.proofs.lemmas.List.Elements.{All-weaker}
 use Rattle.std.specs.FinMap.{get}
-use Rattle.repo_load.specs.cny-base.Below.{is_below, below_rest}
+use Rattle.repo_load.specs.cny-base.Below.{is_below}
+use Rattle.repo_load.proofs.cny-base.Below.{below_rest}
 use Rattle.repo_load.specs.cny-base.Path.{root}
 use Rattle.repo_load.specs.tree-disk.Tree.{Name, Tree, same_name, is_dir}
 use Rattle.repo_load.specs.tree-disk.Laws.{same_means}
 use Rattle.repo_load.specs.tree-disk.Rows.{is_dir_at}
 use Rattle.repo_load.specs.tree-disk.Clear.{is_within, without_tree}
-use Rattle.repo_load.specs.tree-disk.ClearLaws.{get-without_tree, or_cases, or_left, or_right, within_itself}
-use Rattle.repo_load.specs.tree-disk.Disk.{DiskModel, one_name}
+use Rattle.repo_load.proofs.tree-disk.ClearLaws.{get-without_tree, or_cases, within_itself}
+use Rattle.repo_load.specs.tree-disk.Disk.{one_name}
 use Rattle.repo_load.specs.tree-disk.Confined.{AgreesExcept, Among}
-use Rattle.repo_load.specs.tree-disk.Steps.{Makes, Within}
+use Rattle.repo_load.specs.tree-disk.Steps.{Within}
 use Rattle.tree_journal.specs.Apply.{with_base}
 use Rattle.tree_journal.proofs.OwnFiles.{base_stands, get-base_other}
 use Rattle.change_set.specs.declared.change.Carried.{Carried}
@@ -21,16 +22,14 @@ use Rattle.repo_index.specs.Catalogue.{CatalogueParts}
 use Rattle.repo_load.specs.Counts.{IsPreparedName, IsUnnamedContent}
 use Rattle.repo_load.specs.Files.{commit_file, contents_dir, repository_base}
 use Rattle.repository.specs.Preparing.{is_dir_name, AreStored, IsReady, IsStored}
+use Rattle.tree_journal.proofs.tree-disk.Without.{elsewhere}
+use Rattle.change_rel.proofs.cny-base.Bools.{or_left, or_right}
 
 pub base_within : Within (one_name repository_base) is_dir_name
 base_within q h = or_left (same_name q repository_base) (same_name q contents_dir) h
 
 pub dir_within : Within (one_name contents_dir) is_dir_name
 dir_within q h = or_right (same_name q repository_base) (same_name q contents_dir) h
-
--- the same change, with another answer
-pub makes_value : {D X Z : Type 0} {disk : DiskModel D} {names : Name → Bool} {change : Tree → Tree} {old new : D} {x : X} (z : Z) → Makes disk names change old new (Ok x) → Makes disk names change old new (Ok z)
-makes_value z makes = record { later = makes.later; ended = makes.ended; outside = makes.outside; confined = makes.confined }
 
 -- ---- prepared names
 
@@ -75,9 +74,6 @@ base_not_content c is = ⊎_elim
     (λ same. let one : 0 ≡ 47 = ap (λ (q : Name). get_or q 11 0) (same_means repository_base (content_path contents_dir is.name) same) in omega (arith, one))
     (λ low. let r = below_rest (content_path contents_dir is.name) repository_base low in let one : 0 ≡ 47 = ap (λ (q : Name). get_or q 11 0) r.1 in omega (arith, one))
     (or_cases (same_name repository_base (content_path contents_dir is.name)) (is_below (content_path contents_dir is.name) repository_base) is.within)
-
-elsewhere : (tree : Tree) (p q : Name) → is_within p q ≡ false → get (without_tree tree p) q ≡ get tree q
-elsewhere tree p q other = get-without_tree tree p q ∙ ap (λ (b : Bool). cond b None (get tree q)) other
 
 -- the directories stand
 pub base_made : (tree : Tree) → is_dir_at (with_base contents_dir (with_base repository_base tree)) repository_base ≡ true

@@ -1,7 +1,6 @@
 -- The first reference that is missing.
 use Rattle.std.proofs.Common.{◌≡◌, ℕ, ◌+◌, ◌<◌, ◌≤◌, Bool, true, false, cond, ◌||◌, List, [], ◌∷◌, ◌++◌, length, drop, get_or, All, Some, None, is_some, refl, sym, ◌∙◌, ap}
 use Rattle.std.specs.Prelude.{IsSome}
-use Rattle.repository.proofs.Lists.{drop_none, front_at}
 use Rattle.std.proofs.lemmas.List.Elements.{All-nil, All-cons}
 use Rattle.repo_load.specs.cny-base.declared.refusal.Refusal.TheVariants.{MissingRef}
 use Rattle.repo_load.specs.trove-parts.declared.id.TroveId.{TroveId}
@@ -11,6 +10,8 @@ use Rattle.repo_index.specs.Catalogue.{found}
 use Rattle.repo_load.specs.State.{HasRefs}
 use Rattle.repository.specs.Tests.{missing_ref, or_then, refs_of}
 use Rattle.repository.proofs.Lists.{some_append, then_none}
+use Rattle.change_rel.proofs.Members.{drop_all as drop_none}
+use Rattle.change_rel.proofs.trove-stream.Merging.{front_at}
 
 pub missing_append : (all : List TroveParts) (a b : List TroveId) → missing_ref all (a ++ b) ≡ or_then (missing_ref all a) (missing_ref all b)
 missing_append all [] b = refl

@@ -18,10 +18,13 @@ use Rattle.repo_load.specs.tree-disk.Tree.{Name, Tree}
 use Rattle.repo_load.specs.content-store.Store.{stored}
 use Rattle.repo_load.specs.State.{troves_of, RepositoryState}
 use Rattle.repo_load.specs.Files.{contents_dir, StoresRepository}
-use Rattle.repository.specs.Between.{name_of, old_of, AreCommitted, AreContents, AreParts, AreStored, HasStored, IsBetween, IsPartOf, RecordsContent, Sends}
+use Rattle.repo_index.specs.Catalogue.{AreCommitted}
+use Rattle.repository.specs.Between.{name_of, old_of, AreContents, AreParts, AreStored, HasStored, IsBetween, IsPartOf, RecordsContent, Sends}
 use Rattle.repository.specs.Damage.{IsDamagedBetween}
-use Rattle.repository.proofs.BetweenCarrying.{records_sized, same_bytes, sends_records}
-use Rattle.repository.proofs.Members.{all_from, contains_map, mapped, nothing_in, same_members}
+use Rattle.repository.proofs.BetweenCarrying.{records_sized, sends_records}
+use Rattle.change_rel.proofs.cny-base.Lists.{all_from, contains_map, nothing_in, from_map as mapped}
+use Rattle.repo_load.proofs.Holding.{some_bytes as same_bytes}
+use Rattle.change_rel.proofs.cny-base.Sorted.{same_members}
 
 -- ---- no old troves
 

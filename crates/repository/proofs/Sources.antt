@@ -1,22 +1,17 @@
 -- Contents that are carried, and contents that are missing or collide.
-use Rattle.std.proofs.Common.{◌≡◌, ◌⊎◌, ⊎_elim, ℕ, ◌+◌, ◌<◌, ◌≤◌, Bool, true, false, cond, List, [], ◌∷◌, ◌++◌, length, drop, get_or, All, Option, Some, None, refl, sym, ◌∙◌, ap, arith}
+use Rattle.std.proofs.Common.{◌≡◌, ◌⊎◌, ⊎_elim, ℕ, ◌+◌, ◌<◌, ◌≤◌, Bool, true, false, cond, List, [], ◌∷◌, ◌++◌, length, drop, get_or, All, Option, Some, None, refl, sym, ◌∙◌, ap}
 use Rattle.std.specs.Prelude.{◌==◌}
 use Rattle.std.specs.List.{find, list_any, AllByRecursion}
 use Rattle.std.specs.List.Sorted.{IsStrictlySortedBy}
-use Rattle.std.specs.Cmp.Lexicographic.{slice_cmp}
-use Rattle.std.specs.Ordering.{nat_cmp, is_eq}
 use Rattle.std.specs.declared.cmp.Ordering.TheVariants.{Less}
 use Rattle.std.specs.Str.{bytes_eq}
-use Rattle.std.proofs.lemmas.Bool.Decides.{nat_tests}
 use Rattle.std.proofs.lemmas.List.Elements.{All-cons, All-head, All-nil, All-tail}
-use Rattle.std.proofs.lemmas.Slice.Eq.{bytes_eq-Decides}
 use Rattle.repo_load.specs.cny-base.declared.refusal.Refusal.TheVariants.{MissingContent}
 use Rattle.repo_load.specs.file-stream.declared.record.FileRec.{FileRec}
 use Rattle.repo_load.specs.file-stream.declared.record.FileRec.TheVariants.{Dir, File, Link}
 use Rattle.repo_load.specs.file-stream.Record.{has_name_and_size}
 use Rattle.repo_load.specs.trove-parts.declared.files.FileAt.{FileAt}
 use Rattle.repo_load.specs.trove-stream.declared.parts.TroveParts.{TroveParts}
-use Rattle.repo_load.specs.tree-disk.Laws.{same_itself}
 use Rattle.change_set.specs.declared.change.Carried.{Carried}
 use Rattle.change_set.specs.ChangeSet.{content_cmp}
 use Rattle.repo_load.specs.content-store.Contents.{ContentMap}
@@ -24,20 +19,17 @@ use Rattle.repo_load.specs.content-store.Difference.{first_difference}
 use Rattle.repo_load.proofs.content-store.Differences.{same_lists}
 use Rattle.repo_load.specs.State.{records_content, trove_records}
 use Rattle.repository.specs.Steps.{bytes_of, carried}
-use Rattle.repository.specs.Tests.{collides, collision, collision_at, files_of, has_source, is_carried, lacks_content, missing_content, or_then}
-use Rattle.repository.proofs.Lists.{and_first, and_second, drop_none, front_at, or_either, then_append, then_none}
-
-pub same_bytes : (a b : List ℕ) → bytes_eq a b ≡ true → a ≡ b
-same_bytes a b h = (bytes_eq-Decides a b).0 h
-
-pub equal_bytes : (a b : List ℕ) → a ≡ b → bytes_eq a b ≡ true
-equal_bytes a b h = (bytes_eq-Decides a b).1 h
-
-same_size : (a b : ℕ) → (a == b) ≡ true → a ≡ b
-same_size a b h = grind (arith, nat_tests)
-
-pub not_before : (a b : List ℕ) → a ≡ b → slice_cmp nat_cmp a b ≡ Less → ⊥
-not_before a b is less = absurd (cc (same_itself b, ap is_eq (ap (λ (n : List ℕ). slice_cmp nat_cmp n b) (sym is) ∙ less)))
+use Rattle.repository.specs.Tests.{collides, collision, collision_at, has_source, is_carried, lacks_content, missing_content, or_then}
+use Rattle.repository.proofs.Lists.{then_append, then_none}
+use Rattle.tree_journal.proofs.tree-disk.Order.{not_before}
+use Rattle.change_rel.proofs.cny-base.ByteLists.{same_bytes}
+use Rattle.change_rel.specs.trove-stream.FilesOf.{files_of}
+use Rattle.tree_journal.proofs.tree-disk.Nodes.{left_true as and_first}
+use Rattle.tree_journal.proofs.tree-disk.Laws.{second as and_second}
+use Rattle.change_rel.proofs.Members.{drop_all as drop_none}
+use Rattle.change_rel.proofs.trove-stream.Merging.{front_at}
+use Rattle.tree_journal.proofs.tree-disk.ClearLaws.{or_cases as or_either}
+use Rattle.change_rel.proofs.cny-base.Below.{test_equal as same_size}
 
 -- ---- carried contents
 

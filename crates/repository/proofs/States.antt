@@ -15,12 +15,13 @@ use Rattle.repo_load.specs.Steps.{catalogue_with, with_commit, IsCommitReady, Ke
 use Rattle.repo_load.proofs.Committing.{commit_after}
 use Rattle.repo_load.proofs.CountedNames.{prepared_commits, prepared_state}
 use Rattle.repo_load.proofs.HeldCatalogues.{held_after, same_catalogue, same_state}
-use Rattle.repo_load.specs.ContentsLaws.{named_is_recorded}
-use Rattle.repository.specs.Preparing.{file_mode, with_file, IsReadied, IsStored, IsWritten}
+use Rattle.repo_load.proofs.ContentsLaws.{named_is_recorded}
+use Rattle.repository.specs.Preparing.{with_file, IsReadied, IsStored, IsWritten}
 use Rattle.repository.specs.Steps.{after_commit, carried, or_carried, with_contents}
 use Rattle.repository.specs.Tests.{Passes}
 use Rattle.repository.proofs.Sources.{found_has}
 use Rattle.repository.proofs.Stepping.{after_full, is_after}
+use Rattle.change_rel.specs.cny-base.Modes.{file_mode}
 
 -- ---- the catalogue
 

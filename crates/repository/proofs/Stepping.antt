@@ -17,16 +17,19 @@ use Rattle.change_set.specs.ChangeSet.{HasContents, IsContentOf, IsPart}
 use Rattle.repo_load.specs.content-store.Contents.{ContentMap}
 use Rattle.repo_index.specs.Catalogue.{CatalogueParts}
 use Rattle.repo_load.specs.State.{catalogue_of, records_content, trove_records, troves_of, IsRepository, RepositoryState}
-use Rattle.repo_load.specs.Following.{troves_push}
+use Rattle.repo_load.proofs.Following.{troves_push}
 use Rattle.repo_load.specs.Steps.{with_commit, MayFollow}
 use Rattle.repo_load.proofs.HeldCatalogues.{rules_after}
 use Rattle.repository.specs.Parts.{AreMade}
 use Rattle.repository.specs.Steps.{after_commit, carried, or_carried, with_contents, IsStep}
-use Rattle.repository.specs.Tests.{collides, collision, files_of, is_carried, later_refusal, missing_content, missing_ref, or_then, refs_of, too_many, Passes}
-use Rattle.repository.proofs.Lists.{or_either, or_first, or_second, then_none}
+use Rattle.repository.specs.Tests.{collides, collision, is_carried, later_refusal, missing_content, missing_ref, or_then, refs_of, too_many, Passes}
+use Rattle.repository.proofs.Lists.{then_none}
 use Rattle.repository.proofs.Making.{made_troves_are, parts_record}
 use Rattle.repository.proofs.References.{refs_found}
 use Rattle.repository.proofs.Sources.{found_has, no_collision, same_content, sized_carried, troves_source}
+use Rattle.change_rel.specs.trove-stream.FilesOf.{files_of}
+use Rattle.tree_journal.proofs.tree-disk.ClearLaws.{or_cases as or_either}
+use Rattle.change_rel.proofs.cny-base.Bools.{or_left as or_first, or_right as or_second}
 
 -- ---- the tests that passed
 
@@ -75,10 +78,10 @@ module _ (r : RepositoryState) (is : IsRepository r) (contents : List Carried) (
   with_held : (name kept : List ℕ) → r.contents name ≡ Some kept → with_contents r.contents contents name ≡ Some kept
   with_held name kept held = ap (λ (o : Option (List ℕ)). or_carried o (carried contents name)) held
 
-  held_there : (name : List ℕ) (size : ℕ) → records_content name size (troves_of r.commits) ≡ true → (bytes : List ℕ) × (with_contents r.contents contents name ≡ Some bytes) × (length bytes ≡ size)
+  pub held_there : (name : List ℕ) (size : ℕ) → records_content name size (troves_of r.commits) ≡ true → (bytes : List ℕ) × (with_contents r.contents contents name ≡ Some bytes) × (length bytes ≡ size)
   held_there name size h = let there = is.there name size h in (there.0, with_held name there.0 there.1, there.2)
 
-  carried_there : (name : List ℕ) (bytes : List ℕ) → carried contents name ≡ Some bytes → with_contents r.contents contents name ≡ Some bytes
+  pub carried_there : (name : List ℕ) (bytes : List ℕ) → carried contents name ≡ Some bytes → with_contents r.contents contents name ≡ Some bytes
   carried_there name bytes has = by (r.contents name) refl
     where
       by : (o : Option (List ℕ)) → r.contents name ≡ o → or_carried (r.contents name) (carried contents name) ≡ Some bytes
@@ -89,22 +92,22 @@ module _ (r : RepositoryState) (is : IsRepository r) (contents : List Carried) (
 
 module _ (r : RepositoryState) (is : IsRepository r) (change : ChangeSet) (has : HasContents change) (troves : List TroveParts) (full : troves ≢ [])
     (are : All IsTrove troves) (passes : Passes (catalogue_of r.commits) r.contents change troves) where
-  tests : PassesAll (catalogue_of r.commits) r.contents change.contents troves
+  pub tests : PassesAll (catalogue_of r.commits) r.contents change.contents troves
   tests = passed_all (catalogue_of r.commits) r.contents change.contents troves full passes.passed
 
   pub follows : MayFollow (catalogue_of r.commits) troves
   follows = may_follow (catalogue_of r.commits) change.parts troves full are passes.made tests.refs (has_room (length r.commits) tests.few)
 
-  abbrev after : RepositoryState
+  abbrev pub after : RepositoryState
   after = with_commit troves (with_contents r.contents change.contents) r
 
-  all_troves : troves_of after.commits ≡ troves_of r.commits ++ troves
+  pub all_troves : troves_of after.commits ≡ troves_of r.commits ++ troves
   all_troves = troves_push r.commits troves
 
-  recorded : (name : List ℕ) (size : ℕ) → records_content name size (troves_of after.commits) ≡ (records_content name size (troves_of r.commits) || records_content name size troves)
+  pub recorded : (name : List ℕ) (size : ℕ) → records_content name size (troves_of after.commits) ≡ (records_content name size (troves_of r.commits) || records_content name size troves)
   recorded name size = ap (records_content name size) all_troves ∙ list_any-append (trove_records name size) (troves_of r.commits) troves
 
-  there : (name : List ℕ) (size : ℕ) → records_content name size (troves_of after.commits) ≡ true → (bytes : List ℕ) × (after.contents name ≡ Some bytes) × (length bytes ≡ size)
+  pub there : (name : List ℕ) (size : ℕ) → records_content name size (troves_of after.commits) ≡ true → (bytes : List ℕ) × (after.contents name ≡ Some bytes) × (length bytes ≡ size)
   there name size h = ⊎_elim
       (λ old. held_there r is change.contents tests.no_collisions name size old)
       (λ new. ⊎_elim
@@ -113,19 +116,19 @@ module _ (r : RepositoryState) (is : IsRepository r) (change : ChangeSet) (has :
       (or_either (list_any (is_carried name size) change.contents) (records_content name size (troves_of r.commits)) (troves_source (troves_of r.commits) change.contents name size troves tests.sources new)))
       (or_either (records_content name size (troves_of r.commits)) (records_content name size troves) (sym (recorded name size) ∙ h))
 
-  named_held : (name bytes : List ℕ) → r.contents name ≡ Some bytes → (sha1 bytes ≡ name) × (records_content name (length bytes) (troves_of after.commits) ≡ true)
+  pub named_held : (name bytes : List ℕ) → r.contents name ≡ Some bytes → (sha1 bytes ≡ name) × (records_content name (length bytes) (troves_of after.commits) ≡ true)
   named_held name bytes held =
       let old = is.named name bytes held in
       (old.0, recorded name (length bytes) ∙ or_first (records_content name (length bytes) (troves_of r.commits)) (records_content name (length bytes) troves) old.1)
 
-  named_carried : (name bytes : List ℕ) → carried change.contents name ≡ Some bytes → (sha1 bytes ≡ name) × (records_content name (length bytes) (troves_of after.commits) ≡ true)
+  pub named_carried : (name bytes : List ℕ) → carried change.contents name ≡ Some bytes → (sha1 bytes ≡ name) × (records_content name (length bytes) (troves_of after.commits) ≡ true)
   named_carried name bytes carries =
       let c = found_has (IsContentOf change.parts) name bytes change.contents has.contents carries in
       let new = parts_record (troves_of r.commits) change.parts troves c.0.name (length c.0.bytes) passes.made.make c.1.recorded in
       let same : records_content name (length bytes) troves ≡ true = (λ i. records_content (sym c.2 i) (length (sym c.3 i)) troves) ∙ new in
       (ap sha1 (sym c.3) ∙ sym c.1.hash ∙ c.2, recorded name (length bytes) ∙ or_second (records_content name (length bytes) (troves_of r.commits)) (records_content name (length bytes) troves) same)
 
-  named : (name bytes : List ℕ) → after.contents name ≡ Some bytes → (sha1 bytes ≡ name) × (records_content name (length bytes) (troves_of after.commits) ≡ true)
+  pub named : (name bytes : List ℕ) → after.contents name ≡ Some bytes → (sha1 bytes ≡ name) × (records_content name (length bytes) (troves_of after.commits) ≡ true)
   named name bytes h = by (r.contents name) refl h
     where
       by : (o : Option (List ℕ)) → r.contents name ≡ o → or_carried o (carried change.contents name) ≡ Some bytes → (sha1 bytes ≡ name) × (records_content name (length bytes) (troves_of after.commits) ≡ true)

@@ -11,17 +11,13 @@ use Rattle.change_set.specs.declared.change.Part.{Part}
 use Rattle.change_set.specs.declared.change.Part.TheVariants.{Whole, Relative}
 use Rattle.repo_load.specs.content-store.Contents.{ContentMap}
 use Rattle.repo_index.specs.Catalogue.{found, CatalogueParts}
-use Rattle.repo_load.specs.State.{catalogue_of, AreNew, IsAllowed, RepositoryState}
+use Rattle.repo_load.specs.State.{catalogue_of, AreNew, RepositoryState}
 use Rattle.repository.specs.Parts.{AreMade, IsFirstRefused, IsLedTo, IsPartRefused, IsTroveRefused, LacksTrove, MakesTrove, MakeTroves, exists_already, path_reserved}
 use Rattle.repository.specs.Steps.{after_commit, IsStep}
 use Rattle.repository.specs.Tests.{later_refusal, IsLaterRefused, IsRefused, Passes}
-
--- a relative trove leads from a trove to one at most
-abbrev pub LeadsToOne : Type 0
-LeadsToOne = (rel : RelParts) (old a b : TroveParts) → Leads rel old a → Leads rel old b → a ≡ b
-
-some_one : {A : Type 0} (a b : A) → Some a ≡ Some b → a ≡ b
-some_one a b e = cc e
+use Rattle.change_rel.proofs.Unique.{LeadsToOne}
+use Rattle.change_rel.specs.trove-stream.Forbidden.{IsAllowed}
+use Rattle.change_rel.proofs.cny-base.OptionValues.{same_some as some_one}
 
 -- ---- what parts make
 

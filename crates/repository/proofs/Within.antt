@@ -6,12 +6,13 @@ use Rattle.repo_load.specs.cny-base.declared.limits.TheConstants.{COMMITS_LIMIT}
 use Rattle.repo_load.specs.cny-base.Below.{is_below}
 use Rattle.repo_load.specs.trove-stream.declared.parts.TroveParts.{TroveParts}
 use Rattle.repo_load.specs.tree-disk.Tree.{Name, same_name}
-use Rattle.repo_load.specs.tree-disk.Laws.{same_itself, same_means}
+use Rattle.repo_load.specs.tree-disk.Laws.{same_means}
+use Rattle.repo_load.proofs.tree-disk.Laws.{same_itself}
 use Rattle.repo_load.specs.tree-disk.Clear.{is_within}
-use Rattle.repo_load.specs.tree-disk.ClearLaws.{below_trans, below_within, itself_within, or_cases, within_itself}
+use Rattle.repo_load.proofs.tree-disk.ClearLaws.{below_trans, below_within, itself_within, or_cases, within_itself}
 use Rattle.repo_load.specs.tree-disk.Disk.{DiskModel, HasRead, IsDisk}
 use Rattle.repo_load.specs.tree-disk.Confined.{Among, Confined}
-use Rattle.repo_load.specs.tree-disk.ConfinedLaws.{confined_read, confined_then}
+use Rattle.repo_load.proofs.tree-disk.ConfinedLaws.{confined_read, confined_then}
 use Rattle.repo_load.specs.journal-log.Own.{gate, is_own, is_own_file, log, staged, work}
 use Rattle.repo_load.specs.journal-log.Targets.{is_target}
 use Rattle.tree_journal.specs.Apply.{is_own_or_target}

@@ -8,8 +8,8 @@ use Rattle.repo_load.specs.trove-stream.declared.parts.TroveParts.{TroveParts}
 use Rattle.repo_load.specs.trove-stream.Trove.{IsTrove}
 use Rattle.repo_load.specs.tree-disk.Disk.{DiskModel, IsDisk}
 use Rattle.repo_load.specs.tree-disk.Confined.{Among, Confined, IsSynced, LeavesOnly}
-use Rattle.repo_load.specs.tree-disk.ConfinedLaws.{confined_start, confined_then, confined_wider, leaves_weaker}
-use Rattle.repo_load.specs.tree-disk.Moments.{rose_before}
+use Rattle.repo_load.proofs.tree-disk.ConfinedLaws.{confined_start, confined_then, confined_wider, leaves_weaker}
+use Rattle.repo_load.proofs.tree-disk.Moments.{rose_before}
 use Rattle.repo_load.specs.tree-disk.Steps.{IsDiskStop}
 use Rattle.tree_journal.specs.Apply as apply
 use Rattle.tree_journal.specs.Apply.{is_own_or_target}

@@ -18,10 +18,6 @@ use Rattle.repo_load.specs.tree-disk.Tree.{Tree}
 use Rattle.repo_load.specs.content-store.Store.{stored}
 use Rattle.repo_load.specs.Files.{contents_dir}
 
--- each of the troves is one of those that are committed
-abbrev pub AreCommitted : List TroveParts → List TroveParts → Type 0
-AreCommitted committed troves = (t : TroveParts) → Contains troves t → Contains committed t
-
 -- ---- parts
 
 -- What is told of a new trove beside the old one of its name: nothing of the same one, else what leads from the one to the other;

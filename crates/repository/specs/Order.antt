@@ -12,7 +12,8 @@ use Rattle.repo_index.specs.Catalogue.{CatalogueParts, has_content}
 use Rattle.repo_load.specs.Files.{contents_dir}
 use Rattle.repository.specs.Outcome.{committed_contents}
 use Rattle.repository.specs.Parts.{AreMade, IsFirstRefused}
-use Rattle.repository.specs.Tests.{collides, files_of, missing_content, missing_ref, refs_of, too_many}
+use Rattle.repository.specs.Tests.{collides, missing_content, missing_ref, refs_of, too_many}
+use Rattle.change_rel.specs.trove-stream.FilesOf.{files_of}
 
 -- a refusal, as why a call stops
 abbrev pub refusing : Option Refusal → Option Stop

@@ -10,7 +10,8 @@ use Rattle.change_rel.specs.Leads.{Leads}
 use Rattle.change_set.specs.declared.change.Part.{Part}
 use Rattle.change_set.specs.declared.change.Part.TheVariants.{Whole, Relative}
 use Rattle.repo_index.specs.Catalogue.{CatalogueParts, found, with_trove}
-use Rattle.repo_load.specs.State.{AreNew, IsAllowed}
+use Rattle.repo_load.specs.State.{AreNew}
+use Rattle.change_rel.specs.trove-stream.Forbidden.{IsAllowed}
 
 -- The relative trove makes this trove of one of these, which are committed.
 pub record IsLedTo (committed : List TroveParts) (rel : RelParts) (made : TroveParts) : Type 0 where

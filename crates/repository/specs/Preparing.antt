@@ -20,6 +20,7 @@ use Rattle.repo_index.specs.Catalogue.{CatalogueParts, has_content}
 use Rattle.repo_load.specs.Counts.{IsPreparedName}
 use Rattle.repo_load.specs.Files.{commit_file, contents_dir, repository_base, FitsTrove}
 use Rattle.repo_load.specs.Steps.{commit_put}
+pub use Rattle.change_rel.specs.cny-base.Modes.{file_mode}
 
 -- ---- the names that change before
 
@@ -84,10 +85,6 @@ pub record IsReady (c : CatalogueParts) (contents : List Carried) (tree : Tree) 
   pub nothing_behind : get tree (commit_file (c.commits + 2)) ≡ None
 
 -- ---- the commit's file
-
--- the mode of a commit's file, 0644
-abbrev pub file_mode : ℕ
-file_mode = 420
 
 -- The tree x1 is x, made ready for the file of a commit: all else is as it was.
 pub record IsReadied (c : CatalogueParts) (contents : List Carried) (x x1 : Tree) : Type 0 where

@@ -19,6 +19,7 @@ use Rattle.repo_load.specs.content-store.Difference.{first_difference}
 use Rattle.repo_index.specs.Catalogue.{CatalogueParts, found}
 use Rattle.repo_load.specs.State.{records_content}
 use Rattle.repository.specs.Parts.{AreMade, IsFirstRefused}
+pub use Rattle.change_rel.specs.trove-stream.FilesOf.{files_of}
 
 -- this refusal, and where there is none the other
 abbrev pub or_then : Option Refusal → Option Refusal → Option Refusal
@@ -55,10 +56,6 @@ lacks_content committed contents (Link target) = None
 abbrev pub missing_content : List TroveParts → List Carried → List FileAt → Option Refusal
 missing_content committed contents [] = None
 missing_content committed contents (file ∷ files) = or_then (lacks_content committed contents file.rec) (missing_content committed contents files)
-
--- the files of troves, trove by trove, in path order
-abbrev pub files_of : List TroveParts → List FileAt
-files_of troves = flat_map (λ (t : TroveParts). t.files) troves
 
 abbrev pub collision_at : List ℕ → Option ℕ → Option Refusal
 collision_at name None = None

@@ -8,7 +8,8 @@ ghost use Rattle.change_set.specs.declared.change.Part.TheVariants.{Whole};
 ghost use Rattle.repo_load.specs.tree-disk.Tree.{Name, Tree};
 ghost use Rattle.repo_load.specs.State.{troves_of, RepositoryState};
 ghost use Rattle.repo_load.specs.Files.{StoresRepository};
-ghost use Rattle.repository.specs.Between.{AreCommitted, AreParts, HasStored, IsBetween, RecordsContent, Sends};
+ghost use Rattle.repo_index.specs.Catalogue.{AreCommitted};
+ghost use Rattle.repository.specs.Between.{AreParts, HasStored, IsBetween, RecordsContent, Sends};
 ghost use Rattle.repository.specs.Damage.{IsDamagedBetween};
 
 use change_rel::one_relative;

@@ -1,7 +1,6 @@
 //! Contents that differ from committed ones of their names.
-ghost use Rattle.std.specs.Prelude.{◌≡◌, Contains, IsTrue, OnOk};
+ghost use Rattle.std.specs.Prelude.{IsTrue, OnOk};
 ghost use Rattle.repo_load.specs.tree-disk.Tree.{Name};
-ghost use Rattle.repo_load.specs.content-store.Difference as spec;
 ghost use Rattle.repo_load.specs.Contents.{IsDamagedContent};
 ghost use Rattle.repository.specs.Outcome.{committed_contents, AreSound, IsDamagedSource};
 ghost use Rattle.repository.specs.Order.{source_stop, sources_stop, StopsAs};

@@ -1,5 +1,5 @@
 //! A change set, committed.
-ghost use Rattle.std.specs.Prelude.{◌≡◌, ◌≢◌, ◌≤◌, [], IfErr, IfOk, IsTrue, OnOk};
+ghost use Rattle.std.specs.Prelude.{◌≢◌, ◌≤◌, [], IfErr, IfOk, IsTrue, OnOk};
 ghost use Rattle.repo_load.specs.tree-disk.Clear.{is_within};
 ghost use Rattle.repo_load.specs.tree-disk.Confined.{Among, Confined};
 ghost use Rattle.change_set.specs.ChangeSet.{HasContents};

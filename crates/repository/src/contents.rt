@@ -1,9 +1,8 @@
 //! Contents of troves that are to be committed.
-ghost use Rattle.std.specs.Prelude.{◌≡◌, ◌∷◌, [], length};
+ghost use Rattle.std.specs.Prelude.{◌≡◌};
 ghost use Rattle.std.specs.List.{list_any};
 ghost use Rattle.std.specs.List.Sorted.{IsStrictlySortedBy};
 ghost use Rattle.change_set.specs.ChangeSet.{content_cmp};
-ghost use Rattle.repo_load.specs.State as state;
 ghost use Rattle.repository.specs.Tests as tests;
 ghost use Rattle.repository.specs.Tests.{files_of, lacks_content, missing_content};
 ghost use Rattle.repository.specs.Verdict.{IsVerdict};

@@ -6,22 +6,13 @@ ghost use Rattle.change_set.specs.Contents.{IfRefused};
 ghost use Rattle.repository.specs.Parts.{AreMade, HasPart, IsAdded, IsFirstRefused, IsLedTo, IsPartRefused, IsTroveRefused, LacksBase, LacksTrove, MakesTrove};
 
 use crate::refs::is_there;
-use change_rel::apply;
+use change_rel::{apply, missing_base};
 use change_set::Part;
 use repo_index::Catalogue;
 use repo_load::cny_base::{Copies, Fault, Refusal};
 use repo_load::trove_parts::{TroveId, id_text};
 use repo_load::trove_stream::{RelTrove, Trove, check};
 use std::alloc::Global;
-
-fn missing_base(alloc: Global, id: &TroveId) -> Fault
-    ensures { IfRefused (λ refused. refused ≡ refusal.MissingBase (id_text_of id.now)) result }
-{
-    match id_text(alloc, id) {
-        Ok(trove) => Fault::Refused(Refusal::MissingBase { trove }),
-        Err(_) => Fault::Memory,
-    }
-}
 
 fn exists(alloc: Global, id: &TroveId) -> Fault
     ensures { IfRefused (λ refused. refused ≡ refusal.Exists (id_text_of id.now)) result }

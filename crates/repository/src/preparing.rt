@@ -3,16 +3,12 @@ ghost use Rattle.std.specs.Prelude.{◌≡◌, ◌+◌, ◌<◌, All, IfOk, IsTr
 ghost use Rattle.std.specs.FinMap.{get};
 ghost use Rattle.std.specs.List.Sorted.{IsStrictlySortedBy};
 ghost use Rattle.sha1.specs.Sha1.{sha1};
-ghost use Rattle.repo_load.specs.cny-base.Path.{is_path, parent};
 ghost use Rattle.repo_load.specs.cny-base.declared.limits.TheConstants.{COMMITS_LIMIT};
-ghost use Rattle.repo_load.specs.cny-base.declared.node.Node.TheVariants as node;
 ghost use Rattle.repo_load.specs.tree-disk.Clear.{is_within};
 ghost use Rattle.repo_load.specs.tree-disk.Confined.{Among, Confined};
-ghost use Rattle.repo_load.specs.tree-disk.Disk.{one_name};
-ghost use Rattle.repo_load.specs.tree-disk.Rows.{can_make, is_dir_at, with_node};
+ghost use Rattle.repo_load.specs.tree-disk.Rows.{is_dir_at};
 ghost use Rattle.repo_load.specs.tree-disk.Steps.{Makes};
 ghost use Rattle.tree_journal.specs.Apply.{with_base};
-ghost use Rattle.tree_journal.specs.Steps.{IsOther};
 ghost use Rattle.change_set.specs.ChangeSet.{content_cmp};
 ghost use Rattle.change_set.specs.declared.change.Carried.{Carried};
 ghost use Rattle.repo_load.specs.content-store.Store.{content_path, stored};
@@ -23,51 +19,14 @@ ghost use Rattle.repository.specs.Preparing.{is_dir_name, AreStored, IsCarriedNa
 
 use change_set::Carried;
 use repo_index::Catalogue;
-use repo_load::cny_base::{Mode, OutOfMemory, Path, Stop};
+use repo_load::cny_base::{OutOfMemory, Path, Stop};
 use repo_load::content_store::{Sha1Namer, clear, put};
 use repo_load::tree_disk::{TreeDisk, steps};
 use repo_load::{base_path, commit_path, contents_path};
 use std::alloc::Global;
+use tree_journal::make_dir;
 
 // ---- directories
-
-// Makes a directory where nothing stands, with mode 0755.
-fn new_dir<D: TreeDisk>(alloc: Global, disk: &mut D, path: &Path) -> Result<(), Stop>
-    requires { IsTrue D.disk.tells → IsTrue (can_make (D.disk.reads disk.old) path.now) }
-    ensures { Makes D.disk (one_name path.now) (λ tree. with_node tree path.now (node.Dir 493)) disk.old disk.new result }
-{
-    let Some(mode) = Mode::new(0o755) else {
-        unreachable!()
-    };
-    steps::make_dir(alloc, disk, path, mode)
-}
-
-// Makes a directory in place of a file or a link.
-fn replace_by_dir<D: TreeDisk>(alloc: Global, disk: &mut D, path: &Path) -> Result<(), Stop>
-    requires path { IsTrue (is_path path.now) }
-    requires parent { IsTrue D.disk.tells → IsTrue (is_dir_at (D.disk.reads disk.old) (parent path.now)) }
-    requires stands { IsTrue D.disk.tells → IsOther (get (D.disk.reads disk.old) path.now) }
-    ensures { Makes D.disk (one_name path.now) (λ tree. with_node tree path.now (node.Dir 493)) disk.old disk.new result }
-{
-    steps::remove(alloc, disk, path)?;
-    new_dir(alloc, disk, path)
-}
-
-// Makes a directory where none stands. A file or a link that stands there goes first.
-fn make_dir<D: TreeDisk>(alloc: Global, disk: &mut D, path: &Path) -> Result<(), Stop>
-    requires path { IsTrue (is_path path.now) }
-    requires parent { IsTrue D.disk.tells → IsTrue (is_dir_at (D.disk.reads disk.old) (parent path.now)) }
-    ensures { Makes D.disk (one_name path.now) (λ tree. with_base path.now tree) disk.old disk.new result }
-{
-    let look = steps::look(alloc, disk, path)?;
-    if look.is_dir() {
-        return Ok(());
-    }
-    if look.is_nothing() {
-        return new_dir(alloc, disk, path);
-    }
-    replace_by_dir(alloc, disk, path)
-}
 
 // Makes the base and the directory of the contents, and answers that.
 fn make_dirs<D: TreeDisk>(alloc: Global, disk: &mut D) -> Result<Path, Stop>

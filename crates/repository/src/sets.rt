@@ -3,7 +3,8 @@ ghost use Rattle.std.specs.Prelude.{All, IfOk};
 ghost use Rattle.change_set.specs.ChangeSet.{HasContents, IsPart};
 ghost use Rattle.repo_load.specs.trove-stream.Installed.{IsRising};
 ghost use Rattle.repo_load.specs.Looks.{Looks};
-ghost use Rattle.repository.specs.Between.{AreCommitted, AreContents, AreStored, HasStored, IsBetween};
+ghost use Rattle.repo_index.specs.Catalogue.{AreCommitted};
+ghost use Rattle.repository.specs.Between.{AreContents, AreStored, HasStored, IsBetween};
 ghost use Rattle.repository.specs.Damage.{IsDamagedBetween};
 ghost use Rattle.repository.specs.BetweenSteps.{IsHashed};
 

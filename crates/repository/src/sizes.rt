@@ -1,5 +1,5 @@
 //! Whether contents have the sizes that records tell.
-ghost use Rattle.std.specs.Prelude.{◌≡◌, IfNone, IfSome};
+ghost use Rattle.std.specs.Prelude.{IfNone, IfSome};
 ghost use Rattle.std.specs.List.Sorted.{IsStrictlySortedBy};
 ghost use Rattle.change_set.specs.ChangeSet.{content_cmp};
 ghost use Rattle.repository.specs.BetweenSteps.{AllFit, FileFits, FileHasOther, FilesFit, FilesHaveOther, HasOther, IsNamed, IsOther, IsUnnamed, SizeFits};

@@ -1,5 +1,5 @@
 -- The places of the troves of one id more.
-use Rattle.std.proofs.Common.{◌≡◌, ℕ, ⊎_elim, Bool, true, false, cond, List, [], ◌∷◌, ◌++◌, Contains, eqb, Some, None, refl, sym, ap, subst, ◌∙◌, append-nil, append_assoc, arith}
+use Rattle.std.proofs.Common.{◌≡◌, ℕ, ⊎_elim, Bool, true, false, cond, List, [], ◌∷◌, ◌++◌, Contains, eqb, Some, None, refl, sym, ap, subst, ◌∙◌, append_assoc}
 use Rattle.std.specs.List.{list_any}
 use Rattle.std.proofs.lemmas.Bool.{eqb-true}
 use Rattle.std.proofs.lemmas.List.Elements.{Contains-append_left, Contains-push, Contains-push_cases}
@@ -11,18 +11,7 @@ use Rattle.repo_index.specs.trove-stream.declared.parts.TroveParts.{TroveParts}
 use Rattle.repo_index.specs.Places.{IsPlaceOf}
 use Rattle.trove_spec.specs.Reached.{IsPlaceOfOne, HasAddedPlaces}
 
-nothing_in : {A : Type 0} (x : A) → Contains [] x → ⊥
-nothing_in x h = let within = h.1 in omega (arith, within)
-
 module _ (troves : List TroveParts) where
-  pub adds_none : (old : List ℕ) → HasAddedPlaces troves [] old old
-  adds_none old = record {
-    more = [];
-    new_is = sym (append-nil old);
-    each = λ place among. absurd (nothing_in place among);
-    all = λ id place among. absurd (nothing_in id among);
-  }
-
   -- a place of one of the ids before is one of one more id
   of_more : (seen : List TroveId) (id : TroveId) (place : ℕ) → IsPlaceOfOne troves seen place → IsPlaceOfOne troves (seen ++ id ∷ []) place
   of_more seen id place one = record { id = one.id; among = Contains-append_left seen (id ∷ []) one.id one.among; place_of = one.place_of }

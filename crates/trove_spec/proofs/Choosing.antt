@@ -7,7 +7,7 @@ use Rattle.cny_version.specs.Label.{LabelParts}
 use Rattle.cny_version.specs.Version.{WholeVersion}
 use Rattle.repo_index.specs.trove-stream.declared.parts.TroveParts.{TroveParts}
 use Rattle.repo_index.specs.Places.{troves_at}
-use Rattle.repo_index.specs.PlacesLaws.{at, at-push, passing-push}
+use Rattle.repo_index.proofs.PlacesLaws.{at, at-push, passing-push}
 use Rattle.trove_spec.specs.Resolve.{better_of, best, kept, chosen_of, of_version, candidates_of, is_candidate, has_version, is_wanted}
 
 -- one item more
@@ -50,9 +50,6 @@ pub wanted_are : (label : Option LabelParts) (version : Option WholeVersion) (sy
     → of_version newest (candidates_of label version system troves) ≡ filter (is_wanted label version system newest) troves
 wanted_are label version system newest troves =
     filter-filter (is_candidate label version system) (has_version newest) troves
-
-pub chosen_none : (system : Parts) (candidates : List TroveParts) → last_or None candidates ≡ None → chosen_of system candidates ≡ None
-chosen_none system candidates none = ap (option_and_then (λ (last : TroveParts). best system (of_version last.id.version candidates))) none
 
 pub chosen_is : (system : Parts) (candidates : List TroveParts) (last : TroveParts) → last_or None candidates ≡ Some last
     → chosen_of system candidates ≡ best system (of_version last.id.version candidates)

@@ -1,13 +1,11 @@
 -- The lines of a configuration file, one after the other.
-use Rattle.std.proofs.Common.{◌≡◌, ℕ, ◌+◌, ◌<◌, ◌≤◌, suc, zero, Bool, true, false, cond, List, [], ◌∷◌, ◌++◌, length, take, drop, map, filter, get_or, All, take_while, refl, sym, ap, subst, ◌∙◌, true≢false, append_assoc, append-nil, length-append, arith}
+use Rattle.std.proofs.Common.{◌≡◌, ℕ, ◌+◌, ◌<◌, ◌≤◌, suc, zero, Bool, true, false, cond, List, [], ◌∷◌, ◌++◌, length, take, drop, map, filter, get_or, take_while, refl, sym, ap, subst, ◌∙◌, true≢false, append_assoc, length-append, arith}
 use Rattle.std.specs.List.{AllZip}
 use Rattle.std.proofs.lemmas.Grind.{fold-append}
-use Rattle.std.proofs.lemmas.List.Elements.{All-nil, All-cons, filter-append}
+use Rattle.std.proofs.lemmas.List.Elements.{filter-append}
 use Rattle.std.proofs.lemmas.List.Sums.{take_while-cons}
 use Rattle.std.specs.Cmp.Lexicographic.{pointwise}
-use Rattle.std.specs.Prelude.{Err, IsErrOf, nat_eq, ◌==◌, ◌&&◌}
-use Rattle.std.proofs.lemmas.Bool.Decides.{nat_tests}
-use Rattle.repo_index.specs.cny-base.Below.{begins_with}
+use Rattle.std.specs.Prelude.{Err, IsErrOf, nat_eq, ◌&&◌}
 use Rattle.repo_index.specs.cny-base.declared.text.TextFault.{TextFault}
 use Rattle.repo_index.specs.cny-base.declared.text.TextFault.TheVariants.{Bad}
 use Rattle.cny_flavor.specs.declared.parts.Parts.{Parts}
@@ -16,6 +14,7 @@ use Rattle.trove_spec.specs.declared.config.Config.{Config}
 use Rattle.trove_spec.specs.declared.config.Setting.TheVariants.{Skipped, LabelPath, SystemFlavor}
 use Rattle.trove_spec.specs.declared.config.Setting.{Setting}
 use Rattle.trove_spec.specs.Config.{cleaned, IsSetting, no_config, with_setting, IsConfigOf, IsFirstBad, IsRelaxedSetting, has_key, ends_word}
+use Rattle.cny_version.proofs.cny-base.ByteLists.{begins_by}
 
 -- ---- lists paired by a relation
 
@@ -32,22 +31,12 @@ module _ {A B : Type 0} (R : A → B → Type 0) where
   paired-length (a ∷ xs) [] all = absurd all
   paired-length (a ∷ xs) (b ∷ ys) all = ap suc (paired-length xs ys all.1)
 
-  -- each of the first list has one of the other
-  pub paired-each : (xs : List A) (ys : List B) → AllZip R xs ys → All (λ x. (y : B) × R x y) xs
-  paired-each [] ys all = All-nil (λ x. (y : B) × R x y)
-  paired-each (a ∷ xs) [] all = absurd all
-  paired-each (a ∷ xs) (b ∷ ys) all = All-cons (λ x. (y : B) × R x y) a xs (b, all.0) (paired-each xs ys all.1)
-
 -- ---- parts of lists under a function
 
 pub take-map : {A B : Type 0} (f : A → B) (n : ℕ) (xs : List A) → take n (map f xs) ≡ map f (take n xs)
 take-map f zero xs = refl
 take-map f (suc n) [] = refl
 take-map {B} f (suc n) (x ∷ xs) = ap (λ (l : List B). f x ∷ l) (take-map f n xs)
-
-pub map-push : {A B : Type 0} (f : A → B) (xs : List A) (x : A) → map f (xs ++ x ∷ []) ≡ map f xs ++ f x ∷ []
-map-push f [] x = refl
-map-push {B} f (y ∷ xs) x = ap (λ (l : List B). f y ∷ l) (map-push f xs x)
 
 -- one that passes more than the first of a list have
 pub filter-longer : {A : Type 0} (p : A → Bool) (before after : List A) (x : A) → p x ≡ true → length (filter p before) < length (filter p (before ++ x ∷ after))
@@ -61,10 +50,6 @@ filter-longer {A} p before after x passes =
 pub goes_on : {A : Type 0} (p : A → Bool) (before after : List A) (x : A) → p x ≡ true → before ++ take_while p (x ∷ after) ≡ (before ++ x ∷ []) ++ take_while p after
 goes_on {A} p before after x passes =
     ap (λ (l : List A). before ++ l) (take_while-cons p x after ∙ ap (λ (c : Bool). cond c (x ∷ take_while p after) []) passes) ∙ sym (append_assoc before (x ∷ []) (take_while p after))
-
-pub ends_here : {A : Type 0} (p : A → Bool) (before after : List A) (x : A) → p x ≡ false → before ++ take_while p (x ∷ after) ≡ before
-ends_here {A} p before after x fails =
-    ap (λ (l : List A). before ++ l) (take_while-cons p x after ∙ ap (λ (c : Bool). cond c (x ∷ take_while p after) []) fails) ∙ append-nil before
 
 -- ---- settings
 
@@ -86,10 +71,6 @@ pub get_or-map : {A B : Type 0} (f : A → B) (xs : List A) (i : ℕ) (d : A) (e
 get_or-map f [] i d e within = absurd (omega arith)
 get_or-map f (x ∷ xs) zero d e within = refl
 get_or-map f (x ∷ xs) (suc i) d e within = get_or-map f xs i d e (omega arith)
-
-pub length-map : {A B : Type 0} (f : A → B) (xs : List A) → length (map f xs) ≡ length xs
-length-map f [] = refl
-length-map f (x ∷ xs) = ap suc (length-map f xs)
 
 pub split_at : {A B : Type 0} (f : A → B) (xs : List A) (i : ℕ) (d : A) → i < length xs → map f xs ≡ map f (take i xs) ++ f (get_or xs i d) ∷ map f (drop (i + 1) xs)
 split_at f [] i d within = absurd (omega arith)
@@ -133,14 +114,6 @@ flavor_bad text fault (LabelPath labels) e only is = is
 flavor_bad text fault (SystemFlavor flavor) e only is = subst (λ (t : TextFault). IsReadAs (Err t) flavor) e (only flavor is)
 
 -- ---- keys
-
-same_bit : (a b : ℕ) (x y : Bool) → x ≡ y → (nat_eq b a && x) ≡ ((a == b) && y)
-same_bit a b x y e = grind (arith, nat_tests)
-
-begins_by : (front bytes : List ℕ) → pointwise nat_eq (take (length front) bytes) front ≡ begins_with front bytes
-begins_by [] bytes = refl
-begins_by (a ∷ front) [] = refl
-begins_by (a ∷ front) (b ∷ bytes) = same_bit a b (pointwise nat_eq (take (length front) bytes) front) (begins_with front bytes) (begins_by front bytes)
 
 pub key_there : (key line : List ℕ) → pointwise nat_eq (take (length key) line) key ≡ true → has_key key line ≡ ends_word (drop (length key) line)
 key_there key line is = ap (λ (b : Bool). b && ends_word (drop (length key) line)) (sym (begins_by key line) ∙ is)

@@ -1,39 +1,9 @@
 -- Lists that are cut at the first place of a byte.
-use Rattle.std.proofs.Common.{◌≡◌, ℕ, Bool, true, false, zero, suc, List, [], ◌∷◌, ◌++◌, Option, Some, None, refl, sym, ap, ◌∙◌, arith}
-use Rattle.std.specs.Cmp.{first_so, second_so}
-use Rattle.std.specs.List.{list_all}
-use Rattle.std.proofs.lemmas.Bool.{false≢true}
+use Rattle.std.proofs.Common.{◌≡◌, ℕ, zero, suc, List, [], ◌∷◌, ◌++◌, Option, Some, None, refl, sym, ap, ◌∙◌, arith}
 use Rattle.std.proofs.lemmas.List.{append-nil, append_cancel_right}
-use Rattle.trove_spec.specs.Spec.{Lacks, behind_equals, in_brackets}
-
--- a byte that fails a test which all bytes pass
-pub lacks_by : (p : ℕ → Bool) (c : ℕ) → p c ≡ false → (xs : List ℕ) → list_all p xs ≡ true → Lacks c xs
-lacks_by p c fails [] all i within e = absurd (omega arith)
-lacks_by p c fails (x ∷ xs) all zero within e = absurd (false≢true (sym fails ∙ ap p (sym e) ∙ first_so (p x) (list_all p xs) all))
-lacks_by p c fails (x ∷ xs) all (suc i) within e = lacks_by p c fails xs (second_so (p x) (list_all p xs) all) i (omega arith) e
-
-first_other : (c x : ℕ) (xs : List ℕ) → Lacks c (x ∷ xs) → x ≡ c → ⊥
-first_other c x xs lacks e = lacks 0 (omega arith) e
-
-rest_lacks : (c x : ℕ) (xs : List ℕ) → Lacks c (x ∷ xs) → Lacks c xs
-rest_lacks c x xs lacks i within e = lacks (suc i) (omega arith) e
-
--- one list, cut twice at the first such byte
-pub same_cut : (c : ℕ) (xs ys us vs : List ℕ) → Lacks c xs → Lacks c ys → xs ++ c ∷ us ≡ ys ++ c ∷ vs → (xs ≡ ys) × (us ≡ vs)
-same_cut c [] [] us vs lx ly e = (refl, cc)
-same_cut c [] (y ∷ ys) us vs lx ly e = absurd (first_other c y ys ly (cc))
-same_cut c (x ∷ xs) [] us vs lx ly e = absurd (first_other c x xs lx (cc))
-same_cut c (x ∷ xs) (y ∷ ys) us vs lx ly e =
-    let heads : x ≡ y = cc in
-    let tails : xs ++ c ∷ us ≡ ys ++ c ∷ vs = cc in
-    let more = same_cut c xs ys us vs (rest_lacks c x xs lx) (rest_lacks c y ys ly) tails in
-    (ap (λ (n : ℕ). n ∷ xs) heads ∙ ap (λ l. y ∷ l) more.0, more.1)
-
-pub no_cut : (c : ℕ) (xs ys vs : List ℕ) → Lacks c xs → xs ≡ ys ++ c ∷ vs → ⊥
-no_cut c [] [] vs lx e = absurd (cc)
-no_cut c [] (y ∷ ys) vs lx e = absurd (cc)
-no_cut c (x ∷ xs) [] vs lx e = first_other c x xs lx (cc)
-no_cut c (x ∷ xs) (y ∷ ys) vs lx e = no_cut c xs ys vs (rest_lacks c x xs lx) (cc)
+use Rattle.trove_spec.specs.Spec.{behind_equals, in_brackets}
+use Rattle.repo_index.specs.trove-parts.Parts.{Lacks}
+use Rattle.repo_index.proofs.trove-parts.Cuts.{no_cut, rest_lacks, same_cut}
 
 -- ---- lists without the byte
 

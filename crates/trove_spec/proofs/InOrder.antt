@@ -1,5 +1,5 @@
 -- The troves at the places that a search gathered, in the order of their ids.
-use Rattle.std.proofs.Common.{◌≡◌, ℕ, zero, suc, ◌+◌, ◌<◌, ◌⊎◌, ⊎_elim, inl, inr, Bool, true, false, cond, List, [], ◌∷◌, length, get_or, map, slice_get, Contains, All, eqb, Bor, Option, Some, None, Ordering, refl, sym, ap, subst, ◌∙◌, true≢false, arith}
+use Rattle.std.proofs.Common.{◌≡◌, ℕ, zero, suc, ◌+◌, ◌<◌, ⊎_elim, Bool, true, false, cond, List, [], ◌∷◌, length, get_or, map, slice_get, Contains, eqb, Bor, Option, Some, None, Ordering, refl, sym, ap, subst, ◌∙◌, true≢false, arith}
 use Rattle.std.specs.Cmp.{IsTotalOrder, IsStrictWeakOrder}
 use Rattle.std.specs.Cmp.Lexicographic.{slice_cmp, nat_list_cmp_total, texts_ties}
 use Rattle.std.specs.List.{IsDistinct, cons_option}
@@ -8,10 +8,10 @@ use Rattle.std.specs.Ordering.{nat_cmp, ordering_then, ordering_reverse, is_lt, 
 use Rattle.std.specs.Str.{bytes_eq}
 use Rattle.std.specs.declared.cmp.Ordering.TheVariants.{Less, Equal, Greater}
 use Rattle.std.proofs.lemmas.Bool.{eq-eqb}
-use Rattle.std.proofs.lemmas.Cmp.{on_total, tied_itself}
-use Rattle.std.proofs.lemmas.List.Elements.{recursion_from_All, All-contains, All-from_recursion, Contains-get_or}
+use Rattle.std.proofs.lemmas.Cmp.{on_total}
+use Rattle.std.proofs.lemmas.List.Elements.{recursion_from_All, All-contains, All-from_recursion}
 use Rattle.std.proofs.lemmas.List.Sorted.{Contains-permutation, IsPermutation-sym, ranks_by}
-use Rattle.std.proofs.lemmas.Map.Keys.{IsDistinct-head, IsDistinct-tail, IsDistinct-cons, IsDistinct-IsPermutation, apart_from_distinct, sorted_from_all_adjacent, Less-from_sorted, sorted_head, sorted_tail}
+use Rattle.std.proofs.lemmas.Map.Keys.{IsDistinct-head, IsDistinct-tail, IsDistinct-cons, IsDistinct-IsPermutation, apart_from_distinct, sorted_from_all_adjacent, Less-from_sorted}
 use Rattle.std.proofs.lemmas.Option.{none-some}
 use Rattle.cny_flavor.specs.Canonical.{flavor_text}
 use Rattle.cny_version.specs.Version.{version_text}
@@ -20,31 +20,15 @@ use Rattle.repo_index.specs.trove-parts.Order.{id_eq, id_cmp, id_equiv, id_total
 use Rattle.repo_index.specs.trove-stream.declared.parts.TroveParts.{TroveParts}
 use Rattle.repo_index.specs.Catalogue.{HasDistinctIds}
 use Rattle.repo_index.specs.Places.{troves_at}
-use Rattle.trove_spec.specs.Expansion.{trove_cmp, IsExpansion, IsClosedIn, by_name_cmp, HasRisingNames, first_of_same_name}
+use Rattle.trove_spec.specs.Expansion.{trove_cmp, IsExpansion, IsClosedIn, first_of_same_name}
 use Rattle.trove_spec.specs.Reached.{ArePlacesReached}
-use Rattle.trove_spec.proofs.ConfigLines.{length-map, get_or-map}
-use Rattle.trove_spec.proofs.Reaching.{place_in, contains_at}
+use Rattle.trove_spec.proofs.ConfigLines.{get_or-map}
+use Rattle.cny_version.proofs.cny-base.Lists.{all_from, contains_at, contains_cases, contains_first, contains_rest, nothing_in, place_in, length-map}
+use Rattle.repo_index.specs.trove-stream.NameOrder.{by_name_cmp, HasRisingNames}
+use Rattle.cny_version.proofs.cny-base.Bools.{not_true}
+use Rattle.cny_version.proofs.cny-base.Sorted.{same_members}
 
 -- ---- elements
-
-nothing_in : {A : Type 0} (x : A) → Contains [] x → ⊥
-nothing_in x h = let within = h.1 in omega (arith, within)
-
-contains_first : {A : Type 0} (x : A) (xs : List A) → Contains (x ∷ xs) x
-contains_first x xs = (0, omega arith, refl)
-
-contains_rest : {A : Type 0} (x y : A) (xs : List A) → Contains xs y → Contains (x ∷ xs) y
-contains_rest x y xs h = (suc h.0, omega (arith, h.1), h.2)
-
-contains_cases : {A : Type 0} (x y : A) (xs : List A) → Contains (x ∷ xs) y → (x ≡ y) ⊎ Contains xs y
-contains_cases {A} x y xs h = at h.0 h.1 h.2
-  where
-    at : (k : ℕ) → k < length (x ∷ xs) → get_or (x ∷ xs) k y ≡ y → (x ≡ y) ⊎ Contains xs y
-    at zero within is = inl is
-    at (suc k) within is = inr (k, omega (arith, within), is)
-
-all_from : {A : Type 0} (P : A → Type 0) (xs : List A) → ((x : A) → Contains xs x → P x) → All P xs
-all_from P xs each = λ k d within. each (get_or xs k d) (Contains-get_or xs k d within)
 
 -- ---- the troves at some places
 
@@ -82,10 +66,6 @@ in_placed troves (p ∷ keys) place t among at = ⊎_elim
 
 abbrev same_id : TroveParts → TroveParts → Bool
 same_id t u = id_eq t.id u.id
-
-not_true : (b : Bool) → (b ≡ true → ⊥) → b ≡ false
-not_true true never = absurd (never refl)
-not_true false never = refl
 
 module _ (troves : List TroveParts) (distinct : HasDistinctIds troves) where
   -- a trove differs from those at other places
@@ -161,7 +141,7 @@ names_total : IsTotalOrder by_name_cmp
 names_total = on_total (λ (t : TroveParts). t.id.name) nat_list_cmp_total
 
 -- the first of three orders decides, where it isn't equal
-first_decides : (o p q : Ordering) → ordering_then (ordering_then o p) q ≡ Less → is_eq o ≡ false → o ≡ Less
+pub first_decides : (o p q : Ordering) → ordering_then (ordering_then o p) q ≡ Less → is_eq o ≡ false → o ≡ Less
 first_decides Less p q less apart = refl
 first_decides Equal p q less apart = absurd (true≢false apart)
 first_decides Greater p q less apart = less
@@ -196,38 +176,6 @@ rising_names (t ∷ found) rising none = sorted_from_all_adjacent names_total (t
 
 -- ---- one expansion
 
-module _ {A : Type 0} (R : A → A → Ordering) (o : IsTotalOrder R) where
-  later_less : (x : A) (xs : List A) → IsStrictlySortedBy R (x ∷ xs) → (z : A) → Contains xs z → R x z ≡ Less
-  later_less x xs rises z among = All-contains (λ y. R x y ≡ Less) xs z (All-from_recursion (λ y. R x y ≡ Less) xs (sorted_head R x xs rises)) among
-
-  not_less_itself : (x : A) → R x x ≡ Less → ⊥
-  not_less_itself x less = absurd (cc (tied_itself o x, less))
-
-  not_both : (x y : A) → R x y ≡ Less → R y x ≡ Less → ⊥
-  not_both x y a b = absurd (cc (o.antisymm x y ∙ ap ordering_reverse b, a))
-
-  heads : (x y : A) (xs ys : List A) → IsStrictlySortedBy R (x ∷ xs) → IsStrictlySortedBy R (y ∷ ys) → Contains (y ∷ ys) x → Contains (x ∷ xs) y → x ≡ y
-  heads x y xs ys s t h g = ⊎_elim
-      (λ e. sym e)
-      (λ later. ⊎_elim (λ e. e) (λ later'. absurd (not_both x y (later_less x xs s y later') (later_less y ys t x later))) (contains_cases x y xs g))
-      (contains_cases y x ys h)
-
-  rest_in : (x y : A) (xs ys : List A) → IsStrictlySortedBy R (x ∷ xs) → x ≡ y → ((z : A) → Contains (x ∷ xs) z → Contains (y ∷ ys) z) → (z : A) → Contains xs z → Contains ys z
-  rest_in x y xs ys s same all z among = ⊎_elim
-      (λ e. absurd (not_less_itself x (ap (R x) (same ∙ e) ∙ later_less x xs s z among)))
-      (λ later. later)
-      (contains_cases y z ys (all z (contains_rest x z xs among)))
-
-  -- lists that strictly rise and have the same elements are one
-  same_members : (xs ys : List A) → IsStrictlySortedBy R xs → IsStrictlySortedBy R ys → ((z : A) → Contains xs z → Contains ys z) → ((z : A) → Contains ys z → Contains xs z) → xs ≡ ys
-  same_members [] [] s t there back = refl
-  same_members [] (y ∷ ys) s t there back = absurd (nothing_in y (back y (contains_first y ys)))
-  same_members (x ∷ xs) [] s t there back = absurd (nothing_in x (there x (contains_first x xs)))
-  same_members (x ∷ xs) (y ∷ ys) s t there back =
-      let head = heads x y xs ys s t (there x (contains_first x xs)) (back y (contains_first y ys)) in
-      let tail = same_members xs ys (sorted_tail R x xs s) (sorted_tail R y ys t) (rest_in x y xs ys s head there) (rest_in y x ys xs t (sym head) back) in
-      λ i. head i ∷ tail i
-
 pub one_expansion_of : (troves : List TroveParts) (roots : List TroveId) (a b : List TroveParts) → IsExpansion troves roots a → IsExpansion troves roots b → a ≡ b
 one_expansion_of troves roots a b first second =
     same_members trove_cmp trove_total a b first.rising second.rising
@@ -255,11 +203,3 @@ sorted_troves refs sorted = λ k d low within.
     ap (λ (x : TroveParts). is_lt (trove_cmp x (get_or (map now_of refs) k d))) after
     ∙ ap (λ (y : TroveParts). is_lt (trove_cmp (get_or refs (k + 1) none).now y)) here
     ∙ sorted k none low inside
-
--- the first two have one name
-pub first_found : (t u : TroveParts) (found : List TroveParts) → bytes_eq t.id.name u.id.name ≡ true → first_of_same_name (t ∷ u ∷ found) ≡ Some u.id
-first_found t u found same = ap (λ (b : Bool). cond b (Some u.id) (first_of_same_name (u ∷ found))) same
-
--- the first two have two names
-pub first_later : (t u : TroveParts) (found : List TroveParts) → bytes_eq t.id.name u.id.name ≡ false → first_of_same_name (t ∷ u ∷ found) ≡ first_of_same_name (u ∷ found)
-first_later t u found differ = ap (λ (b : Bool). cond b (Some u.id) (first_of_same_name (u ∷ found))) differ

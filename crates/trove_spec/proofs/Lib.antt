@@ -10,7 +10,9 @@ pub mod ConfigLines
 pub mod Reaching
 pub mod InOrder
 pub mod Adding
-pub mod Meant
+pub mod Resolved
 pub mod OneConfig
 pub mod PathText
 pub mod Sizes
+pub mod MeantTroves
+pub mod Borrowed

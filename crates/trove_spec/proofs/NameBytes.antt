@@ -1,18 +1,14 @@
 -- The bytes of names.
-use Rattle.std.proofs.Common.{◌≡◌, ℕ, ◌+◌, ◌-◌, true, false, not, ◌&&◌, nat_le, List, [], ◌∷◌, length, take, drop, get_or, Option, Some, None, refl, sym, ap, ◌∙◌, arith, inl, inr}
+use Rattle.std.proofs.Common.{◌≡◌, ℕ, ◌+◌, true, false, not, ◌&&◌, nat_le, List, [], ◌∷◌, length, take, drop, get_or, Option, Some, None, refl, sym, ap, ◌∙◌}
 use Rattle.std.specs.Cmp.{first_so, second_so}
 use Rattle.std.specs.List.{list_all}
 use Rattle.std.specs.Char.{is_ascii_alphanumeric}
-use Rattle.std.proofs.lemmas.Bool.{and_from, cases_lt, false≢true}
-use Rattle.std.proofs.lemmas.Bool.Decides.{nat_tests}
-use Rattle.std.proofs.lemmas.List.{get_or-take, get_or-drop, length-take, length-drop}
+use Rattle.std.proofs.lemmas.Bool.{and_from, false≢true}
 use Rattle.std.proofs.lemmas.List.Quantifiers.{position-Some}
 use Rattle.repo_index.specs.cny-base.Name.{is_word_byte, is_word, is_colon, colon_place, begins_as_group, has_words, is_name}
-use Rattle.trove_spec.specs.Spec.{Lacks}
-use Rattle.trove_spec.proofs.Cutting.{lacks_by}
-
-letter_in_word : (b : ℕ) → is_ascii_alphanumeric b ≡ true → is_word_byte b ≡ true
-letter_in_word b is = grind (arith, nat_tests)
+use Rattle.repo_index.specs.trove-parts.Parts.{Lacks}
+use Rattle.repo_index.proofs.trove-parts.IdFields.{halves_lack, letter_in_word}
+use Rattle.repo_index.proofs.trove-parts.Cuts.{lacks_by}
 
 word_lacks : (c : ℕ) → is_word_byte c ≡ false → (word : List ℕ) → is_word word ≡ true → Lacks c word
 word_lacks c fails [] is = absurd (cc is)
@@ -20,20 +16,6 @@ word_lacks c fails (b ∷ bs) is =
     lacks_by is_word_byte c fails (b ∷ bs)
     (and_from (is_word_byte b) (list_all is_word_byte bs) (letter_in_word b (first_so (is_ascii_alphanumeric b) (list_all is_word_byte bs) is))
     (second_so (is_ascii_alphanumeric b) (list_all is_word_byte bs) is))
-
--- two texts with another byte between them
-halves_lack : (c : ℕ) (bytes : List ℕ) (at : ℕ) → (get_or bytes at 0 ≡ c → ⊥) → Lacks c (take at bytes) → Lacks c (drop (at + 1) bytes) → Lacks c bytes
-halves_lack c bytes at other front back i within e =
-    elim (cases_lt i at) [
-      | inl lt ↦ front i (omega (arith, length-take at bytes)) (rw (get_or-take at bytes i 0 lt) e)
-      | inr le ↦
-          elim (cases_lt at i) [
-            | inl gt ↦
-                let place : at + 1 + (i - (at + 1)) ≡ i = omega arith in
-                back (i - (at + 1)) (omega (arith, length-drop (at + 1) bytes)) (get_or-drop (at + 1) bytes (i - (at + 1)) 0 ∙ ap (λ (n : ℕ). get_or bytes n 0) place ∙ e)
-            | inr ge ↦ let same : i ≡ at = omega arith in other (ap (λ (n : ℕ). get_or bytes n 0) (sym same) ∙ e)
-          ]
-    ]
 
 colon_other : (c : ℕ) → is_colon c ≡ false → (b : ℕ) → is_colon b ≡ true → b ≡ c → ⊥
 colon_other c fails b is e = false≢true (sym fails ∙ ap is_colon (sym e) ∙ is)

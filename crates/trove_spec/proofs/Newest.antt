@@ -5,8 +5,6 @@ use Rattle.std.specs.Cmp.Lexicographic.{nat_list_cmp_total, nat_list_eq_equiv}
 use Rattle.std.specs.List.{last_or, fold}
 use Rattle.std.specs.Ordering.{is_lt}
 use Rattle.std.specs.Str.{bytes_eq}
-use Rattle.std.specs.declared.cmp.Ordering.{Ordering}
-use Rattle.std.specs.declared.cmp.Ordering.TheVariants.{Less, Equal, Greater}
 use Rattle.std.specs.Cmp.{int_cmp_total}
 use Rattle.std.proofs.lemmas.Cmp.{on_total, then_total, back_total, tied_itself}
 use Rattle.std.proofs.lemmas.List.Elements.{All-nil, All-cons, All-head, All-tail, All-filter, filter_passes, All-contains_itself}
@@ -14,16 +12,13 @@ use Rattle.cny_flavor.specs.declared.parts.Parts.{Parts}
 use Rattle.cny_version.specs.Version.{WholeVersion, version_text}
 use Rattle.repo_index.specs.trove-stream.declared.parts.TroveParts.{TroveParts}
 use Rattle.trove_spec.specs.Resolve.{points, flavor_of, fit_cmp, is_better, better_of, best, has_version, of_version, chosen_of}
+use Rattle.cny_version.proofs.cny-base.Orders.{less_is as less}
+use Rattle.cny_version.proofs.cny-base.OptionValues.{same_some as some_same}
 
 -- ---- the order
 
 fit_total : (system : Parts) → IsTotalOrder (fit_cmp system)
 fit_total system = then_total (back_total (on_total (points system) int_cmp_total)) (on_total flavor_of nat_list_cmp_total)
-
-less : (o : Ordering) → is_lt o ≡ true → o ≡ Less
-less Less is = refl
-less Equal is = absurd (true≢false (sym is))
-less Greater is = absurd (true≢false (sym is))
 
 no_better_itself : (system : Parts) (t : TroveParts) → is_better system t t ≡ false
 no_better_itself system t = ap is_lt (tied_itself (fit_total system) t)
@@ -56,9 +51,6 @@ none_better system b [] = All-nil (λ o. is_better system o b ≡ false)
 none_better system b (x ∷ xs) =
     let end = fold (better_of system) (better_of system b x) xs in
     All-cons (λ o. is_better system o end ≡ false) x xs (keeps system x (better_of system b x) xs (new_no_better system b x (is_better system x b) refl)) (none_better system (better_of system b x) xs)
-
-some_same : {A : Type 0} (x y : A) → Some x ≡ Some y → x ≡ y
-some_same x y e = cc
 
 best_is : (system : Parts) (xs : List TroveParts) (t : TroveParts) → best system xs ≡ Some t → All (λ o. is_better system o t ≡ false) xs
 best_is system [] t e = absurd (cc e)

@@ -6,42 +6,19 @@ use Rattle.std.proofs.lemmas.List.{get_or_append_left, get_or-append_right}
 use Rattle.std.proofs.lemmas.List.Elements.{Contains-append_left, Contains-get_or}
 use Rattle.std.proofs.lemmas.Map.Steps.{length-le_from_distinct_below}
 use Rattle.std.proofs.lemmas.Map.Views.{Contains-from_any}
-use Rattle.std.proofs.lemmas.Option.{slice_get-get_or, slice_get_within, same_Some}
+use Rattle.std.proofs.lemmas.Option.{slice_get_within, same_Some}
 use Rattle.repo_index.specs.trove-parts.declared.id.TroveId.{TroveId}
 use Rattle.repo_index.specs.trove-stream.declared.parts.TroveParts.{TroveParts}
 use Rattle.repo_index.specs.Places.{IsPlaceOf}
-use Rattle.trove_spec.specs.Reach.{IsReachedIn}
 use Rattle.trove_spec.specs.Expansion.{Refers, IsReached}
 use Rattle.trove_spec.specs.Reached.{IsPlaceOfOne, HasAddedPlaces, HasAddedRefs, ArePlacesReached}
+use Rattle.cny_version.specs.cny-base.Reach.{IsReachedIn}
+use Rattle.cny_version.proofs.cny-base.Lists.{contains_at, number_at, place_in}
+use Rattle.cny_version.proofs.cny-base.Reaching.{reached_later}
 
 -- ---- items at their places
 
--- an item of a list has a place
-pub place_in : {A : Type 0} (xs : List A) (x : A) → Contains xs x → (i : ℕ) × (i < length xs) × (slice_get xs i ≡ Some x)
-place_in {A} xs x among = (among.0, among.1, slice_get-get_or xs among.0 x among.1 ∙ ap (λ (y : A). Some y) among.2)
-
-pub contains_at : {A : Type 0} (xs : List A) (i : ℕ) (x : A) → slice_get xs i ≡ Some x → Contains xs x
-contains_at {A} xs i x at =
-    let within = slice_get_within xs i x at in
-    (i, within, same_Some (get_or xs i x) x (sym (slice_get-get_or xs i x within) ∙ at))
-
--- a number of a list has a place
-number_at : (keys : List ℕ) (n : ℕ) → Contains keys n → (i : ℕ) × (i < length keys) × (get_or keys i 0 ≡ n)
-number_at keys n among =
-    let at = place_in keys n among in
-    (at.0, at.1, same_Some (get_or keys at.0 0) n (sym (slice_get-get_or keys at.0 0 at.1) ∙ at.2))
-
 -- ---- steps
-
-module _ {A : Type 0} (Leads : A → A → Type 0) (IsRoot : A → Type 0) where
-  pub reached_later : (n m : ℕ) (x : A) → n ≤ m → IsReachedIn Leads IsRoot n x → IsReachedIn Leads IsRoot m x
-  reached_later n zero x most h =
-      let same : n ≡ 0 = omega arith in
-      subst (λ (k : ℕ). IsReachedIn Leads IsRoot k x) same h
-  reached_later n (suc m) x most h = elim (cases_lt m n) [
-    | inl past ↦ (let same : n ≡ suc m = omega (arith, past, most) in subst (λ (k : ℕ). IsReachedIn Leads IsRoot k x) same h)
-    | inr before ↦ inl (reached_later n m x before h)
-  ]
 
 -- ---- what was gathered
 

@@ -1,11 +1,12 @@
 -- A text is cut into the parts of the specification that it is.
-use Rattle.std.proofs.Common.{◌≡◌, ℕ, List, ◌++◌, Option, Some, None, refl, sym, ap, subst, ◌∙◌, arith}
+use Rattle.std.proofs.Common.{◌≡◌, ℕ, List, ◌++◌, Option, Some, None, refl, sym, subst, ◌∙◌, arith}
 use Rattle.trove_spec.specs.declared.spec.Place.{Place}
 use Rattle.trove_spec.specs.declared.spec.Spec.{Spec}
-use Rattle.trove_spec.specs.Spec.{Lacks, IsPlaceText, behind_equals, in_brackets, ArePartsOf, IsSpecText, IsCutAtEquals, IsCutAtBracket}
+use Rattle.trove_spec.specs.Spec.{IsPlaceText, behind_equals, ArePartsOf, IsSpecText, IsCutAtEquals, IsCutAtBracket}
 use Rattle.trove_spec.proofs.Cutting.{lacks_both, lacks_more, same_brackets, same_equals}
 use Rattle.trove_spec.proofs.NameBytes.{name_lacks}
 use Rattle.trove_spec.proofs.PlaceBytes.{place_lacks}
+use Rattle.repo_index.specs.trove-parts.Parts.{Lacks}
 
 equals_byte : (b : ℕ) → b ≡ 61 → b ≡ 91 → ⊥
 equals_byte b is e = absurd (omega arith)
@@ -20,16 +21,6 @@ behind_lacks (Some text) place is = lacks_more 91 61 text (equals_byte 61 refl) 
 -- what stands before a flavor has no `[`
 pub before_lacks : (text : List ℕ) (spec : Spec) (is : IsSpecText text spec) → Lacks 91 (spec.name ++ behind_equals is.place)
 before_lacks text spec is = lacks_both 91 spec.name (behind_equals is.place) (name_lacks 91 refl refl spec.name is.parts.valid) (behind_lacks is.place spec.place is.parts.place_is)
-
--- where a text is cut into parts, and they are those of a specification, the text is that of the specification
-pub found_text : (text before name : List ℕ) (place flavor : Option (List ℕ)) (spec : Spec) → IsCutAtBracket text before flavor → IsCutAtEquals before name place
-    → ArePartsOf name place flavor spec → IsSpecText text spec
-found_text text before name place flavor spec bracket equals parts = record {
-  place = place;
-  flavor = flavor;
-  parts = subst (λ (n : List ℕ). ArePartsOf n place flavor spec) (sym parts.name_is) parts;
-  text_is = bracket.whole ∙ ap (λ (l : List ℕ). l ++ in_brackets flavor) (equals.whole ∙ ap (λ (n : List ℕ). n ++ behind_equals place) (sym parts.name_is));
-}
 
 -- the parts into which a text is cut are those of the specification that it is the text of
 pub meant_parts : (text before name : List ℕ) (place flavor : Option (List ℕ)) (spec : Spec) → IsCutAtBracket text before flavor → IsCutAtEquals before name place

@@ -1,8 +1,6 @@
 -- Which troves of a list some roots reach by references.
 use Rattle.std.specs.Prelude.{◌≡◌, if◌then◌else◌, List, [], ◌∷◌, length, Contains, Option, Some, None}
-use Rattle.std.specs.Cmp.Lexicographic.{slice_cmp}
 use Rattle.std.specs.List.Sorted.{IsStrictlySortedBy}
-use Rattle.std.specs.Ordering.{nat_cmp}
 use Rattle.std.specs.Str.{bytes_eq}
 use Rattle.std.specs.declared.cmp.Ordering.{Ordering}
 use Rattle.repo_index.specs.cny-base.declared.refusal.Fault.{Fault}
@@ -13,7 +11,8 @@ use Rattle.repo_index.specs.trove-parts.declared.id.TroveId.{TroveId}
 use Rattle.repo_index.specs.trove-parts.Id.{id_text_of}
 use Rattle.repo_index.specs.trove-parts.Order.{id_cmp}
 use Rattle.repo_index.specs.trove-stream.declared.parts.TroveParts.{TroveParts}
-use Rattle.trove_spec.specs.Reach.{IsReachedIn}
+use Rattle.cny_version.specs.cny-base.Reach.{IsReachedIn}
+pub use Rattle.repo_index.specs.trove-stream.NameOrder.{by_name_cmp, HasRisingNames}
 
 -- ---- reach
 
@@ -46,13 +45,6 @@ abbrev pub IsClosedIn : List TroveParts → List TroveParts → Type 0
 IsClosedIn troves found = (t u : TroveParts) → Contains found t → Contains troves u → Contains t.refs u.id → Contains found u
 
 -- ---- names
-
-abbrev pub by_name_cmp : TroveParts → TroveParts → Ordering
-by_name_cmp t u = slice_cmp nat_cmp t.id.name u.id.name
-
--- strictly rising names
-abbrev pub HasRisingNames : List TroveParts → Type 0
-HasRisingNames found = IsStrictlySortedBy by_name_cmp found
 
 -- the first id whose name the one before it has
 abbrev pub first_of_same_name : List TroveParts → Option TroveId

@@ -5,3 +5,5 @@ pub mod Reach
 pub mod Expansion
 pub mod Reached
 pub mod RootConfig
+pub mod AndThen
+pub mod Meant

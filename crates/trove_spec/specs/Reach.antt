@@ -1,7 +1,2 @@
 -- What is reached from some roots, step by step.
-use Rattle.std.specs.Prelude.{ℕ, zero, suc, ◌⊎◌}
-
--- in at most so many steps from a root
-abbrev pub IsReachedIn : {A : Type 0} → (A → A → Type 0) → (A → Type 0) → ℕ → A → Type 0
-IsReachedIn Leads IsRoot zero x = IsRoot x
-IsReachedIn {A} Leads IsRoot (suc n) x = IsReachedIn Leads IsRoot n x ⊎ ((y : A) × IsReachedIn Leads IsRoot n y × Leads y x)
+pub use Rattle.cny_version.specs.cny-base.Reach.{IsReachedIn}

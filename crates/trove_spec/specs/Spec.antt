@@ -1,5 +1,5 @@
 -- Specifications of troves and their texts.
-use Rattle.std.specs.Prelude.{◌≡◌, ℕ, ◌<◌, Bool, false, ◌==◌, IsTrue, List, [], ◌∷◌, ◌++◌, length, slice_index, Option, Some, None, Result, Ok, Err}
+use Rattle.std.specs.Prelude.{◌≡◌, ℕ, Bool, false, ◌==◌, IsTrue, List, [], ◌∷◌, ◌++◌, Option, Some, None, Result, Ok, Err}
 use Rattle.repo_index.specs.cny-base.Name.{is_name}
 use Rattle.repo_index.specs.cny-base.declared.text.TextFault.{TextFault}
 use Rattle.repo_index.specs.cny-base.declared.text.TextFault.TheVariants as fault
@@ -11,6 +11,7 @@ use Rattle.cny_version.specs.Filled.{IsAbbreviationOf}
 use Rattle.trove_spec.specs.declared.spec.Place.{Place}
 use Rattle.trove_spec.specs.declared.spec.Place.TheVariants.{Any, OnLabel, At}
 use Rattle.trove_spec.specs.declared.spec.Spec.{Spec}
+pub use Rattle.repo_index.specs.trove-parts.Parts.{Lacks}
 
 -- ---- the texts of the parts
 
@@ -66,10 +67,6 @@ IsReadAs (Err fault.Memory) value = Unit {0}
 IsReadAs (Err fault.Bad) value = ⊥
 
 -- ---- how a reader cuts a text
-
--- the byte isn't in the list
-abbrev pub Lacks : ℕ → List ℕ → Type 0
-Lacks c bytes = (i : ℕ) → i < length bytes → slice_index bytes i ≡ c → ⊥
 
 -- what stands before the first `=`, and what stands behind it
 pub record IsCutAtEquals (text name : List ℕ) (place : Option (List ℕ)) : Type 0 where

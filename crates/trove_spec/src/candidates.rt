@@ -1,5 +1,5 @@
 //! The troves of a name that a specification may mean.
-ghost use Rattle.std.specs.Prelude.{◌≡◌, None, Some, filter, IsTrue};
+ghost use Rattle.std.specs.Prelude.{◌≡◌, None, Some, filter};
 ghost use Rattle.std.specs.List.{last_or};
 ghost use Rattle.std.specs.Option.{option_copied};
 ghost use Rattle.repo_index.specs.Places.{troves_at};

@@ -1,5 +1,5 @@
 //! The configuration.
-ghost use Rattle.std.specs.Prelude.{◌≡◌, ◌+◌, ◌-◌, ◌^◌, ◌<◌, ◌≤◌, ◌==◌, ◌↔◌, true, false, not, IsTrue, IfOk, IfErr, IsErrOf, List, ℕ, length, drop, map, filter, MatchOption};
+ghost use Rattle.std.specs.Prelude.{◌≡◌, ◌+◌, ◌-◌, ◌^◌, ◌<◌, ◌≤◌, ◌==◌, ◌↔◌, true, false, not, IsTrue, IfOk, IfErr, IsErrOf, List, length, drop, map, filter, MatchOption};
 ghost use Rattle.std.specs.List.{AllZip, slice_split, take_while};
 ghost use Rattle.repo_index.specs.cny-base.declared.limits.TheConstants.{CONFIG_LIMIT};
 ghost use Rattle.repo_index.specs.cny-base.declared.refusal.Fault.TheVariants as fault;

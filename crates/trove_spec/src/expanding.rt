@@ -1,5 +1,5 @@
 //! Which troves some roots reach by references.
-ghost use Rattle.std.specs.Prelude.{◌≡◌, ◌<◌, ◌++◌, ◌∷◌, [], None, List, length, map, OnOk, IfOk, IfErr};
+ghost use Rattle.std.specs.Prelude.{◌≡◌, ◌<◌, ◌++◌, ◌∷◌, [], None, List, map, OnOk, IfOk, IfErr};
 ghost use Rattle.std.specs.Option.{option_map};
 ghost use Rattle.repo_index.specs.trove-parts.declared.id.TroveId.{TroveId};
 ghost use Rattle.repo_index.specs.trove-stream.declared.parts.TroveParts.{TroveParts};

@@ -8,7 +8,7 @@ use Rattle.std.proofs.lemmas.Option.{none-some, same_Some}
 use Rattle.indexmap.specs.IndexSet.{insert_key}
 use Rattle.change_set.specs.trove-stream.declared.parts.TroveParts.{TroveParts}
 use Rattle.update_job.specs.Places.{IsOpenPlace, IsPlaceOfItem, HasAddedPlaces}
-use Rattle.update_job.proofs.Elements.{nothing_in}
+use Rattle.change_rel.proofs.cny-base.Lists.{nothing_in}
 
 module _ {A : Type 0} (name_of : A → List ℕ) (list : List TroveParts) (barred : List ℕ) where
   pub adds_none : (old : List ℕ) → HasAddedPlaces name_of list barred [] old old

@@ -6,27 +6,10 @@ use Rattle.std.proofs.lemmas.List.{take_more}
 use Rattle.std.proofs.lemmas.List.Elements.{Contains-append_left, Contains-push, Contains-push_cases}
 use Rattle.std.proofs.lemmas.Map.Keys.{any_passes_from_place}
 use Rattle.std.proofs.lemmas.Map.Views.{Contains-from_any}
-use Rattle.std.proofs.lemmas.Option.{slice_get-get_or, slice_get_within, same_Some}
+use Rattle.std.proofs.lemmas.Option.{slice_get-get_or}
 use Rattle.indexmap.specs.IndexSet.{insert_key}
 use Rattle.update_job.specs.Places.{HasSame}
-
-pub nothing_in : {A : Type 0} (x : A) → Contains [] x → ⊥
-nothing_in x h = let within = h.1 in omega (arith, within)
-
--- an item of a list has a place
-pub place_in : {A : Type 0} (xs : List A) (x : A) → Contains xs x → (i : ℕ) × (i < length xs) × (slice_get xs i ≡ Some x)
-place_in {A} xs x among = (among.0, among.1, slice_get-get_or xs among.0 x among.1 ∙ ap (λ (y : A). Some y) among.2)
-
-pub contains_at : {A : Type 0} (xs : List A) (i : ℕ) (x : A) → slice_get xs i ≡ Some x → Contains xs x
-contains_at {A} xs i x at =
-    let within = slice_get_within xs i x at in
-    (i, within, same_Some (get_or xs i x) x (sym (slice_get-get_or xs i x within) ∙ at))
-
--- a number of a list has a place
-pub number_at : (keys : List ℕ) (n : ℕ) → Contains keys n → (i : ℕ) × (i < length keys) × (get_or keys i 0 ≡ n)
-number_at keys n among =
-    let at = place_in keys n among in
-    (at.0, at.1, same_Some (get_or keys at.0 0) n (sym (slice_get-get_or keys at.0 0 at.1) ∙ at.2))
+use Rattle.change_rel.proofs.cny-base.Lists.{place_in}
 
 -- a place of a list has an item
 pub item_there : {A : Type 0} (xs : List A) (i : ℕ) → i < length xs → (x : A) × (slice_get xs i ≡ Some x)

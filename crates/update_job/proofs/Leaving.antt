@@ -6,11 +6,13 @@ use Rattle.std.proofs.lemmas.List.Elements.{Contains-append_left, Contains-push,
 use Rattle.std.proofs.lemmas.Option.{slice_get_within}
 use Rattle.std.proofs.lemmas.Map.Views.{Contains-from_any}
 use Rattle.change_set.specs.trove-stream.declared.parts.TroveParts.{TroveParts}
-use Rattle.update_job.specs.Reach.{IsReachedIn}
 use Rattle.update_job.specs.Gone.{IsPlace, Leads, LeadsPast, IsReached, IsOutside, IsKept, IsGone, IsLeft}
 use Rattle.update_job.specs.Places.{ArePlacesReached, AreOthers, ArePlaces, ArePlacesLeft}
-use Rattle.update_job.proofs.Elements.{nothing_in, apart, item_there}
-use Rattle.update_job.proofs.Searching.{reached_later, reached_also}
+use Rattle.update_job.proofs.Elements.{apart, item_there}
+use Rattle.update_job.proofs.Searching.{reached_also}
+use Rattle.change_rel.specs.cny-base.Reach.{IsReachedIn}
+use Rattle.change_rel.proofs.cny-base.Lists.{nothing_in}
+use Rattle.change_rel.proofs.cny-base.Reaching.{reached_later}
 
 -- a place that is reached stands where the roots do
 pub stands_reached : (list : List TroveParts) (IsBarred IsRoot : ℕ → Type 0) → ((place : ℕ) → IsRoot place → IsPlace list place) → (n place : ℕ) → IsReachedIn (LeadsPast list IsBarred) IsRoot n place → IsPlace list place
@@ -132,9 +134,6 @@ others_all list places others n whole so_far = record {
 module _ (list : List TroveParts) (R S : ℕ → Type 0) (to : (place : ℕ) → R place → S place) (back : (place : ℕ) → S place → R place) where
   reached_back : (place : ℕ) → IsReached list S place → IsReached list R place
   reached_back place is = reached_also (Leads list) (Leads list) S R (λ x y step. step) back (length list) place is
-
-  reached_to : (place : ℕ) → IsReached list R place → IsReached list S place
-  reached_to place is = reached_also (Leads list) (Leads list) R S (λ x y step. step) to (length list) place is
 
   kept_to : (place : ℕ) → IsKept list R place → IsKept list S place
   kept_to place is =

@@ -10,3 +10,5 @@ pub mod Reserved
 pub mod Making
 pub mod Unique
 pub mod Bases
+pub use Rattle.change_rel.proofs.trove-parts
+pub use Rattle.change_set.proofs as change-set

@@ -4,26 +4,19 @@ use Rattle.std.specs.BTreeMap.{IsOrdered, values, is_at}
 use Rattle.std.specs.Cmp.Lexicographic.{slice_cmp}
 use Rattle.std.specs.Map.{lookup}
 use Rattle.std.specs.Ordering.{nat_cmp}
-use Rattle.std.proofs.lemmas.Option.{slice_get-get_or, same_Some, none-some}
-use Rattle.change_set.specs.cny-base.declared.refusal.Refusal.{Refusal}
-use Rattle.change_set.specs.cny-base.declared.refusal.Refusal.TheVariants as refusal
+use Rattle.std.proofs.lemmas.Option.{same_Some, none-some}
 use Rattle.indexmap.specs.IndexSet.{insert_key}
-use Rattle.change_set.specs.trove-stream.Installed.{IsPlaceOf, IsNameless}
+use Rattle.change_set.specs.trove-stream.Installed.{IsPlaceOf}
 use Rattle.change_set.specs.trove-stream.declared.parts.TroveParts.{TroveParts}
-use Rattle.update_job.specs.Lists.{IsPlaceOfOne, Stays, IsErased, AreInstalled, IsNotInstalled, HasTroveOf, IsUpdated}
+use Rattle.update_job.specs.Lists.{IsPlaceOfOne, Stays, IsErased, AreInstalled, HasTroveOf, IsUpdated}
 use Rattle.update_job.specs.Places.{ArePlaces, ArePlacesLeft, ArePlacesOf}
 use Rattle.update_job.specs.ByName.{ByName, found, AreNamed, IsAtOne, HasPutAll, AreByName}
-use Rattle.update_job.proofs.Elements.{nothing_in, contains_at, in_more, more_in, next_in, in_inserted, inserted_keeps, inserted_in}
+use Rattle.update_job.proofs.Elements.{in_more, more_in, next_in, in_inserted, inserted_keeps, inserted_in}
 use Rattle.update_job.proofs.Leaving.{left_also, root_goes}
 use Rattle.update_job.proofs.Mapped.{values_rise, found_value, value_found}
+use Rattle.change_rel.proofs.cny-base.Lists.{contains_at}
 
 -- ---- the places of one name more
-
-pub roots_none : (list : List TroveParts) (Named : List ℕ → Type 0) → ((name : List ℕ) → Named name → ⊥) → ArePlacesOf list Named []
-roots_none list Named never = record {
-  each = λ place among. absurd (nothing_in place among);
-  all = λ place is. absurd (never is.name is.named);
-}
 
 module _ (list : List TroveParts) (Before After : List ℕ → Type 0) (name : List ℕ) (old : List ℕ) (weaker : (n : List ℕ) → Before n → After n) (last_or : (n : List ℕ) → After n → Before n ⊎ (name ≡ n))
     (so_far : ArePlacesOf list Before old) where
@@ -56,12 +49,6 @@ pub record RootsSoFar (list : List TroveParts) (names : List (List ℕ)) (keys :
   pub roots : ArePlacesOf list (Contains names) keys
   pub installed : AreInstalled list names
 
-pub names_none : (list : List TroveParts) (keys : List ℕ) → keys ≡ [] → RootsSoFar list [] keys
-names_none list keys is = record {
-  roots = subst (ArePlacesOf list (Contains [])) (sym is) (roots_none list (Contains []) (λ name among. nothing_in name among));
-  installed = λ name among. absurd (nothing_in name among);
-}
-
 pub names_more : (list : List TroveParts) (names : List (List ℕ)) (i : ℕ) (name : List ℕ) (old new : List ℕ) (at : ℕ) → i < length names → name ≡ get_or names i name → RootsSoFar list (take i names) old
     → IsPlaceOf name list at → ((place : ℕ) → IsPlaceOf name list place → Some at ≡ Some place) → new ≡ insert_key eqb old at → RootsSoFar list (take (i + 1) names) new
 names_more list names i name old new at within is so_far at_is only inserted = record {
@@ -71,17 +58,6 @@ names_more list names i name old new at within is so_far at_is only inserted = r
       (λ before. so_far.installed other before none)
       (λ last. none at_is.trove (contains_at list at at_is.trove at_is.there) (at_is.named ∙ last))
       (in_more names i name name within is other among);
-}
-
-pub name_missing : (list : List TroveParts) (names : List (List ℕ)) (i : ℕ) (name : List ℕ) (refused : Refusal) → i < length names → name ≡ get_or names i name → AreInstalled list (take i names)
-    → IsNameless name list → refused ≡ refusal.NotInstalled name → IsNotInstalled list names refused
-name_missing list names i name refused within is installed none refusal_is = record {
-  number = i;
-  name = name;
-  there = slice_get-get_or names i name within ∙ ap (λ (n : List ℕ). Some n) (sym is);
-  missing = none;
-  before = installed;
-  refusal_is = refusal_is;
 }
 
 -- the names of the first troves and of the next one

@@ -1,15 +1,15 @@
 -- Parts that make troves, one after another.
 use Rattle.std.proofs.Common.{◌≡◌, ℕ, ◌+◌, ◌<◌, List, [], ◌∷◌, ◌++◌, length, take, drop, get_or, sym, ◌∙◌, ap, subst}
 use Rattle.std.proofs.lemmas.List.{take_more}
-use Rattle.std.proofs.lemmas.List.Elements.{All-nil, All-push}
+use Rattle.std.proofs.lemmas.List.Elements.{All-push}
 use Rattle.change_set.specs.cny-base.declared.refusal.Fault.{Fault}
 use Rattle.change_set.specs.cny-base.declared.refusal.Fault.TheVariants as fault
 use Rattle.change_set.specs.trove-stream.declared.parts.TroveParts.{TroveParts}
 use Rattle.change_set.specs.declared.change.Part.{Part}
 use Rattle.change_set.specs.Contents.{IfRefused}
-use Rattle.update_job.specs.Allowed.{IsAllowed}
 use Rattle.update_job.specs.Made.{AreMade, IsFirstRefused, IsMade, IsPartRefused, MakesTrove, MakeTroves}
-use Rattle.update_job.proofs.Firsts.{split_at}
+use Rattle.change_rel.specs.trove-stream.Forbidden.{IsAllowed}
+use Rattle.change_rel.proofs.cny-base.Lists.{split_at}
 
 make_push : (installed : List TroveParts) (parts : List Part) (troves : List TroveParts) (part : Part) (trove : TroveParts) → MakeTroves installed parts troves → MakesTrove installed part trove
     → MakeTroves installed (parts ++ part ∷ []) (troves ++ trove ∷ [])
@@ -17,9 +17,6 @@ make_push installed [] [] part trove make one = (one, tt)
 make_push installed [] (t ∷ troves) part trove make one = absurd make
 make_push installed (p ∷ parts) [] part trove make one = absurd make
 make_push installed (p ∷ parts) (t ∷ troves) part trove make one = (make.0, make_push installed parts troves part trove make.1 one)
-
-pub none_made : (installed : List TroveParts) → AreMade installed [] []
-none_made installed = record { make = tt; allowed = All-nil IsAllowed }
 
 pub made_more : (installed : List TroveParts) (parts : List Part) (i : ℕ) (part : Part) (troves : List TroveParts) (trove : TroveParts) → i < length parts → part ≡ get_or parts i part
     → AreMade installed (take i parts) troves → IsMade installed part trove → AreMade installed (take (i + 1) parts) (troves ++ trove ∷ [])

@@ -6,7 +6,7 @@ use Rattle.std.specs.Cmp.Lexicographic.{slice_cmp, nat_list_cmp_total}
 use Rattle.std.specs.FinMap.{nat_cmp-IsAntisymmetric, slice_cmp-IsAntisymmetric}
 use Rattle.std.specs.List.{AllByRecursion}
 use Rattle.std.specs.List.Sorted.{IsStrictlySortedBy}
-use Rattle.std.specs.Map.{lookup, keys_of, values_of}
+use Rattle.std.specs.Map.{keys_of, values_of}
 use Rattle.std.specs.Ordering.{nat_cmp, is_eq}
 use Rattle.std.specs.declared.cmp.Ordering.TheVariants.{Less, Equal}
 use Rattle.std.proofs.lemmas.Bool.{cases_lt}
@@ -14,7 +14,7 @@ use Rattle.std.proofs.lemmas.Cmp.{tied_itself}
 use Rattle.std.proofs.lemmas.List.Elements.{Contains-get_or}
 use Rattle.std.proofs.lemmas.Map.Entries.{place_from_lookup, btree_map_get_place}
 use Rattle.std.proofs.lemmas.Map.Keys.{Less-from_sorted}
-use Rattle.std.proofs.lemmas.Option.{slice_get-get_or, slice_get_within, same_Some, none-some}
+use Rattle.std.proofs.lemmas.Option.{slice_get-get_or, slice_get_within, same_Some}
 use Rattle.change_set.specs.cny-base.declared.refusal.Fault.{Fault}
 use Rattle.change_set.specs.cny-base.declared.refusal.Fault.TheVariants.{Refused, Memory}
 use Rattle.change_set.specs.trove-stream.Installed.{by_name, IsRising}
@@ -22,7 +22,8 @@ use Rattle.change_set.specs.trove-stream.declared.parts.TroveParts.{TroveParts}
 use Rattle.update_job.specs.Lists.{IsOneOfEach, IsUnupdated}
 use Rattle.update_job.specs.Places.{ArePlaces}
 use Rattle.update_job.specs.ByName.{ByName, found, same, AreNamed, HasPut, HasPutAt, IsAtOne, HasPutAll, AreByName, HasAdmitted, IsNotAdmitted}
-use Rattle.update_job.proofs.Elements.{nothing_in, place_in, contains_at, in_more, more_in, next_in}
+use Rattle.update_job.proofs.Elements.{in_more, more_in, next_in}
+use Rattle.change_rel.proofs.cny-base.Lists.{contains_at, nothing_in, place_in}
 
 -- ---- names
 
@@ -136,12 +137,6 @@ pub record AdmittedSoFar (list : List TroveParts) (troves : ByName) : Type 0 whe
 
 pub once_of : (list : List TroveParts) (troves : ByName) → AreByName list troves → IsOneOfEach list
 once_of list troves by t u t_in u_in names = same_Some t u (sym (by.all t t_in) ∙ ap (found troves) names ∙ by.all u u_in)
-
-pub admitted_none : (empty : ByName) → empty.entries ≡ [] → AreByName [] empty
-admitted_none empty is = record {
-  from = λ name t some. absurd (none-some t (ap (lookup (is_at (slice_cmp nat_cmp name))) (sym is) ∙ some));
-  all = λ t among. absurd (nothing_in t among);
-}
 
 module _ (list : List TroveParts) (i : ℕ) (t : TroveParts) (before : ByName) (within : i < length list) (is : t ≡ get_or list i t) (so_far : AreByName (take i list) before) where
   admitted_from : (now : ByName) → HasAdmitted before t now → (name : List ℕ) (u : TroveParts) → found now name ≡ Some u → (b : Bool) → same t.id.name name ≡ b → Contains (take (i + 1) list) u × (u.id.name ≡ name)

@@ -1,5 +1,5 @@
 -- Changes in a map by the names of their troves, and the list of such a map.
-use Rattle.std.proofs.Common.{◌≡◌, ℕ, zero, suc, ◌+◌, ◌<◌, ◌⊎◌, ⊎_elim, inl, inr, Bool, true, false, cond, List, [], ◌∷◌, ◌++◌, length, get_or, take, slice_get, Contains, true≢false, Option, Some, None, refl, sym, ap, subst, ◌∙◌, arith}
+use Rattle.std.proofs.Common.{◌≡◌, ℕ, zero, suc, ◌+◌, ◌<◌, ◌⊎◌, ⊎_elim, inl, inr, Bool, true, false, cond, List, [], ◌∷◌, length, get_or, take, slice_get, Contains, true≢false, Option, Some, None, refl, sym, ap, subst, ◌∙◌, arith}
 use Rattle.std.specs.BTreeMap.{IsOrdered, values, is_at}
 use Rattle.std.specs.Cmp.Lexicographic.{slice_cmp, nat_list_cmp_total, bytes_decides}
 use Rattle.std.specs.Str.{bytes_eq}
@@ -13,11 +13,12 @@ use Rattle.std.proofs.lemmas.Option.{slice_get-get_or, slice_get_within, same_So
 use Rattle.change_set.specs.trove-stream.Installed.{IsRising, IsNameless, IsPlaceOf, trove_of}
 use Rattle.change_set.specs.trove-stream.declared.parts.TroveParts.{TroveParts}
 use Rattle.update_job.specs.declared.comparing.Change.{Change}
-use Rattle.update_job.specs.declared.comparing.Change.TheVariants.{Installed, Updated, Erased}
 use Rattle.update_job.specs.ByName.{same}
-use Rattle.update_job.specs.Changes.{name_of, by_change, IsLost, IsReplaced, IsFresh, IsChange, AreChanges, Noted, noted, HasNoted, NotesOne, IsOf, NotesAll}
-use Rattle.update_job.proofs.Elements.{nothing_in, place_in, contains_at, in_more, more_in, next_in}
+use Rattle.update_job.specs.Changes.{name_of, by_change, IsLost, IsReplaced, IsFresh, AreChanges, Noted, noted, HasNoted, NotesOne, IsOf, NotesAll}
+use Rattle.update_job.proofs.Elements.{in_more, more_in, next_in}
 use Rattle.update_job.proofs.Mapped.{same_means, same_from, one_named}
+use Rattle.change_rel.proofs.cny-base.Lists.{contains_at, nothing_in, place_in}
+use Rattle.change_rel.proofs.trove-stream.Places.{first_or_later}
 
 -- ---- items of the first part of a list
 
@@ -125,13 +126,6 @@ note_next Is one list rises i t old before now within is so_far step ordered = r
 
 -- ---- the trove of a name
 
-first_or_later : (x t : TroveParts) (list : List TroveParts) → Contains (x ∷ list) t → (x ≡ t) ⊎ Contains list t
-first_or_later x t list h = at h.0 h.1 h.2
-  where
-    at : (k : ℕ) → k < length (x ∷ list) → get_or (x ∷ list) k t ≡ t → (x ≡ t) ⊎ Contains list t
-    at zero within is = inl is
-    at (suc k) within is = inr (k, omega (arith, within), is)
-
 pub nameless_from : (list : List TroveParts) (name : List ℕ) → trove_of name list ≡ None → IsNameless name list
 nameless_from [] name none t h is = absurd (nothing_in t h)
 nameless_from (x ∷ list) name none t h is = at (λ rest later. nameless_from list name rest t later is) (bytes_eq x.id.name name) refl
@@ -187,15 +181,15 @@ one_fresh before t c d first second = ⊎_elim
 -- ---- the list of a map
 
 -- an entry has the name of its change as its key
-abbrev HasNames : List (List ℕ × Change) → Type 0
+abbrev pub HasNames : List (List ℕ × Change) → Type 0
 HasNames es = (i : ℕ) (k : List ℕ) (c : Change) → slice_get es i ≡ Some (k, c) → name_of c ≡ k
 
-above : (name : List ℕ) (es : List (List ℕ × Change)) → AllByRecursion (λ (k : List ℕ). slice_cmp nat_cmp name k ≡ Less) (keys_of es) → HasNames es
+pub above : (name : List ℕ) (es : List (List ℕ × Change)) → AllByRecursion (λ (k : List ℕ). slice_cmp nat_cmp name k ≡ Less) (keys_of es) → HasNames es
     → AllByRecursion (λ (c : Change). slice_cmp nat_cmp name (name_of c) ≡ Less) (values_of es)
 above name [] all named = tt
 above name (e ∷ es) all named = (ap (slice_cmp nat_cmp name) (named 0 e.0 e.1 refl) ∙ all.0, above name es all.1 (λ i k c is. named (suc i) k c is))
 
-rises_by : (es : List (List ℕ × Change)) → IsStrictlySortedBy (slice_cmp nat_cmp) (keys_of es) → HasNames es → IsStrictlySortedBy by_change (values_of es)
+pub rises_by : (es : List (List ℕ × Change)) → IsStrictlySortedBy (slice_cmp nat_cmp) (keys_of es) → HasNames es → IsStrictlySortedBy by_change (values_of es)
 unfolding IsStrictlySortedBy
 rises_by [] sorted named = tt
 rises_by (e ∷ es) sorted named = (
@@ -203,12 +197,12 @@ rises_by (e ∷ es) sorted named = (
   rises_by es sorted.1 (λ i k c is. named (suc i) k c is),
 )
 
-value_place : (es : List (List ℕ × Change)) (i : ℕ) (c : Change) → slice_get (values_of es) i ≡ Some c → (k : List ℕ) × (slice_get es i ≡ Some (k, c))
+pub value_place : (es : List (List ℕ × Change)) (i : ℕ) (c : Change) → slice_get (values_of es) i ≡ Some c → (k : List ℕ) × (slice_get es i ≡ Some (k, c))
 value_place [] i c is = (let within = slice_get_within [] i c is in absurd (omega (arith, within)))
 value_place (e ∷ es) zero c is = (e.0, ap (λ (w : Change). Some (e.0, w)) (same_Some e.1 c is))
 value_place (e ∷ es) (suc i) c is = value_place es i c is
 
-value_at : (es : List (List ℕ × Change)) (i : ℕ) (k : List ℕ) (c : Change) → slice_get es i ≡ Some (k, c) → slice_get (values_of es) i ≡ Some c
+pub value_at : (es : List (List ℕ × Change)) (i : ℕ) (k : List ℕ) (c : Change) → slice_get es i ≡ Some (k, c) → slice_get (values_of es) i ≡ Some c
 value_at [] i k c is = (let within = slice_get_within [] i (k, c) is in absurd (omega (arith, within)))
 value_at (e ∷ es) zero k c is = ap (λ (w : List ℕ × Change). Some w.1) (same_Some e (k, c) is)
 value_at (e ∷ es) (suc i) k c is = value_at es i k c is

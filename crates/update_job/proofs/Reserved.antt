@@ -1,5 +1,5 @@
 -- Troves that are allowed, and the first that isn't.
-use Rattle.std.proofs.Common.{◌≡◌, ℕ, ◌<◌, List, [], ◌∷◌, ◌++◌, length, take, drop, ◌+◌, get_or, Option, Some, None, Result, Ok, Err, IsErrAnd, refl, sym, ◌∙◌, ap, subst}
+use Rattle.std.proofs.Common.{◌≡◌, ℕ, ◌<◌, List, [], ◌∷◌, ◌++◌, length, take, drop, ◌+◌, get_or, Option, Some, None, Result, Ok, IsErrAnd, refl, sym, ◌∙◌, ap, subst}
 use Rattle.std.specs.Prelude.{IsOk, MatchOption}
 use Rattle.std.proofs.lemmas.List.{take_more}
 use Rattle.std.proofs.lemmas.List.Elements.{All-push, recursion_from_All}
@@ -10,14 +10,14 @@ use Rattle.change_set.specs.cny-base.declared.refusal.Refusal.TheVariants.{Reser
 use Rattle.change_set.specs.trove-stream.declared.parts.TroveParts.{TroveParts}
 use Rattle.change_set.specs.trove-stream.Forbidden.{first_forbidden, IsReservedOrMemory}
 use Rattle.change_set.specs.Contents.{IfRefused}
-use Rattle.update_job.specs.Allowed.{AreAllowed, IsAllowed, IsFirstReserved, IsReserved}
-use Rattle.update_job.proofs.Firsts.{none_fails, one_first, split_at}
+use Rattle.update_job.specs.Allowed.{AreAllowed, IsFirstReserved, IsReserved}
+use Rattle.update_job.proofs.Firsts.{none_fails, one_first}
+use Rattle.change_rel.proofs.cny-base.Faults.{stopped}
+use Rattle.change_rel.specs.trove-stream.Forbidden.{IsAllowed}
+use Rattle.change_rel.proofs.cny-base.OptionValues.{same_path}
+use Rattle.change_rel.proofs.cny-base.Lists.{split_at}
 
 -- ---- one trove
-
--- a test that stopped
-abbrev stopped : Fault → Result (Unit {0}) Fault
-stopped e = Err e
 
 abbrev passed : Unit {0} → Result (Unit {0}) Fault
 passed u = Ok u
@@ -33,9 +33,6 @@ reserved_by t e checked = by (first_forbidden t.files) refl e checked
     by None is e checked = absurd (cc checked)
     by (Some path) is (fault.Refused refusal) checked = record { path = path; first = is; refused = checked }
     by (Some path) is fault.Memory checked = tt
-
-same_path : (a b : List ℕ) → Some a ≡ Some b → a ≡ b
-same_path a b e = cc e
 
 pub reserved_once : (t : TroveParts) (a b : Refusal) → IsReserved t a → IsReserved t b → a ≡ b
 reserved_once t a b x y = x.refused ∙ ap (λ (p : List ℕ). Reserved p) (same_path x.path y.path (sym x.first ∙ y.first)) ∙ sym y.refused

@@ -9,22 +9,13 @@ use Rattle.std.proofs.lemmas.Map.Views.{Contains-from_any}
 use Rattle.std.proofs.lemmas.Option.{slice_get_within, same_Some}
 use Rattle.change_set.specs.trove-parts.declared.id.TroveId.{TroveId}
 use Rattle.change_set.specs.trove-stream.declared.parts.TroveParts.{TroveParts}
-use Rattle.update_job.specs.Reach.{IsReachedIn}
 use Rattle.update_job.specs.Gone.{IsPlace, Leads, LeadsPast}
 use Rattle.update_job.specs.Places.{IsPlaceOfItem, HasAddedPlaces, HasAddedRefs, ArePlacesReached, HasSame, ArePlaces, name_of_id}
-use Rattle.update_job.proofs.Elements.{number_at}
+use Rattle.change_rel.specs.cny-base.Reach.{IsReachedIn}
+use Rattle.change_rel.proofs.cny-base.Lists.{number_at}
+use Rattle.change_rel.proofs.cny-base.Reaching.{reached_later}
 
 -- ---- steps
-
-module _ {A : Type 0} (Follows : A → A → Type 0) (IsRoot : A → Type 0) where
-  pub reached_later : (n m : ℕ) (x : A) → n ≤ m → IsReachedIn Follows IsRoot n x → IsReachedIn Follows IsRoot m x
-  reached_later n zero x most h =
-      let same : n ≡ 0 = omega arith in
-      subst (λ (k : ℕ). IsReachedIn Follows IsRoot k x) same h
-  reached_later n (suc m) x most h = elim (cases_lt m n) [
-    | inl past ↦ (let same : n ≡ suc m = omega (arith, past, most) in subst (λ (k : ℕ). IsReachedIn Follows IsRoot k x) same h)
-    | inr before ↦ inl (reached_later n m x before h)
-  ]
 
 -- where each step is a step of another kind, and each root a root of another kind
 pub reached_also : {A : Type 0} (F G : A → A → Type 0) (R S : A → Type 0) → ((x y : A) → F x y → G x y) → ((x : A) → R x → S x) → (n : ℕ) (x : A) → IsReachedIn F R n x → IsReachedIn G S n x

@@ -8,14 +8,12 @@ use Rattle.change_set.specs.trove-stream.declared.parts.TroveParts.{TroveParts}
 use Rattle.change_rel.specs.Leads.{Leads}
 use Rattle.change_set.specs.declared.change.Part.{Part}
 use Rattle.change_set.specs.declared.change.Part.TheVariants.{Whole, Relative}
-use Rattle.update_job.specs.Allowed.{AreAllowed, IsAllowed, IsReserved}
+use Rattle.update_job.specs.Allowed.{AreAllowed, IsReserved}
 use Rattle.update_job.specs.Made.{AreMade, IsFirstRefused, IsLedTo, IsMade, IsPartRefused, LacksTrove, MakesTrove, MakeTroves}
 use Rattle.update_job.proofs.Firsts.{none_fails, one_first}
 use Rattle.update_job.proofs.Reserved.{allowed_apart, reserved_once}
-
--- a relative trove leads from a trove to one at most
-abbrev pub LeadsToOne : Type 0
-LeadsToOne = (rel : RelParts) (old a b : TroveParts) → Leads rel old a → Leads rel old b → a ≡ b
+use Rattle.change_rel.proofs.Unique.{LeadsToOne}
+use Rattle.change_rel.specs.trove-stream.Forbidden.{IsAllowed}
 
 some_one : (a b : TroveParts) → Some a ≡ Some b → a ≡ b
 some_one a b e = cc e

@@ -1,13 +1,10 @@
 -- Troves without a path that no trove may record, and the first that has one.
-use Rattle.std.specs.Prelude.{◌≡◌, ℕ, List, ◌∷◌, ◌++◌, All, Some, None}
+use Rattle.std.specs.Prelude.{◌≡◌, ℕ, List, ◌∷◌, ◌++◌, All, Some}
 use Rattle.change_set.specs.cny-base.declared.refusal.Refusal.{Refusal}
 use Rattle.change_set.specs.cny-base.declared.refusal.Refusal.TheVariants.{Reserved}
 use Rattle.change_set.specs.trove-stream.declared.parts.TroveParts.{TroveParts}
 use Rattle.change_set.specs.trove-stream.Forbidden.{first_forbidden}
-
--- the trove records no path that no trove may record
-abbrev pub IsAllowed : TroveParts → Type 0
-IsAllowed t = first_forbidden t.files ≡ None
+pub use Rattle.change_rel.specs.trove-stream.Forbidden.{IsAllowed}
 
 -- nor does any of these
 abbrev pub AreAllowed : List TroveParts → Type 0

@@ -3,7 +3,7 @@ use Rattle.std.specs.Prelude.{◌≡◌, ℕ, List, length, slice_get, Some, Con
 use Rattle.change_set.specs.trove-stream.Installed.{IsPlaceOf}
 use Rattle.change_set.specs.trove-parts.declared.id.TroveId.{TroveId}
 use Rattle.change_set.specs.trove-stream.declared.parts.TroveParts.{TroveParts}
-use Rattle.update_job.specs.Reach.{IsReachedIn}
+use Rattle.change_rel.specs.cny-base.Reach.{IsReachedIn}
 
 -- a trove of the list stands there
 abbrev pub IsPlace : List TroveParts → ℕ → Type 0

@@ -9,7 +9,8 @@ use Rattle.change_rel.specs.Leads.{Leads}
 use Rattle.change_set.specs.declared.change.Part.{Part}
 use Rattle.change_set.specs.declared.change.Part.TheVariants.{Whole, Relative}
 use Rattle.change_set.specs.trove-stream.Installed.{trove_of}
-use Rattle.update_job.specs.Allowed.{AreAllowed, IsAllowed, IsReserved}
+use Rattle.update_job.specs.Allowed.{AreAllowed, IsReserved}
+use Rattle.change_rel.specs.trove-stream.Forbidden.{IsAllowed}
 
 -- The relative trove makes this trove of the installed one of its name, which has the id from which it leads.
 pub record IsLedTo (installed : List TroveParts) (rel : RelParts) (made : TroveParts) : Type 0 where

@@ -3,9 +3,9 @@ use Rattle.std.specs.Prelude.{◌≡◌, ℕ, List, length, slice_get, Some, Con
 use Rattle.change_set.specs.trove-stream.Installed.{IsPlaceOf}
 use Rattle.change_set.specs.trove-parts.declared.id.TroveId.{TroveId}
 use Rattle.change_set.specs.trove-stream.declared.parts.TroveParts.{TroveParts}
-use Rattle.update_job.specs.Reach.{IsReachedIn}
 use Rattle.update_job.specs.Gone.{IsPlace, LeadsPast, IsLeft}
 use Rattle.update_job.specs.Lists.{IsPlaceOfOne}
+use Rattle.change_rel.specs.cny-base.Reach.{IsReachedIn}
 
 -- the place of the trove of a name, where it isn't among the barred ones
 pub record IsOpenPlace (list : List TroveParts) (barred : List ℕ) (name : List ℕ) (place : ℕ) : Type 0 where
@@ -27,12 +27,6 @@ pub record HasAddedPlaces {A : Type 0} (name_of : A → List ℕ) (list : List T
 
 abbrev pub name_of_id : TroveId → List ℕ
 name_of_id id = id.name
-
-abbrev pub name_of_trove : TroveParts → List ℕ
-name_of_trove t = t.id.name
-
-abbrev pub own_name : List ℕ → List ℕ
-own_name name = name
 
 -- the same, with the ids to which the trove at a place refers
 abbrev pub HasAddedRefs : List TroveParts → List ℕ → ℕ → List ℕ → List ℕ → Type 0

@@ -1,25 +1,13 @@
 //! The troves that the parts of a change set make of the installed ones.
-ghost use Rattle.std.specs.Prelude.{◌≡◌, IfErr, IfOk};
-ghost use Rattle.change_set.specs.cny-base.declared.refusal.Refusal.TheVariants as refusal;
-ghost use Rattle.change_set.specs.trove-parts.Id.{id_text_of};
+ghost use Rattle.std.specs.Prelude.{IfErr, IfOk};
 ghost use Rattle.change_set.specs.Contents.{IfRefused};
 ghost use Rattle.update_job.specs.Made.{AreMade, IsFirstRefused, IsLedTo, IsMade, IsPartRefused, LacksBase, LacksTrove, MakesTrove};
 
-use change_rel::apply;
+use change_rel::{apply, missing_base};
 use change_set::Part;
-use change_set::cny_base::{Copies, Fault, Refusal};
-use change_set::trove_parts::{TroveId, id_text};
+use change_set::cny_base::{Copies, Fault};
 use change_set::trove_stream::{Installed, RelTrove, Trove, Troves, check};
 use std::alloc::Global;
-
-fn missing_base(alloc: Global, id: &TroveId) -> Fault
-    ensures { IfRefused (λ refused. refused ≡ refusal.MissingBase (id_text_of id.now)) result }
-{
-    match id_text(alloc, id) {
-        Ok(trove) => Fault::Refused(Refusal::MissingBase { trove }),
-        Err(_) => Fault::Memory,
-    }
-}
 
 // The trove to which a relative one leads from the installed trove of its name. Whether that has the id, `apply` tests.
 fn led_to(alloc: Global, installed: &Installed, rel: &RelTrove) -> Result<Trove, Fault>

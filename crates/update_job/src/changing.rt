@@ -1,6 +1,5 @@
 //! The installed lists after an update and an erasure.
-ghost use Rattle.std.specs.Prelude.{◌≡◌, ℕ, List, Contains, IfOk, IfErr, OnOk};
-ghost use Rattle.change_set.specs.trove-stream.Installed.{IsNameless};
+ghost use Rattle.std.specs.Prelude.{◌≡◌, Contains, IfOk, IfErr, OnOk};
 ghost use Rattle.change_set.specs.cny-base.declared.refusal.Refusal.TheVariants as refusal;
 ghost use Rattle.update_job.specs.Lists.{AreInstalled, IsErased, IsUnerased, IsUpdated, IsUnupdated, IsOneOfEach, HasTroveOf};
 ghost use Rattle.update_job.specs.Places.{ArePlacesOf};

@@ -1,10 +1,9 @@
 use Rattle.std.proofs.Common.{cond, None, Ok, ap, sym, ◌∙◌, false}
-use Rattle.tree_scan.specs.tree-disk.StepLaws.{tests_value}
+use Rattle.tree_scan.proofs.tree-disk.StepLaws.{tests_value}
 use Rattle.tree_scan.specs.Marks.{fingerprint_at}
 use Rattle.conflict_plan.specs.Drafts.{draft_by}
 use Rattle.conflict_plan.specs.Table.{path_outcome}
 use Rattle.conflict_plan.proofs.Above.{decided_may, tests_decided}
-use Rattle.conflict_plan.specs.Picked.{IsPickedDraft}
 use Rattle.conflict_plan.proofs.Picking.{decided_picked}
 use Rattle.conflict_plan.proofs.drafting.draft_of.Goals as goal
 

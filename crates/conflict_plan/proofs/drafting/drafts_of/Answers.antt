@@ -2,12 +2,12 @@ use Rattle.std.proofs.Common.{◌+◌, ℕ, Ok, drop, length, refl, sym, ap, ◌
 use Rattle.std.proofs.lemmas.Iterator.Adapters.{YieldsList-from_vec}
 use Rattle.std.proofs.lemmas.Iterator.Consumers.{YieldsList-turn}
 use Rattle.std.proofs.lemmas.List.{length_push}
-use Rattle.tree_scan.specs.tree-disk.StepLaws.{tests_answer, tests_stop}
+use Rattle.tree_scan.proofs.tree-disk.StepLaws.{tests_answer, tests_stop}
 use Rattle.conflict_plan.specs.Drafts.{drafts_of}
 use Rattle.conflict_plan.specs.Picked.{IsPickedDraft}
 use Rattle.conflict_plan.proofs.Ahead.{ahead_of, one_ahead, other_ahead, refused_ahead}
-use Rattle.tree_scan.specs.Following.{tests_next}
 use Rattle.conflict_plan.proofs.Picking.{picks_none, picks_one, PicksOn}
+use Rattle.tree_scan.proofs.tree-disk.Deciding.{tests_next}
 use Rattle.conflict_plan.proofs.drafting.drafts_of.Goals as goal
 
 pub returns-in_err-draft-clause-tests : goal.returns-in_err-draft-clause-tests

@@ -1,8 +1,8 @@
 use Rattle.std.proofs.Common.{refl, sym, ap, subst, ◌∙◌, arith, reverse, take}
-use Rattle.tree_scan.specs.tree-disk.StepLaws.{tests_answer, tests_value}
+use Rattle.tree_scan.proofs.tree-disk.StepLaws.{tests_answer, tests_value}
 use Rattle.conflict_plan.specs.Orphans.{least_orphan, lesser, IsSeenPlan}
-use Rattle.tree_scan.specs.Following.{tests_next}
 use Rattle.conflict_plan.proofs.Sighted.{least_more, seen_item}
+use Rattle.tree_scan.proofs.tree-disk.Deciding.{tests_next}
 use Rattle.conflict_plan.proofs.orphans.first_orphan.Goals as goal
 
 pub orphan_by-requires : goal.orphan_by-requires

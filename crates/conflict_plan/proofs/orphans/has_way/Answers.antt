@@ -1,6 +1,6 @@
 use Rattle.std.proofs.Common.{◌≡◌, IsNone, IfSome, Ok, ap, sym, ◌∙◌, subst}
 use Rattle.trove_stream.specs.cny-base.Path.{parent}
-use Rattle.tree_scan.specs.tree-disk.StepLaws.{tests_answer, tests_start, tests_value}
+use Rattle.tree_scan.proofs.tree-disk.StepLaws.{tests_answer, tests_start, tests_value}
 use Rattle.conflict_plan.proofs.Above.{way_above, way_planned}
 use Rattle.conflict_plan.proofs.orphans.has_way.Goals as goal
 

@@ -1,10 +1,10 @@
 use Rattle.std.proofs.Common.{cond, None, Ok, ap, sym, ◌∙◌}
-use Rattle.tree_scan.specs.tree-disk.StepLaws.{tests_as}
+use Rattle.tree_scan.proofs.tree-disk.StepLaws.{tests_as}
 use Rattle.tree_scan.specs.tree-disk.Tree.{children}
 use Rattle.tree_scan.specs.Marks.{is_dir}
 use Rattle.conflict_plan.specs.Orphans.{first_remaining, wants_dir}
-use Rattle.conflict_plan.proofs.Remaining.{and_first}
 use Rattle.conflict_plan.proofs.Sighted.{dir_at}
+use Rattle.tree_scan.proofs.tree-disk.Nodes.{left_true as and_first}
 use Rattle.conflict_plan.proofs.orphans.left_below.Goals as goal
 
 pub first_left-requires : goal.first_left-requires

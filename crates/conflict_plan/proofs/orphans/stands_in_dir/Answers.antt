@@ -1,5 +1,5 @@
 use Rattle.std.proofs.Common.{◌≡◌, true, false, Ok, ap, sym, ◌∙◌}
-use Rattle.tree_scan.specs.tree-disk.StepLaws.{tests_start}
+use Rattle.tree_scan.proofs.tree-disk.StepLaws.{tests_start}
 use Rattle.tree_scan.specs.Marks.{is_nothing}
 use Rattle.conflict_plan.proofs.Above.{stands_above}
 use Rattle.conflict_plan.proofs.orphans.stands_in_dir.Goals as goal

@@ -1,6 +1,6 @@
 use Rattle.std.proofs.Common.{Ok, refl, sym, subst, ◌∙◌}
 use Rattle.std.specs.List.{All}
-use Rattle.tree_scan.specs.tree-disk.StepLaws.{tests_start, tests_value}
+use Rattle.tree_scan.proofs.tree-disk.StepLaws.{tests_start, tests_value}
 use Rattle.tree_scan.specs.tree-disk.Steps.{Tests}
 use Rattle.conflict_plan.specs.Entries.{first_shared}
 use Rattle.conflict_plan.specs.Orphans.{IsSeenPlan}
@@ -8,10 +8,10 @@ use Rattle.conflict_plan.specs.Plan.{IsFirstRefusal, IsPlanRefusal, RefusesShare
 use Rattle.conflict_plan.specs.Settled.{IsSeen}
 use Rattle.conflict_plan.proofs.Assembled.{first_owned, to_found, unshared}
 use Rattle.conflict_plan.proofs.Ending.{disk_passed, disk_told, memory_passed, memory_told, plans_found, plans_memory, plans_refused, plans_shared, plans_stop, shared_passed, shared_told, table_passed, table_told}
-use Rattle.tree_scan.specs.Following.{tests_next}
 use Rattle.conflict_plan.proofs.Whole.{all_drafts_seen, all_planned_seen, ends_conflict, ends_orphan, ends_plan, entries_are, found_are}
 use Rattle.conflict_plan.proofs.Picking.{are_plannable}
 use Rattle.conflict_plan.specs.Plan.{ArePlannable}
+use Rattle.tree_scan.proofs.tree-disk.Deciding.{tests_next}
 use Rattle.conflict_plan.proofs.planning.plan.Goals as goal
 
 pub returns-in_err-records-clause-plans : goal.returns-in_err-records-clause-plans

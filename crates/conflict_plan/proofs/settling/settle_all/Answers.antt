@@ -1,10 +1,10 @@
 use Rattle.std.proofs.Common.{Some, refl, sym, ap, ◌∙◌}
 use Rattle.std.proofs.lemmas.List.Elements.{All-pop}
-use Rattle.tree_scan.specs.tree-disk.StepLaws.{tests_answer, tests_value}
+use Rattle.tree_scan.proofs.tree-disk.StepLaws.{tests_answer, tests_value}
 use Rattle.conflict_plan.specs.Settled.{settled_on, IsSeen}
-use Rattle.tree_scan.specs.Following.{tests_next}
 use Rattle.conflict_plan.proofs.Sighted.{settled_push}
 use Rattle.conflict_plan.proofs.Picking.{keeps_one}
+use Rattle.tree_scan.proofs.tree-disk.Deciding.{tests_next}
 use Rattle.conflict_plan.proofs.settling.settle_all.Goals as goal
 
 pub drafts-preserved : goal.drafts-preserved

@@ -1,5 +1,5 @@
 use Rattle.std.proofs.Common.{sym, ◌∙◌}
-use Rattle.dep_closure.proofs.Names.{one_list}
+use Rattle.trove_stream.proofs.Names.{one_list}
 use Rattle.dep_closure.proofs.laws.one_changed_list.Goals as goal
 
 pub returns : goal.returns

@@ -1,13 +1,10 @@
-use Rattle.std.proofs.Common.{◌≡◌, Bool, true, false, not, refl, sym, ◌∙◌}
+use Rattle.std.proofs.Common.{◌≡◌, sym, ◌∙◌}
 use Rattle.std.specs.Cmp.Lexicographic.{bytes_decides}
 use Rattle.std.specs.Str.{bytes_eq}
 use Rattle.cny_dep.specs.declared.class.Class.TheVariants.{Trove}
 use Rattle.dep_closure.proofs.Provided.{no_flags, flags_of_none}
+use Rattle.trove_stream.proofs.cny-base.Bools.{not_false}
 use Rattle.dep_closure.proofs.providing.is_met_by_name.Goals as goal
-
-not_false : (b : Bool) → not b ≡ false → b ≡ true
-not_false true h = refl
-not_false false h = absurd (cc)
 
 pub returns : goal.returns
 returns c =

@@ -12,9 +12,9 @@ use Rattle.cny_version.specs.Revision.{is_revision}
 use Rattle.cny_version.specs.TooLarge.{TooLargeOrMemory}
 use Rattle.cny_version.specs.Version.{depth, WholeVersion}
 use Rattle.repo_index.specs.Next.{latest_revision, refusal_after, version_after}
-use Rattle.repo_index.specs.Steps.{IsRefusalOrMemory}
 use Rattle.repo_index.proofs.Passing.{handed_on}
 use Rattle.repo_index.proofs.Refusing.{count_refused, none_refused, not_err, number, size_of, version_refused}
+use Rattle.cny_version.specs.cny-base.Refusals.{IsRefusalOrMemory}
 use Rattle.repo_index.proofs.latest.next_version.Goals as goal
 
 pub next_revision-requires-clause-fits : goal.next_revision-requires-clause-fits

@@ -1,5 +1,4 @@
-use Rattle.std.proofs.Common.{◌≡◌, ◌<◌, ◌∷◌, List, length, arith, sym, subst, ◌∙◌}
-use Rattle.trove_stream.specs.declared.parts.TroveParts.{TroveParts}
+use Rattle.std.proofs.Common.{◌<◌, length, arith, sym, subst, ◌∙◌}
 use Rattle.trove_stream.specs.Trove.{HasRightBuild}
 use Rattle.repo_index.specs.Next.{next_troves}
 use Rattle.repo_index.specs.Steps.{IsErrOrMemory}

@@ -4,7 +4,7 @@ use Rattle.trove_stream.specs.trove-parts.declared.id.TroveId.{TroveId}
 use Rattle.trove_stream.specs.trove-parts.Order.{id_eq}
 use Rattle.repo_index.specs.Catalogue.{has_id}
 use Rattle.repo_index.specs.Places.{troves_at}
-use Rattle.repo_index.specs.PlacesLaws.{find_at-none, find_at-other, find_at-found}
+use Rattle.repo_index.proofs.PlacesLaws.{find_at-none, find_at-other, find_at-found}
 use Rattle.repo_index.proofs.search.find_among.Goals.{in-Some+else-eq, in_default}
 use Rattle.repo_index.proofs.search.find_among.Goals as goal
 

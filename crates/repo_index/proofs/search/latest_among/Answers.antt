@@ -3,7 +3,7 @@ use Rattle.std.specs.List.{last_or}
 use Rattle.trove_stream.specs.trove-parts.declared.id.TroveId.{TroveId}
 use Rattle.repo_index.specs.Catalogue.{is_of, is_revision_of}
 use Rattle.repo_index.specs.Places.{troves_at}
-use Rattle.repo_index.specs.PlacesLaws.{last_at-none, last_at-other, last_at-found}
+use Rattle.repo_index.proofs.PlacesLaws.{last_at-none, last_at-other, last_at-found}
 use Rattle.repo_index.proofs.search.latest_among.Goals as goal
 
 pub returns-then-is_revision_of : goal.returns-then-is_revision_of

@@ -1,4 +1,4 @@
-use Rattle.repo_index.proofs.Searching.{item_at}
+use Rattle.trove_stream.proofs.Places.{item_at}
 use Rattle.repo_index.proofs.search.trove_at.Goals as goal
 
 pub returns : goal.returns

@@ -4,7 +4,7 @@ use Rattle.std.proofs.lemmas.List.Elements.{All-push}
 use Rattle.trove_stream.specs.trove-parts.declared.id.TroveId.{TroveId}
 use Rattle.trove_stream.specs.trove-parts.Id.{IsTroveId}
 use Rattle.repo_index.specs.Next.{id_with}
-use Rattle.repo_index.proofs.Renewed.{map-push}
+use Rattle.cny_version.proofs.cny-base.Lists.{map_push as map-push}
 use Rattle.repo_index.proofs.with_version.ids_with.Goals as goal
 
 pub loop-id-preserved : goal.loop-id-preserved

@@ -1,4 +1,4 @@
-use Rattle.std.proofs.Common.{◌≡◌, All, is_some, sym, ap, subst, ◌∙◌}
+use Rattle.std.proofs.Common.{◌≡◌, All, is_some, sym, subst}
 use Rattle.trove_stream.specs.trove-parts.Id.{IsTroveId}
 use Rattle.trove_stream.specs.declared.parts.TroveParts.{TroveParts}
 use Rattle.trove_stream.specs.Trove.{has_build, IsTrove}
@@ -6,8 +6,8 @@ use Rattle.repo_index.specs.Next.{id_with, refs_with, trove_with}
 use Rattle.repo_index.proofs.Renewed.{renewed_is_trove}
 use Rattle.repo_index.proofs.with_version.trove_with.Goals as goal
 
-pub trove_of-requires : goal.trove_of-requires
-trove_of-requires c =
+pub from_parts-requires : goal.from_parts-requires
+from_parts-requires c =
     let v = c.args.version.now in
     let t : TroveParts = c.into_parts-id.result in
     let build : is_some v.revision.build ≡ has_build t.id = subst (λ (p : TroveParts). is_some v.revision.build ≡ has_build p.id) (sym c.into_parts-id.ensures.value) c.requires in

@@ -4,8 +4,8 @@ use Rattle.std.proofs.lemmas.Result.{err_from_is_err_and}
 use Rattle.repo_index.specs.cny-base.declared.text.TextFault.TheVariants.{Bad}
 use Rattle.repo_index.specs.trove-stream.Stream.{trove_bytes}
 use Rattle.repo_load.specs.Files.{end_bytes}
-use Rattle.repo_load.proofs.Handing.{handed_on}
 use Rattle.repo_load.proofs.TrovesRead.{no_trove_here}
+use Rattle.repo_index.proofs.cny-dep.Faults.{handed_on}
 use Rattle.repo_load.proofs.commit_reading.next_trove.Goals as goal
 
 pub returns-in_default-clause-no_trove : goal.returns-in_default-clause-no_trove

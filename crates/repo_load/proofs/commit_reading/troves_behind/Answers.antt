@@ -3,8 +3,8 @@ use Rattle.std.proofs.lemmas.Result.{err_from_is_err_and}
 use Rattle.repo_index.specs.cny-base.declared.text.TextFault.TheVariants.{Bad}
 use Rattle.repo_load.specs.State.{Commit}
 use Rattle.repo_load.specs.Reading.{AreTrovesOf, AreTrovesTo}
-use Rattle.repo_load.proofs.Handing.{handed_on}
 use Rattle.repo_load.proofs.TrovesRead.{ended, no_stream, no_troves, one_more}
+use Rattle.repo_index.proofs.cny-dep.Faults.{handed_on}
 use Rattle.repo_load.proofs.commit_reading.troves_behind.Goals as goal
 
 pub items-init : goal.items-init

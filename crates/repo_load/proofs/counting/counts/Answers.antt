@@ -2,7 +2,7 @@ use Rattle.std.proofs.Common.{◌+◌, ◌∷◌, [], length, ap, arith, length-
 use Rattle.repo_load.specs.Loading.{HasCount, HoldsCounts, LacksCount}
 use Rattle.repo_load.specs.Looks.{no_damage}
 use Rattle.repo_load.proofs.Counted.{not_lacking, one_counted}
-use Rattle.repo_load.specs.LooksLaws.{looks_answer, looks_memory, looks_stop, looks_then}
+use Rattle.repo_load.proofs.LooksLaws.{looks_answer, looks_memory, looks_stop, looks_then}
 use Rattle.repo_load.proofs.counting.counts.Goals as goal
 
 pub returns-in_err-count-clause-counts : goal.returns-in_err-count-clause-counts

@@ -1,6 +1,6 @@
 use Rattle.std.proofs.Common.{◌∙◌}
 use Rattle.repo_load.proofs.CommitsRead.{missing_ref, troves_are}
-use Rattle.repo_load.specs.LooksLaws.{looks_damage}
+use Rattle.repo_load.proofs.LooksLaws.{looks_damage}
 use Rattle.repo_load.proofs.loading.load.Goals as goal
 
 pub returns-in-Some-clause-loads : goal.returns-in-Some-clause-loads

@@ -1,5 +1,5 @@
 use Rattle.repo_load.proofs.CommitsRead.{none_read}
-use Rattle.repo_load.specs.LooksLaws.{looks_start}
+use Rattle.repo_load.proofs.LooksLaws.{looks_start}
 use Rattle.repo_load.proofs.loading.read_commits.Goals as goal
 
 pub commits-init : goal.commits-init

@@ -1,7 +1,7 @@
 use Rattle.std.proofs.Common.{◌+◌, arith}
-use Rattle.repo_load.specs.Holding.{one_held}
+use Rattle.repo_load.proofs.Holding.{one_held}
 use Rattle.repo_load.proofs.CommitsRead.{bad_file, bad_held, few_read, one_read}
-use Rattle.repo_load.specs.LooksLaws.{looks_damage, looks_stop}
+use Rattle.repo_load.proofs.LooksLaws.{looks_damage, looks_stop}
 use Rattle.repo_load.proofs.loading.read_next.Goals as goal
 
 pub returns-in_err-troves-clause-looks : goal.returns-in_err-troves-clause-looks

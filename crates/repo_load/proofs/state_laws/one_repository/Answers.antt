@@ -1,4 +1,4 @@
-use Rattle.repo_load.specs.Holding.{one_list}
+use Rattle.repo_load.proofs.Holding.{one_list}
 use Rattle.repo_load.proofs.Committing.{one_state}
 use Rattle.repo_load.proofs.Damages.{no_damage, one_first}
 use Rattle.repo_load.proofs.state_laws.one_repository.Goals as goal

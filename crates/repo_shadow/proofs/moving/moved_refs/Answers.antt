@@ -7,9 +7,9 @@ use Rattle.repo_index.specs.trove-parts.declared.id.TroveId.{TroveId}
 use Rattle.repo_index.specs.trove-parts.Id.{IsTroveId}
 use Rattle.repo_shadow.specs.Moved.{moved_id}
 use Rattle.repo_shadow.specs.Steps.{Fits}
-use Rattle.repo_shadow.proofs.Lists.{map-push}
-use Rattle.repo_shadow.proofs.Refusals.{handed_on}
 use Rattle.repo_shadow.proofs.Versions.{never_too_long}
+use Rattle.cny_version.proofs.cny-base.Faults.{handed_on}
+use Rattle.cny_version.proofs.cny-base.Lists.{map_push as map-push}
 use Rattle.repo_shadow.proofs.moving.moved_refs.Goals as goal
 
 pub loop-id-preserved : goal.loop-id-preserved

@@ -11,8 +11,8 @@ pub moved_refs-requires : goal.moved_refs-requires
 moved_refs-requires c =
     subst (All (Fits c.args.way c.args.label.now)) (sym (c.get.ensures ∙ ap (λ (t : TroveParts). t.refs) c.into_parts-id.ensures.value)) c.requires.refs_fit
 
-pub trove_of-requires : goal.trove_of-requires
-trove_of-requires c =
+pub from_parts-requires : goal.from_parts-requires
+from_parts-requires c =
     let way = c.args.way in
     let label = c.args.label.now in
     let t : TroveParts = c.into_parts-id.result in

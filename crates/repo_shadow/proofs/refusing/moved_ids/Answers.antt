@@ -4,9 +4,11 @@ use Rattle.repo_index.specs.cny-base.declared.refusal.Refusal.{Refusal}
 use Rattle.repo_index.specs.trove-parts.declared.id.TroveId.{TroveId}
 use Rattle.repo_index.specs.trove-stream.declared.parts.TroveParts.{TroveParts}
 use Rattle.repo_shadow.specs.Moved.{moved_version, moved_id, moved_ids, too_large}
-use Rattle.repo_shadow.specs.Steps.{Fits, IsRefusalOrMemory, IsTooLongOrMemory}
-use Rattle.repo_shadow.proofs.Lists.{map-push}
-use Rattle.repo_shadow.proofs.Refusals.{handed_on, next_fits, next_fault}
+use Rattle.repo_shadow.specs.Steps.{Fits, IsTooLongOrMemory}
+use Rattle.repo_shadow.proofs.Refusals.{next_fits, next_fault}
+use Rattle.cny_version.specs.cny-base.Refusals.{IsRefusalOrMemory}
+use Rattle.cny_version.proofs.cny-base.Faults.{handed_on}
+use Rattle.cny_version.proofs.cny-base.Lists.{map_push as map-push}
 use Rattle.repo_shadow.proofs.refusing.moved_ids.Goals as goal
 
 pub loop-trove-preserved : goal.loop-trove-preserved

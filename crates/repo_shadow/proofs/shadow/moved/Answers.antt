@@ -3,12 +3,14 @@ use Rattle.cny_version.specs.Version.{last_label}
 use Rattle.repo_index.specs.trove-parts.declared.id.TroveId.{TroveId}
 use Rattle.repo_index.specs.trove-stream.declared.parts.TroveParts.{TroveParts}
 use Rattle.repo_index.specs.Catalogue.{found}
-use Rattle.trove_spec.specs.Expansion.{IsExpansion, IsUnexpanded, HasRisingNames}
+use Rattle.trove_spec.specs.Expansion.{IsExpansion, IsUnexpanded}
 use Rattle.repo_shadow.specs.Moved.{moved_troves, first_refusal, IsUnmoved}
-use Rattle.repo_shadow.specs.Steps.{IsRefusalOrMemory}
 use Rattle.repo_shadow.specs.Within.{AllReferWithin}
 use Rattle.repo_shadow.proofs.MovedTroves.{all_can_move, all_along, refs_within, moved_names, all_on_label, all_fresh}
-use Rattle.repo_shadow.proofs.Refusals.{handed_on, none_long, none_taken, refused_move, unexpanded, memory_alone}
+use Rattle.repo_shadow.proofs.Refusals.{none_long, none_taken, refused_move, unexpanded, memory_alone}
+use Rattle.cny_version.specs.cny-base.Refusals.{IsRefusalOrMemory}
+use Rattle.cny_version.proofs.cny-base.Faults.{handed_on}
+use Rattle.repo_index.specs.trove-stream.NameOrder.{HasRisingNames}
 use Rattle.repo_shadow.proofs.shadow.moved.Goals as goal
 
 pub returns-in_err-troves-clause-fault : goal.returns-in_err-troves-clause-fault

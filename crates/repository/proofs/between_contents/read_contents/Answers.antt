@@ -1,7 +1,7 @@
 use Rattle.std.proofs.Common.{ℕ, List, [], get_or, arith}
 use Rattle.std.proofs.lemmas.List.Elements.{Contains-get_or}
 use Rattle.repo_load.specs.Contents.{IsDamagedContent}
-use Rattle.repo_load.specs.LooksLaws.{looks_answer, looks_memory, looks_stop, looks_then}
+use Rattle.repo_load.proofs.LooksLaws.{looks_answer, looks_memory, looks_stop, looks_then}
 use Rattle.repository.specs.Between.{AreStored}
 use Rattle.repository.specs.BetweenSteps.{IsStoredAs}
 use Rattle.repository.proofs.Fitting.{hashed_push, names_push, stored_push}

@@ -1,11 +1,9 @@
-use Rattle.std.proofs.Common.{◌≡◌, ℕ, List, sym, rules}
+use Rattle.std.proofs.Common.{◌≡◌, sym, rules}
 use Rattle.std.proofs.lemmas.Fn.{always_returns_same}
-use Rattle.repo_load.specs.trove-stream.declared.parts.TroveParts.{TroveParts}
-use Rattle.repository.proofs.Searched.{against, found, missed, nowhere, searched}
+use Rattle.repository.proofs.Searched.{found, missed, searched}
+use Rattle.change_rel.proofs.trove-stream.Places.{name_of}
+use Rattle.change_rel.proofs.cny-base.Keyed.{against, nowhere}
 use Rattle.repository.proofs.between_parts.trove_named.Goals as goal
-
-abbrev name_of : TroveParts → List ℕ
-name_of t = t.id.name
 
 pub returns-in-Ok-clause-value : goal.returns-in-Ok-clause-value
 returns-in-Ok-clause-value c =

@@ -6,16 +6,16 @@ use Rattle.repo_load.specs.Steps.{catalogue_with}
 use Rattle.repo_load.specs.cny-base.declared.stop.Stop.TheVariants.{Memory}
 use Rattle.repo_load.specs.tree-disk.Clear.{is_within}
 use Rattle.repo_load.specs.tree-disk.Confined.{Among}
-use Rattle.repo_load.specs.tree-disk.ConfinedLaws.{confined_read}
+use Rattle.repo_load.proofs.tree-disk.ConfinedLaws.{confined_read}
 use Rattle.repo_load.specs.Files.{repository_base}
 use Rattle.repository.specs.Order.{IsFirstStop}
 use Rattle.repository.specs.Preparing.{IsWrittenName}
 use Rattle.repository.specs.Steps.{ids_of}
-use Rattle.repository.proofs.Lists.{err_stop}
 use Rattle.repository.proofs.Ordering.{write_first}
 use Rattle.repository.proofs.Within.{confined_writes}
 use Rattle.repository.proofs.Checking.{empty_list, full_list}
 use Rattle.repository.proofs.Outcomes.{both_moments, done_nothing, done_write, ends_write, read_moments, rules_join, rules_kept, writes_as}
+use Rattle.change_rel.proofs.cny-base.Faults.{passed_on as err_stop}
 use Rattle.repository.proofs.committing.commit.Goals as goal
 
 pub returns-in_err-added-clause-any_moment : goal.returns-in_err-added-clause-any_moment

@@ -1,7 +1,8 @@
 use Rattle.std.proofs.Common.{◌+◌, drop, ap, sym, ◌∙◌, arith}
-use Rattle.repository.specs.Tests.{files_of, missing_content}
+use Rattle.repository.specs.Tests.{missing_content}
 use Rattle.repository.proofs.Lists.{then_first, then_second, verdict_stop}
 use Rattle.repository.proofs.Sources.{sources_end, sources_on}
+use Rattle.change_rel.specs.trove-stream.FilesOf.{files_of}
 use Rattle.repository.proofs.contents.check_contents.Goals as goal
 
 pub returns-in_err-check_files : goal.returns-in_err-check_files

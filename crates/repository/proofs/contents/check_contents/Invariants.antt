@@ -1,5 +1,6 @@
 use Rattle.std.proofs.Common.{◌≡◌, drop}
-use Rattle.repository.specs.Tests.{files_of, missing_content}
+use Rattle.repository.specs.Tests.{missing_content}
+use Rattle.change_rel.specs.trove-stream.FilesOf.{files_of}
 use Rattle.repository.proofs.contents.check_contents.Given as goal
 
 abbrev pub invariant-loop-trove : goal.invariant-loop-trove

@@ -2,7 +2,8 @@ use Rattle.std.proofs.Common.{List, ℕ, length, rules, sym, ap, ◌∙◌}
 use Rattle.std.specs.Prelude.{nat_eq}
 use Rattle.std.proofs.lemmas.Fn.{always_returns_same}
 use Rattle.change_set.specs.declared.change.Carried.{Carried}
-use Rattle.repository.proofs.Carrying.{against, found_size, missed_size, same_test}
+use Rattle.repository.proofs.Carrying.{found_size, missed_size, same_test}
+use Rattle.change_set.proofs.Carrying.{against}
 use Rattle.repository.proofs.contents.is_carried.Goals as goal
 
 pub returns-in-Ok : goal.returns-in-Ok

@@ -3,8 +3,8 @@ use Rattle.repo_load.specs.trove-parts.declared.id.TroveId.{TroveId}
 use Rattle.repo_index.specs.Catalogue.{found}
 use Rattle.change_set.specs.Contents.{IfRefused}
 use Rattle.repository.specs.Parts.{IsTroveRefused}
-use Rattle.repository.proofs.Lists.{err_stop}
 use Rattle.repository.proofs.Making.{add_refused, check_refused}
+use Rattle.change_rel.proofs.cny-base.Faults.{passed_on as err_stop}
 use Rattle.repository.proofs.parts.add_trove.Goals as goal
 
 pub returns-in_err-check-clause-refused : goal.returns-in_err-check-clause-refused

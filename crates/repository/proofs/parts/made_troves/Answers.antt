@@ -4,8 +4,8 @@ use Rattle.change_set.specs.declared.change.Part.{Part}
 use Rattle.change_set.specs.Contents.{IfRefused}
 use Rattle.repo_index.specs.Catalogue.{CatalogueParts}
 use Rattle.repository.specs.Parts.{AreMade, IsFirstRefused}
-use Rattle.repository.proofs.Lists.{err_stop}
 use Rattle.repository.proofs.Making.{first_refused, made_more, none_made}
+use Rattle.change_rel.proofs.cny-base.Faults.{passed_on as err_stop}
 use Rattle.repository.proofs.parts.made_troves.Goals as goal
 
 pub loop-part-init : goal.loop-part-init

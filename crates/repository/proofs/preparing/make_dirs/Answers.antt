@@ -2,11 +2,12 @@ use Rattle.std.proofs.Common.{◌∙◌, refl}
 use Rattle.std.specs.FinMap.{get}
 use Rattle.repo_load.specs.cny-base.Path.{parent}
 use Rattle.repo_load.specs.tree-disk.Tree.{is_dir}
-use Rattle.repo_load.specs.tree-disk.StepLaws.{makes_then, makes_then_stop, makes_wider}
+use Rattle.repo_load.proofs.tree-disk.StepLaws.{makes_then, makes_then_stop, makes_wider}
 use Rattle.tree_journal.specs.Apply.{with_base}
 use Rattle.tree_journal.proofs.OwnFiles.{base_stands}
 use Rattle.repo_load.specs.Files.{contents_dir, repository_base}
-use Rattle.repository.proofs.Readying.{base_within, dir_within, makes_value}
+use Rattle.repository.proofs.Readying.{base_within, dir_within}
+use Rattle.tree_journal.proofs.Seen.{makes_answer as makes_value}
 use Rattle.repository.proofs.preparing.make_dirs.Goals as goal
 
 pub make_dir-requires-2-clause-parent : goal.make_dir-requires-2-clause-parent

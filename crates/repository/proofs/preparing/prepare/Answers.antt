@@ -1,5 +1,5 @@
 use Rattle.std.proofs.Common.{◌≡◌, ◌+◌, ◌∙◌, ap, arith}
-use Rattle.repo_load.specs.tree-disk.ConfinedLaws.{confined_on, confined_start, confined_then, confined_wider}
+use Rattle.repo_load.proofs.tree-disk.ConfinedLaws.{confined_on, confined_start, confined_then, confined_wider}
 use Rattle.repo_load.specs.tree-disk.Rows.{is_dir_at}
 use Rattle.repo_load.specs.tree-disk.Tree.{Tree}
 use Rattle.repo_load.specs.Files.{commit_file, contents_dir}

@@ -1,7 +1,7 @@
 use Rattle.std.proofs.Common.{List, subst, arith}
 use Rattle.std.proofs.lemmas.List.{take_all}
 use Rattle.std.proofs.lemmas.List.Elements.{All-nil}
-use Rattle.repo_load.specs.tree-disk.ConfinedLaws.{confined_on, confined_start, confined_wider}
+use Rattle.repo_load.proofs.tree-disk.ConfinedLaws.{confined_on, confined_start, confined_wider}
 use Rattle.change_set.specs.declared.change.Carried.{Carried}
 use Rattle.repository.specs.Preparing.{AreStored, IsCarriedName, IsStored}
 use Rattle.repository.proofs.Preparations.{prepares_stop}

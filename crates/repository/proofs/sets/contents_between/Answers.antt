@@ -3,7 +3,7 @@ use Rattle.std.specs.List.Sorted.{IsStrictlySortedBy}
 use Rattle.change_set.specs.declared.change.Carried.{Carried}
 use Rattle.change_set.specs.ChangeSet.{content_cmp}
 use Rattle.repo_index.specs.Catalogue.{has_content}
-use Rattle.repo_load.specs.LooksLaws.{looks_damage, looks_stop}
+use Rattle.repo_load.proofs.LooksLaws.{looks_damage, looks_stop}
 use Rattle.repository.specs.Between.{AreStored}
 use Rattle.repository.specs.Damage.{IsDamagedBetween}
 use Rattle.repository.specs.BetweenSteps.{AllFit, HasOther, IsDamagedAmong}

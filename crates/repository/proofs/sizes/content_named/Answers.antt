@@ -1,7 +1,8 @@
 use Rattle.std.proofs.Common.{◌≡◌, ◌∙◌, sym, rules}
 use Rattle.std.proofs.lemmas.Fn.{always_returns_same}
 use Rattle.repository.specs.Between.{name_of}
-use Rattle.repository.proofs.Searched.{against, nowhere, one_keyed, searched}
+use Rattle.repository.proofs.Searched.{one_keyed, searched}
+use Rattle.change_rel.proofs.cny-base.Keyed.{against, nowhere}
 use Rattle.repository.proofs.sizes.content_named.Goals as goal
 
 pub returns-in-Ok-clause-some : goal.returns-in-Ok-clause-some

@@ -2,10 +2,11 @@ use Rattle.std.proofs.Common.{◌≡◌, ◌++◌, List, sym, ◌∙◌, ap, sub
 use Rattle.change_set.specs.declared.change.Carried.{Carried}
 use Rattle.repository.specs.Outcome.{committed_contents, AreSound}
 use Rattle.repository.specs.Order.{later_stop, refusing, sources_stop}
-use Rattle.repository.specs.Tests.{files_of, missing_content, missing_ref, refs_of, too_many}
+use Rattle.repository.specs.Tests.{missing_content, missing_ref, refs_of, too_many}
 use Rattle.repository.proofs.Checking.{checks_fault, checks_start, later_is}
 use Rattle.repository.proofs.Lists.{then_first}
 use Rattle.repository.proofs.Ordering.{as_stop, fault_stop, later_stop_is, stop_first, stop_second}
+use Rattle.change_rel.specs.trove-stream.FilesOf.{files_of}
 use Rattle.repository.proofs.testing.check_troves.Goals as goal
 
 pub returns-in_err-check_refs-clause-checks : goal.returns-in_err-check_refs-clause-checks

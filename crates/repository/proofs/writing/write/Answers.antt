@@ -1,8 +1,8 @@
 use Rattle.std.proofs.Common.{◌≡◌, ℕ, ◌+◌, ◌∷◌, [], ◌∙◌, ap}
 use Rattle.repo_load.specs.Steps.{commit_put}
-use Rattle.repository.specs.Preparing.{file_mode}
 use Rattle.repository.proofs.Applied.{can_apply, puts_of}
 use Rattle.repository.proofs.Written.{writes_applied, writes_nothing, writes_stopped}
+use Rattle.change_rel.specs.cny-base.Modes.{file_mode}
 use Rattle.repository.proofs.writing.write.Goals as goal
 
 pub returns-in_err-puts-clause-writes : goal.returns-in_err-puts-clause-writes

@@ -1,7 +1,7 @@
 use Rattle.std.proofs.Common.{◌≡◌, ℕ, true, false, List, None, option_copied, sym, ap, ◌∙◌}
 use Rattle.std.specs.List.{last_or}
 use Rattle.repo_index.specs.Places.{troves_at}
-use Rattle.repo_index.specs.PlacesLaws.{last_at-none, last_at-other, last_at-found}
+use Rattle.repo_index.proofs.PlacesLaws.{last_at-none, last_at-other, last_at-found}
 use Rattle.trove_spec.specs.Resolve.{is_candidate, candidates_of}
 use Rattle.trove_spec.proofs.candidates.last_candidate.Goals as goal
 

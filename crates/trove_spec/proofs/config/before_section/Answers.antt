@@ -1,14 +1,10 @@
-use Rattle.std.proofs.Common.{◌≡◌, ℕ, ◌+◌, ◌<◌, true, not, List, [], ◌∷◌, ◌++◌, length, take, drop, map, get_or, take_while, Bor, sym, ap, ◌∙◌, arith}
+use Rattle.std.proofs.Common.{◌≡◌, ℕ, ◌+◌, ◌<◌, true, not, List, [], ◌∷◌, ◌++◌, length, take, drop, map, get_or, take_while, sym, ap, ◌∙◌, arith}
 use Rattle.std.proofs.lemmas.List.{take_more, at_drop_more}
 use Rattle.trove_spec.specs.Config.{is_before_section}
-use Rattle.trove_spec.proofs.ConfigLines.{map-push, goes_on}
+use Rattle.trove_spec.proofs.ConfigLines.{goes_on}
+use Rattle.trove_spec.proofs.Borrowed.{none, now_of}
+use Rattle.cny_version.proofs.cny-base.Lists.{map_push as map-push}
 use Rattle.trove_spec.proofs.config.before_section.Goals as goal
-
-abbrev now_of : Bor (List ℕ) → List ℕ
-now_of line = line.now
-
-abbrev none : Bor (List ℕ)
-none = record { ref_ptr = (0, 0); now = [] }
 
 pub loop-place-preserved : goal.loop-place-preserved
 loop-place-preserved c =

@@ -2,15 +2,11 @@ use Rattle.std.proofs.Common.{◌≡◌, ℕ, ◌+◌, ◌<◌, ◌≤◌, List,
 use Rattle.std.proofs.lemmas.List.{take_more, take_all}
 use Rattle.trove_spec.specs.declared.config.Config.{Config}
 use Rattle.trove_spec.specs.Config.{cleaned, IsSetting, IsConfigOf, IsBadConfigOrMemory}
-use Rattle.trove_spec.proofs.ConfigLines.{map-push, take-map, length-map, get_or-map, config_more, first_bad}
+use Rattle.trove_spec.proofs.ConfigLines.{take-map, get_or-map, config_more, first_bad}
 use Rattle.trove_spec.proofs.OneConfig.{IsOnly, only_none, only_more}
+use Rattle.trove_spec.proofs.Borrowed.{none, now_of}
+use Rattle.cny_version.proofs.cny-base.Lists.{length-map, map_push as map-push}
 use Rattle.trove_spec.proofs.config.config_of.Goals as goal
-
-abbrev now_of : Bor (List ℕ) → List ℕ
-now_of line = line.now
-
-abbrev none : Bor (List ℕ)
-none = record { ref_ptr = (0, 0); now = [] }
 
 pub returns-in-Err-Bad-clause-fault : goal.returns-in-Err-Bad-clause-fault
 returns-in-Err-Bad-clause-fault c =

@@ -1,4 +1,4 @@
-use Rattle.std.proofs.Common.{◌≡◌, List, ℕ, take, map, Bor}
+use Rattle.std.proofs.Common.{List, ℕ, take, map, Bor}
 use Rattle.trove_spec.specs.Config.{IsConfigOf}
 use Rattle.trove_spec.proofs.OneConfig.{IsOnly}
 use Rattle.trove_spec.proofs.config.config_of.Given as goal

@@ -1,4 +1,4 @@
-use Rattle.std.proofs.Common.{◌≡◌, ℕ, ◌+◌, ◌<◌, ◌≤◌, Bool, true, false, cond, not, List, [], ◌∷◌, ◌++◌, length, take, drop, map, filter, get_or, Bor, Vec, Err, sym, ap, subst, ◌∙◌, length-append, append-nil, arith, rules}
+use Rattle.std.proofs.Common.{◌≡◌, ℕ, ◌+◌, ◌<◌, ◌≤◌, Bool, true, false, cond, not, List, [], ◌∷◌, ◌++◌, length, take, drop, map, filter, get_or, Vec, Err, sym, ap, subst, ◌∙◌, length-append, append-nil, arith, rules}
 use Rattle.std.specs.List.{AllZip}
 use Rattle.std.specs.declared.alloc.Global.{Global}
 use Rattle.std.proofs.lemmas.List.{take_more}
@@ -6,15 +6,11 @@ use Rattle.std.proofs.lemmas.List.Elements.{filter-append}
 use Rattle.repo_index.specs.cny-base.declared.text.TextFault.TheVariants.{Bad}
 use Rattle.cny_version.specs.Label.{LabelParts}
 use Rattle.trove_spec.specs.Config.{is_word_there, IsTextOf}
-use Rattle.trove_spec.proofs.ConfigLines.{map-push, paired-push, split_at, too_many, paired_at, same_fault}
+use Rattle.trove_spec.proofs.ConfigLines.{paired-push, split_at, too_many, paired_at, same_fault}
 use Rattle.trove_spec.proofs.config.labels_of.Goals.{then-not-is_empty+else-are_most+in-Ok+in_ok-push-in-Ok, else-not-is_empty}
+use Rattle.trove_spec.proofs.Borrowed.{none, now_of}
+use Rattle.cny_version.proofs.cny-base.Lists.{map_push as map-push}
 use Rattle.trove_spec.proofs.config.labels_of.Goals as goal
-
-abbrev now_of : Bor (List ℕ) → List ℕ
-now_of word = word.now
-
-abbrev none : Bor (List ℕ)
-none = record { ref_ptr = (0, 0); now = [] }
 
 pub returns-then-are_most-clause-bad : goal.returns-then-are_most-clause-bad
 returns-then-are_most-clause-bad c h labels all few =

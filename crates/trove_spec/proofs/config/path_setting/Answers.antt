@@ -1,11 +1,9 @@
-use Rattle.std.proofs.Common.{◌≡◌, ℕ, ◌==◌, List, map, filter, Bor, ap, subst, ◌∙◌}
+use Rattle.std.proofs.Common.{◌≡◌, ℕ, ◌==◌, List, map, filter, ap, subst, ◌∙◌}
 use Rattle.std.specs.List.{AllZip, slice_split}
-use Rattle.trove_spec.specs.Config.{as_space, without_front, words, is_word_there, IsTextOf}
+use Rattle.trove_spec.specs.Config.{as_space, without_front, is_word_there, IsTextOf}
 use Rattle.trove_spec.proofs.OneConfig.{one_path}
+use Rattle.trove_spec.proofs.Borrowed.{now_of}
 use Rattle.trove_spec.proofs.config.path_setting.Goals as goal
-
-abbrev now_of : Bor (List ℕ) → List ℕ
-now_of word = word.now
 
 pub returns-clause-only : goal.returns-clause-only
 returns-clause-only c =

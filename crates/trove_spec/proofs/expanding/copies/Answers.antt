@@ -1,8 +1,9 @@
 use Rattle.std.proofs.Common.{◌≡◌, ◌+◌, ◌<◌, List, [], ◌∷◌, ◌++◌, length, take, map, Bor, sym, ap, ◌∙◌, arith}
 use Rattle.std.proofs.lemmas.List.{take_more}
 use Rattle.repo_index.specs.trove-stream.declared.parts.TroveParts.{TroveParts}
-use Rattle.trove_spec.proofs.ConfigLines.{take-map, map-push}
+use Rattle.trove_spec.proofs.ConfigLines.{take-map}
 use Rattle.trove_spec.proofs.InOrder.{now_of}
+use Rattle.cny_version.proofs.cny-base.Lists.{map_push as map-push}
 use Rattle.trove_spec.proofs.expanding.copies.Goals as goal
 
 pub loop-trove-preserved : goal.loop-trove-preserved

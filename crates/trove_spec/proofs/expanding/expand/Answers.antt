@@ -1,7 +1,8 @@
 use Rattle.std.proofs.Common.{◌≡◌, List, map, Bor, None, sym, ap, subst, ◌∙◌}
 use Rattle.repo_index.specs.trove-stream.declared.parts.TroveParts.{TroveParts}
-use Rattle.trove_spec.specs.Expansion.{IsClosedIn, HasRisingNames, first_of_same_name}
+use Rattle.trove_spec.specs.Expansion.{IsClosedIn, first_of_same_name}
 use Rattle.trove_spec.proofs.InOrder.{now_of, rising_names}
+use Rattle.repo_index.specs.trove-stream.NameOrder.{HasRisingNames}
 use Rattle.trove_spec.proofs.expanding.expand.Goals as goal
 
 pub returns-clause-names : goal.returns-clause-names

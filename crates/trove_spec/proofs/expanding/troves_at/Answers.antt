@@ -4,9 +4,8 @@ use Rattle.std.specs.declared.alloc.Global.{Global}
 use Rattle.std.proofs.lemmas.List.{take_more}
 use Rattle.repo_index.specs.trove-stream.declared.parts.TroveParts.{TroveParts}
 use Rattle.repo_index.specs.Places.{troves_at}
-use Rattle.repo_index.specs.PlacesLaws.{at-push}
+use Rattle.repo_index.proofs.PlacesLaws.{at-push}
 use Rattle.std.proofs.Common.{append-nil}
-use Rattle.trove_spec.proofs.ConfigLines.{map-push}
 use Rattle.trove_spec.proofs.InOrder.{now_of}
 use Rattle.trove_spec.proofs.expanding.troves_at.Goals.{in-Some+in_ok-add_trove, in_default}
 use Rattle.trove_spec.proofs.expanding.troves_at.Goals as goal

@@ -1,7 +1,7 @@
 use Rattle.std.proofs.Common.{Err, sym, subst, ap, ◌∙◌, arith}
 use Rattle.repo_index.specs.cny-base.declared.stop.Stop.{Stop}
 use Rattle.tree_disk.specs.Rows.{look_of}
-use Rattle.tree_disk.specs.StepLaws.{tests_refuse, tests_value}
+use Rattle.tree_disk.proofs.StepLaws.{tests_refuse, tests_value}
 use Rattle.tree_disk.specs.Steps.{Tests}
 use Rattle.trove_spec.specs.RootConfig.{config_file}
 use Rattle.trove_spec.proofs.Sizes.{large_seen}

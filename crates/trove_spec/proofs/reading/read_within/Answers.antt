@@ -2,7 +2,7 @@ use Rattle.std.proofs.Common.{Ok, Err, sym, subst, ◌∙◌}
 use Rattle.repo_index.specs.cny-base.declared.limits.TheConstants.{CONFIG_LIMIT}
 use Rattle.repo_index.specs.cny-base.declared.stop.Stop.{Stop}
 use Rattle.tree_disk.specs.Rows.{bytes_at}
-use Rattle.tree_disk.specs.StepLaws.{tests_refuse, tests_value}
+use Rattle.tree_disk.proofs.StepLaws.{tests_refuse, tests_value}
 use Rattle.tree_disk.specs.Steps.{Tests}
 use Rattle.trove_spec.proofs.Sizes.{none_larger}
 use Rattle.trove_spec.proofs.reading.read_within.Goals as goal

@@ -1,4 +1,4 @@
-use Rattle.trove_spec.proofs.Meant.{meant_among}
+use Rattle.trove_spec.proofs.Resolved.{meant_among}
 use Rattle.trove_spec.proofs.resolving.meant_troves.Goals as goal
 
 pub returns-clause-among : goal.returns-clause-among

@@ -1,11 +1,8 @@
-use Rattle.std.proofs.Common.{◌∷◌, ◌++◌, Option, Some, None, IfNone, sym, ap, ◌∙◌, lit<, append-nil}
+use Rattle.std.proofs.Common.{◌∷◌, ◌++◌, Some, None, sym, ap, ◌∙◌, lit<, append-nil}
 use Rattle.std.proofs.lemmas.Str.Pattern.{split_parts, strip_suffix_char}
 use Rattle.trove_spec.proofs.Cutting.{unclosed}
+use Rattle.cny_version.proofs.cny-base.Faults.{if_none}
 use Rattle.trove_spec.proofs.spec.cut_at_bracket.Goals as goal
-
-if_none : {T : Type 0} (r : Option T) (P : Type 0) → P → IfNone r P
-if_none None P p = p
-if_none (Some x) P p = tt
 
 pub returns-in_err-flavor-in-Some-clause-none : goal.returns-in_err-flavor-in-Some-clause-none
 returns-in_err-flavor-in-Some-clause-none c = if_none c.from_residual.result _

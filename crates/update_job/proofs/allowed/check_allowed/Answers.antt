@@ -2,8 +2,8 @@ use Rattle.std.proofs.Common.{arith, refl, subst}
 use Rattle.std.proofs.lemmas.List.{take_all}
 use Rattle.change_set.specs.Contents.{IfRefused}
 use Rattle.update_job.specs.Allowed.{AreAllowed, IsFirstReserved}
-use Rattle.update_job.proofs.Firsts.{passed_on}
 use Rattle.update_job.proofs.Reserved.{allowed_by, allowed_more, first_reserved}
+use Rattle.change_rel.proofs.cny-base.Faults.{passed_on}
 use Rattle.update_job.proofs.allowed.check_allowed.Goals as goal
 
 pub returns-in_err-check-clause-reserved : goal.returns-in_err-check-clause-reserved

@@ -2,8 +2,8 @@ use Rattle.std.proofs.Common.{List, ◌+◌, arith, subst, sym, take}
 use Rattle.change_set.specs.Contents.{IfRefused}
 use Rattle.change_set.specs.trove-stream.declared.parts.TroveParts.{TroveParts}
 use Rattle.update_job.specs.Made.{AreMade, IsFirstRefused}
-use Rattle.update_job.proofs.Firsts.{passed_on}
 use Rattle.update_job.proofs.Making.{first_refused, made_more}
+use Rattle.change_rel.proofs.cny-base.Faults.{passed_on}
 use Rattle.update_job.proofs.applying.applied.Goals as goal
 
 pub returns-in_err-allowed_of-clause-refused : goal.returns-in_err-allowed_of-clause-refused

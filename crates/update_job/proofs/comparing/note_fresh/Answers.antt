@@ -1,5 +1,5 @@
-use Rattle.std.proofs.Common.{◌≡◌, ℕ, List, Bool, true, false, true≢false, Some, None, inl, inr, refl, sym, ap, subst, ◌∙◌}
-use Rattle.change_set.specs.trove-stream.Installed.{IsNameless, IsRising, trove_of}
+use Rattle.std.proofs.Common.{◌≡◌, ℕ, List, true, false, true≢false, Some, inl, inr, refl, sym, ap, subst, ◌∙◌}
+use Rattle.change_set.specs.trove-stream.Installed.{IsNameless, trove_of}
 use Rattle.change_set.specs.trove-parts.declared.id.TroveId.{TroveId}
 use Rattle.change_set.specs.trove-stream.declared.parts.TroveParts.{TroveParts}
 use Rattle.update_job.specs.declared.comparing.Change.TheVariants.{Installed, Updated}

@@ -3,7 +3,8 @@ use Rattle.trove_stream.specs.declared.parts.TroveParts.{TroveParts}
 use Rattle.dep_closure.specs.Changed.{IsChanged}
 use Rattle.dep_closure.specs.Slots.{all_held, held_after, listed}
 use Rattle.std.specs.BTreeMap.{keys}
-use Rattle.dep_closure.proofs.Edited.{still_kept, same_held, held_rises, held_found, list_after, kept_after, closed_passed, faulty, provided_after, changed_after, closed_change, refuses, on_err}
+use Rattle.dep_closure.proofs.Edited.{still_kept, same_held, held_rises, held_found, list_after, kept_after, closed_passed, faulty, provided_after, changed_after, closed_change, refuses}
+use Rattle.trove_stream.proofs.cny-base.Faults.{on_err}
 use Rattle.dep_closure.proofs.changing.Closure.change.Goals as goal
 
 pub invariant_of-self : goal.invariant_of-self

@@ -1,7 +1,8 @@
 use Rattle.std.proofs.Common.{◌≡◌, ℕ, List, [], ap, ◌∙◌}
-use Rattle.repo_index.specs.Catalogue.{CatalogueParts, has_name, places_of}
+use Rattle.repo_index.specs.Catalogue.{CatalogueParts, places_of}
 use Rattle.repo_index.specs.Places.{troves_at}
 use Rattle.repo_index.proofs.Searching.{picked_places}
+use Rattle.trove_stream.specs.Installed.{has_name}
 use Rattle.repo_index.proofs.catalogue.Catalogue.by_name.Goals as goal
 
 pub returns-clause-troves : goal.returns-clause-troves

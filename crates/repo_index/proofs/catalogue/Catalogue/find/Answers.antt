@@ -1,8 +1,9 @@
 use Rattle.std.proofs.Common.{List, find, ap, ◌∙◌}
 use Rattle.trove_stream.specs.declared.parts.TroveParts.{TroveParts}
-use Rattle.repo_index.specs.Catalogue.{has_id, has_name}
+use Rattle.repo_index.specs.Catalogue.{has_id}
 use Rattle.repo_index.specs.Places.{troves_at}
 use Rattle.repo_index.proofs.Searching.{find-filter, has_id-name}
+use Rattle.trove_stream.specs.Installed.{has_name}
 use Rattle.repo_index.proofs.catalogue.Catalogue.find.Goals as goal
 
 pub returns : goal.returns

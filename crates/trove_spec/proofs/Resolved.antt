@@ -1,28 +1,20 @@
 -- What a specification means is one of the troves.
-use Rattle.std.proofs.Common.{◌≡◌, ℕ, ◌⊎◌, ⊎_elim, inl, inr, Bool, true, false, cond, ◌==◌, List, [], ◌∷◌, filter, Contains, Option, Some, None, refl, sym, ap, ◌∙◌, true≢false}
-use Rattle.std.specs.Cmp.{first_so, second_so}
-use Rattle.std.specs.Str.{bytes_eq}
-use Rattle.std.proofs.lemmas.Bool.{eqb-true}
+use Rattle.std.proofs.Common.{◌≡◌, ℕ, ◌⊎◌, ⊎_elim, inl, inr, Bool, true, List, [], ◌∷◌, filter, Contains, Option, Some, None}
 use Rattle.std.proofs.lemmas.List.Elements.{All-contains, All-filter, All-contains_itself, filter_passes}
 use Rattle.std.proofs.lemmas.Option.{none-some}
 use Rattle.cny_flavor.specs.declared.parts.Parts.{Parts}
 use Rattle.cny_version.specs.Label.{LabelParts}
 use Rattle.cny_version.specs.Version.{WholeVersion}
 use Rattle.repo_index.specs.trove-stream.declared.parts.TroveParts.{TroveParts}
-use Rattle.repo_index.specs.Catalogue.{has_name, named}
+use Rattle.repo_index.specs.Catalogue.{named}
 use Rattle.trove_spec.specs.declared.config.Config.{Config}
 use Rattle.trove_spec.specs.declared.spec.Place.{Place}
 use Rattle.trove_spec.specs.declared.spec.Place.TheVariants.{Any, OnLabel, At}
 use Rattle.trove_spec.specs.declared.spec.Spec.{Spec}
 use Rattle.trove_spec.specs.Resolve.{is_candidate, candidates_of, chosen, or_else, first_chosen, at_place, system_flavor, resolution}
 use Rattle.trove_spec.proofs.Newest.{chosen_among}
-
-equal_texts : (a b : List ℕ) → bytes_eq a b ≡ true → a ≡ b
-equal_texts [] [] is = refl
-equal_texts [] (y ∷ ys) is = absurd (cc is)
-equal_texts (x ∷ xs) [] is = absurd (cc is)
-equal_texts (x ∷ xs) (y ∷ ys) is =
-    ap (λ (n : ℕ). n ∷ xs) (eqb-true x y (first_so (x == y) (bytes_eq xs ys) is)) ∙ ap (λ (l : List ℕ). y ∷ l) (equal_texts xs ys (second_so (x == y) (bytes_eq xs ys) is))
+use Rattle.repo_index.specs.trove-stream.Installed.{has_name}
+use Rattle.cny_version.proofs.cny-base.ByteLists.{bytes_mean as equal_texts}
 
 -- one of the troves, with this name
 pub record IsNamed (troves : List TroveParts) (wanted : List ℕ) (t : TroveParts) : Type 0 where

@@ -10,7 +10,7 @@ use Rattle.repo_load.specs.Files.{commit_file, HoldsCommit, HoldsFirst, HoldsCom
 abbrev pub CommitsDiffer : Type 0
 CommitsDiffer = (one other : Commit) (bytes : List ℕ) → IsCommitStream one bytes → IsCommitStream other bytes → one ≡ other
 
-some_bytes : (a b : List ℕ) (o : Option (List ℕ)) → o ≡ Some a → o ≡ Some b → a ≡ b
+pub some_bytes : (a b : List ℕ) (o : Option (List ℕ)) → o ≡ Some a → o ≡ Some b → a ≡ b
 some_bytes a b None one other = absurd (cc one)
 some_bytes a b (Some c) one other = cc (one, other)
 

@@ -1,12 +1,11 @@
 -- How runs of calls that only read follow one another.
 use Rattle.std.proofs.Common.{◌≡◌, ℕ, ◌≤◌, Bool, IsTrue, Result, Ok, Err, IsErrAnd, sym, subst, arith}
-use Rattle.repo_index.specs.cny-base.declared.refusal.Refusal.{Refusal}
 use Rattle.repo_index.specs.cny-base.declared.stop.Stop.{Stop}
 use Rattle.repo_index.specs.cny-base.declared.stop.Stop.TheVariants.{Refused, Memory, Failed, Damaged, FarFailed, FarDamaged}
 use Rattle.journal_log.specs.tree-disk.Tree.{Name, Tree}
 use Rattle.journal_log.specs.tree-disk.Disk.{DiskModel, IsDisk}
-use Rattle.journal_log.specs.tree-disk.Moments.{same_start, same_on, time_start, time_on, rose_before}
-use Rattle.journal_log.specs.tree-disk.Steps.{IsDiskStop, Found, Tests}
+use Rattle.journal_log.specs.tree-disk.Moments.{same_start, same_on, time_start, time_on}
+use Rattle.journal_log.proofs.tree-disk.Moments.{rose_before}
 use Rattle.repo_load.specs.Looks.{Ends, Looks}
 
 -- an end that says less, of an earlier count
@@ -39,59 +38,7 @@ ends_memory : {Z : Type 0} (told : Bool) (R : Z → Type 0) (S : Name → Type 0
 ends_memory told R S (Ok z) a c is = absurd is
 ends_memory {Z = Z} told R S (Err s) a c is = subst (λ x. Ends {X = Z} told R S (Err x) a c) (sym is) tt
 
--- a test that stopped
-ends_test : {X Y Z : Type 0} (view : X → Y) (told : Bool) (expected : Result Y Refusal) (R : Z → Type 0) (S : Name → Type 0) (e : Stop) (r : Result Z Stop) (a c : ℕ)
-    → IsDiskStop e → IsErrAnd r (λ s. s ≡ e) → Found view told expected (Err e) a c → Ends told R S r a c
-ends_test view told expected R S e (Ok z) a c stop is found = absurd is
-ends_test {Z = Z} view told expected R S e (Err s) a c stop is found = subst (λ x. Ends {X = Z} told R S (Err x) a c) (sym is) (by e stop found)
-  where
-    by : (e : Stop) → IsDiskStop e → Found view told expected (Err e) a c → Ends {X = Z} told R S (Err e) a c
-    by (Damaged path) stop found = absurd stop
-    by Failed stop found = found
-    by Memory stop found = tt
-    by (Refused refusal) stop found = absurd stop
-    by FarFailed stop found = found
-    by (FarDamaged path) stop found = found
-
 module _ {D : Type 0} {disk : DiskModel D} where
-  -- a test that stopped, passed on by `?`
-  pub looks_test_stop : {X Y Z : Type 0} {view : X → Y} {test : Tree → Result Y Refusal} {P : Tree → Z → Type 0} {Q : Tree → Name → Type 0} {old new : D} {e : Stop} {r : Result Z Stop}
-      → Tests disk view test old new (Err e) → IsDiskStop e → IsErrAnd r (λ s. s ≡ e) → Looks disk P Q old new r
-  looks_test_stop {view = view} {P = P} {Q = Q} {old = old} {e = e} {r = r} tested stop is = record {
-    later = tested.later;
-    same = tested.same;
-    ends = ends_test view disk.tells _ (P (disk.reads old)) (Q (disk.reads old)) e r _ _ stop is tested.found;
-  }
-
-  -- an answer after a test that passed
-  pub looks_test_answer : {X Y Z : Type 0} {view : X → Y} {test : Tree → Result Y Refusal} {P : Tree → Z → Type 0} {Q : Tree → Name → Type 0} {old new : D} {x : X} {z : Z}
-      → Tests disk view test old new (Ok x) → (IsTrue disk.tells → P (disk.reads old) z) → Looks disk P Q old new (Ok z)
-  looks_test_answer tested is = record { later = tested.later; same = tested.same; ends = is }
-
-  -- damage after a test that passed
-  pub looks_test_damage : {X Y Z : Type 0} {view : X → Y} {test : Tree → Result Y Refusal} {P : Tree → Z → Type 0} {Q : Tree → Name → Type 0} {old new : D} {x : X} {path : Name}
-      → Tests disk view test old new (Ok x) → (IsTrue disk.tells → Q (disk.reads old) path) → Looks disk P Q old new (Err (Damaged path))
-  looks_test_damage tested is = record { later = tested.later; same = tested.same; ends = is }
-
-  -- want of memory after a test, however it ended
-  pub looks_test_memory : {X Y Z : Type 0} {view : X → Y} {test : Tree → Result Y Refusal} {P : Tree → Z → Type 0} {Q : Tree → Name → Type 0} {old new : D} {q : Result X Stop} {r : Result Z Stop}
-      → Tests disk view test old new q → IsErrAnd r (λ s. s ≡ Memory) → Looks disk P Q old new r
-  looks_test_memory {P = P} {Q = Q} {old = old} {r = r} tested is = record {
-    later = tested.later;
-    same = tested.same;
-    ends = ends_memory disk.tells (P (disk.reads old)) (Q (disk.reads old)) r _ _ is;
-  }
-
-  -- it may say less
-  pub looks_weaker : {X : Type 0} {P R : Tree → X → Type 0} {Q S : Tree → Name → Type 0} {old new : D} {r : Result X Stop} → Looks disk P Q old new r
-      → (IsTrue disk.tells → (x : X) → P (disk.reads old) x → R (disk.reads old) x) → (IsTrue disk.tells → (path : Name) → Q (disk.reads old) path → S (disk.reads old) path)
-      → Looks disk R S old new r
-  looks_weaker {P = P} {R = R} {Q = Q} {S = S} {old = old} {r = r} looks value damage = record {
-    later = looks.later;
-    same = looks.same;
-    ends = ends_weaker disk.tells (P (disk.reads old)) (R (disk.reads old)) (Q (disk.reads old)) (S (disk.reads old)) r _ _ _ (omega arith) value damage looks.ends;
-  }
-
   -- a run that stopped, passed on by `?`
   pub looks_stop : {X Z : Type 0} {P : Tree → X → Type 0} {R : Tree → Z → Type 0} {Q S : Tree → Name → Type 0} {old new : D} {e : Stop} {r : Result Z Stop}
       → Looks disk P Q old new (Err e) → IsErrAnd r (λ s. s ≡ e) → (IsTrue disk.tells → (path : Name) → Q (disk.reads old) path → S (disk.reads old) path)
@@ -128,14 +75,6 @@ module _ {D : Type 0} {disk : DiskModel D} where
       later = omega arith;
       same = λ tells. record { answer = tt; same = same_start disk d; time = time_start laws d };
       ends = is;
-    }
-
-    -- want of memory before the first call
-    pub looks_no_memory : {Z : Type 0} {P : Tree → Z → Type 0} {Q : Tree → Name → Type 0} (d : D) {r : Result Z Stop} → IsErrAnd r (λ s. s ≡ Memory) → Looks disk P Q d d r
-    looks_no_memory {P = P} {Q = Q} d {r = r} is = record {
-      later = omega arith;
-      same = λ tells. record { answer = tt; same = same_start disk d; time = time_start laws d };
-      ends = ends_memory disk.tells (P (disk.reads d)) (Q (disk.reads d)) r _ _ is;
     }
 
     -- one run after another
