@@ -15,42 +15,42 @@ use Rattle.local_db.specs.MarkBytes.{IsMark, mark_bytes, tells}
 use Rattle.local_db.specs.Record as state
 use Rattle.local_db.specs.declared.format.Format.{Format}
 use Rattle.local_db.specs.Formats.{record_magic}
-use Rattle.job_record.specs.declared.record.Delta.{Delta}
-use Rattle.job_record.specs.declared.record.Delta.TheVariants.{Came, Was, Turned}
-use Rattle.job_record.specs.declared.record.Told.TheVariants.{Listed, Own}
-use Rattle.job_record.specs.declared.record.Record.{Record}
-use Rattle.job_record.specs.Text.{delta_of, delta_bytes, deltas_text, by_path, told_text, IsTold, entry_text, entries_text, IsToldEntry, record_text, IsRecordText}
+use Rattle.local_db.specs.declared.record.Delta.{Delta}
+use Rattle.local_db.specs.declared.record.Delta.TheVariants.{Came, Was, Turned}
+use Rattle.local_db.specs.declared.record.Told.TheVariants.{Listed, Own}
+use Rattle.local_db.specs.declared.record.Record.{Record}
+use Rattle.local_db.specs.RecordText.{delta_of, delta_bytes, deltas_text, by_path, told_text, IsTold, entry_text, entries_text, IsToldEntry, record_text, IsRecordText}
 use Rattle.job_record.specs.Lists.{told_entry, IsReadBy}
 use Rattle.job_record.proofs.EntryItems.{entry_fits}
 
 -- ---- lists that are mapped
 
-unmapped : {A B : Type 0} (P : B → Type 0) (f : A → B) (xs : List A) → All P (map f xs) → All (λ x. P (f x)) xs
+pub unmapped : {A B : Type 0} (P : B → Type 0) (f : A → B) (xs : List A) → All P (map f xs) → All (λ x. P (f x)) xs
 unmapped P f [] all = All-nil (λ x. P (f x))
 unmapped P f (x ∷ xs) all = All-cons (λ x. P (f x)) x xs (All-head P (f x) (map f xs) all) (unmapped P f xs (All-tail P (f x) (map f xs) all))
 
-mapped : {A B : Type 0} (P : B → Type 0) (f : A → B) (xs : List A) → All (λ x. P (f x)) xs → All P (map f xs)
+pub mapped : {A B : Type 0} (P : B → Type 0) (f : A → B) (xs : List A) → All (λ x. P (f x)) xs → All P (map f xs)
 mapped P f [] all = All-nil P
 mapped P f (x ∷ xs) all = All-cons P (f x) (map f xs) (All-head (λ x. P (f x)) x xs all) (mapped P f xs (All-tail (λ x. P (f x)) x xs all))
 
-implied : {A : Type 0} (P Q : A → Type 0) (xs : List A) → ((x : A) → P x → Q x) → All P xs → All Q xs
+pub implied : {A : Type 0} (P Q : A → Type 0) (xs : List A) → ((x : A) → P x → Q x) → All P xs → All Q xs
 implied P Q [] f all = All-nil Q
 implied P Q (x ∷ xs) f all = All-cons Q x xs (f x (All-head P x xs all)) (implied P Q xs f (All-tail P x xs all))
 
-below_mapped : {A B : Type 0} (P : B → Type 0) (f : A → B) (xs : List A) → AllByRecursion (λ x. P (f x)) xs → AllByRecursion P (map f xs)
+pub below_mapped : {A B : Type 0} (P : B → Type 0) (f : A → B) (xs : List A) → AllByRecursion (λ x. P (f x)) xs → AllByRecursion P (map f xs)
 below_mapped P f [] all = tt
 below_mapped P f (x ∷ xs) all = (all.0, below_mapped P f xs all.1)
 
-below_unmapped : {A B : Type 0} (P : B → Type 0) (f : A → B) (xs : List A) → AllByRecursion P (map f xs) → AllByRecursion (λ x. P (f x)) xs
+pub below_unmapped : {A B : Type 0} (P : B → Type 0) (f : A → B) (xs : List A) → AllByRecursion P (map f xs) → AllByRecursion (λ x. P (f x)) xs
 below_unmapped P f [] all = tt
 below_unmapped P f (x ∷ xs) all = (all.0, below_unmapped P f xs all.1)
 
-rises_mapped : {A B : Type 0} (f : A → B) (c : B → B → Ordering) (xs : List A) → IsStrictlySortedBy (λ x y. c (f x) (f y)) xs → IsStrictlySortedBy c (map f xs)
+pub rises_mapped : {A B : Type 0} (f : A → B) (c : B → B → Ordering) (xs : List A) → IsStrictlySortedBy (λ x y. c (f x) (f y)) xs → IsStrictlySortedBy c (map f xs)
 unfolding IsStrictlySortedBy
 rises_mapped f c [] rise = tt
 rises_mapped f c (x ∷ xs) rise = (below_mapped (λ y. c (f x) y ≡ Less) f xs rise.0, rises_mapped f c xs rise.1)
 
-rises_unmapped : {A B : Type 0} (f : A → B) (c : B → B → Ordering) (xs : List A) → IsStrictlySortedBy c (map f xs) → IsStrictlySortedBy (λ x y. c (f x) (f y)) xs
+pub rises_unmapped : {A B : Type 0} (f : A → B) (c : B → B → Ordering) (xs : List A) → IsStrictlySortedBy c (map f xs) → IsStrictlySortedBy (λ x y. c (f x) (f y)) xs
 unfolding IsStrictlySortedBy
 rises_unmapped f c [] rise = tt
 rises_unmapped f c (x ∷ xs) rise = (below_unmapped (λ y. c (f x) y ≡ Less) f xs rise.0, rises_unmapped f c xs rise.1)
@@ -81,7 +81,7 @@ told_so : (b : Bool) (mark : Mark) → cond b (61 ∷ []) (mark_bytes mark) ≡ 
 told_so true mark = refl
 told_so false mark = refl
 
-is_told : (b : Bool) (mark : Mark) → IsMark mark → IsTold (cond b Listed (Own mark))
+pub is_told : (b : Bool) (mark : Mark) → IsMark mark → IsTold (cond b Listed (Own mark))
 is_told true mark is = tt
 is_told false mark is = is
 
@@ -96,7 +96,7 @@ same_entries before after [] = refl
 same_entries before after (e ∷ es) =
     let head = same_entry before after e in let tail = same_entries before after es in λ i. item_bytes 0x67 (head i) ++ tail i
 
-entry_told : (before after : List TroveParts) (e : state.Entry) → state.IsEntry e → IsToldEntry (told_entry before after e)
+pub entry_told : (before after : List TroveParts) (e : state.Entry) → state.IsEntry e → IsToldEntry (told_entry before after e)
 entry_told before after e is = record {
   path_is = is.path;
   before_is = is_told (tells (recorded before e.path) e.was) e.was is.was;

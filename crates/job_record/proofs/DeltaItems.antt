@@ -1,5 +1,5 @@
 -- The items of trove deltas.
-use Rattle.std.proofs.Common.{◌≡◌, ℕ, ◌<◌, ◌≤◌, ⊎_elim, false, ◌||◌, ◌==◌, IsTrue, List, [], ◌∷◌, ◌++◌, All, length, drop, sym, ◌∙◌, ap, subst, arith, append_assoc, append-nil}
+use Rattle.std.proofs.Common.{◌≡◌, ℕ, ◌<◌, ◌≤◌, ⊎_elim, false, ◌||◌, ◌==◌, IsTrue, List, [], ◌∷◌, ◌++◌, All, length, drop, sym, ◌∙◌, ap, arith, append_assoc, append-nil}
 use Rattle.std.specs.Prelude.{slice_range}
 use Rattle.std.specs.Int.{w32, to_be_bytes}
 use Rattle.std.specs.List.{flat_map}
@@ -7,19 +7,20 @@ use Rattle.std.proofs.lemmas.Bool.{eqb-true, or_cases}
 use Rattle.std.proofs.lemmas.List.Concat.{flat_map-append}
 use Rattle.std.proofs.lemmas.List.Elements.{All-nil, All-cons, All-head, All-tail, All-push}
 use Rattle.cny_stream.specs.Item.{FitsItem, IsItemAt, is_expected, item_bytes}
-use Rattle.cny_stream.specs.ItemLaws.{SameItem, same_item}
+use Rattle.cny_stream.specs.ItemLaws.{SameItem}
+use Rattle.cny_stream.proofs.ItemLaws.{same_item}
 use Rattle.local_db.specs.declared.format.Format.{Format}
-use Rattle.local_db.specs.declared.format.Format.TheVariants.{One, Two}
 use Rattle.local_db.specs.Formats.{record_magic}
-use Rattle.job_record.specs.declared.record.Delta.{Delta}
-use Rattle.job_record.specs.declared.record.Delta.TheVariants.{Came, Was, Turned}
-use Rattle.job_record.specs.declared.record.ToldEntry.{ToldEntry}
-use Rattle.job_record.specs.declared.record.Record.{Record}
-use Rattle.job_record.specs.Text.{IsDelta, FitsDelta, IsToldEntry, tag_of, delta_value, delta_bytes, deltas_text, entry_text, entries_text}
+use Rattle.local_db.specs.declared.record.Delta.{Delta}
+use Rattle.local_db.specs.declared.record.Delta.TheVariants.{Came, Was, Turned}
+use Rattle.local_db.specs.declared.record.ToldEntry.{ToldEntry}
+use Rattle.local_db.specs.declared.record.Record.{Record}
+use Rattle.local_db.specs.RecordText.{IsDelta, FitsDelta, IsToldEntry, tag_of, delta_value, delta_bytes, deltas_text, entry_text, entries_text}
 use Rattle.job_record.specs.Reading.{IsDeltaText, IsDeltaAt, IsNoDeltaAt, AreDeltasTo, IsUnordered}
 use Rattle.job_record.proofs.EntryItems.{entry_fits}
 use Rattle.job_record.proofs.Items.{last_of}
-use Rattle.job_record.proofs.Once.{Distinct, delta_once}
+use Rattle.job_record.proofs.Once.{delta_once}
+use Rattle.local_db.proofs.Spellings.{Distinct, without_head}
 
 -- ---- one item
 
@@ -48,35 +49,17 @@ no_delta_before f (x ∷ es) es_are u r is e =
 
 -- ---- an item that was found
 
-tags_of : List ℕ
-tags_of = 0x64 ∷ 0x65 ∷ 0x66 ∷ 0x67 ∷ 0x6F ∷ []
-
 module _ (f : Format) (bytes : List ℕ) (at tag from to : ℕ) (found : IsItemAt bytes at tag from to) where
-  abbrev value : List ℕ
+  abbrev pub value : List ℕ
   value = slice_range bytes from to
 
   pub same_text : (tag' : ℕ) (text rest : List ℕ) → FitsItem text → drop at bytes ≡ item_bytes tag' text ++ rest → SameItem tag tag' value text (drop to bytes) rest
   same_text tag' text rest fits e = same_item tag tag' value text (drop to bytes) rest found.fits fits (sym found.spelled ∙ e)
 
-  pub found_delta : (u : Delta) → IsDeltaText f tag (slice_range bytes from to) u → IsDeltaAt f bytes at u to
-  found_delta u is = record {
-    goes_on = let begins = found.begins in let order = found.order in omega (arith, begins, order);
-    within = found.within;
-    delta_is = is.delta_is;
-    fits = subst FitsItem is.text found.fits;
-    spelled = found.spelled ∙ ap (λ (n : ℕ). item_bytes n value ++ drop to bytes) is.tagged ∙ ap (λ (l : List ℕ). item_bytes (tag_of u) l ++ drop to bytes) is.text;
-  }
-
   pub no_delta_here : ((u : Delta) → IsDeltaText f tag (slice_range bytes from to) u → ⊥) → IsNoDeltaAt f bytes at
   no_delta_here none u rest is fits e =
       let items = same_text (tag_of u) (delta_value f u) rest fits e in
       none u (record { delta_is = is; tagged = items.tags; text = items.values })
-
-  -- where an entry's item or the end was found
-  pub other_not_delta : 0x67 ≤ tag → IsNoDeltaAt f bytes at
-  other_not_delta above u rest is fits e =
-      let items = same_text (tag_of u) (delta_value f u) rest fits e in
-      let below = tag_below u in omega (arith, above, below, items.tags)
 
   -- where a delta's was
   pub delta_not_entries : tag < 0x67 → (es : List ToldEntry) → All IsToldEntry es → drop at bytes ≡ entries_text es → ⊥
@@ -113,10 +96,6 @@ pub both_valid : (f : Format) (us : List Delta) → All (IsDelta f) us → All (
 both_valid f [] a b = All-nil (IsValid f)
 both_valid f (u ∷ us) a b =
     All-cons (IsValid f) u us (All-head (IsDelta f) u us a, All-head (FitsDelta f) u us b) (both_valid f us (All-tail (IsDelta f) u us a) (All-tail (FitsDelta f) u us b))
-
-without_head : (f : Format) (number : ℕ) (r s : List ℕ) → record_magic f ++ (item_bytes 0x60 (to_be_bytes w32 number) ++ r) ≡ record_magic f ++ (item_bytes 0x60 (to_be_bytes w32 number) ++ s) → r ≡ s
-without_head One number r s e = ap (drop 17) e
-without_head Two number r s e = ap (drop 17) e
 
 -- where no delta follows, those read so far are all, and the entries follow
 pub last_deltas : Distinct → (f : Format) (bytes : List ℕ) (number : ℕ) (us : List Delta) (at : ℕ) (r : Record) → AreDeltasTo f bytes number us at → IsNoDeltaAt f bytes at

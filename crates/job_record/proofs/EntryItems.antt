@@ -1,29 +1,29 @@
 -- The items of file entries.
-use Rattle.std.proofs.Common.{◌≡◌, ℕ, ◌+◌, ◌<◌, ◌≤◌, ◌^◌, List, [], ◌∷◌, ◌++◌, All, length, drop, refl, sym, ◌∙◌, ap, arith, append_assoc, append-nil, length-append}
+use Rattle.std.proofs.Common.{◌≡◌, ℕ, ◌<◌, ◌≤◌, ◌^◌, List, [], ◌∷◌, ◌++◌, All, length, drop, refl, sym, ◌∙◌, ap, arith, append_assoc, append-nil, length-append}
 use Rattle.std.specs.Prelude.{slice_range}
 use Rattle.std.specs.Int.{w16, w32, to_be_bytes}
 use Rattle.std.proofs.lemmas.List.Concat.{flat_map-append}
 use Rattle.std.proofs.lemmas.List.Elements.{All-nil, All-push}
 use Rattle.local_db.specs.cny-base.StrField.{str}
 use Rattle.cny_stream.specs.Item.{FitsItem, IsItemAt, item_bytes}
-use Rattle.cny_stream.specs.ItemLaws.{SameItem, same_item}
+use Rattle.cny_stream.specs.ItemLaws.{SameItem}
+use Rattle.cny_stream.proofs.ItemLaws.{same_item}
 use Rattle.local_db.specs.trove-parts.Items.{items_bytes}
 use Rattle.tree_scan.specs.declared.mark.Mark.{Mark}
 use Rattle.tree_scan.specs.declared.mark.Mark.TheVariants.{Nothing, Dir, File, Link}
 use Rattle.local_db.specs.MarkBytes.{IsMark, mark_bytes}
-use Rattle.job_record.specs.declared.record.Told.{Told}
-use Rattle.job_record.specs.declared.record.Told.TheVariants.{Listed, Own}
-use Rattle.job_record.specs.declared.record.ToldEntry.{ToldEntry}
-use Rattle.job_record.specs.Text.{told_text, IsTold, entry_text, IsToldEntry, entries_text}
+use Rattle.local_db.specs.declared.record.Told.{Told}
+use Rattle.local_db.specs.declared.record.Told.TheVariants.{Listed, Own}
+use Rattle.local_db.specs.declared.record.ToldEntry.{ToldEntry}
+use Rattle.local_db.specs.RecordText.{told_text, IsTold, entry_text, IsToldEntry, entries_text}
 use Rattle.job_record.specs.Reading.{IsEntryText, IsEntryAt, IsNoEntryAt, AreEntriesTo}
 use Rattle.job_record.proofs.Items.{last_of}
 use Rattle.job_record.proofs.Once.{entry_once}
-use Rattle.job_record.proofs.Strs.{fits_path, fits_target}
+use Rattle.local_db.proofs.journal-log.Links.{fits_target}
+use Rattle.change_rel.proofs.trove-parts.ItemFields.{path_fits as fits_path}
+use Rattle.change_rel.proofs.trove-parts.IdFields.{str_length}
 
 -- ---- an entry is short
-
-str_length : (a : List ℕ) → length (str a) ≡ 2 + length a
-str_length a = length-append (to_be_bytes w16 (length a)) a
 
 mark_short : (m : Mark) → IsMark m → length (mark_bytes m) < 70000
 mark_short Nothing is = omega arith
@@ -60,29 +60,15 @@ no_entry_before_end e r is same =
 -- ---- an item that was found
 
 module _ (bytes : List ℕ) (at tag from to : ℕ) (found : IsItemAt bytes at tag from to) where
-  abbrev value : List ℕ
+  abbrev pub value : List ℕ
   value = slice_range bytes from to
 
-  same_text : (tag' : ℕ) (text rest : List ℕ) → FitsItem text → drop at bytes ≡ item_bytes tag' text ++ rest → SameItem tag tag' value text (drop to bytes) rest
+  pub same_text : (tag' : ℕ) (text rest : List ℕ) → FitsItem text → drop at bytes ≡ item_bytes tag' text ++ rest → SameItem tag tag' value text (drop to bytes) rest
   same_text tag' text rest fits e = same_item tag tag' value text (drop to bytes) rest found.fits fits (sym found.spelled ∙ e)
-
-  pub found_entry : (e : ToldEntry) → tag ≡ 0x67 → IsEntryText (slice_range bytes from to) e → IsEntryAt bytes at e to
-  found_entry e tagged is = record {
-    goes_on = let begins = found.begins in let order = found.order in omega (arith, begins, order);
-    within = found.within;
-    entry_is = is.entry_is;
-    spelled = found.spelled ∙ ap (λ (n : ℕ). item_bytes n value ++ drop to bytes) tagged ∙ ap (λ (l : List ℕ). item_bytes 0x67 l ++ drop to bytes) is.text;
-  }
 
   pub no_entry_here : ((e : ToldEntry) → IsEntryText (slice_range bytes from to) e → ⊥) → IsNoEntryAt bytes at
   no_entry_here none e rest is same =
       none e (record { entry_is = is; text = (same_text 0x67 (entry_text e) rest (entry_fits e is) same).values })
-
-  pub entry_not_end : tag ≡ 0x67 → drop at bytes ≡ item_bytes 0x6F [] → ⊥
-  entry_not_end tagged e = let items = same_text 0x6F [] [] (omega arith) e in omega (arith, tagged, items.tags)
-
-  pub other_not_entry : (tag ≡ 0x67 → ⊥) → IsNoEntryAt bytes at
-  other_not_entry other e rest is same = other ((same_text 0x67 (entry_text e) rest (entry_fits e is) same).tags)
 
 -- ---- entries so far
 

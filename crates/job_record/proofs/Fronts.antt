@@ -6,13 +6,14 @@ use Rattle.std.proofs.lemmas.List.{length-drop, drop-drop, drop_all, drop_at}
 use Rattle.local_db.specs.cny-base.Path.{is_path}
 use Rattle.local_db.specs.cny-base.StrField.{IsStrAt, str}
 use Rattle.tree_scan.specs.declared.mark.Mark.TheVariants.{Nothing, Dir, File, Link}
-use Rattle.job_record.specs.declared.record.Told.{Told}
-use Rattle.job_record.specs.declared.record.Told.TheVariants.{Listed, Own}
-use Rattle.job_record.specs.declared.record.ToldEntry.{ToldEntry}
-use Rattle.job_record.specs.Text.{told_text, IsTold, IsToldEntry}
+use Rattle.local_db.specs.declared.record.Told.{Told}
+use Rattle.local_db.specs.declared.record.Told.TheVariants.{Listed, Own}
+use Rattle.local_db.specs.declared.record.ToldEntry.{ToldEntry}
+use Rattle.local_db.specs.RecordText.{told_text, IsTold, IsToldEntry}
 use Rattle.job_record.specs.Reading.{HasFileFields, IsEntryText, IsToldFront}
 use Rattle.job_record.proofs.Once.{same_told}
-use Rattle.job_record.proofs.Strs.{fits_path, same_str}
+use Rattle.change_rel.proofs.trove-parts.ItemFields.{path_fits as fits_path}
+use Rattle.change_rel.proofs.cny-base.IdFields.{same_str}
 
 -- ---- a file's fingerprint
 

@@ -1,17 +1,17 @@
 -- The magic and the number of a record.
-use Rattle.std.proofs.Common.{◌≡◌, ℕ, ◌<◌, ◌≤◌, ◌^◌, Bool, true, ◌&&◌, nat_eq, List, [], ◌∷◌, ◌++◌, length, take, drop, refl, sym, ◌∙◌, ap, subst, arith}
-use Rattle.std.specs.Prelude.{◌==◌}
+use Rattle.std.proofs.Common.{◌≡◌, ℕ, ◌<◌, ◌≤◌, ◌^◌, true, nat_eq, List, [], ◌∷◌, ◌++◌, length, take, drop, sym, ◌∙◌, ap, subst}
 use Rattle.std.specs.Int.{w32, to_be_bytes, from_be_bytes}
 use Rattle.std.specs.Cmp.Lexicographic.{pointwise}
 use Rattle.std.proofs.Math.Seq.{drop-append_seam}
-use Rattle.std.proofs.lemmas.Bool.Decides.{nat_tests}
-use Rattle.local_db.specs.cny-base.Below.{begins_with, begun}
+use Rattle.local_db.proofs.cny-base.Below.{begun}
 use Rattle.cny_stream.specs.Item.{item_bytes}
-use Rattle.cny_stream.specs.ItemLaws.{same_four}
+use Rattle.cny_stream.proofs.ItemLaws.{same_four}
 use Rattle.local_db.specs.declared.format.Format.{Format}
 use Rattle.local_db.specs.declared.format.Format.TheVariants.{One, Two}
 use Rattle.local_db.specs.Formats.{record_magic}
-use Rattle.job_record.proofs.Numbers.{IsBytes, drop_bytes, four}
+use Rattle.change_rel.proofs.cny-base.StrFields.{IsBytes, drop_bytes}
+use Rattle.change_rel.proofs.cny-base.ByteLists.{begins_by}
+use Rattle.local_db.proofs.journal-log.Tails.{four}
 
 abbrev pub with_head : Format → ℕ → List ℕ → List ℕ
 with_head f number rest = record_magic f ++ (item_bytes 0x60 (to_be_bytes w32 number) ++ rest)
@@ -22,14 +22,6 @@ one_number One m n r s m_fits n_fits e = same_four m n r s m_fits n_fits (ap (dr
 one_number Two m n r s m_fits n_fits e = same_four m n r s m_fits n_fits (ap (drop 13) e)
 
 -- ---- a front that is taken off
-
-same_bit : (a b : ℕ) (x y : Bool) → x ≡ y → (nat_eq b a && x) ≡ ((a == b) && y)
-same_bit a b x y e = grind (arith, nat_tests)
-
-begins_by : (front bytes : List ℕ) → pointwise nat_eq (take (length front) bytes) front ≡ begins_with front bytes
-begins_by [] bytes = refl
-begins_by (a ∷ front) [] = refl
-begins_by (a ∷ front) (b ∷ bytes) = same_bit a b (pointwise nat_eq (take (length front) bytes) front) (begins_with front bytes) (begins_by front bytes)
 
 pub stripped : (front bytes rest : List ℕ) → pointwise nat_eq (take (length front) bytes) front ≡ true → rest ≡ drop (length front) bytes → bytes ≡ front ++ rest
 stripped front bytes rest same rest_is =

@@ -14,7 +14,7 @@ module _ {A : Type 0} (item : A → List ℕ) (IsValid : A → Type 0) (once : (
     pub valid : All IsValid rest
     pub spelled : tail ≡ flat_map item rest ++ end
 
-  more : (x : A) (xs : List A) (rest : List ℕ) → flat_map item (x ∷ xs) ++ rest ≡ item x ++ (flat_map item xs ++ rest)
+  pub more : (x : A) (xs : List A) (rest : List ℕ) → flat_map item (x ∷ xs) ++ rest ≡ item x ++ (flat_map item xs ++ rest)
   more x xs rest = append_assoc (item x) (flat_map item xs) rest
 
   pub rest_of : (front all : List A) (tail end : List ℕ) → All IsValid front → All IsValid all → IsNoItem end
@@ -30,7 +30,7 @@ module _ {A : Type 0} (item : A → List ℕ) (IsValid : A → Type 0) (once : (
       let head = sym one.0 in
       (others.0, record { split = λ i. head i ∷ split i; valid = others.1.valid; spelled = others.1.spelled })
 
-  last_rest : (front all rest : List A) (tail end : List ℕ) → IsRest front all rest tail end → IsNoItem tail → (all ≡ front) × (tail ≡ end)
+  pub last_rest : (front all rest : List A) (tail end : List ℕ) → IsRest front all rest tail end → IsNoItem tail → (all ≡ front) × (tail ≡ end)
   last_rest front all [] tail end is none = (is.split ∙ append-nil front, is.spelled)
   last_rest front all (x ∷ rest) tail end is none =
       absurd (none x (flat_map item rest ++ end) (All-head IsValid x rest is.valid) (is.spelled ∙ more x rest end))

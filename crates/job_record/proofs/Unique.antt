@@ -2,15 +2,15 @@
 use Rattle.std.proofs.Common.{◌≡◌, ℕ, ◌<◌, ◌^◌, List, [], ◌++◌, drop, sym, ◌∙◌}
 use Rattle.cny_stream.specs.Item.{item_bytes}
 use Rattle.local_db.specs.declared.format.Format.{Format}
-use Rattle.job_record.specs.declared.record.Delta.{Delta}
-use Rattle.job_record.specs.declared.record.Record.{Record}
-use Rattle.job_record.specs.Text.{IsToldEntry, delta_bytes, deltas_text, entries_text, IsRecordText}
+use Rattle.local_db.specs.declared.record.Delta.{Delta}
+use Rattle.local_db.specs.declared.record.Record.{Record}
+use Rattle.local_db.specs.RecordText.{IsToldEntry, delta_bytes, deltas_text, entries_text, IsRecordText}
 use Rattle.job_record.specs.Reading.{AreDeltasTo, IsNoDeltaAt, IsUnordered}
 use Rattle.job_record.proofs.DeltaItems.{IsValid, both_valid, last_deltas, no_delta_before, one_delta}
 use Rattle.job_record.proofs.EntryItems.{item_of, no_entry_before_end, one_entry}
 use Rattle.job_record.proofs.Heads.{one_number, with_head}
 use Rattle.job_record.proofs.Items.{last_of}
-use Rattle.job_record.proofs.Once.{Distinct}
+use Rattle.local_db.proofs.Spellings.{Distinct}
 
 pub in_any_order : (f : Format) (r : Record) (bytes : List ℕ) → IsRecordText f r bytes → IsUnordered f r bytes
 in_any_order f r bytes is = record {

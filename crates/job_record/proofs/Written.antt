@@ -4,8 +4,8 @@ use Rattle.std.specs.List.{flat_map}
 use Rattle.std.proofs.lemmas.List.{flat_map_more, take_all, take_more}
 use Rattle.std.proofs.lemmas.List.Elements.{All-more}
 use Rattle.local_db.specs.declared.format.Format.TheVariants.{Two}
-use Rattle.job_record.specs.declared.record.Delta.{Delta}
-use Rattle.job_record.specs.Text.{FitsDelta, IsDelta, delta_bytes, deltas_text}
+use Rattle.local_db.specs.declared.record.Delta.{Delta}
+use Rattle.local_db.specs.RecordText.{FitsDelta, IsDelta, delta_bytes, deltas_text}
 
 pub one_written : {A : Type 0} (item : A → List ℕ) (before : List ℕ) (xs : List A) (k : ℕ) (x : A) (out more : List ℕ) → k < length xs → x ≡ get_or xs k x → out ≡ before ++ flat_map item (take k xs)
     → more ≡ out ++ item x → more ≡ before ++ flat_map item (take (k + 1) xs)

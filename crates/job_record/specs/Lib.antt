@@ -1,8 +1,5 @@
-pub mod Text
 pub mod Reading
 pub mod Lists
-pub mod Past
-pub mod Table
-pub mod Entries
-pub mod Halves
-pub mod JobReading
+pub mod Changed
+pub mod Recorded
+pub mod Telling

@@ -5,11 +5,11 @@ use Rattle.tree_scan.specs.declared.mark.Mark.{Mark}
 use Rattle.local_db.specs.Installed.{recorded}
 use Rattle.local_db.specs.MarkBytes.{tells}
 use Rattle.local_db.specs.Record as state
-use Rattle.job_record.specs.declared.record.Told.{Told}
-use Rattle.job_record.specs.declared.record.Told.TheVariants.{Listed, Own}
-use Rattle.job_record.specs.declared.record.ToldEntry.{ToldEntry}
-use Rattle.job_record.specs.declared.record.Record.{Record}
-use Rattle.job_record.specs.Text.{delta_of}
+use Rattle.local_db.specs.declared.record.Told.{Told}
+use Rattle.local_db.specs.declared.record.Told.TheVariants.{Listed, Own}
+use Rattle.local_db.specs.declared.record.ToldEntry.{ToldEntry}
+use Rattle.local_db.specs.declared.record.Record.{Record}
+use Rattle.local_db.specs.RecordText.{delta_of}
 
 -- a fingerprint is left to the list exactly where the list records it
 abbrev pub told_by : Option Mark → Mark → Told

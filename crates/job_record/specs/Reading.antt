@@ -6,11 +6,11 @@ use Rattle.local_db.specs.trove-parts.Items.{items_bytes}
 use Rattle.local_db.specs.declared.format.Format.{Format}
 use Rattle.local_db.specs.Formats.{record_magic}
 use Rattle.local_db.specs.Record as state
-use Rattle.job_record.specs.declared.record.Delta.{Delta}
-use Rattle.job_record.specs.declared.record.Told.{Told}
-use Rattle.job_record.specs.declared.record.ToldEntry.{ToldEntry}
-use Rattle.job_record.specs.declared.record.Record.{Record}
-use Rattle.job_record.specs.Text.{delta_of, IsDelta, FitsDelta, delta_value, delta_bytes, deltas_text, told_text, IsTold, entry_text, entries_text, IsToldEntry}
+use Rattle.local_db.specs.declared.record.Delta.{Delta}
+use Rattle.local_db.specs.declared.record.Told.{Told}
+use Rattle.local_db.specs.declared.record.ToldEntry.{ToldEntry}
+use Rattle.local_db.specs.declared.record.Record.{Record}
+use Rattle.local_db.specs.RecordText.{delta_of, IsDelta, FitsDelta, delta_value, delta_bytes, deltas_text, told_text, IsTold, entry_text, entries_text, IsToldEntry}
 
 -- ---- fingerprints
 

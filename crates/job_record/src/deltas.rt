@@ -1,5 +1,5 @@
 //! The trove deltas of a record.
-ghost use Rattle.std.specs.Prelude.{◌≡◌, ◌↔◌, ◌≤◌, ◌++◌, ℕ, List, All, IsTrue, length, drop, IfOk, IfSome, IfNone, IsErrOf};
+ghost use Rattle.std.specs.Prelude.{◌≡◌, ◌↔◌, ◌≤◌, ◌++◌, IsTrue, length, drop, IfOk, IfSome, IfNone, IsErrOf};
 ghost use Rattle.std.specs.Int.{to_be_bytes, w32};
 ghost use Rattle.cny_stream.specs.Item.{item_bytes};
 ghost use Rattle.local_db.specs.trove-parts.declared.id.TroveId as declared_id;
@@ -9,24 +9,20 @@ ghost use Rattle.local_db.specs.trove-stream.Rel.{IsRel};
 ghost use Rattle.local_db.specs.trove-stream.declared.parts.TroveParts.{TroveParts};
 ghost use Rattle.local_db.specs.trove-stream.Trove.{IsTrove};
 ghost use Rattle.local_db.specs.Formats.{CanTell, TroveCanTell, record_magic, rel_text, trove_text};
-ghost use Rattle.local_db.specs.Formats as formats;
 ghost use Rattle.local_db.specs.declared.format.Format.TheVariants.{One};
-ghost use Rattle.job_record.specs.declared.record.Delta as declared_delta;
-ghost use Rattle.job_record.specs.declared.record.Record as declared_record;
-ghost use Rattle.job_record.specs.declared.record.ToldEntry.{ToldEntry};
-ghost use Rattle.job_record.specs.Text.{IsToldEntry, entries_text};
+ghost use Rattle.local_db.specs.declared.record.Delta as declared_delta;
+ghost use Rattle.local_db.specs.declared.record.Record as declared_record;
 ghost use Rattle.job_record.specs.Reading.{AreDeltasTo, IsDeltaAt, IsDeltaText, IsNoDeltaAt, IsNoEntriesText, IsUnordered};
 
-use crate::record::Delta;
 use cny_stream::next_item;
-use local_db::Format;
 use local_db::cny_base::TextFault;
 use local_db::file_stream::FileRec;
-use local_db::trove_parts::{FileAt, TroveId, distinct_ids, next_id};
+use local_db::trove_parts::{TroveId, distinct_ids, next_id};
 use local_db::trove_stream::{
     RelTrove, Trove, decode as decode_trove, decode_full, decode_rel, decode_rel_full,
     distinct_rels, distinct_troves,
 };
+use local_db::{Delta, Format, are_roots};
 use std::alloc::Global;
 
 /// The tags of the items.
@@ -39,24 +35,6 @@ pub(crate) const TURNED: u8 = 0x66;
 pub(crate) const ENTRY: u8 = 0x67;
 
 pub(crate) const END: u8 = 0x6f;
-
-// Whether root owns it, or it is a link, which has no owner.
-fn is_roots(rec: &FileRec) -> bool
-    ensures { result ≡ formats.is_roots rec.now }
-{
-    match rec {
-        FileRec::Dir { owner, .. } => owner.is_root(),
-        FileRec::File { owner, .. } => owner.is_root(),
-        FileRec::Link { .. } => true,
-    }
-}
-
-// Whether format 1 can tell the files.
-fn are_roots(files: &[FileAt]) -> bool
-    ensures { IsTrue result ↔ CanTell One files.now }
-{
-    files.iter().all(|file| is_roots(&file.rec))
-}
 
 // The id whose bytes these are, all of them.
 fn id_of(alloc: Global, value: &[u8]) -> Result<TroveId, TextFault>

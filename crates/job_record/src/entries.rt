@@ -1,14 +1,13 @@
 //! The file entries of a record.
-ghost use Rattle.std.specs.Prelude.{[], ◌≡◌, ◌≤◌, ◌++◌, ℕ, List, All, length, drop, IfOk, IfSome, IfNone, IsErrOf};
+ghost use Rattle.std.specs.Prelude.{[], ◌≡◌, ◌≤◌, length, drop, IfOk, IfSome, IfNone, IsErrOf};
 ghost use Rattle.cny_stream.specs.Item.{item_bytes};
-ghost use Rattle.job_record.specs.declared.record.ToldEntry as declared;
-ghost use Rattle.job_record.specs.Text.{IsToldEntry, entries_text};
+ghost use Rattle.local_db.specs.declared.record.ToldEntry as declared;
 ghost use Rattle.job_record.specs.Reading.{AreEntriesTo, IsEntryAt, IsEntryText, IsNoEntriesText, IsNoEntryAt};
 
 use crate::deltas::{END, ENTRY};
 use crate::marks::told_front;
-use crate::record::ToldEntry;
 use cny_stream::next_item;
+use local_db::ToldEntry;
 use local_db::cny_base::{Path, TextFault, next_str};
 use std::alloc::Global;
 

@@ -3,9 +3,9 @@ ghost use Rattle.std.specs.Prelude.{◌≡◌, List, ℕ};
 ghost use Rattle.local_db.specs.trove-stream.declared.parts.TroveParts.{TroveParts};
 ghost use Rattle.local_db.specs.Record.{Entry, IsRecord};
 ghost use Rattle.local_db.specs.declared.format.Format.{Format};
-ghost use Rattle.job_record.specs.declared.record.Record.{Record};
+ghost use Rattle.local_db.specs.declared.record.Record.{Record};
 ghost use Rattle.job_record.specs.Lists.{IsReadBy};
-ghost use Rattle.job_record.specs.Text.{IsRecordText};
+ghost use Rattle.local_db.specs.RecordText.{IsRecordText};
 
 use local_db::trove_parts::distinct_ids;
 use local_db::trove_stream::{distinct_rels, distinct_troves};

@@ -1,9 +1,9 @@
 //! Fingerprints in a record, read from the front.
-ghost use Rattle.std.specs.Prelude.{◌≡◌, ◌∷◌, ◌++◌, ℕ, List, IfOk, IsErrOf};
+ghost use Rattle.std.specs.Prelude.{◌≡◌, ◌∷◌, IfOk, IsErrOf};
 ghost use Rattle.job_record.specs.Reading.{IsNoToldFront, IsToldFront};
 
 use crate::fields::{read_file, read_mode};
-use crate::record::Told;
+use local_db::Told;
 use local_db::cny_base::{Target, TextFault, next_str};
 use std::alloc::Global;
 use tree_scan::Mark;

@@ -1,25 +1,23 @@
 //! The record that a file spells.
-ghost use Rattle.std.specs.Prelude.{[], ◌≡◌, ◌↔◌, ◌<◌, ◌≤◌, ◌^◌, ◌++◌, ℕ, List, IsTrue, length, drop, IfOk, IfSome, IfNone, IsErrOf, OnOk};
+ghost use Rattle.std.specs.Prelude.{[], ◌≡◌, ◌↔◌, ◌<◌, ◌≤◌, ◌^◌, ◌++◌, ℕ, List, IsTrue, length, drop, IfOk, IfSome, IfNone, IsErrOf};
 ghost use Rattle.std.specs.Int.{to_be_bytes, w32};
 ghost use Rattle.std.specs.List.Sorted.{IsStrictlySortedBy};
 ghost use Rattle.std.specs.Ordering.{is_lt};
 ghost use Rattle.cny_stream.specs.Item.{item_bytes};
 ghost use Rattle.local_db.specs.Formats.{record_magic};
-ghost use Rattle.job_record.specs.declared.record.Delta as declared_delta;
-ghost use Rattle.job_record.specs.declared.record.Record as declared;
-ghost use Rattle.job_record.specs.Text.{IsRecordText, by_name, by_path};
-ghost use Rattle.job_record.specs.Text as spec;
+ghost use Rattle.local_db.specs.declared.record.Record as declared;
+ghost use Rattle.local_db.specs.RecordText.{IsRecordText, by_name, by_path};
+ghost use Rattle.local_db.specs.RecordText as spec;
 ghost use Rattle.job_record.specs.Reading.{IsUnordered};
 
 use crate::deltas::{HEAD_LEN, deltas_behind};
 use crate::entries::entries_from;
 use crate::laws::distinct_records;
-use crate::record::{Delta, Deltas, Record, ToldEntries, ToldEntry};
 use crate::writing::{END_ITEM, MAGIC_1, MAGIC_2, NUMBER_HEAD};
-use local_db::Format;
 use local_db::cny_base::{Name, TextFault};
 use local_db::trove_parts::distinct_ids;
 use local_db::trove_stream::{distinct_rels, distinct_troves};
+use local_db::{Delta, Deltas, Format, Record, ToldEntries, ToldEntry};
 use std::alloc::Global;
 
 // The magic of a record.

@@ -1,20 +1,19 @@
 //! The bytes of a record.
-ghost use Rattle.std.specs.Prelude.{◌≡◌, ◌≤◌, ◌++◌, All, IfOk, OnOk, IsTrue, length};
-ghost use Rattle.std.specs.Int.{to_be_bytes, w32};
+ghost use Rattle.std.specs.Prelude.{◌≡◌, ◌++◌, All, IfOk, OnOk};
 ghost use Rattle.cny_stream.specs.Item.{FitsItem, item_bytes};
 ghost use Rattle.local_db.specs.trove-parts.Items.{items_bytes};
 ghost use Rattle.local_db.specs.MarkBytes.{IsMark, mark_bytes};
 ghost use Rattle.local_db.specs.declared.format.Format.TheVariants.{Two};
-ghost use Rattle.job_record.specs.Text.{FitsDelta, IsDelta, IsTold, IsToldEntry, delta_bytes, delta_value, deltas_text, entry_text, told_text, record_text};
-ghost use Rattle.job_record.specs.Text as spec;
+ghost use Rattle.local_db.specs.RecordText.{FitsDelta, IsDelta, IsTold, IsToldEntry, delta_bytes, delta_value, deltas_text, entry_text, told_text, record_text};
+ghost use Rattle.local_db.specs.RecordText as spec;
 ghost use Rattle.tree_scan.specs.declared.mark.Mark.TheVariants as mark;
 
 use crate::deltas::{CAME, END, ENTRY, TURNED, WAS};
-use crate::record::{Delta, Record, Told, ToldEntry};
 use cny_stream::put_item;
 use local_db::cny_base::{Bytes, Mode, OutOfMemory, put_str};
 use local_db::trove_parts::put_id;
 use local_db::trove_stream::{encode_full, encode_rel_full};
+use local_db::{Delta, Record, Told, ToldEntry};
 use std::alloc::Global;
 use tree_scan::Mark;
 

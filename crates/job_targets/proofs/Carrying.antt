@@ -1,6 +1,6 @@
 -- A carried content that a binary search finds by its name.
 use Rattle.std.proofs.Common.{◌≡◌, ◌≢◌, ℕ, zero, suc, ◌<◌, Bool, true, false, cond, List, [], ◌∷◌, length, get_or, Option, Some, None, Ordering, All, ⊎_elim, inl, inr, refl, sym, ◌∙◌, ap, subst, arith, add-one}
-use Rattle.std.specs.List.{AllByRecursion, HoldsAt}
+use Rattle.std.specs.List.{HoldsAt}
 use Rattle.std.specs.List.Sorted.{IsStrictlySortedBy, IsSortedBy, IsNonDecreasingBy, IsPartitionPoint}
 use Rattle.std.specs.Cmp.Lexicographic.{slice_cmp, nat_list_cmp_total}
 use Rattle.std.specs.Ordering.{nat_cmp, is_eq, is_lt, ordering_index, ordering_reverse}
@@ -13,31 +13,18 @@ use Rattle.std.proofs.lemmas.Cmp.{tied_itself}
 use Rattle.std.proofs.lemmas.List.Elements.{All-head, All-tail}
 use Rattle.std.proofs.lemmas.List.Sorted.{searchable_from_sorted}
 use Rattle.std.proofs.lemmas.Map.Keys.{Less-from_sorted}
-use Rattle.std.proofs.lemmas.Slice.Eq.{bytes_eq-Decides}
 use Rattle.sha1.specs.Sha1.{sha1}
-use Rattle.local_db.specs.tree-disk.Laws.{same_itself, same_means}
+use Rattle.local_db.specs.tree-disk.Laws.{same_means}
 use Rattle.change_set.specs.declared.change.Carried.{Carried}
 use Rattle.change_set.specs.ChangeSet.{content_cmp}
 use Rattle.job_targets.specs.Old.{IsContent}
-use Rattle.job_targets.specs.Contents.{carried_bytes, of_size}
-
--- how the name of a content compares with the one that is looked for
-abbrev pub against : List ℕ → Carried → Ordering
-against name content = slice_cmp nat_cmp content.name name
-
-pub same_bytes : (a b : List ℕ) → bytes_eq a b ≡ true → a ≡ b
-same_bytes a b h = (bytes_eq-Decides a b).0 h
-
-pub equal_bytes : (a b : List ℕ) → a ≡ b → bytes_eq a b ≡ true
-equal_bytes a b h = (bytes_eq-Decides a b).1 h
-
-not_before : (a b : List ℕ) → a ≡ b → slice_cmp nat_cmp a b ≡ Less → ⊥
-not_before a b is less = absurd (cc (same_itself b, ap is_eq (ap (λ (n : List ℕ). slice_cmp nat_cmp n b) (sym is) ∙ less)))
-
-rec_at : (P : Carried → Type 0) (cs : List Carried) (i : ℕ) (e : Carried) → AllByRecursion P cs → i < length cs → e ≡ get_or cs i e → P e
-rec_at P [] i e all lt is = absurd (omega arith)
-rec_at P (c ∷ cs) zero e all lt is = subst P (sym is) all.0
-rec_at P (c ∷ cs) (suc i) e all lt is = rec_at P cs i e all.1 (omega arith) is
+use Rattle.job_targets.specs.Contents.{carried_bytes}
+use Rattle.change_set.proofs.Carrying.{against, rec_at}
+use Rattle.change_set.proofs.cny-base.ByteLists.{equal_bytes, same_bytes}
+use Rattle.tree_scan.proofs.tree-disk.Order.{not_before}
+use Rattle.change_set.specs.cny-base.Sized.{of_size}
+use Rattle.change_set.proofs.cny-base.Counts.{number_same as equal_size}
+use Rattle.change_set.proofs.cny-base.Below.{test_equal as same_size}
 
 -- the content at a place, of the name that is looked for, is the one that is carried under it
 pub found_at : (name : List ℕ) (cs : List Carried) (i : ℕ) (e : Carried) → IsStrictlySortedBy content_cmp cs → i < length cs → e ≡ get_or cs i e → e.name ≡ name
@@ -93,12 +80,6 @@ hashed (c ∷ cs) name all =
     kept_name (bytes_eq c.name name) c name (carried_bytes cs name)
     (λ same. sym (All-head (λ (content : Carried). content.name ≡ sha1 content.bytes) c cs all) ∙ same_bytes c.name name same)
     (hashed cs name (All-tail (λ (content : Carried). content.name ≡ sha1 content.bytes) c cs all))
-
-pub same_size : (a b : ℕ) → (a == b) ≡ true → a ≡ b
-same_size a b h = grind (arith, nat_tests)
-
-equal_size : (a b : ℕ) → a ≡ b → (a == b) ≡ true
-equal_size a b h = grind (arith, nat_tests)
 
 other_size : (a b : ℕ) → a ≢ b → (a == b) ≡ false
 other_size a b h = grind (arith, nat_tests)

@@ -10,13 +10,14 @@ use Rattle.std.proofs.lemmas.List.Elements.{All-cons, All-head, All-nil, All-tai
 use Rattle.local_db.specs.cny-base.Reserved.{is_pinned}
 use Rattle.local_db.specs.cny-base.declared.options.Options.{Options}
 use Rattle.local_db.specs.file-stream.declared.record.FileRec.{FileRec}
-use Rattle.local_db.specs.file-stream.Record.{is_dir}
+use Rattle.local_db.specs.file-stream.Record.{is_dir, flags_of}
 use Rattle.local_db.specs.trove-stream.declared.parts.TroveParts.{TroveParts}
-use Rattle.local_db.specs.tree-disk.Laws.{same_itself, same_means}
+use Rattle.local_db.specs.tree-disk.Laws.{same_means}
+use Rattle.local_db.proofs.tree-disk.Laws.{same_itself}
 use Rattle.local_db.specs.tree-disk.Tree.{Name, Tree, same_name}
 use Rattle.tree_scan.specs.declared.mark.Mark.{Mark}
 use Rattle.tree_scan.specs.declared.mark.Mark.TheVariants as mark
-use Rattle.tree_scan.specs.MarkLaws.{same_mark_itself, same_mark_means}
+use Rattle.tree_scan.proofs.MarkLaws.{same_mark_itself, same_mark_means}
 use Rattle.tree_scan.specs.Marks as marks
 use Rattle.tree_scan.specs.Marks.{fingerprint_at, fingerprint_of_record, is_nothing, same_mark}
 use Rattle.conflict_plan.specs.declared.planned.Planned.{Planned}
@@ -24,9 +25,11 @@ use Rattle.conflict_plan.specs.declared.table.Outcome.{Outcome}
 use Rattle.conflict_plan.specs.declared.table.Outcome.TheVariants.{Stays, Removed, Written, Unowned, Edited}
 use Rattle.conflict_plan.specs.Claims.{record_at}
 use Rattle.conflict_plan.specs.Orphans.{IsSeenPlan}
-use Rattle.conflict_plan.specs.Plan.{ArePlanned, change_of, HasChild, IsAnswer, mark_after, outcome_at, planned_at, planned_cmp}
-use Rattle.conflict_plan.specs.Table.{changed_outcome, flags_of, is_recorded_so, matches, new_outcome, otherwise_outcome, outcome_by, path_outcome, recorded_outcome, unrecorded_outcome}
+use Rattle.conflict_plan.specs.Plan.{ArePlanned, change_of, HasChild, mark_after, outcome_at, planned_at, planned_cmp}
+use Rattle.conflict_plan.proofs.Sighted.{not_nothing}
+use Rattle.conflict_plan.specs.Table.{changed_outcome, is_recorded_so, matches, new_outcome, otherwise_outcome, outcome_by, path_outcome, recorded_outcome, unrecorded_outcome}
 use Rattle.job_targets.specs.Targets.{IsChange}
+use Rattle.change_set.specs.cny-base.Answer.{IsAnswer}
 
 -- ---- the table changes a path
 
@@ -91,9 +94,6 @@ path_changes path old fresh was remains options = by_test was fresh (is_pinned p
 record IsSeenChange (was : Mark) (x : Planned) : Type 0 where
   seen : x.was ≡ was
   change : IsChange x
-
-not_nothing : (was : Mark) → is_nothing was ≡ false → was ≢ mark.Nothing
-not_nothing was stands is = absurd (cc (sym (ap is_nothing is) ∙ stands))
 
 not_matching : (was : Mark) (rec : FileRec) → matches was rec ≡ false → was ≢ fingerprint_of_record rec
 not_matching was rec other is =

@@ -1,41 +1,17 @@
 -- How runs of calls that read a disk and search contents follow one another.
 use Rattle.std.proofs.Common.{◌≡◌, ℕ, Bool, IsTrue, List, Option, Result, Ok, Err, IsErrAnd, sym, subst, arith}
-use Rattle.local_db.specs.cny-base.Count.{Rose}
 use Rattle.local_db.specs.cny-base.declared.refusal.Refusal.{Refusal}
 use Rattle.local_db.specs.cny-base.declared.stop.Stop.{Stop}
 use Rattle.local_db.specs.cny-base.declared.stop.Stop.TheVariants.{Refused, Memory, Failed, Damaged, FarFailed, FarDamaged}
 use Rattle.local_db.specs.tree-disk.Tree.{Name, Tree}
 use Rattle.local_db.specs.tree-disk.Disk.{DiskModel, IsDisk}
-use Rattle.local_db.specs.tree-disk.Moments.{same_start, same_on, time_start, time_on, rose_before}
-use Rattle.local_db.specs.tree-disk.Steps.{Found, Tests}
-use Rattle.content_store.specs.Contents.{ContentsModel, IsSource, KeepsContents, StopsFor, stop_of_far}
-use Rattle.content_store.specs.declared.contents.FarStop.{FarStop}
-use Rattle.content_store.specs.declared.contents.FarStop.TheVariants as far_stop
+use Rattle.local_db.specs.tree-disk.Moments.{same_on, time_on}
+use Rattle.local_db.proofs.tree-disk.Moments.{rose_before}
+use Rattle.content_store.specs.Contents.{ContentsModel, IsSource, KeepsContents}
 use Rattle.job_targets.specs.Gathering.{Ends, Gathers, IsDamage}
+use Rattle.content_store.proofs.Sources.{keeps_then}
 
 -- ---- contents
-
-pub keeps_start : {C : Type 0} {contents : ContentsModel C} → IsSource contents → (c : C) → KeepsContents contents c c
-keeps_start laws c = record {
-  map = λ m h. h;
-  answers = λ name found h. h;
-  answers_stay = λ name found h. h;
-  damage = λ told path h. h;
-  damage_stays = λ told path h. h;
-  later = omega arith;
-  searched = laws.none c;
-}
-
-pub keeps_then : {C : Type 0} {contents : ContentsModel C} → IsSource contents → {a b c : C} → KeepsContents contents a b → KeepsContents contents b c → KeepsContents contents a c
-keeps_then laws {a = a} {b = b} {c = c} first then = record {
-  map = λ m h. then.map m (first.map m h);
-  answers = λ name found h. first.answers name found (then.answers name found h);
-  answers_stay = λ name found h. then.answers_stay name found (first.answers_stay name found h);
-  damage = λ told path h. first.damage told path (then.damage told path h);
-  damage_stays = λ told path h. then.damage_stays told path (first.damage_stays told path h);
-  later = omega (arith, first.later, then.later);
-  searched = laws.next a b c first.searched then.searched;
-}
 
 -- what may be answered later, might be before
 pub answers_before : {C : Type 0} (contents : ContentsModel C) (a b : C) → KeepsContents contents a b → (name : List ℕ) (found : Option (List ℕ)) → contents.answers b name found → contents.answers a name found
@@ -85,48 +61,9 @@ ends_refused : {Z : Type 0} (told : Bool) (S : Z → Type 0) (Q : Refusal → Ty
 ends_refused told S Q R rose far (Ok z) why is refused = absurd is
 ends_refused {Z = Z} told S Q R rose far (Err s) why is refused = subst (λ x. Ends {X = Z} told S Q R rose far (Err x)) (sym is) refused
 
--- a test of the disk, as a run
-ends_tested : {X Y : Type 0} (view : X → Y) (told : Bool) (expected : Result Y Refusal) (S : X → Type 0) (Q : Refusal → Type 0) (R : Name → Type 0) (far : Type 0) (r : Result X Stop) (a c : ℕ)
-    → (IsTrue told → (x : X) → expected ≡ Ok (view x) → S x) → (IsTrue told → (why : Refusal) → expected ≡ Err why → Q why)
-    → Found view told expected r a c → Ends told S Q R (Rose a c) far r
-ends_tested view told expected S Q R far (Ok x) a c value refuse found = λ tells. value tells x (found tells)
-ends_tested view told expected S Q R far (Err (Refused why)) a c value refuse found = λ tells. refuse tells why (found tells)
-ends_tested view told expected S Q R far (Err Failed) a c value refuse found = found
-ends_tested view told expected S Q R far (Err Memory) a c value refuse found = tt
-ends_tested view told expected S Q R far (Err (Damaged path)) a c value refuse found = absurd found
-ends_tested view told expected S Q R far (Err FarFailed) a c value refuse found = absurd found
-ends_tested view told expected S Q R far (Err (FarDamaged path)) a c value refuse found = absurd found
-
--- a search that stopped
-ends_search : {C Z : Type 0} (contents : ContentsModel C) (told : Bool) (S : Z → Type 0) (Q : Refusal → Type 0) (rose : Type 0) (far far' : C) (name : List ℕ) (f : FarStop) (r : Result Z Stop)
-    → IsErrAnd r (λ s. s ≡ stop_of_far f) → StopsFor contents far far' name f
-    → Ends told S Q (IsDamage contents far) rose (Rose (contents.faults far) (contents.faults far')) r
-ends_search contents told S Q rose far far' name f (Ok z) is stops = absurd is
-ends_search {Z = Z} contents told S Q rose far far' name f (Err s) is stops =
-    subst (λ x. Ends {X = Z} told S Q (IsDamage contents far) rose (Rose (contents.faults far) (contents.faults far')) (Err x)) (sym is) (by f stops)
-  where
-    by : (f : FarStop) → StopsFor contents far far' name f
-        → Ends {X = Z} told S Q (IsDamage contents far) rose (Rose (contents.faults far) (contents.faults far')) (Err (stop_of_far f))
-    by far_stop.Failed stops = stops
-    by (far_stop.Damaged path) stops = λ tells. (name, stops tells)
-    by far_stop.Memory stops = tt
-
 -- ---- runs
 
 module _ {D C : Type 0} {disk : DiskModel D} {contents : ContentsModel C} where
-  -- it may say less
-  pub gathers_weaker : {X : Type 0} {P S : Tree → X → Type 0} {Q V : Tree → Refusal → Type 0} {old new : D} {far far' : C} {r : Result X Stop}
-      → Gathers disk contents P Q old new far far' r
-      → (IsTrue disk.tells → (x : X) → P (disk.reads old) x → S (disk.reads old) x)
-      → (IsTrue disk.tells → (why : Refusal) → Q (disk.reads old) why → V (disk.reads old) why)
-      → Gathers disk contents S V old new far far' r
-  gathers_weaker {P = P} {S = S} {Q = Q} {V = V} {old = old} {r = r} run value refuse = record {
-    later = run.later;
-    same = run.same;
-    keeps = run.keeps;
-    ends = ends_weaker disk.tells (P (disk.reads old)) (S (disk.reads old)) (Q (disk.reads old)) (V (disk.reads old)) _ _ _ _ _ _ r value refuse (λ path h. h) (λ h. h) (λ h. h) run.ends;
-  }
-
   -- a run that stopped, passed on by `?`
   pub gathers_stop : {X Z : Type 0} {P : Tree → X → Type 0} {S : Tree → Z → Type 0} {Q V : Tree → Refusal → Type 0} {old new : D} {far far' : C} {e : Stop} {r : Result Z Stop}
       → Gathers disk contents P Q old new far far' (Err e) → IsErrAnd r (λ s. s ≡ e)
@@ -169,59 +106,7 @@ module _ {D C : Type 0} {disk : DiskModel D} {contents : ContentsModel C} where
   }
 
   module _ (searches : IsSource contents) where
-    -- a test of the disk, as a run
-    pub gathers_tested : {X Y : Type 0} {view : X → Y} {test : Tree → Result Y Refusal} {S : Tree → X → Type 0} {Q : Tree → Refusal → Type 0} {old new : D} {r : Result X Stop} (far : C)
-        → Tests disk view test old new r
-        → (IsTrue disk.tells → (x : X) → test (disk.reads old) ≡ Ok (view x) → S (disk.reads old) x)
-        → (IsTrue disk.tells → (why : Refusal) → test (disk.reads old) ≡ Err why → Q (disk.reads old) why)
-        → Gathers disk contents S Q old new far far r
-    gathers_tested {view = view} {S = S} {Q = Q} {old = old} {r = r} far tested value refuse = record {
-      later = tested.later;
-      same = tested.same;
-      keeps = keeps_start searches far;
-      ends = ends_tested view disk.tells _ (S (disk.reads old)) (Q (disk.reads old)) _ _ r _ _ value refuse tested.found;
-    }
-
     module _ (laws : IsDisk disk) where
-      -- no call at all
-      pub gathers_start : {Z : Type 0} {S : Tree → Z → Type 0} {Q : Tree → Refusal → Type 0} (d : D) (far : C) (z : Z)
-          → (IsTrue disk.tells → S (disk.reads d) z) → Gathers disk contents S Q d d far far (Ok z)
-      gathers_start d far z is = record {
-        later = omega arith;
-        same = λ tells. record { answer = tt; same = same_start disk d; time = time_start laws d };
-        keeps = keeps_start searches far;
-        ends = is;
-      }
-
-      -- want of memory before the first call
-      pub gathers_no_memory : {Z : Type 0} {S : Tree → Z → Type 0} {Q : Tree → Refusal → Type 0} (d : D) (far : C) {r : Result Z Stop} → IsErrAnd r (λ s. s ≡ Memory) → Gathers disk contents S Q d d far far r
-      gathers_no_memory {S = S} {Q = Q} d far {r = r} is = record {
-        later = omega arith;
-        same = λ tells. record { answer = tt; same = same_start disk d; time = time_start laws d };
-        keeps = keeps_start searches far;
-        ends = ends_memory disk.tells (S (disk.reads d)) (Q (disk.reads d)) _ _ _ r is;
-      }
-
-      -- a search of the contents alone that answered
-      pub searched_answer : {Z : Type 0} {S : Tree → Z → Type 0} {Q : Tree → Refusal → Type 0} (d : D) {far far' : C} (z : Z) → KeepsContents contents far far'
-          → S (disk.reads d) z → Gathers disk contents S Q d d far far' (Ok z)
-      searched_answer d z keeps is = record {
-        later = omega arith;
-        same = λ tells. record { answer = tt; same = same_start disk d; time = time_start laws d };
-        keeps = keeps;
-        ends = λ tells. is;
-      }
-
-      -- one that stopped, passed on by `?`
-      pub searched_stop : {Z : Type 0} {S : Tree → Z → Type 0} {Q : Tree → Refusal → Type 0} (d : D) {far far' : C} (name : List ℕ) (f : FarStop) {r : Result Z Stop} → KeepsContents contents far far'
-          → StopsFor contents far far' name f → IsErrAnd r (λ s. s ≡ stop_of_far f) → Gathers disk contents S Q d d far far' r
-      searched_stop {S = S} {Q = Q} d {far = far} {far' = far'} name f {r = r} keeps stops is = record {
-        later = omega arith;
-        same = λ tells. record { answer = tt; same = same_start disk d; time = time_start laws d };
-        keeps = keeps;
-        ends = ends_search contents disk.tells (S (disk.reads d)) (Q (disk.reads d)) _ far far' name f r is stops;
-      }
-
       -- one run after another
       pub gathers_then : {X Z : Type 0} {P : Tree → X → Type 0} {S U : Tree → Z → Type 0} {V Q W : Tree → Refusal → Type 0} {old mid new : D} {far mid_far far' : C} {x : X} {r : Result Z Stop}
           → Gathers disk contents P V old mid far mid_far (Ok x) → Gathers disk contents S Q mid new mid_far far' r

@@ -30,10 +30,11 @@ use Rattle.local_db.specs.tree-disk.Tree.{Name, Tree}
 use Rattle.tree_scan.specs.Marks.{fingerprint}
 use Rattle.tree_scan.specs.declared.mark.Mark.{Mark}
 use Rattle.content_store.specs.Contents.{Answers}
-use Rattle.job_targets.specs.Contents.{Finds, FindsBehind, of_size, carried_bytes}
+use Rattle.job_targets.specs.Contents.{Finds, FindsBehind, carried_bytes}
 use Rattle.job_targets.specs.Outcome.{AreChanges}
 use Rattle.job_targets.specs.Targets.{ArePutsOf, entries_at, entries_of_puts, entry_at, entry_of, entry_of_put, first_large, HasEntry, HasPut, HaveEntries, HavePuts, IsChange, IsPutOf, IsTarget, large_size}
 use Rattle.job_targets.proofs.Standing.{tellable}
+use Rattle.change_set.specs.cny-base.Sized.{of_size}
 
 -- ---- one more
 
@@ -83,12 +84,6 @@ pub at_next : (tree : Tree) (xs : List Planned) (i : ℕ) (x : Planned) (es : Li
 at_next tree xs i x es e fs within is more are here =
     more ∙ ap (λ (l : List Entry). l ++ e ∷ []) are ∙ ap (λ (f : Entry). entries_at tree (take i xs) ++ f ∷ []) here
     ∙ sym (at_more tree (take i xs) x) ∙ ap (entries_at tree) (sym (next_taken xs i x within is))
-
--- what holds of each planned path holds of one at a place
-pub all_at : (P : Planned → Type 0) (xs : List Planned) (i : ℕ) (x : Planned) → All P xs → i < length xs → x ≡ get_or xs i x → P x
-all_at P [] i x all within is = absurd (omega arith)
-all_at P (y ∷ xs) zero x all within is = subst P (sym is) (All-head P y xs all)
-all_at P (y ∷ xs) (suc i) x all within is = all_at P xs i x (All-tail P y xs all) (omega arith) is
 
 -- ---- answers
 

@@ -1,11 +1,12 @@
 -- Old contents that are noted one by one.
-use Rattle.std.proofs.Common.{◌≡◌, ◌⊎◌, ⊎_elim, inl, inr, ℕ, ◌<◌, suc, Bool, true, false, cond, List, [], ◌∷◌, ◌++◌, length, take, drop, get_or, Option, Some, None, Result, Ok, Err, OnOk, IfErr, refl, sym, ◌∙◌, ap, subst, arith}
+use Rattle.std.proofs.Common.{◌≡◌, ◌⊎◌, ⊎_elim, inl, inr, ℕ, ◌<◌, suc, Bool, true, false, cond, List, [], ◌∷◌, ◌++◌, length, take, drop, get_or, Option, Some, None, Result, Ok, Err, OnOk, refl, sym, ◌∙◌, ap, subst}
 use Rattle.std.specs.Borrow.{Bor}
 use Rattle.std.specs.BTreeMap.{get}
 use Rattle.std.specs.Ordering.{nat_cmp}
 use Rattle.std.specs.Cmp.Lexicographic.{slice_cmp}
 use Rattle.std.proofs.lemmas.Bool.{false≢true}
-use Rattle.local_db.specs.tree-disk.Laws.{same_means, same_itself}
+use Rattle.local_db.specs.tree-disk.Laws.{same_means}
+use Rattle.local_db.proofs.tree-disk.Laws.{same_itself}
 use Rattle.local_db.specs.tree-disk.Tree.{same_name}
 use Rattle.std.proofs.Math.Seq.{split_at}
 use Rattle.std.proofs.lemmas.List.Elements.{Contains-append_left, Contains-push_cases, Contains-push}
@@ -14,12 +15,8 @@ use Rattle.local_db.specs.cny-base.declared.refusal.Fault.{Fault}
 use Rattle.local_db.specs.cny-base.declared.refusal.Fault.TheVariants as fault
 use Rattle.job_targets.specs.declared.entry.Entry.{Entry}
 use Rattle.job_targets.specs.Agree.{bytes_of, IsOld, AllAgree, Collides, IsFirstCollision, IsCollisionOrMemory, Noted, AreNoted}
-
-some_same : {A : Type 0} (x y : A) → Some x ≡ Some y → x ≡ y
-some_same x y e = cc e
-
-none_some : {A : Type 0} (o : Option A) (x : A) → o ≡ None → o ≡ Some x → ⊥
-none_some o x none some = absurd (cc (none, some))
+use Rattle.local_db.proofs.Apart.{none_some}
+use Rattle.change_set.proofs.cny-base.OptionValues.{same_some as some_same}
 
 -- ---- one entry more
 
@@ -86,15 +83,6 @@ collision_map P Q (fault.Refused why) f is = (is.0, is.1, is.2, f is.0 is.1 is.3
 
 -- ---- entries so far
 
-pub none_noted : (noted : Noted) → ((name : List ℕ) → get (slice_cmp nat_cmp) noted name ≡ None) → AreNoted [] noted
-none_noted noted empty = record {
-  some = λ name one is. absurd (none_some (get (slice_cmp nat_cmp) noted name) one (empty name) is);
-  none = λ name is bytes old named. absurd (no_old bytes old);
-}
-  where
-    no_old : (bytes : List ℕ) → IsOld [] bytes → ⊥
-    no_old bytes old = absurd (let there = old.there in omega (arith, there.1))
-
 pub first_collision : (es : List Entry) (k : ℕ) (entry : Entry) (name : List ℕ) (at : ℕ) → k < length es → entry ≡ get_or es k entry → AllAgree (take k es) → Collides (take k es) entry name at
     → IsFirstCollision es name at
 first_collision es k entry name at lt is agree collides = record {
@@ -112,10 +100,6 @@ pub on_ok_map : {T E : Type 0} (P Q : Type 0) (r : Result T E) → (P → Q) →
 on_ok_map P Q (Ok x) f is = f is
 on_ok_map P Q (Err e) f is = tt
 
-pub if_err_map : {T E : Type 0} (P Q : E → Type 0) (r : Result T E) → ((e : E) → P e → Q e) → IfErr r P → IfErr r Q
-if_err_map P Q (Ok x) f is = tt
-if_err_map P Q (Err e) f is = f e is
-
 pub updated_cases : {A : Type 0} (name q : List ℕ) (o : Option A) (one : A) (x : Option A) → o ≡ cond (same_name name q) (Some one) x
     → ((q ≡ name) × (o ≡ Some one)) ⊎ ((q ≡ name → ⊥) × (o ≡ x))
 updated_cases name q o one x is = at (same_name name q) refl
@@ -123,6 +107,3 @@ updated_cases name q o one x is = at (same_name name q) refl
     at : (v : Bool) → same_name name q ≡ v → ((q ≡ name) × (o ≡ Some one)) ⊎ ((q ≡ name → ⊥) × (o ≡ x))
     at true same = inl (sym (same_means name q same), is ∙ ap (λ v. cond v (Some one) x) same)
     at false other = inr (λ same. absurd (false≢true (sym other ∙ ap (same_name name) same ∙ same_itself name)), is ∙ ap (λ v. cond v (Some one) x) other)
-
-pub if_err_from : {T E : Type 0} (P : E → Type 0) (r : Result T E) (met : E) → ((e : E) × (r ≡ Err e) × (e ≡ met)) → P met → IfErr r P
-if_err_from P r met given is = subst (λ x. IfErr x P) (sym given.1) (subst P (sym given.2) is)

@@ -1,5 +1,5 @@
 -- Where the content of a file is found that is to stand.
-use Rattle.std.specs.Prelude.{◌≡◌, ℕ, Bool, false, ◌&&◌, ◌==◌, if◌then◌else◌, List, [], ◌∷◌, length, Option, Some, None}
+use Rattle.std.specs.Prelude.{◌≡◌, ℕ, Bool, false, ◌&&◌, ◌==◌, if◌then◌else◌, List, [], ◌∷◌, Option, Some, None}
 use Rattle.std.specs.Option.{option_or}
 use Rattle.std.specs.Str.{bytes_eq}
 use Rattle.change_set.specs.declared.change.Carried.{Carried}
@@ -9,11 +9,7 @@ use Rattle.local_db.specs.tree-disk.Tree.{Tree}
 use Rattle.tree_scan.specs.declared.mark.Mark.{Mark}
 use Rattle.tree_scan.specs.declared.mark.Mark.TheVariants.{Nothing, Dir, File, Link}
 use Rattle.content_store.specs.Contents.{Answers}
-
--- a content, if it has this size
-abbrev pub of_size : ℕ → Option (List ℕ) → Option (List ℕ)
-of_size size None = None
-of_size size (Some bytes) = if length bytes == size then Some bytes else None
+pub use Rattle.change_set.specs.cny-base.Sized.{of_size}
 
 -- the content that is carried under a name
 abbrev pub carried_bytes : List Carried → List ℕ → Option (List ℕ)

@@ -1,12 +1,12 @@
 //! Whether the old contents of a job can stand in one directory.
-ghost use Rattle.std.specs.Prelude.{◌≡◌, ◌++◌, ◌∷◌, [], List, ℕ, IfErr, OnOk};
+ghost use Rattle.std.specs.Prelude.{◌≡◌, ◌++◌, ◌∷◌, [], List, IfErr, OnOk};
 ghost use Rattle.std.specs.Option.{option_copied};
 ghost use Rattle.content_store.specs.Difference.{first_difference};
 ghost use Rattle.job_targets.specs.declared.entry.Entry as declared;
 ghost use Rattle.job_targets.specs.Agree.{AllAgree, AreNoted, Collides, IsCollisionOrMemory, IsFirstCollision, bytes_of};
 
-use crate::difference::difference;
 use crate::entry::Entry;
+use content_store::first_difference;
 use local_db::cny_base::{Fault, Refusal};
 use local_db::journal_log::Want;
 use sha1::Sha1;
@@ -21,7 +21,7 @@ fn check_same(name: [u8; 20], earlier: &[u8], bytes: &[u8]) -> Result<(), Fault>
     ensures same { OnOk result (earlier.now ≡ bytes.now) }
     ensures differ { IfErr result (IsCollisionOrMemory (λ collided at. (collided ≡ name) × (first_difference earlier.now bytes.now ≡ Some at))) }
 {
-    match difference(earlier, bytes) {
+    match first_difference(earlier, bytes) {
         Some(at) => Err(Fault::Refused(Refusal::Collision {
             name,
             at: at as u64,
@@ -30,8 +30,8 @@ fn check_same(name: [u8; 20], earlier: &[u8], bytes: &[u8]) -> Result<(), Fault>
     }
 }
 
-// The bytes of the file that stood there.
-fn old_bytes(entry: &Entry) -> Option<&[u8]>
+/// The bytes of the file that stood there; none where another node did, or none.
+pub fn old_bytes(entry: &Entry) -> Option<&[u8]>
     ensures { option_copied result ≡ bytes_of entry.now.was }
 {
     match &entry.was {

@@ -8,7 +8,6 @@
 
 mod agreeing;
 mod content;
-mod difference;
 mod entries;
 mod entry;
 mod laws;
@@ -19,7 +18,7 @@ mod rising;
 mod sizes;
 mod targets;
 
-pub use agreeing::stashable;
+pub use agreeing::{old_bytes, stashable};
 pub use change_set;
 pub use content_store;
 pub use entry::{Entries, Entry};

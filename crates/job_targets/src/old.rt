@@ -3,7 +3,6 @@ ghost use Rattle.std.specs.Prelude.{◌≡◌, ◌↔◌, ◌≤◌, IfErr, IfOk
 ghost use Rattle.local_db.specs.cny-base.Count.{Rose};
 ghost use Rattle.local_db.specs.cny-base.declared.stop.Stop.TheVariants as stops;
 ghost use Rattle.content_store.specs.Store.{content_path};
-ghost use Rattle.local_db.specs.Names.{saved};
 ghost use Rattle.local_db.specs.tree-disk.Disk.{Reads};
 ghost use Rattle.tree_scan.specs.declared.mark.Mark.TheVariants as mark;
 ghost use Rattle.job_targets.specs.Old.{HasMark, HoldsContent, IsContent, IsDamagedContent, IsDamagedOld, IsOldStop, IsSaved};

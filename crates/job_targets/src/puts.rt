@@ -6,13 +6,11 @@ ghost use Rattle.change_set.specs.declared.change.Carried as declared;
 ghost use Rattle.change_set.specs.ChangeSet.{content_cmp};
 ghost use Rattle.conflict_plan.specs.Orphans.{IsSeenPlan};
 ghost use Rattle.conflict_plan.specs.Plan.{mark_of_want, planned_cmp};
-ghost use Rattle.local_db.specs.journal-log.Targets.{node_of};
 ghost use Rattle.job_targets.specs.Old.{HasMark};
-ghost use Rattle.local_db.specs.tree-disk.Tree.{may_stand};
 ghost use Rattle.tree_scan.specs.declared.mark.Mark.TheVariants as mark;
 ghost use Rattle.tree_scan.specs.Marks.{fingerprint_of_record};
 ghost use Rattle.job_targets.specs.Gathering.{Gathers};
-ghost use Rattle.job_targets.specs.Outcome.{AreHeld, IsFirstUnfound, IsMissing, IsMissingStop, IsUnfound};
+ghost use Rattle.job_targets.specs.Outcome.{IsFirstUnfound, IsMissing, IsMissingStop, IsUnfound};
 ghost use Rattle.job_targets.specs.Targets.{ArePutsOf, HasPut, HavePuts, IsFoundFile, IsPutOf, IsTarget};
 
 use crate::content::find_content;
@@ -22,7 +20,7 @@ use content_store::Contents;
 use local_db::cny_base::{Copies, Mode, Refusal, Stop};
 use local_db::file_stream::FileRec;
 use local_db::journal_log::{Put, Puts, Want};
-use local_db::tree_disk::{TreeDisk, byte_ranges};
+use local_db::tree_disk::TreeDisk;
 use std::alloc::Global;
 
 // A file of this mode, with the content that is found. `MissingContent` where none is.
@@ -177,36 +175,5 @@ pub(crate) fn puts_of<T: TreeDisk, C: Contents>(
     match Puts::new(puts) {
         Some(puts) => Ok(puts),
         None => unreachable!(),
-    }
-}
-
-// What is to stand is a node that a disk can hold. It does nothing: its clause is for the proofs of its callers.
-fn want_ranges(want: &Want)
-    ensures { IsTrue (may_stand (node_of want.now)) }
-{
-    match want {
-        Want::Nothing => {}
-        Want::Dir { mode } => {
-            let _bits = mode.bits();
-        }
-        Want::File { mode, bytes } => {
-            let _bits = mode.bits();
-            byte_ranges(bytes.get());
-        }
-        Want::Link { target } => {
-            let _text = target.text();
-        }
-        Want::Staged { mode, .. } => {
-            let _bits = mode.bits();
-        }
-    }
-}
-
-/// Each write is of a node that a disk can hold. It does nothing: its clause is for the proofs of its callers.
-pub(crate) fn put_ranges(puts: &[Put])
-    ensures { AreHeld puts.now }
-{
-    for put in puts {
-        want_ranges(&put.want);
     }
 }

@@ -13,13 +13,13 @@ ghost use Rattle.job_targets.specs.Targets.{IsChange};
 use crate::agreeing::stashable;
 use crate::entries::entries_of;
 use crate::entry::Entries;
-use crate::puts::{put_ranges, puts_of};
+use crate::puts::puts_of;
 use crate::sizes::check_sizes;
 use change_set::Carried;
 use conflict_plan::Planned;
 use content_store::Contents;
 use local_db::cny_base::{Copies, OutOfMemory, Stop};
-use local_db::journal_log::Puts;
+use local_db::journal_log::{Puts, put_ranges};
 use local_db::tree_disk::TreeDisk;
 use std::alloc::Global;
 

@@ -1,13 +1,13 @@
 -- Files at paths of their own, and directories that are shared.
-use Rattle.std.proofs.Common.{◌≡◌, ◌⊎◌, ⊎_elim, ℕ, ◌+◌, ◌<◌, ◌≤◌, Bool, true, false, cond, not, ◌||◌, ◌&&◌, IsTrue, List, [], ◌∷◌, ◌++◌, length, take, get_or, Option, Some, None, All, Contains, refl, sym, ◌∙◌, ap, subst, arith, append_assoc}
+use Rattle.std.proofs.Common.{◌≡◌, ◌⊎◌, ⊎_elim, ℕ, ◌+◌, ◌<◌, Bool, true, false, cond, not, ◌||◌, ◌&&◌, IsTrue, List, [], ◌∷◌, ◌++◌, length, take, get_or, Option, Some, None, All, refl, sym, ◌∙◌, ap, subst, arith, append_assoc}
 use Rattle.std.specs.List.{AllPairs}
 use Rattle.std.specs.Ordering.{nat_cmp, is_eq}
 use Rattle.std.specs.Cmp.Lexicographic.{slice_cmp}
 use Rattle.std.specs.Str.{bytes_eq}
 use Rattle.std.specs.declared.cmp.Ordering.TheVariants.{Less}
 use Rattle.std.proofs.lemmas.Bool.{cases_Bool, false≢true, and_from}
-use Rattle.std.proofs.lemmas.List.{flat_map_more, get_or_default, get_or-take, length-take, take_all, take_more}
-use Rattle.std.proofs.lemmas.List.Elements.{All-append, All-cons, All-contains, All-contains_itself, All-head, All-more, All-nil, All-push, All-tail, Contains-append_left, Contains-append_right, Contains-push}
+use Rattle.std.proofs.lemmas.List.{flat_map_more, get_or_default, get_or-take, length-take, take_more}
+use Rattle.std.proofs.lemmas.List.Elements.{All-append, All-cons, All-contains, All-head, All-more, All-nil, All-push, All-tail, Contains-append_left, Contains-push}
 use Rattle.std.proofs.lemmas.List.Quantifiers.{all_pairs_push}
 use Rattle.std.proofs.lemmas.Map.Keys.{Less-from_sorted}
 use Rattle.std.proofs.lemmas.Slice.Eq.{bytes_eq-Decides}
@@ -15,31 +15,26 @@ use Rattle.change_rel.specs.file-stream.Record.{is_dir}
 use Rattle.change_rel.specs.trove-parts.declared.files.FileAt.{FileAt}
 use Rattle.change_rel.specs.trove-parts.Files.{file_cmp, AreFiles}
 use Rattle.change_rel.specs.trove-stream.declared.parts.TroveParts.{TroveParts}
-use Rattle.tree_journal.specs.tree-disk.Laws.{same_means, same_itself}
+use Rattle.tree_journal.specs.tree-disk.Laws.{same_means}
+use Rattle.tree_journal.proofs.tree-disk.Laws.{same_itself}
 use Rattle.tree_journal.specs.tree-disk.Tree.{Name, same_name}
 use Rattle.local_db.specs.Installed.{are_apart, SharesDirsAlone}
-use Rattle.local_db.specs.Sharing.{Kinds, kind_at, Records, AreNoted, IsApart, AreApart, files_of}
+use Rattle.local_db.specs.Sharing.{Kinds, kind_at, Records, AreNoted, IsApart, AreApart}
+use Rattle.change_rel.specs.trove-stream.FilesOf.{files_of}
+use Rattle.change_rel.proofs.cny-base.Lists.{all_from as all_of, left_all, right_all}
+use Rattle.change_rel.proofs.cny-base.OptionValues.{same_some}
 
 -- ---- lists
 
-pub all_of : {X : Type 0} (P : X → Type 0) (xs : List X) → ((x : X) → Contains xs x → P x) → All P xs
-all_of P xs each k d lt = each (get_or xs k d) (All-contains_itself xs k d lt)
-
-pub left_all : {X : Type 0} (P : X → Type 0) (xs ys : List X) → All P (xs ++ ys) → All P xs
-left_all P xs ys all = all_of P xs (λ x in'. All-contains P (xs ++ ys) x all (Contains-append_left xs ys x in'))
-
-pub right_all : {X : Type 0} (P : X → Type 0) (xs ys : List X) → All P (xs ++ ys) → All P ys
-right_all P xs ys all = all_of P ys (λ x in'. All-contains P (xs ++ ys) x all (Contains-append_right xs ys x in'))
-
 -- ---- two files
 
-both_dirs : (b x y : Bool) → IsTrue (not b || (x && y)) → b ≡ true → (x ≡ true) × (y ≡ true)
+pub both_dirs : (b x y : Bool) → IsTrue (not b || (x && y)) → b ≡ true → (x ≡ true) × (y ≡ true)
 both_dirs true true true h is = (refl, refl)
 both_dirs true true false h is = absurd (false≢true h)
 both_dirs true false y h is = absurd (false≢true h)
 both_dirs false x y h is = absurd (false≢true is)
 
-dirs_apart : (b x y : Bool) → (b ≡ true → (x ≡ true) × (y ≡ true)) → IsTrue (not b || (x && y))
+pub dirs_apart : (b x y : Bool) → (b ≡ true → (x ≡ true) × (y ≡ true)) → IsTrue (not b || (x && y))
 dirs_apart false x y h = refl
 dirs_apart true x y h = and_from x y (h refl).0 (h refl).1
 
@@ -51,17 +46,10 @@ when_apart other file apart same = both_dirs (bytes_eq other.path file.path) (is
 
 -- ---- the map
 
-none_some : {A : Type 0} (o : Option A) (x : A) → o ≡ None → o ≡ Some x → ⊥
+pub none_some : {A : Type 0} (o : Option A) (x : A) → o ≡ None → o ≡ Some x → ⊥
 none_some o x none some = absurd (cc (none, some))
 
-same_some : {A : Type 0} (x y : A) → Some x ≡ Some y → x ≡ y
-same_some x y e = cc e
-
 module _ (before : List FileAt) (kinds : Kinds) (file : FileAt) (noted : AreNoted before kinds) where
-  pub apart_first : kind_at kinds file.path ≡ None → IsApart before file
-  apart_first none = all_of (λ other. IsTrue (are_apart other file)) before
-      (λ other in'. apart_when other file (λ same. absurd (All-contains (λ f. f.path ≡ file.path → ⊥) before other (noted.none file.path none) in' same)))
-
   pub apart_dirs : kind_at kinds file.path ≡ Some true → is_dir file.rec ≡ true → IsApart before file
   apart_dirs some dir = all_of (λ other. IsTrue (are_apart other file)) before
       (λ other in'. apart_when other file (λ same. (All-contains (λ f. f.path ≡ file.path → is_dir f.rec ≡ true) before other (noted.dirs file.path some) in' same, dir)))
@@ -112,16 +100,6 @@ module _ (before : List FileAt) (kinds : Kinds) (file : FileAt) (noted : AreNote
             (λ f in' same. absurd (All-contains (λ f. f.path ≡ file.path → ⊥) before f (noted.none file.path none) in' (same ∙ sym at))))
             (λ some. subst (λ (n : Name). All (λ f. f.path ≡ n → is_dir f.rec ≡ true) before) at (noted.dirs file.path some))
             prior
-
-pub empty_noted : (kinds : Kinds) → kinds.entries ≡ [] → AreNoted [] kinds
-empty_noted kinds empty = record {
-  none = λ q none. All-nil (λ f. f.path ≡ q → ⊥);
-  some = λ q kind some. absurd (none_some (kind_at kinds q) kind (nothing q) some);
-  dirs = λ q some. All-nil (λ f. f.path ≡ q → is_dir f.rec ≡ true);
-}
-  where
-    nothing : (q : Name) → kind_at kinds q ≡ None
-    nothing q = ap (λ es. Rattle.std.specs.Map.lookup (λ k. is_eq (slice_cmp nat_cmp q k)) es) empty
 
 -- ---- the files of one trove
 
@@ -180,9 +158,6 @@ each_apart list u share =
     swap (λ file other. IsTrue (are_apart other file)) u.files (files_of list)
     (all_files (λ other. All (λ (file : FileAt). IsTrue (are_apart other file)) u.files) list share)
 
-pub no_pairs : (troves : List TroveParts) (kinds : Kinds) → kinds.entries ≡ [] → AddedTroves troves 0 kinds
-no_pairs troves kinds empty = record { noted = empty_noted kinds empty; share = λ i j d lt within. absurd (omega (arith, within)) }
-
 module _ (troves : List TroveParts) (k : ℕ) (u : TroveParts) (within : k < length troves) (is : u ≡ get_or troves k u) where
   front_troves : take k troves ++ u ∷ [] ≡ take (k + 1) troves
   front_troves = ap (λ (t : TroveParts). take k troves ++ t ∷ []) is ∙ sym (take_more troves k u within)
@@ -203,6 +178,3 @@ module _ (troves : List TroveParts) (k : ℕ) (u : TroveParts) (within : k < len
           let low : get_or troves i d ≡ get_or (take k troves) i d = sym (get_or-take k troves i d below) in
           let high : get_or troves k d ≡ u = sym (is ∙ get_or_default troves k u d within) in
           subst (λ (t : TroveParts). SharesDirsAlone t u) low (subst (SharesDirsAlone (get_or troves i d)) high (pairs i k d below within))
-
-pub all_pairs : (troves : List TroveParts) (k : ℕ) (kinds : Kinds) → length troves ≤ k → AddedTroves troves k kinds → AllPairs SharesDirsAlone troves
-all_pairs troves k kinds end so_far = subst (AllPairs SharesDirsAlone) (take_all k troves end) so_far.share

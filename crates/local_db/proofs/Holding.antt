@@ -3,7 +3,8 @@ use Rattle.std.proofs.Common.{◌≡◌, ⊎_elim, ℕ, ◌<◌, ◌≤◌, ◌^
 use Rattle.std.specs.Prelude.{IfOk, IfErr, nat_le}
 use Rattle.std.specs.Int.{w32, to_be_bytes}
 use Rattle.std.proofs.lemmas.List.Elements.{All-nil, All-cons}
-use Rattle.change_rel.specs.cny-base.Below.{begins_with, begun}
+use Rattle.change_rel.specs.cny-base.Below.{begins_with}
+use Rattle.change_rel.proofs.cny-base.Below.{begun}
 use Rattle.change_rel.specs.cny-base.declared.limits.TheConstants.{DATABASE_LIMIT}
 use Rattle.change_rel.specs.cny-base.declared.node.Node.{Node}
 use Rattle.change_rel.specs.cny-base.declared.node.Node.TheVariants as node
@@ -23,7 +24,9 @@ use Rattle.local_db.specs.declared.loading.Found.TheVariants as found
 use Rattle.local_db.specs.Database.{IsDatabaseFile}
 use Rattle.local_db.specs.Loading.{HoldsDb, HoldsNoDb, IsLoadStop, IsTextStop, found_of}
 use Rattle.local_db.specs.Reading.{FitsTrove, IsDatabaseText, end_bytes}
-use Rattle.local_db.proofs.Texts.{TrovesDiffer, SameText, item_of, items_of, one_text}
+use Rattle.local_db.proofs.Texts.{SameText, item_of, items_of, one_text}
+use Rattle.change_rel.proofs.trove-stream.Distinct.{TrovesDiffer}
+use Rattle.change_rel.proofs.cny-base.OptionValues.{same_path as some_bytes}
 
 -- ---- a database's file is in the grammar
 
@@ -43,7 +46,7 @@ small : (f : Format) (n : ℕ) → n ≤ limit f → n < 2 ^ 32
 small One n short = let most : limit One ≡ 268435456 = refl in omega (arith, short, most)
 small Two n short = let most : limit Two ≡ 536870912 = refl in omega (arith, short, most)
 
-low_end : (a b : ℕ) → AreEnds a b → (a < 2 ^ 32) × (b < 2 ^ 32)
+pub low_end : (a b : ℕ) → AreEnds a b → (a < 2 ^ 32) × (b < 2 ^ 32)
 low_end a b ends = ⊎_elim
     (λ none. (let x = none.0 in omega (arith, x), let y = none.1 in omega (arith, y)))
     (λ some. let order = some.1 in let most = some.3 in (omega (arith, order, most), omega (arith, most)))
@@ -106,9 +109,6 @@ if_err_map P Q (Err e) to is = to e is
 
 -- ---- a tree with a file
 
-some_bytes : (a b : List ℕ) → Some a ≡ Some b → a ≡ b
-some_bytes a b e = cc e
-
 module _ (x : Tree) (bytes : List ℕ) (file : HoldsFile x database bytes) where
   pub held_is_file : (db : Db) → HoldsDb x db → IsDatabaseFile db bytes
   held_is_file db held = by held.format held.holds
@@ -116,9 +116,6 @@ module _ (x : Tree) (bytes : List ℕ) (file : HoldsFile x database bytes) where
       by : (f : Format) → HoldsDatabase f x db.installed db.oldest db.newest → IsDatabaseFile db bytes
       by f (absent none list low high) = absurd (cc (ap file_bytes none, file))
       by f (written is file') = record { format = f; database = is; text = some_bytes bytes (database_bytes f db.installed db.oldest db.newest) (sym file ∙ file') }
-
-  pub file_is_held : (db : Db) → IsDatabaseFile db bytes → HoldsDb x db
-  file_is_held db is = record { format = is.format; holds = written is.database (subst (λ (l : List ℕ). HoldsFile x database l) is.text file) }
 
   pub no_file_no_db : ((db : Db) → IsDatabaseFile db bytes → ⊥) → HoldsNoDb x
   no_file_no_db none f list oldest newest holds =

@@ -1,21 +1,21 @@
 -- What crash images stand for, and what a rollback restores.
-use Rattle.std.proofs.Common.{◌≡◌, inl, inr, ⊎_elim, ℕ, ◌+◌, ◌-◌, ◌<◌, ◌≤◌, ◌^◌, Bool, true, false, ◌&&◌, List, [], ◌∷◌, length, take, get_or, Contains, refl, sym, ◌∙◌, ap, arith}
+use Rattle.std.proofs.Common.{◌≡◌, inl, inr, ⊎_elim, ℕ, ◌+◌, ◌-◌, ◌<◌, ◌≤◌, ◌^◌, Bool, true, false, List, [], ◌∷◌, length, take, get_or, Contains, refl, sym, ◌∙◌, ap, arith}
 use Rattle.std.specs.Prelude.{nat_lt}
 use Rattle.std.proofs.lemmas.Bool.{cases_Bool}
 use Rattle.std.proofs.lemmas.Bool.Decides.{nat_tests}
 use Rattle.std.proofs.lemmas.List.{length-take}
 use Rattle.std.proofs.lemmas.List.Elements.{All-map, All-contains}
-use Rattle.tree_journal.specs.tree-disk.ClearLaws.{or_left, or_cases}
+use Rattle.tree_journal.proofs.tree-disk.ClearLaws.{or_cases}
 use Rattle.tree_journal.specs.journal-log.declared.put.Put.{Put}
 use Rattle.std.specs.FinMap.{get}
 use Rattle.change_rel.specs.cny-base.Reserved.{private_directory}
 use Rattle.change_rel.specs.cny-base.declared.limits.TheConstants.{STACK_LIMIT}
 use Rattle.tree_journal.specs.tree-disk.Tree.{Name, Tree, same_name}
-use Rattle.tree_journal.specs.tree-disk.Laws.{same_tree}
+use Rattle.tree_journal.proofs.tree-disk.Laws.{same_tree}
 use Rattle.tree_journal.specs.tree-disk.Disk.{IsCrashImage}
 use Rattle.tree_journal.specs.journal-log.Own.{is_own_file}
 use Rattle.tree_journal.specs.journal-log.Targets.{node_of, with_targets}
-use Rattle.local_db.proofs.Writes.{target_at, with_targets_target, with_targets_outside}
+use Rattle.local_db.proofs.Writes.{with_targets_target}
 use Rattle.local_db.specs.declared.format.Format.TheVariants.{One, Two}
 use Rattle.local_db.specs.SystemState.{StackItem, SystemState, newest, oldest, AreNumbered, is_listed, IsStackItem, IsSystemState}
 use Rattle.local_db.specs.Names.{is_job_place, counts}
@@ -24,6 +24,10 @@ use Rattle.local_db.specs.Steps.{want_of, backs, pushed, is_prepared_name}
 use Rattle.local_db.proofs.Places.{own_doesnt_count, place_doesnt_count}
 use Rattle.local_db.proofs.Frame.{stores_still}
 use Rattle.local_db.proofs.Systems.{four_bytes, numbers_by_length, numbered_take, node_of_want, listed_backs, rising_backs}
+use Rattle.tree_journal.proofs.WriteSets.{target_at, with_targets_outside}
+use Rattle.tree_scan.proofs.tree-disk.Nodes.{left_true as first_so}
+use Rattle.change_rel.proofs.cny-base.Bools.{or_left}
+use Rattle.tree_scan.proofs.tree-disk.Laws.{second as second_so}
 
 pub all_still : (x y : Tree) (s : SystemState) → ((q : Name) → counts s q ≡ true → get y q ≡ get x q) → StoresSystem x s → StoresSystem y s
 all_still x y s same h = ⊎_elim (λ a. inl (stores_still One x y s same a)) (λ b. inr (stores_still Two x y s same b)) h
@@ -32,14 +36,6 @@ all_still x y s same h = ⊎_elim (λ a. inl (stores_still One x y s same a)) (�
 pub image_stores : (reads : Tree) (unsynced : Name → Bool) (image : Tree) (s : SystemState) → ((q : Name) → counts s q ≡ true → unsynced q ≡ false)
     → IsCrashImage reads unsynced image → StoresSystem reads s → StoresSystem image s
 image_stores reads unsynced image s synced is h = all_still reads image s (λ q count. is.synced q (synced q count)) h
-
-first_so : (a b : Bool) → (a && b) ≡ true → a ≡ true
-first_so true b h = refl
-first_so false b h = absurd (cc h)
-
-second_so : (a b : Bool) → (a && b) ≡ true → b ≡ true
-second_so true b h = h
-second_so false b h = absurd (cc h)
 
 above_two : (n : ℕ) → nat_lt 2 n ≡ true → 2 < n
 above_two n h = grind (arith, nat_tests)

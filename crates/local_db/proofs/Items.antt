@@ -1,16 +1,12 @@
 -- Items of one tag are those of one list.
-use Rattle.std.proofs.Common.{◌≡◌, ℕ, ◌+◌, ◌<◌, ◌^◌, true, false, List, [], ◌∷◌, ◌++◌, length, All, refl, sym, ◌∙◌, ap, subst, arith, append_assoc, length-append}
-use Rattle.std.specs.Prelude.{◌==◌}
+use Rattle.std.proofs.Common.{◌≡◌, ℕ, ◌+◌, ◌<◌, ◌^◌, false, List, [], ◌∷◌, ◌++◌, length, All, refl, sym, ◌∙◌, ap, subst, arith, append_assoc, length-append}
 use Rattle.std.specs.Int.{w32, to_be_bytes}
 use Rattle.std.proofs.lemmas.Bool.{false≢true}
-use Rattle.std.proofs.lemmas.Bool.Decides.{nat_tests}
 use Rattle.std.proofs.lemmas.List.Elements.{All-nil, All-cons, All-head, All-tail}
 use Rattle.cny_stream.specs.Item.{FitsItem, item_bytes}
-use Rattle.cny_stream.specs.ItemLaws.{same_item}
+use Rattle.cny_stream.proofs.ItemLaws.{same_item}
 use Rattle.change_rel.specs.trove-parts.Items.{items_bytes, begins_with_tag}
-
-pub itself : (n : ℕ) → (n == n) ≡ true
-itself n = grind (arith, nat_tests)
+use Rattle.change_rel.proofs.cny-base.Below.{equal_test as itself}
 
 item_length : (tag : ℕ) (v rest : List ℕ) → length (item_bytes tag v ++ rest) ≡ 5 + length v + length rest
 item_length tag v rest = omega (arith, length-append (item_bytes tag v) rest, length-append (tag ∷ to_be_bytes w32 (length v)) v)

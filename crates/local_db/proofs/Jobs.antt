@@ -1,5 +1,5 @@
 -- After the writes of a job, or of a rollback, the tree stands for the system after it.
-use Rattle.std.proofs.Common.{◌≡◌, ⊎_elim, ℕ, zero, suc, ◌+◌, ◌<◌, ◌^◌, Bool, true, false, ◌||◌, not, List, [], ◌∷◌, take, refl, ◌∙◌, ap, subst, arith, ◌≤◌}
+use Rattle.std.proofs.Common.{◌≡◌, ⊎_elim, ℕ, zero, suc, ◌+◌, ◌<◌, ◌^◌, true, false, not, List, [], ◌∷◌, take, refl, ◌∙◌, ap, subst, arith, ◌≤◌}
 use Rattle.std.proofs.lemmas.Bool.{cases_Bool}
 use Rattle.std.specs.FinMap.{get}
 use Rattle.change_rel.specs.cny-base.Reserved.{is_reserved}
@@ -8,10 +8,10 @@ use Rattle.sha1.specs.Sha1.{sha1}
 use Rattle.change_rel.specs.trove-stream.declared.parts.TroveParts.{TroveParts}
 use Rattle.tree_journal.specs.tree-disk.Tree.{Name, Tree, same_name, WellFormed, AgreesOutside}
 use Rattle.tree_journal.specs.tree-disk.Laws.{same_means}
-use Rattle.tree_journal.specs.tree-disk.ClearLaws.{or_left, or_right, or_cases}
+use Rattle.tree_journal.proofs.tree-disk.ClearLaws.{or_cases}
 use Rattle.tree_journal.specs.journal-log.declared.put.Put.{Put}
 use Rattle.tree_journal.specs.journal-log.Targets.{is_target, with_targets}
-use Rattle.local_db.proofs.Writes.{not_both, contains_first, contains_rest, with_targets_target}
+use Rattle.local_db.proofs.Writes.{not_both, with_targets_target}
 use Rattle.local_db.specs.declared.format.Format.{Format}
 use Rattle.local_db.specs.Formats.{Fits}
 use Rattle.local_db.specs.SystemState.{StackItem, SystemState, newest, AreNumbered}
@@ -24,10 +24,9 @@ use Rattle.local_db.proofs.Places.{database_reserved, record_reserved, job_reser
 use Rattle.local_db.proofs.Frame.{file_stays, olds_stay}
 use Rattle.local_db.proofs.Unions.{wrote_more, wrote_no_other, wrote_alike}
 use Rattle.local_db.proofs.Systems.{four_bytes, numbered_rest, newest_rest, free_targets, free_backs, rising_backs, job_is_system, rollback_is_system, newest_is_old, system_database}
-
-pub neither : (a b : Bool) → a ≡ false → b ≡ false → (a || b) ≡ false
-neither true b is isnt = absurd (cc is)
-neither false b is isnt = isnt
+use Rattle.change_rel.proofs.cny-base.Lists.{contains_first, contains_rest}
+use Rattle.tree_scan.proofs.tree-disk.Children.{or_none as neither}
+use Rattle.change_rel.proofs.cny-base.Bools.{or_left, or_right}
 
 -- ---- two writes below the private directory
 

@@ -1,12 +1,10 @@
 mod Texts
-mod Handing
 mod Found
 mod Numbers
 mod Written
-mod Apart
-mod Holding
+pub mod Apart
+pub mod Holding
 pub mod Writes
-pub mod Fields
 pub mod Items
 pub mod Places
 pub mod Frame
@@ -26,3 +24,7 @@ pub mod FileNames
 pub mod Unedited
 pub use Rattle.tree_journal.proofs as tree-journal
 pub use Rattle.change_rel.proofs.trove-stream
+pub use Rattle.tree_journal.proofs.tree-disk
+pub use Rattle.change_rel.proofs.cny-base
+pub use Rattle.tree_journal.proofs.journal-log
+pub use Rattle.change_rel.proofs.trove-parts

@@ -1,5 +1,5 @@
 -- Two systems for which one tree stands differ in nothing on which an answer may depend.
-use Rattle.std.proofs.Common.{◌≡◌, ⊎_elim, ℕ, ◌+◌, ◌<◌, ◌≤◌, ◌^◌, List, [], ◌∷◌, length, map, Option, Some, None, All, Contains, refl, sym, ◌∙◌, ap, subst, arith}
+use Rattle.std.proofs.Common.{◌≡◌, ⊎_elim, ℕ, ◌<◌, ◌≤◌, ◌^◌, List, [], ◌∷◌, length, map, Option, Some, None, All, Contains, refl, sym, ◌∙◌, ap, subst, arith}
 use Rattle.std.proofs.lemmas.Bool.{cases_Bool}
 use Rattle.std.proofs.lemmas.List.Elements.{All-head, All-tail}
 use Rattle.std.specs.FinMap.{get}
@@ -9,27 +9,26 @@ use Rattle.change_rel.specs.cny-base.declared.node.Node.{Node}
 use Rattle.change_rel.specs.cny-base.declared.node.Node.TheVariants as node
 use Rattle.change_rel.specs.trove-stream.declared.parts.TroveParts.{TroveParts}
 use Rattle.tree_journal.specs.tree-disk.Tree.{Name, Tree}
-use Rattle.tree_journal.specs.tree-disk.Laws.{same_tree}
-use Rattle.local_db.proofs.Writes.{nothing_in, contains_cases}
+use Rattle.tree_journal.proofs.tree-disk.Laws.{same_tree}
 use Rattle.tree_scan.specs.declared.mark.Mark.{Mark}
 use Rattle.tree_scan.specs.declared.mark.Mark.TheVariants as mark
 use Rattle.tree_scan.specs.Marks.{fingerprint}
 use Rattle.local_db.specs.declared.format.Format.{Format}
 use Rattle.local_db.specs.declared.format.Format.TheVariants.{One, Two}
-use Rattle.local_db.specs.Formats.{database_bytes, AreEnds, Fits}
+use Rattle.local_db.specs.Formats.{database_bytes, Fits}
 use Rattle.local_db.specs.SystemState.{StackItem, SystemState, newest, oldest, AreNumbered, IsStackItem, IsSystemState}
 use Rattle.local_db.specs.Names.{database, record_file, saved}
 use Rattle.content_store.specs.Store.{content_path, file_bytes}
-use Rattle.local_db.specs.Record.{Entry, entries_of, IsRecord, record_bytes}
+use Rattle.local_db.specs.Record.{Entry, entries_of, record_bytes}
 use Rattle.local_db.specs.Stores.{IsDatabase, SameDatabase, HoldsFile, HoldsItem, HoldsStack, HoldsDatabase, absent, written, StoresIn, StoresSystem, SameItemAs, SameStack, Alike}
 use Rattle.local_db.proofs.OneResult.{OneLed, one_list_back}
-use Rattle.local_db.proofs.Systems.{four_bytes}
+use Rattle.local_db.proofs.Systems.{four_bytes, low_at_least as at_least_one, numbers_by_length as lengths_by_numbers, numbered_rest as rest_numbered}
 use Rattle.local_db.proofs.Spellings.{Distinct, one_delta_list, one_entry_list, entries_part, one_format, one_database, OneDatabase}
+use Rattle.change_rel.proofs.cny-base.Lists.{contains_cases, nothing_in}
+use Rattle.local_db.proofs.Holding.{low_end as ends_small}
+use Rattle.change_rel.proofs.cny-base.OptionValues.{same_some}
 
 -- ---- one file
-
-same_some : {A : Type 0} (x y : A) → Some x ≡ Some y → x ≡ y
-same_some x y e = cc e
 
 one_file : (x : Tree) (name a b : List ℕ) → HoldsFile x name a → HoldsFile x name b → a ≡ b
 one_file x name a b h g = same_some a b (sym h ∙ g)
@@ -39,13 +38,13 @@ no_file x name a none h = absurd (cc (ap file_bytes none, h))
 
 -- ---- nodes by their marks
 
-mode_in : Mark → ℕ
+unfoldable pub mode_in : Mark → ℕ
 mode_in mark.Nothing = 0
 mode_in (mark.Dir mode) = mode
 mode_in (mark.File mode size name) = mode
 mode_in (mark.Link target) = 0
 
-bytes_in : Mark → List ℕ
+unfoldable pub bytes_in : Mark → List ℕ
 bytes_in mark.Nothing = []
 bytes_in (mark.Dir mode) = []
 bytes_in (mark.File mode size name) = name
@@ -150,23 +149,11 @@ module _ (led : OneLed) (distinct : Distinct) (f : Format) (x : Tree) (after : L
 
 -- ---- the stack
 
-lengths_by_numbers : (o : StackItem) (olds : List StackItem) → AreNumbered (o ∷ olds) → oldest (o ∷ olds) + length olds ≡ o.number
-lengths_by_numbers o [] numbered = omega arith
-lengths_by_numbers o (p ∷ olds) numbered = omega (arith, numbered.0, lengths_by_numbers p olds numbered.1)
-
-at_least_one : (o : StackItem) (olds : List StackItem) → AreNumbered (o ∷ olds) → 1 ≤ oldest (o ∷ olds)
-at_least_one o [] numbered = numbered
-at_least_one o (p ∷ olds) numbered = at_least_one p olds numbered.1
-
 same_length : (olds others : List StackItem) → AreNumbered olds → AreNumbered others → newest olds ≡ newest others → oldest olds ≡ oldest others → length olds ≡ length others
 same_length [] [] a b n o = refl
 same_length [] (p ∷ others) a b n o = absurd (omega (arith, o, at_least_one p others b))
 same_length (p ∷ olds) [] a b n o = absurd (omega (arith, o, at_least_one p olds a))
 same_length (p ∷ olds) (q ∷ others) a b n o = omega (arith, n, o, lengths_by_numbers p olds a, lengths_by_numbers q others b)
-
-rest_numbered : (o : StackItem) (olds : List StackItem) → AreNumbered (o ∷ olds) → AreNumbered olds
-rest_numbered o [] numbered = tt
-rest_numbered o (p ∷ olds) numbered = numbered.1
 
 next_number : (o p : StackItem) (olds others : List StackItem) → AreNumbered (o ∷ olds) → AreNumbered (p ∷ others) → o.number ≡ p.number → length olds ≡ length others → newest olds ≡ newest others
 next_number o p [] [] a b e long = refl
@@ -213,7 +200,7 @@ module _ (led : OneLed) (distinct : Distinct) (f : Format) (x : Tree) (s t : Sys
 small : (s : SystemState) → IsSystemState s → (oldest s.stack < 2 ^ 32) × (newest s.stack < 2 ^ 32)
 small s system = let top = four_bytes (newest s.stack) system.number in (omega (arith, top, low_number s.stack system.numbered), top)
 
-empty_stack : (olds : List StackItem) → AreNumbered olds → newest olds ≡ 0 → olds ≡ []
+pub empty_stack : (olds : List StackItem) → AreNumbered olds → newest olds ≡ 0 → olds ≡ []
 empty_stack [] numbered none = refl
 empty_stack (o ∷ olds) numbered none = absurd (omega (arith, none, low_number (o ∷ olds) numbered, at_least_one o olds numbered))
 
@@ -247,12 +234,6 @@ determined led distinct x s t h k = ⊎_elim
     h
 
 -- ---- databases
-
-ends_small : (low high : ℕ) → AreEnds low high → (low < 2 ^ 32) × (high < 2 ^ 32)
-ends_small low high ends = ⊎_elim
-    (λ none. (omega (arith, none.0), omega (arith, none.1)))
-    (λ some. let top = four_bytes high some.3 in (omega (arith, some.1, top), top))
-    ends
 
 pub same_database : Distinct → (f g : Format) (list other : List TroveParts) (low high lower higher : ℕ) → IsDatabase f list low high → IsDatabase g other lower higher
     → database_bytes f list low high ≡ database_bytes g other lower higher → SameDatabase f g list other low high lower higher

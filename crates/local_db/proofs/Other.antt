@@ -13,7 +13,6 @@ use Rattle.change_rel.specs.trove-stream.Forbidden.{first_forbidden}
 use Rattle.tree_journal.specs.tree-disk.Tree.{Name, Tree, same_name, WellFormed}
 use Rattle.tree_journal.specs.journal-log.declared.put.Put.{Put}
 use Rattle.tree_journal.specs.journal-log.Targets.{node_of, is_target, with_targets}
-use Rattle.local_db.proofs.Writes.{contains_first, contains_rest}
 use Rattle.tree_scan.specs.declared.mark.Mark.TheVariants as mark
 use Rattle.tree_scan.specs.Marks.{fingerprint}
 use Rattle.local_db.specs.Installed.{IsInstalled}
@@ -30,12 +29,14 @@ use Rattle.local_db.proofs.Places.{database_reserved, record_reserved, content_n
 use Rattle.local_db.proofs.Frame.{file_stays}
 use Rattle.local_db.proofs.Unions.{wrote_more, wrote_no_other}
 use Rattle.local_db.proofs.Systems.{system_database}
-use Rattle.local_db.proofs.Jobs.{neither, outer_differs}
+use Rattle.local_db.proofs.Jobs.{outer_differs}
 use Rattle.local_db.proofs.Together.{nothing_fits}
+use Rattle.change_rel.proofs.cny-base.Lists.{contains_first, contains_rest}
+use Rattle.tree_scan.proofs.tree-disk.Children.{or_none as neither}
 
 -- ---- nothing installed
 
-no_troves : IsInstalled []
+pub no_troves : IsInstalled []
 unfolding IsStrictlySortedBy
 no_troves = record {
   troves = All-nil IsTrove;
@@ -54,7 +55,7 @@ empty_law x well bare = record {
 
 -- ---- cross-checks
 
-nothing_there : (n : Option Node) → fingerprint n ≡ mark.Nothing → n ≡ None
+pub nothing_there : (n : Option Node) → fingerprint n ≡ mark.Nothing → n ≡ None
 nothing_there None e = refl
 nothing_there (Some (node.Dir mode)) e = absurd (cc e)
 nothing_there (Some (node.File mode bytes)) e = absurd (cc e)

@@ -9,28 +9,29 @@ use Rattle.std.specs.Str.Parse.{digits_value}
 use Rattle.std.specs.Str.{bytes_eq}
 use Rattle.hex.specs.Hex.{encode_lower}
 use Rattle.change_rel.specs.cny-base.Path.{is_slash, has_slash, or_root, parent}
-use Rattle.change_rel.specs.cny-base.Below.{is_below, below_rest, rest_below, before_join}
+use Rattle.change_rel.specs.cny-base.Below.{is_below}
+use Rattle.change_rel.proofs.cny-base.Below.{below_rest, rest_below, before_join}
 use Rattle.change_rel.specs.cny-base.Reserved.{private_directory, is_reserved}
 use Rattle.std.specs.FinMap.{get}
 use Rattle.tree_journal.specs.journal-log.declared.put.Put.{Put}
 use Rattle.local_db.specs.Steps.{IsOwnWrite}
 use Rattle.tree_journal.specs.tree-disk.Tree.{Name, Tree, same_name, is_dir, may_stand}
 use Rattle.tree_journal.specs.journal-log.Targets.{node_of}
-use Rattle.tree_journal.specs.tree-disk.Laws.{same_means, same_itself}
+use Rattle.tree_journal.specs.tree-disk.Laws.{same_means}
+use Rattle.tree_journal.proofs.tree-disk.Laws.{same_itself}
 use Rattle.tree_journal.specs.tree-disk.Clear.{is_within}
-use Rattle.tree_journal.specs.tree-disk.ClearLaws.{or_left, or_right, or_cases, below_trans}
+use Rattle.tree_journal.proofs.tree-disk.ClearLaws.{or_cases, below_trans}
 use Rattle.tree_journal.specs.journal-log.Own.{gate, log, work, staged, is_own}
 use Rattle.local_db.specs.SystemState.{StackItem, SystemState, newest, oldest, AreNumbered}
 use Rattle.local_db.specs.Names.{database, record_file, saved, is_job_name, is_job_name_of, is_job_place, counts}
 use Rattle.content_store.specs.Store.{content_path}
+use Rattle.change_rel.proofs.cny-base.Bools.{first_false as first_no, or_left, or_right, second_false as rest_no}
+use Rattle.tree_scan.proofs.tree-disk.ClearLaws.{itself_within as same_within}
 
 -- ---- the byte behind the slash
 
 letter : Name → ℕ
 letter q = get_or (drop 18 q) 0 0
-
-child : ℕ → Name → Name
-child c more = private_directory ++ 47 ∷ c ∷ more
 
 within_rest : (p q : Name) → is_within p q ≡ true → (rest : Name) × (q ≡ p ++ rest) × ((rest ≡ []) ⊎ ((r : Name) × (rest ≡ 47 ∷ r)))
 within_rest p q h = ⊎_elim
@@ -46,7 +47,7 @@ within_letter : (c : ℕ) (more q : Name) → is_within (private_directory ++ 47
 unfolding letter
 within_letter c more q h = let r = within_rest (private_directory ++ 47 ∷ c ∷ more) q h in ap letter r.1
 
-below_reserved : (q : Name) → is_below private_directory q ≡ true → is_reserved q ≡ true
+pub below_reserved : (q : Name) → is_below private_directory q ≡ true → is_reserved q ≡ true
 below_reserved q low = or_right (bytes_eq q private_directory) (is_below private_directory q) low
 
 pub within_reserved : (last q : Name) → is_within (private_directory ++ 47 ∷ last) q ≡ true → is_reserved q ≡ true
@@ -54,9 +55,6 @@ within_reserved last q h = below_reserved q (⊎_elim
     (λ same. ap (is_below private_directory) (same_means q (private_directory ++ 47 ∷ last) same) ∙ rest_below private_directory last)
     (λ low. below_trans private_directory (private_directory ++ 47 ∷ last) q (rest_below private_directory last) low)
     (or_cases (same_name q (private_directory ++ 47 ∷ last)) (is_below (private_directory ++ 47 ∷ last) q) h))
-
-same_within : (p q : Name) → same_name q p ≡ true → is_within p q ≡ true
-same_within p q h = or_left (same_name q p) (is_below p q) h
 
 -- ---- the names of jobs
 
@@ -139,14 +137,6 @@ Tail t = (t ≡ []) ⊎ ((r : Name) × (t ≡ 47 ∷ r))
 no_tail : (x : ℕ) (xs t : List ℕ) → is_slash x ≡ false → Tail t → t ≡ x ∷ xs → ⊥
 unfolding Tail
 no_tail x xs t other tail e = ⊎_elim (λ none. absurd (cc (none, e))) (λ some. let here : 47 ≡ x = cc (some.1, e) in absurd (cc (other, ap is_slash here))) tail
-
-first_no : (a b : Bool) → (a || b) ≡ false → a ≡ false
-first_no true b h = absurd (cc h)
-first_no false b h = refl
-
-rest_no : (a b : Bool) → (a || b) ≡ false → b ≡ false
-rest_no true b h = absurd (cc h)
-rest_no false b h = h
 
 same_front : (a b t u : List ℕ) → has_slash a ≡ false → has_slash b ≡ false → Tail t → Tail u → a ++ t ≡ b ++ u → a ≡ b
 same_front [] [] t u p q s v e = refl
@@ -301,7 +291,7 @@ pub record JobOf (olds : List StackItem) (q : Name) : Type 0 where
   pub low : oldest olds ≤ number
   pub name : is_job_name number q ≡ true
 
-oldest_low : (o : StackItem) (olds : List StackItem) → AreNumbered (o ∷ olds) → oldest (o ∷ olds) ≤ o.number
+pub oldest_low : (o : StackItem) (olds : List StackItem) → AreNumbered (o ∷ olds) → oldest (o ∷ olds) ≤ o.number
 oldest_low o [] numbered = omega arith
 oldest_low o (p ∷ olds) numbered = omega (arith, oldest_low p olds numbered.1, numbered.0)
 

@@ -5,13 +5,14 @@ use Rattle.std.proofs.lemmas.Bool.{cases_Bool}
 use Rattle.std.proofs.lemmas.List.Elements.{All-contains, Contains-get_or}
 use Rattle.std.specs.FinMap.{get}
 use Rattle.change_rel.specs.cny-base.Path.{is_path, root, parent}
-use Rattle.change_rel.specs.cny-base.Below.{is_below, child_below, below_parent}
+use Rattle.change_rel.specs.cny-base.Below.{is_below}
+use Rattle.change_rel.proofs.cny-base.Below.{child_below, below_parent}
 use Rattle.change_rel.specs.cny-base.Reserved.{private_directory, is_reserved, is_pinned}
 use Rattle.change_rel.specs.cny-base.declared.node.Node.{Node}
 use Rattle.std.proofs.lemmas.Slice.Eq.{bytes_eq-Decides}
 use Rattle.tree_journal.specs.tree-disk.Tree.{Name, Tree, is_dir, may_stand, WellFormed}
-use Rattle.tree_journal.specs.tree-disk.Children.{none_below, not_below_itself as none_itself}
-use Rattle.tree_journal.specs.tree-disk.ClearLaws.{or_right, or_cases, below_trans}
+use Rattle.tree_journal.proofs.tree-disk.Children.{none_below, not_below_itself as none_itself}
+use Rattle.tree_journal.proofs.tree-disk.ClearLaws.{or_cases, below_trans}
 use Rattle.tree_journal.specs.journal-log.declared.put.Want.{Want}
 use Rattle.tree_journal.specs.journal-log.declared.put.Want.TheVariants as want
 use Rattle.tree_journal.specs.journal-log.declared.put.Put.{Put}
@@ -19,12 +20,13 @@ use Rattle.tree_journal.specs.journal-log.Own.{is_own}
 use Rattle.tree_journal.specs.journal-log.WriteSet.{Rises, CanBeNamed}
 use Rattle.tree_journal.specs.journal-log.Targets.{is_dir_want, node_of, is_target, with_targets}
 use Rattle.tree_journal.specs.CanBePut.{HasWay, IsClearBelow, AllCanBePut}
-use Rattle.local_db.proofs.Writes.{not_both, target_at, with_targets_target, with_targets_outside}
+use Rattle.local_db.proofs.Writes.{not_both, with_targets_target}
 use Rattle.local_db.specs.SystemState.{IsFree}
 use Rattle.local_db.specs.Steps.{IsOwnWrite, IsPuttable}
-use Rattle.local_db.proofs.Places.{own_reserved}
+use Rattle.local_db.proofs.Places.{own_reserved, below_reserved as below_is_reserved}
 use Rattle.local_db.proofs.Unions.{wrote_more, wrote_no_other}
 use Rattle.local_db.proofs.Systems.{free_targets}
+use Rattle.tree_journal.proofs.WriteSets.{target_at, with_targets_outside}
 
 -- ---- what a well-formed result shows
 
@@ -64,20 +66,14 @@ module _ (all : List Put) (t : Tree) (rises : Rises all) (well : WellFormed t) (
 
 -- ---- the result is well formed
 
-reserved_at_or_below : (q : Name) → is_reserved q ≡ true → (q ≡ private_directory) ⊎ (is_below private_directory q ≡ true)
+pub reserved_at_or_below : (q : Name) → is_reserved q ≡ true → (q ≡ private_directory) ⊎ (is_below private_directory q ≡ true)
 reserved_at_or_below q h = ⊎_elim (λ same. inl ((bytes_eq-Decides q private_directory).0 same)) inr (or_cases (bytes_eq q private_directory) (is_below private_directory q) h)
-
-below_is_reserved : (q : Name) → is_below private_directory q ≡ true → is_reserved q ≡ true
-below_is_reserved q low = or_right (bytes_eq q private_directory) (is_below private_directory q) low
 
 not_below_itself : (q : Name) → is_below q q ≡ true → ⊥
 not_below_itself q low = not_both (is_below q q) low (none_itself q)
 
-stands_not_none : (n : Option Node) → is_some n ≡ true → n ≡ None → ⊥
-stands_not_none n stands none = absurd (cc (stands, none))
-
 -- what lies in a reserved directory is reserved
-parent_outer : (q : Name) → is_path q ≡ true → is_reserved q ≡ false → is_reserved (parent q) ≡ false
+pub parent_outer : (q : Name) → is_path q ≡ true → is_reserved q ≡ false → is_reserved (parent q) ≡ false
 parent_outer q path out = ⊎_elim (λ h. absurd (never h)) (λ h. h) (cases_Bool (is_reserved (parent q)))
   where
     in_parent : is_reserved (parent q) ≡ true → is_below (parent q) q ≡ true → ⊥

@@ -7,7 +7,7 @@ use Rattle.content_store.specs.Store.{file_bytes}
 use Rattle.tree_journal.specs.tree-disk.Tree.{Name, Tree, same_name, AgreesOutside}
 use Rattle.tree_journal.specs.journal-log.declared.put.Put.{Put}
 use Rattle.tree_journal.specs.journal-log.Targets.{is_target, with_targets}
-use Rattle.local_db.proofs.Writes.{contains_first, with_targets_target}
+use Rattle.local_db.proofs.Writes.{with_targets_target}
 use Rattle.local_db.specs.declared.format.Format.{Format}
 use Rattle.local_db.specs.Formats.{Fits}
 use Rattle.local_db.specs.SystemState.{StackItem, SystemState, newest, AreNumbered, IsSystemState}
@@ -18,8 +18,10 @@ use Rattle.local_db.proofs.Places.{database_reserved, record_reserved}
 use Rattle.local_db.proofs.Frame.{olds_stay}
 use Rattle.local_db.proofs.Unions.{wrote_more, wrote_no_other, wrote_alike}
 use Rattle.local_db.proofs.Systems.{four_bytes, numbered_rest, newest_rest, free_targets, rollback_is_system, system_database}
-use Rattle.local_db.proofs.Jobs.{neither, outer_differs, not_later_record, stack_reserved}
+use Rattle.local_db.proofs.Jobs.{outer_differs, not_later_record, stack_reserved}
 use Rattle.local_db.proofs.Together.{list_fits}
+use Rattle.change_rel.proofs.cny-base.Lists.{contains_first}
+use Rattle.tree_scan.proofs.tree-disk.Children.{or_none as neither}
 
 -- ---- the system
 
@@ -38,7 +40,7 @@ left_fits f x (o ∷ os) rest s h fits = left_fits f x os rest (after_rollback o
 
 -- ---- the records
 
-numbered_end : (os rest : List StackItem) → AreNumbered (os ++ rest) → AreNumbered rest
+pub numbered_end : (os rest : List StackItem) → AreNumbered (os ++ rest) → AreNumbered rest
 numbered_end [] rest numbered = numbered
 numbered_end (o ∷ os) rest numbered = numbered_end os rest (numbered_rest o (os ++ rest) numbered)
 
@@ -59,9 +61,6 @@ no_records_outside (o ∷ os) q out = neither (same_name q (record_file o.number
 -- ---- the tree
 
 module _ (f : Format) (x : Tree) (s : SystemState) (os rest : List StackItem) (all : List Put) (stands : StoresIn f x s) (stack : s.stack ≡ os ++ rest) (can : CanRollBackAll os rest s) (w : AreRollbacksWrites f os rest s all) where
-  after : SystemState
-  after = after_rollbacks os rest s
-
   made : IsSystemState (after_rollbacks os rest s) × ((after_rollbacks os rest s).stack ≡ rest)
   made = rollbacks_system os rest s stands.system stack can
 

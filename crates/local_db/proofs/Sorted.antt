@@ -1,64 +1,28 @@
 -- Lists in order with the same elements, or the same look-ups, are equal.
-use Rattle.std.proofs.Common.{◌≡◌, ⊎_elim, Bool, true, false, cond, ◌||◌, List, [], ◌∷◌, Some, Contains, refl, sym, ◌∙◌, ap, subst, ℕ}
-use Rattle.std.specs.Prelude.{◌↔◌}
-use Rattle.std.proofs.lemmas.List.Elements.{All-from_recursion, All-contains}
-use Rattle.std.proofs.lemmas.Map.Keys.{sorted_head, sorted_tail}
+use Rattle.std.proofs.Common.{◌≡◌, ⊎_elim, Bool, true, false, cond, ◌||◌, List, [], ◌∷◌, Some, Contains, refl, sym, ◌∙◌, ap, subst}
+use Rattle.std.proofs.lemmas.Map.Keys.{sorted_tail}
 use Rattle.std.proofs.lemmas.Bool.{cases_Bool}
-use Rattle.std.proofs.lemmas.Cmp.{tied_itself, on_total}
+use Rattle.std.proofs.lemmas.Cmp.{on_total}
 use Rattle.std.proofs.lemmas.Slice.Eq.{bytes_eq-Decides}
 use Rattle.std.specs.Str.{bytes_eq}
 use Rattle.std.specs.Cmp.{IsTotalOrder}
 use Rattle.std.specs.Cmp.Lexicographic.{slice_cmp, nat_list_cmp_total}
 use Rattle.std.specs.List.Sorted.{IsStrictlySortedBy}
-use Rattle.std.specs.Ordering.{nat_cmp, ordering_reverse}
-use Rattle.std.specs.declared.cmp.Ordering.{Ordering}
+use Rattle.std.specs.Ordering.{nat_cmp}
 use Rattle.std.specs.declared.cmp.Ordering.TheVariants.{Less}
 use Rattle.change_rel.specs.trove-stream.declared.parts.TroveParts.{TroveParts}
 use Rattle.tree_journal.specs.tree-disk.Tree.{Name, same_name}
-use Rattle.tree_journal.specs.tree-disk.Laws.{same_means, same_itself}
-use Rattle.local_db.proofs.Writes.{nothing_in, contains_first, contains_rest, contains_cases}
+use Rattle.tree_journal.specs.tree-disk.Laws.{same_means}
+use Rattle.tree_journal.proofs.tree-disk.Laws.{same_itself}
 use Rattle.change_rel.specs.trove-stream.Installed.{by_name, trove_of}
 use Rattle.local_db.specs.SystemState.{is_listed}
-
-module _ {A : Type 0} (R : A → A → Ordering) (o : IsTotalOrder R) where
-  later_less : (x : A) (xs : List A) → IsStrictlySortedBy R (x ∷ xs) → (z : A) → Contains xs z → R x z ≡ Less
-  later_less x xs sorted z in' = All-contains (λ y. R x y ≡ Less) xs z (All-from_recursion (λ y. R x y ≡ Less) xs (sorted_head R x xs sorted)) in'
-
-  not_less_itself : (x : A) → R x x ≡ Less → ⊥
-  not_less_itself x less = absurd (cc (tied_itself o x, less))
-
-  not_both : (x y : A) → R x y ≡ Less → R y x ≡ Less → ⊥
-  not_both x y a b = absurd (cc (o.antisymm x y ∙ ap ordering_reverse b, a))
-
-  heads : (x y : A) (xs ys : List A) → IsStrictlySortedBy R (x ∷ xs) → IsStrictlySortedBy R (y ∷ ys) → Contains (y ∷ ys) x → Contains (x ∷ xs) y → x ≡ y
-  heads x y xs ys s t h g = ⊎_elim
-      (λ e. sym e)
-      (λ later. ⊎_elim (λ e. e) (λ later'. absurd (not_both x y (later_less x xs s y later') (later_less y ys t x later))) (contains_cases x y xs g))
-      (contains_cases y x ys h)
-
-  rest_in : (x y : A) (xs ys : List A) → IsStrictlySortedBy R (x ∷ xs) → x ≡ y → ((z : A) → Contains (x ∷ xs) z → Contains (y ∷ ys) z) → (z : A) → Contains xs z → Contains ys z
-  rest_in x y xs ys s same all z in' = ⊎_elim
-      (λ e. absurd (not_less_itself x (ap (R x) (same ∙ e) ∙ later_less x xs s z in')))
-      (λ later. later)
-      (contains_cases y z ys (all z (contains_rest x z xs in')))
-
-  pub same_members : (xs ys : List A) → IsStrictlySortedBy R xs → IsStrictlySortedBy R ys → ((z : A) → Contains xs z ↔ Contains ys z) → xs ≡ ys
-  same_members [] [] s t same = refl
-  same_members [] (y ∷ ys) s t same = absurd (nothing_in y ((same y).1 (contains_first y ys)))
-  same_members (x ∷ xs) [] s t same = absurd (nothing_in x ((same x).0 (contains_first x xs)))
-  same_members (x ∷ xs) (y ∷ ys) s t same =
-      let head = heads x y xs ys s t ((same x).0 (contains_first x xs)) ((same y).1 (contains_first y ys)) in
-      let tail = same_members xs ys (sorted_tail R x xs s) (sorted_tail R y ys t)
-      (λ z. (rest_in x y xs ys s head (λ z. (same z).0) z, rest_in y x ys xs t (sym head) (λ z. (same z).1) z)) in
-      λ i. head i ∷ tail i
-
-some_same : {A : Type 0} (x y : A) → Some x ≡ Some y → x ≡ y
-some_same x y e = cc e
+use Rattle.change_rel.proofs.trove-stream.Places.{name_of}
+use Rattle.change_rel.proofs.cny-base.Lists.{contains_cases, contains_first, contains_rest, nothing_in}
+use Rattle.change_rel.proofs.cny-base.Sorted.{later_less, not_less_itself}
+use Rattle.change_rel.proofs.Members.{same_members}
+use Rattle.change_rel.proofs.cny-base.OptionValues.{same_some as some_same}
 
 -- ---- troves by their names
-
-abbrev name_of : TroveParts → List ℕ
-name_of t = t.id.name
 
 pub trove_total : IsTotalOrder by_name
 trove_total = on_total name_of nat_list_cmp_total

@@ -4,9 +4,9 @@ use Rattle.std.specs.Int.{w32, to_be_bytes}
 use Rattle.std.proofs.lemmas.Bool.{false≢true}
 use Rattle.std.proofs.lemmas.List.Elements.{All-head, All-tail}
 use Rattle.cny_stream.specs.Item.{FitsItem, item_bytes}
-use Rattle.cny_stream.specs.ItemLaws.{same_item, same_four, same_front}
+use Rattle.cny_stream.proofs.ItemLaws.{same_item, same_four}
 use Rattle.change_rel.specs.trove-parts.Items.{items_bytes, begins_with_tag}
-use Rattle.change_rel.specs.trove-parts.ItemsLaws.{other_tag}
+use Rattle.change_rel.proofs.trove-parts.ItemsLaws.{other_tag}
 use Rattle.change_rel.specs.trove-stream.declared.parts.TroveParts.{TroveParts}
 use Rattle.change_rel.specs.trove-stream.Trove.{IsTrove}
 use Rattle.change_rel.specs.trove-stream.declared.rel.RelParts.{RelParts}
@@ -18,19 +18,23 @@ use Rattle.change_rel.specs.trove-parts.Id.{IsTroveId, id_bytes}
 use Rattle.change_rel.specs.trove-stream.Stream.{stream_bytes}
 use Rattle.tree_scan.specs.declared.mark.Mark.{Mark}
 use Rattle.tree_scan.specs.declared.mark.Mark.TheVariants.{Nothing, Dir, File, Link}
-use Rattle.tree_scan.specs.MarkLaws.{same_mark_means}
+use Rattle.tree_scan.proofs.MarkLaws.{same_mark_means}
 use Rattle.local_db.specs.MarkBytes.{IsMark, mark_bytes, tells, told_bytes}
 use Rattle.local_db.specs.Installed.{recorded}
 use Rattle.local_db.specs.declared.format.Format.{Format}
 use Rattle.local_db.specs.declared.format.Format.TheVariants.{One, Two}
 use Rattle.local_db.specs.Formats.{encoding_of, database_magic, record_magic, trove_text, rel_text, limit, database_bytes, Fits}
 use Rattle.local_db.specs.Record.{Delta, came, was, turned, delta_tag, delta_value, delta_bytes, IsDelta, Entry, IsEntry, entry_value, record_bytes}
-use Rattle.local_db.proofs.Fields.{same_two, same_str, fits_path, fits_target}
-use Rattle.local_db.proofs.Items.{itself, shorter, all_fit, one_items}
+use Rattle.local_db.proofs.Items.{shorter, all_fit, one_items}
+use Rattle.tree_journal.proofs.journal-log.Links.{fits_path, fits_target, same_two}
+use Rattle.change_rel.proofs.cny-base.Below.{equal_test as itself}
+use Rattle.change_rel.proofs.cny-base.ItemLaws.{same_front}
+use Rattle.change_rel.proofs.cny-base.IdFields.{same_str}
+use Rattle.change_rel.proofs.cny-base.OptionValues.{same_some as some_same}
 
 -- ---- marks
 
-same_marks : (m n : Mark) (a b : List ℕ) → IsMark m → IsMark n → mark_bytes m ++ a ≡ mark_bytes n ++ b → (m ≡ n) × (a ≡ b)
+pub same_marks : (m n : Mark) (a b : List ℕ) → IsMark m → IsMark n → mark_bytes m ++ a ≡ mark_bytes n ++ b → (m ≡ n) × (a ≡ b)
 same_marks Nothing Nothing a b f g e = (refl, ap (drop 1) e)
 same_marks Nothing (Dir n) a b f g e = absurd (let k : 110 ≡ 100 = ap (λ l. get_or l 0 0) e in omega (arith, k))
 same_marks Nothing (File n t c) a b f g e = absurd (let k : 110 ≡ 102 = ap (λ l. get_or l 0 0) e in omega (arith, k))
@@ -54,7 +58,7 @@ same_marks (Link d) (File n t c) a b f g e = absurd (let k : 108 ≡ 102 = ap (�
 same_marks (Link d) (Link c) a b f g e = let r = same_str d c a b (fits_target d f) (fits_target c g) (ap (drop 1) e) in (ap Link r.0, r.1)
 
 -- a mark isn't written as `=`
-no_sign : (m : Mark) (a b : List ℕ) → mark_bytes m ++ a ≡ 61 ∷ b → ⊥
+pub no_sign : (m : Mark) (a b : List ℕ) → mark_bytes m ++ a ≡ 61 ∷ b → ⊥
 no_sign Nothing a b e = let k : 110 ≡ 61 = ap (λ l. get_or l 0 0) e in omega (arith, k)
 no_sign (Dir m) a b e = let k : 100 ≡ 61 = ap (λ l. get_or l 0 0) e in omega (arith, k)
 no_sign (File m s d) a b e = let k : 102 ≡ 61 = ap (λ l. get_or l 0 0) e in omega (arith, k)
@@ -63,9 +67,6 @@ no_sign (Link d) a b e = let k : 108 ≡ 61 = ap (λ l. get_or l 0 0) e in omega
 told_is : (r : Option Mark) (m : Mark) → tells r m ≡ true → r ≡ Some m
 told_is None m h = absurd (cc h)
 told_is (Some told) m h = ap (λ (k : Mark). Some k) (same_mark_means told m h)
-
-some_same : {A : Type 0} (x y : A) → Some x ≡ Some y → x ≡ y
-some_same x y e = cc e
 
 pub same_told : (r : Option Mark) (m n : Mark) (a b : List ℕ) → IsMark m → IsMark n → told_bytes r m ++ a ≡ told_bytes r n ++ b → (m ≡ n) × (a ≡ b)
 same_told r m n a b f g e = by (tells r m) (tells r n) refl refl e
@@ -98,13 +99,13 @@ pub record Distinct : Type 0 where
   pub troves : (one other : Encoding) (a b : TroveParts) → IsTrove a → IsTrove b → stream_bytes one a ≡ stream_bytes other b → a ≡ b
   pub rels : (one other : Encoding) (a b : RelParts) (bytes : List ℕ) → IsStreamOf one a bytes → IsStreamOf other b bytes → a ≡ b
 
-id_once : Distinct → (a b : TroveId) → IsTroveId a → IsTroveId b → id_bytes a ≡ id_bytes b → a ≡ b
+pub id_once : Distinct → (a b : TroveId) → IsTroveId a → IsTroveId b → id_bytes a ≡ id_bytes b → a ≡ b
 id_once d a b x y e = (d.ids a b [] [] x y (append-nil (id_bytes a) ∙ e ∙ sym (append-nil (id_bytes b)))).0
 
-trove_once : Distinct → (f : Format) (t u : TroveParts) → IsTrove t → IsTrove u → trove_text f t ≡ trove_text f u → t ≡ u
+pub trove_once : Distinct → (f : Format) (t u : TroveParts) → IsTrove t → IsTrove u → trove_text f t ≡ trove_text f u → t ≡ u
 trove_once d f t u a b e = d.troves (encoding_of f) (encoding_of f) t u a b e
 
-rel_once : Distinct → (f : Format) (a b : RelParts) → IsRel a → IsRel b → rel_text f a ≡ rel_text f b → a ≡ b
+pub rel_once : Distinct → (f : Format) (a b : RelParts) → IsRel a → IsRel b → rel_text f a ≡ rel_text f b → a ≡ b
 rel_once d f a b x y e = d.rels (encoding_of f) (encoding_of f) a b (rel_text f a) (record { rel_is = x; text = refl }) (record { rel_is = y; text = e })
 
 delta_once : Distinct → (f : Format) (u v : Delta) → IsDelta f u → IsDelta f v → delta_tag u ≡ delta_tag v → delta_value f u ≡ delta_value f v → u ≡ v
@@ -147,7 +148,7 @@ entries_end before after entries (came id) = other_tag (entry_value before after
 entries_end before after entries (was t) = other_tag (entry_value before after) 0x65 0x67 entries (item_bytes 0x6F []) refl refl
 entries_end before after entries (turned rel) = other_tag (entry_value before after) 0x66 0x67 entries (item_bytes 0x6F []) refl refl
 
-without_head : (f : Format) (number : ℕ) (r s : List ℕ) → record_magic f ++ (item_bytes 0x60 (to_be_bytes w32 number) ++ r) ≡ record_magic f ++ (item_bytes 0x60 (to_be_bytes w32 number) ++ s) → r ≡ s
+pub without_head : (f : Format) (number : ℕ) (r s : List ℕ) → record_magic f ++ (item_bytes 0x60 (to_be_bytes w32 number) ++ r) ≡ record_magic f ++ (item_bytes 0x60 (to_be_bytes w32 number) ++ s) → r ≡ s
 without_head One number r s e = ap (drop 17) e
 without_head Two number r s e = ap (drop 17) e
 
@@ -175,10 +176,10 @@ one_format One Two list other a b c d e = absurd (let k : 49 ≡ 50 = ap (λ l. 
 one_format Two One list other a b c d e = absurd (let k : 50 ≡ 49 = ap (λ l. get_or l 6 0) e in omega (arith, k))
 one_format Two Two list other a b c d e = refl
 
-behind_list : ℕ → ℕ → List ℕ
+pub behind_list : ℕ → ℕ → List ℕ
 behind_list a b = item_bytes 0x51 (to_be_bytes w32 a ++ to_be_bytes w32 b) ++ item_bytes 0x5F []
 
-without_magic : (f : Format) (r s : List ℕ) → database_magic f ++ r ≡ database_magic f ++ s → r ≡ s
+pub without_magic : (f : Format) (r s : List ℕ) → database_magic f ++ r ≡ database_magic f ++ s → r ≡ s
 without_magic One r s e = ap (drop 8) e
 without_magic Two r s e = ap (drop 8) e
 
@@ -203,7 +204,7 @@ same_room f list a b = room (database_magic f)
     room [] = in_list list
     room (y ∷ p) = omega (arith, room p)
 
-fits_long : (f : Format) (list : List TroveParts) (a b : ℕ) → Fits f list → length (database_bytes f list a b) < 2 ^ 32
+pub fits_long : (f : Format) (list : List TroveParts) (a b : ℕ) → Fits f list → length (database_bytes f list a b) < 2 ^ 32
 fits_long One list a b fits = let short = fits.short in let most : limit One ≡ 268435456 = refl in omega (arith, short, same_room One list a b, most)
 fits_long Two list a b fits = let short = fits.short in let most : limit Two ≡ 536870912 = refl in omega (arith, short, same_room Two list a b, most)
 

@@ -18,7 +18,7 @@ use Rattle.tree_journal.specs.tree-disk.Tree.{Name, same_name, WellFormed}
 use Rattle.tree_journal.specs.journal-log.declared.put.Put.{Put}
 use Rattle.tree_journal.specs.journal-log.WriteSet.{Rises}
 use Rattle.tree_journal.specs.journal-log.Targets.{node_of, is_target, with_targets}
-use Rattle.local_db.proofs.Writes.{not_both, target_at, is_target-from, first_before, with_targets_target, with_targets_outside}
+use Rattle.local_db.proofs.Writes.{not_both, with_targets_target}
 use Rattle.tree_scan.specs.Marks.{fingerprint}
 use Rattle.local_db.specs.MarkBytes.{IsMark}
 use Rattle.local_db.specs.declared.format.Format.{Format}
@@ -26,6 +26,8 @@ use Rattle.local_db.specs.Formats.{AreEnds, Fits}
 use Rattle.local_db.specs.Stores.{IsDatabase}
 use Rattle.local_db.specs.SystemState.{StackItem, SystemState, newest, oldest, AreNumbered, is_listed, IsFree, IsTellable, IsStackItem, IsSystemState}
 use Rattle.local_db.specs.Steps.{paths_of, old_of, pushed, after_job, CanJob, want_of, backs, after_rollback}
+use Rattle.tree_journal.proofs.WriteSets.{first_before, target_at, with_targets_outside}
+use Rattle.tree_journal.proofs.journal-log.Walking.{listed as is_target-from}
 
 -- ---- stacks
 
@@ -178,7 +180,7 @@ module _ (o : StackItem) (olds : List StackItem) (s : SystemState) (system : IsS
   pub newest_is_old : IsStackItem o
   newest_is_old = All-head IsStackItem o olds all_old
 
-  number : o.number ≤ JOBS_LIMIT
+  pub number : o.number ≤ JOBS_LIMIT
   number = subst (λ st. newest st ≤ JOBS_LIMIT) stack system.number
 
   pub rollback_is_system : IsSystemState (after_rollback o olds s)

@@ -4,22 +4,18 @@ use Rattle.std.specs.Int.{w32, to_be_bytes}
 use Rattle.std.proofs.lemmas.List.{append_cancel_left}
 use Rattle.std.proofs.lemmas.List.Concat.{flat_map-append}
 use Rattle.std.proofs.lemmas.List.Elements.{All-nil, All-head, All-tail, All-push}
-use Rattle.change_rel.specs.cny-base.Below.{begins_with, begun}
+use Rattle.change_rel.specs.cny-base.Below.{begins_with}
+use Rattle.change_rel.proofs.cny-base.Below.{begun}
 use Rattle.cny_stream.specs.Item.{item_bytes}
-use Rattle.cny_stream.specs.ItemLaws.{same_item, same_four}
-use Rattle.change_rel.specs.file-stream.declared.encoding.Encoding.{Encoding}
+use Rattle.cny_stream.proofs.ItemLaws.{same_item, same_four}
 use Rattle.change_rel.specs.trove-parts.Items.{items_bytes}
 use Rattle.change_rel.specs.trove-stream.declared.parts.TroveParts.{TroveParts}
-use Rattle.change_rel.specs.trove-stream.Stream.{stream_bytes}
 use Rattle.change_rel.specs.trove-stream.Trove.{IsTrove}
 use Rattle.local_db.specs.declared.format.Format.{Format}
 use Rattle.local_db.specs.declared.format.Format.TheVariants.{One, Two}
 use Rattle.local_db.specs.Formats.{TroveCanTell, database_magic, encoding_of, trove_text}
-use Rattle.local_db.specs.Reading.{FitsTrove, IsTroveAt, IsNoTroveAt, AreTrovesTo, IsDatabaseText, IsEndAt, end_bytes}
-
--- no bytes are the streams of two troves
-abbrev pub TrovesDiffer : Type 0
-TrovesDiffer = (one other : Encoding) (a b : TroveParts) → IsTrove a → IsTrove b → stream_bytes one a ≡ stream_bytes other b → a ≡ b
+use Rattle.local_db.specs.Reading.{FitsTrove, IsTroveAt, IsNoTroveAt, AreTrovesTo, IsDatabaseText, end_bytes}
+use Rattle.change_rel.proofs.trove-stream.Distinct.{TrovesDiffer}
 
 abbrev pub item_of : Format → TroveParts → List ℕ
 item_of f t = item_bytes 0x50 (trove_text f t)
@@ -44,7 +40,7 @@ pub record IsRest (f : Format) (front all rest : List TroveParts) (a b : ℕ) (t
   pub fits : All (FitsTrove f) rest
   pub spelled : tail ≡ items_of f rest ++ end_bytes a b
 
-rest_of : TrovesDiffer → (f : Format) (front all : List TroveParts) (a b : ℕ) (tail : List ℕ) → All IsTrove front → All (FitsTrove f) front
+pub rest_of : TrovesDiffer → (f : Format) (front all : List TroveParts) (a b : ℕ) (tail : List ℕ) → All IsTrove front → All (FitsTrove f) front
     → All IsTrove all → All (TroveCanTell f) all → All (FitsTrove f) all
     → items_of f front ++ tail ≡ items_of f all ++ end_bytes a b → (rest : List TroveParts) × IsRest f front all rest a b tail
 rest_of differ f [] all a b tail fi ff ai at' af e = (all, record { split = refl; troves_are = ai; told = at'; fits = af; spelled = e })
@@ -93,16 +89,6 @@ one_more f bytes troves at trove to are next = record {
       ∙ ap (λ (l : List ℕ). l ++ drop to bytes) (sym (flat_map-append (item_of f) troves (trove ∷ []))));
 }
 
-pub ended : (f : Format) (bytes : List ℕ) (troves : List TroveParts) (at a b : ℕ) → AreTrovesTo f bytes troves at → IsEndAt bytes at a b → IsDatabaseText f troves a b bytes
-ended f bytes troves at a b are end = record {
-  troves_are = are.troves_are;
-  told = are.told;
-  fits = are.fits;
-  oldest_fits = end.oldest_fits;
-  newest_fits = end.newest_fits;
-  text = are.spelled ∙ ap (λ (l : List ℕ). database_magic f ++ (items_of f troves ++ l)) end.spelled;
-}
-
 -- what is left of any database with these bytes
 left : TrovesDiffer → (f : Format) (bytes : List ℕ) (front all : List TroveParts) (at a b : ℕ) → AreTrovesTo f bytes front at → IsDatabaseText f all a b bytes
     → (rest : List TroveParts) × IsRest f front all rest a b (drop at bytes)
@@ -125,16 +111,13 @@ last_of differ f bytes front all at a b are no_trove is =
 
 -- ---- one text
 
-no_trove_behind : (f : Format) (bytes : List ℕ) (at a b : ℕ) → IsEndAt bytes at a b → IsNoTroveAt f bytes at
-no_trove_behind f bytes at a b end t rest t_is told fits e = not_end f t rest a b fits (sym e ∙ end.spelled)
-
 pub one_end : (a b c d : ℕ) → a < 2 ^ 32 → b < 2 ^ 32 → c < 2 ^ 32 → d < 2 ^ 32 → end_bytes a b ≡ end_bytes c d → (a ≡ c) × (b ≡ d)
 one_end a b c d af bf cf df e =
     let low = same_four a c (to_be_bytes w32 b ++ item_bytes 0x5F []) (to_be_bytes w32 d ++ item_bytes 0x5F []) af cf (ap (drop 5) e) in
     let high = same_four b d (item_bytes 0x5F []) (item_bytes 0x5F []) bf df low.1 in
     (low.0, high.0)
 
-rest_nil : (f : Format) (front all rest : List TroveParts) (a b c d : ℕ) → IsRest f front all rest a b (end_bytes c d) → (all ≡ front) × (end_bytes c d ≡ end_bytes a b)
+pub rest_nil : (f : Format) (front all rest : List TroveParts) (a b c d : ℕ) → IsRest f front all rest a b (end_bytes c d) → (all ≡ front) × (end_bytes c d ≡ end_bytes a b)
 rest_nil f front all [] a b c d is = (is.split ∙ append-nil front, is.spelled)
 rest_nil f front all (t ∷ rest) a b c d is =
     absurd (not_end f t (items_of f rest ++ end_bytes a b) c d (All-head (FitsTrove f) t rest is.fits) (sym (is.spelled ∙ more f t rest (end_bytes a b))))

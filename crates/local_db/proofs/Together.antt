@@ -55,7 +55,7 @@ at_every_moment f g reads goal unsynced s t image h k synced recovers = ⊎_elim
     either One x s h = inl h
     either Two x s h = inr h
 
-flip_same : (x y : Tree) → StoresSame private_directory x y → StoresSame private_directory y x
+pub flip_same : (x y : Tree) → StoresSame private_directory x y → StoresSame private_directory y x
 flip_same x y h q out = sym (h q out)
 
 -- with no commit flag an image recovers to just what it stands for

@@ -1,5 +1,5 @@
 -- A job that nothing was edited after can be taken back.
-use Rattle.std.proofs.Common.{◌≡◌, ◌≢◌, IsTrue, true, false, get_or, Option, Some, None, is_some, All, refl, sym, ◌∙◌, ap, subst}
+use Rattle.std.proofs.Common.{◌≡◌, ◌≢◌, IsTrue, true, get_or, Option, Some, None, is_some, refl, sym, ◌∙◌, ap, subst}
 use Rattle.std.specs.FinMap.{get}
 use Rattle.change_rel.specs.cny-base.Path.{parent}
 use Rattle.change_rel.specs.cny-base.declared.node.Node.{Node}

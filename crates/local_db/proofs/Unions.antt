@@ -6,8 +6,10 @@ use Rattle.std.specs.FinMap.{get}
 use Rattle.tree_journal.specs.tree-disk.Tree.{Name, Tree}
 use Rattle.tree_journal.specs.journal-log.declared.put.Put.{Put}
 use Rattle.tree_journal.specs.journal-log.Targets.{node_of, is_target, with_targets}
-use Rattle.local_db.proofs.Writes.{not_both, target_at, is_target-from, with_targets_target, with_targets_outside}
+use Rattle.local_db.proofs.Writes.{not_both, with_targets_target}
 use Rattle.local_db.specs.Steps.{IsUnion}
+use Rattle.tree_journal.proofs.WriteSets.{target_at, with_targets_outside}
+use Rattle.tree_journal.proofs.journal-log.Walking.{listed as is_target-from}
 
 module _ (all some more : List Put) (u : IsUnion all some more) (x : Tree) where
   pub wrote_some : (p : Put) → Contains some p → get (with_targets all x) p.path ≡ node_of p.want

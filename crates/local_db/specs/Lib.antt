@@ -11,6 +11,7 @@ pub mod Names
 pub mod Record
 pub mod Stores
 pub mod Steps
+pub mod RecordText
 pub use Rattle.change_rel.specs.cny-base
 pub use Rattle.cny_stream.specs as cny-stream
 pub use Rattle.content_store.specs as content-store

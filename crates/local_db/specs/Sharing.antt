@@ -1,14 +1,13 @@
 -- Which paths troves share.
-use Rattle.std.specs.Prelude.{◌≡◌, ℕ, Bool, true, IsTrue, List, Some, None, All, Contains}
-use Rattle.std.specs.List.{flat_map}
+use Rattle.std.specs.Prelude.{◌≡◌, Bool, true, IsTrue, List, Some, None, All, Contains}
 use Rattle.std.specs.BTreeMap.{BTreeMap, get}
 use Rattle.std.specs.Cmp.Lexicographic.{slice_cmp}
 use Rattle.std.specs.Ordering.{nat_cmp}
 use Rattle.change_rel.specs.file-stream.Record.{is_dir}
 use Rattle.change_rel.specs.trove-parts.declared.files.FileAt.{FileAt}
-use Rattle.change_rel.specs.trove-stream.declared.parts.TroveParts.{TroveParts}
 use Rattle.tree_journal.specs.tree-disk.Tree.{Name}
 use Rattle.local_db.specs.Installed.{are_apart}
+pub use Rattle.change_rel.specs.trove-stream.FilesOf.{files_of}
 
 -- for each path whether a directory is recorded there
 abbrev pub Kinds : Type 0
@@ -16,10 +15,6 @@ Kinds = BTreeMap Name Bool
 
 abbrev pub kind_at : Kinds → Name → Rattle.std.specs.Prelude.Option Bool
 kind_at kinds path = get (slice_cmp nat_cmp) kinds path
-
--- what the troves record of their paths
-abbrev pub files_of : List TroveParts → List FileAt
-files_of list = flat_map (λ (t : TroveParts). t.files) list
 
 -- one of the files records this kind at the path
 pub record Records (files : List FileAt) (path : Name) (kind : Bool) : Type 0 where

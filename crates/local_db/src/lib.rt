@@ -1,28 +1,34 @@
-//! Which system a root tree stores: its tree, its installed troves and its stack of jobs, and what a job, a rollback and a
-//! migration make of it; and its database, read and written: the installed troves, and the numbers of its stack. One tree tells one
-//! system, and the database is loaded where its file is one, in format 1 or 2, and damaged exactly where it isn't.
+//! Which system a root tree stores: its tree, its installed troves and its stack of jobs, what the record of a job says, and what a
+//! job, a rollback and a migration make of it; and its database, read and written: the installed troves, and the numbers of its
+//! stack. One tree tells one system, and the database is loaded where its file is one, in format 1 or 2, and damaged exactly where
+//! it isn't.
 #![tactic(auto)]
 
+mod change;
 mod db;
 mod format;
 mod laws;
 mod loading;
 mod names;
 mod reading;
+mod record;
 mod sharing;
 mod steps;
 mod writing;
 
+pub use change::Change;
 pub use change_rel::trove_stream::Installed;
 pub use change_rel::{cny_base, file_stream, trove_parts, trove_stream};
+pub use content_store;
 pub use db::Db;
 pub use format::Format;
 pub use laws::{checked_records, distinct_databases, empty_root, one_system, recovered_system};
 pub use loading::load;
 pub use names::{base_path, database_path, record_path, saved_path};
-pub use reading::decode;
+pub use reading::{are_roots, decode, most_bytes};
+pub use record::{Delta, Deltas, Record, Told, ToldEntries, ToldEntry};
 pub use steps::{
     migrated_system, prepared_system, puttable_writes, system_after_job, system_after_rollback,
 };
-pub use tree_journal::{journal_log, tree_disk};
+pub use tree_journal::{journal_log, make_dir, tree_disk};
 pub use writing::encode;

@@ -1,12 +1,12 @@
 //! The database that a file spells.
-ghost use Rattle.std.specs.Prelude.{[], ◌≡◌, ◌↔◌, ◌⊎◌, ◌+◌, ◌<◌, ◌≤◌, ℕ, List, All, None, true, IsTrue, length, drop, IfOk, IfSome, IfNone, IsErrOf, OnOk};
+ghost use Rattle.std.specs.Prelude.{[], ◌≡◌, ◌↔◌, ◌<◌, ◌≤◌, ℕ, List, All, None, true, IsTrue, length, drop, IfOk, IfSome, IfNone, IsErrOf, OnOk};
 ghost use Rattle.change_rel.specs.cny-base.Below.{begins_with};
 ghost use Rattle.cny_stream.specs.Item.{item_bytes};
 ghost use Rattle.change_rel.specs.trove-parts.declared.files.FileAt.{FileAt};
 ghost use Rattle.change_rel.specs.trove-stream.declared.parts.TroveParts.{TroveParts};
 ghost use Rattle.change_rel.specs.trove-stream.Forbidden.{first_forbidden};
 ghost use Rattle.change_rel.specs.trove-stream.Trove.{IsTrove};
-ghost use Rattle.local_db.specs.Formats.{CanTell, TroveCanTell, database_magic, trove_text, limit, AreEnds};
+ghost use Rattle.local_db.specs.Formats.{CanTell, database_magic, limit, AreEnds};
 ghost use Rattle.local_db.specs.Formats as formats;
 ghost use Rattle.local_db.specs.declared.format.Format as declared;
 ghost use Rattle.local_db.specs.declared.format.Format.TheVariants.{One};
@@ -40,8 +40,8 @@ fn is_roots(rec: &FileRec) -> bool
     }
 }
 
-// Whether format 1 can tell the files.
-fn are_roots(files: &[FileAt]) -> bool
+/// Whether format 1 can tell the files: each has no owner but root.
+pub fn are_roots(files: &[FileAt]) -> bool
     ensures { IsTrue result ↔ CanTell One files.now }
 {
     files.iter().all(|file| is_roots(&file.rec))
@@ -265,8 +265,8 @@ fn format_of(bytes: &[u8]) -> Option<Format>
     None
 }
 
-// The most bytes of a database file.
-fn most_bytes(format: Format) -> usize
+/// The most bytes of a database file in this format.
+pub fn most_bytes(format: Format) -> usize
     ensures { result ≡ limit format }
 {
     match format {

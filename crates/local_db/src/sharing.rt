@@ -1,9 +1,8 @@
 //! Whether troves share no path but as a directory.
-ghost use Rattle.std.specs.Prelude.{◌↔◌, ◌++◌, ◌∷◌, [], List, IfOk, IsTrue, All};
+ghost use Rattle.std.specs.Prelude.{◌↔◌, ◌++◌, ◌∷◌, [], List, IfOk, IsTrue};
 ghost use Rattle.std.specs.List.{AllPairs};
 ghost use Rattle.change_rel.specs.trove-parts.declared.files.FileAt.{FileAt};
 ghost use Rattle.change_rel.specs.trove-parts.Files.{AreFiles};
-ghost use Rattle.change_rel.specs.trove-stream.Trove.{IsTrove};
 ghost use Rattle.local_db.specs.Installed.{SharesDirsAlone};
 ghost use Rattle.local_db.specs.Sharing.{AreApart, AreNoted, IsApart};
 

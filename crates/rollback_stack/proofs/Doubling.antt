@@ -1,7 +1,6 @@
 -- What fits a database of format 1 fits one of format 2, whose limit is twice that of format 1: it has at most twice the bytes.
-use Rattle.std.proofs.Common.{◌≡◌, ⊎_elim, ℕ, zero, suc, ◌+◌, ◌*◌, ◌≤◌, Bool, true, false, not, ◌&&◌, List, [], ◌∷◌, ◌++◌, length, refl, sym, ◌∙◌, ap, arith, length-append}
-use Rattle.std.specs.Int.{w16, w32, to_be_bytes}
-use Rattle.std.specs.List.{flat_map}
+use Rattle.std.proofs.Common.{◌≡◌, ⊎_elim, ℕ, ◌+◌, ◌*◌, ◌≤◌, Bool, true, false, not, List, [], ◌∷◌, ◌++◌, length, refl, ap, arith, length-append}
+use Rattle.std.specs.Int.{w32, to_be_bytes}
 use Rattle.std.specs.Str.{bytes_eq}
 use Rattle.std.proofs.lemmas.Bool.{cases_Bool}
 use Rattle.std.proofs.lemmas.Slice.Eq.{bytes_eq-Decides}
@@ -22,27 +21,13 @@ use Rattle.job_targets.specs.trove-parts.Items.{items_bytes}
 use Rattle.job_targets.specs.trove-parts.Refs.{refs_bytes}
 use Rattle.job_targets.specs.trove-stream.Stream.{head_bytes, lists_bytes}
 use Rattle.job_targets.specs.trove-stream.declared.parts.TroveParts.{TroveParts}
-use Rattle.std.proofs.lemmas.List.Elements.{All-map}
+use Rattle.change_rel.proofs.cny-base.Doubling.{both as both_true}
+use Rattle.change_rel.proofs.trove-parts.Encodings.{item_length as item_long, owned_length as owned_long}
+use Rattle.change_rel.proofs.trove-parts.IdFields.{str_length as str_long}
 
 -- ---- fields
 
-four_bytes : (n : ℕ) → length (to_be_bytes w32 n) ≡ 4
-four_bytes n = refl
-
-two_bytes : (n : ℕ) → length (to_be_bytes w16 n) ≡ 2
-two_bytes n = refl
-
-str_long : (v : List ℕ) → length (str v) ≡ 2 + length v
-str_long v = length-append (to_be_bytes w16 (length v)) v
-
-item_long : (tag : ℕ) (v : List ℕ) → length (item_bytes tag v) ≡ 5 + length v
-item_long tag v = length-append (tag ∷ to_be_bytes w32 (length v)) v
-
 -- ---- records of files
-
-both_true : (a b : Bool) → (a && b) ≡ true → (a ≡ true) × (b ≡ true)
-both_true true b is = (refl, is)
-both_true false b is = absurd (cc is)
 
 root_long : (owner : OwnerNames) → is_root owner ≡ true → length (owner_bytes true owner) ≡ 12
 root_long owner is =
@@ -50,9 +35,6 @@ root_long owner is =
     let user : length owner.user ≡ 4 = ap length ((bytes_eq-Decides owner.user root).0 both.0) in
     let group : length owner.group ≡ 4 = ap length ((bytes_eq-Decides owner.group root).0 both.1) in
     omega (arith, length-append (str owner.user) (str owner.group), str_long owner.user, str_long owner.group, user, group)
-
-owned_long : (named : Bool) (kind flags mode : ℕ) (owner : OwnerNames) (rest : List ℕ) → length (owned named kind flags mode owner rest) ≡ 5 + (length (owner_bytes named owner) + length rest)
-owned_long named kind flags mode owner rest = omega (arith, length-append (owner_bytes named owner) rest)
 
 -- with the owner named where it needn't be, 12 bytes more at most
 owner_more : (kind flags mode : ℕ) (owner : OwnerNames) (rest : List ℕ) → length (owned (names_owner Explicit owner) kind flags mode owner rest) ≤ 12 + length (owned (names_owner Compact owner) kind flags mode owner rest)

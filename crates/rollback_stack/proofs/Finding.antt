@@ -1,65 +1,70 @@
 -- What jobs found at their paths, made a map of writes.
-use Rattle.std.proofs.Common.{◌≡◌, ◌≢◌, ⊎_elim, inl, inr, ◌&&◌, Bool, true, false, cond, not, IsTrue, List, [], ◌∷◌, ◌++◌, map, Option, Some, None, is_some, Result, Ok, Err, All, Contains, refl, sym, ◌∙◌, ap, subst}
+use Rattle.std.proofs.Common.{◌≡◌, ⊎_elim, inl, inr, ℕ, Bool, true, false, cond, List, [], ◌∷◌, ◌++◌, Option, Some, None, All, Contains, refl, sym, ◌∙◌, ap, subst}
 use Rattle.std.specs.Prelude.{◌⊎◌}
-use Rattle.std.specs.BTreeMap.{IsOrdered, get}
+use Rattle.std.specs.BTreeMap.{get}
 use Rattle.std.specs.Cmp.Lexicographic.{slice_cmp}
-use Rattle.std.specs.FinMap as tree
+use Rattle.std.specs.List.{AllByRecursion}
+use Rattle.std.specs.List.Sorted.{IsStrictlySortedBy}
+use Rattle.std.specs.Map.{keys_of}
 use Rattle.std.specs.Ordering.{nat_cmp}
+use Rattle.std.specs.declared.cmp.Ordering.TheVariants.{Less}
 use Rattle.std.proofs.lemmas.List.Elements.{All-nil, All-push, All-contains}
 use Rattle.std.proofs.lemmas.Map.Views.{Contains-from_lookup}
 use Rattle.job_targets.specs.journal-log.declared.put.Want.{Want}
 use Rattle.job_targets.specs.journal-log.declared.put.Want.TheVariants as want
-use Rattle.job_record.proofs.Mapping.{implied}
-use Rattle.job_targets.specs.Old.{HasMark, IsSaved}
+use Rattle.job_targets.specs.Old.{IsDamagedOld, IsSaved, is_staged}
+use Rattle.job_targets.specs.journal-log.Targets.{node_of}
 use Rattle.std.specs.Map.{lookup}
-use Rattle.job_targets.specs.tree-disk.Laws.{same_itself, same_means}
-use Rattle.job_targets.specs.tree-disk.Looks.{empty_seen, nothing_seen, sees_nothing}
-use Rattle.job_targets.specs.tree-disk.Rows.{is_empty_at, look_of}
+use Rattle.job_targets.specs.tree-disk.Laws.{same_means}
+use Rattle.job_targets.proofs.tree-disk.Laws.{same_itself}
 use Rattle.job_targets.specs.tree-disk.Tree.{Name, Tree, same_name}
-use Rattle.tree_scan.specs.Marks.{is_nothing}
+use Rattle.tree_scan.specs.Marks.{fingerprint}
 use Rattle.tree_scan.specs.declared.mark.Mark.{Mark}
-use Rattle.tree_scan.specs.declared.mark.Mark.TheVariants as mark
-use Rattle.rollback_stack.specs.declared.found.FoundMark.{FoundMark}
-use Rattle.rollback_stack.specs.Seen.{FoundMarks}
-use Rattle.rollback_stack.specs.Inverse.{IsOldWant}
-use Rattle.rollback_stack.specs.Wanting.{AreWanted, HasWanted, IsWanted, IsWantedOf, Stays, Wants, stays, want_at}
+use Rattle.past_jobs.specs.declared.found.FoundMark.{FoundMark}
+use Rattle.past_jobs.specs.Seen.{FoundMarks}
+use Rattle.rollback_stack.specs.Inverse.{HoldsOld}
+use Rattle.rollback_stack.specs.Wanting.{AreWanted, HasWanted, IsWantedOf, Stays, Wants, want_at}
+use Rattle.job_record.proofs.ByLists.{implied}
+use Rattle.change_rel.proofs.cny-base.Lists.{contains_cases, contains_first, contains_rest, nothing_in}
+use Rattle.tree_scan.proofs.tree-disk.Order.{not_back as not_both_less, not_itself as not_less_itself}
 
--- ---- one path
+-- ---- what is saved
 
-nothing_is : (m : Mark) → is_nothing m ≡ true → m ≡ mark.Nothing
-nothing_is mark.Nothing is = refl
-nothing_is (mark.Dir mode) is = absurd (cc is)
-nothing_is (mark.File mode size name) is = absurd (cc is)
-nothing_is (mark.Link target) is = absurd (cc is)
+saved_holds : (x : Tree) (number : ℕ) (w : Want) → IsSaved x number w → is_staged w ≡ false → HoldsOld x number (fingerprint (node_of w))
+saved_holds x number want.Nothing saved given = λ path damaged. damaged
+saved_holds x number (want.Dir mode) saved given = λ path damaged. damaged
+saved_holds x number (want.File mode bytes) saved given = λ path damaged. damaged.1 bytes (record { there = saved; content = record { long = refl; named = refl } })
+saved_holds x number (want.Link target) saved given = λ path damaged. damaged
+saved_holds x number (want.Staged mode id size name) saved given = absurd saved
 
-both_true : (a b : Bool) → (a && b) ≡ true → (a ≡ true) × (b ≡ true)
-both_true true b is = (refl, is)
-both_true false b is = absurd (cc is)
+-- what was wanted is saved, and so is what stays
+pub one_held : (x : Tree) (p : Name) (f : FoundMark) (old new : Wants) → HasWanted x p f old new → HoldsOld x f.number f.mark
+one_held x p f old new (inl still) = λ path damaged. subst (λ (m : Mark). IsDamagedOld x f.number m path) still.0.0 damaged
+one_held x p f old new (inr put) =
+    let is = put.1.is in
+    subst (HoldsOld x f.number) is.marked.marked (saved_holds x f.number put.0 is.bytes is.marked.given)
 
-pub stays_means : (x : Tree) (p : Name) (f : FoundMark) → stays x p f ≡ true → Stays x p f
-stays_means x p f is =
-    let both = both_true (is_nothing f.mark) (sees_nothing (look_of x p)) is in
-    (nothing_is f.mark both.0, nothing_seen x p both.1)
+-- ---- the order of the paths
 
-pub none_seen : (x : Tree) (p : Name) → tree.get x p ≡ None → sees_nothing (look_of x p) ≡ true
-none_seen x p none = empty_seen x p ∙ ap (λ o. not (is_some o)) none
+key_in : (P : Name → Type 0) (es : List (Name × FoundMark)) (e : Name × FoundMark) → AllByRecursion P (keys_of es) → Contains es e → P e.0
+key_in P [] e all in' = absurd (nothing_in e in')
+key_in P (d ∷ es) e all in' = ⊎_elim
+    (λ (same : d ≡ e). subst (λ (o : Name × FoundMark). P o.0) same all.0)
+    (λ (later : Contains es e). key_in P es e all.1 later)
+    (contains_cases d e es in')
 
--- what isn't to be left as it is
-pub wanted_is : (x : Tree) (p : Name) (f : FoundMark) (w : Want) → stays x p f ≡ false → HasMark f.mark w → IsSaved x f.number w → IsWanted x p f w
-wanted_is x p f w moves marked saved = record {
-  is = record { marked = marked; bytes = saved };
-  stands = λ nothing none.
-      let marked_nothing : is_nothing f.mark ≡ true = nothing_by w nothing marked in
-      let still : stays x p f ≡ true = (λ i. marked_nothing i && none_seen x p none i) in
-      absurd (cc (moves, still));
-}
-  where
-    nothing_by : (w : Want) → w ≡ want.Nothing → HasMark f.mark w → is_nothing f.mark ≡ true
-    nothing_by want.Nothing is marked = ap is_nothing (sym marked.marked)
-    nothing_by (want.Dir mode) is marked = absurd (cc is)
-    nothing_by (want.File mode bytes) is marked = absurd (cc is)
-    nothing_by (want.Link target) is marked = absurd (cc is)
-    nothing_by (want.Staged mode number size name) is marked = absurd (cc is)
+-- what has a path before that of one entry is in front of it
+pub in_front : (front rest : List (Name × FoundMark)) (e d : Name × FoundMark) → IsStrictlySortedBy (slice_cmp nat_cmp) (keys_of (front ++ e ∷ rest)) → Contains (front ++ e ∷ rest) d
+    → slice_cmp nat_cmp d.0 e.0 ≡ Less → Contains front d
+unfolding IsStrictlySortedBy
+in_front [] rest e d sorted in' less = ⊎_elim
+    (λ (same : e ≡ d). absurd (not_less_itself e.0 (subst (λ (o : Name × FoundMark). slice_cmp nat_cmp o.0 e.0 ≡ Less) (sym same) less)))
+    (λ (later : Contains rest d). absurd (not_both_less d.0 e.0 less (key_in (λ (q : Name). slice_cmp nat_cmp e.0 q ≡ Less) rest d sorted.0 later)))
+    (contains_cases e d rest in')
+in_front (a ∷ front) rest e d sorted in' less = ⊎_elim
+    (λ (same : a ≡ d). subst (Contains (a ∷ front)) same (contains_first a front))
+    (λ (later : Contains (front ++ e ∷ rest) d). contains_rest a d front (in_front front rest e d sorted.1 later less))
+    (contains_cases a d (front ++ e ∷ rest) in')
 
 -- ---- all paths
 

@@ -1,18 +1,18 @@
 -- What is saved beside a stored system, and a disk that is ready for it.
-use Rattle.std.proofs.Common.{◌≡◌, ◌⊎◌, ⊎_elim, ℕ, ◌+◌, ◌-◌, ◌<◌, ◌^◌, Bool, true, false, cond, ◌&&◌, ◌||◌, IsTrue, List, Option, Some, None, Result, refl, sym, ◌∙◌, ap, subst, arith}
+use Rattle.std.proofs.Common.{◌≡◌, ◌⊎◌, ⊎_elim, ℕ, ◌+◌, ◌-◌, ◌<◌, ◌^◌, Bool, true, false, cond, ◌&&◌, IsTrue, List, Option, Some, None, Result, refl, sym, ◌∙◌, ap, subst, arith}
 use Rattle.std.specs.Prelude.{nat_lt, if◌then◌else◌}
 use Rattle.std.specs.FinMap.{get}
 use Rattle.job_targets.specs.cny-base.Reserved.{private_directory}
 use Rattle.job_targets.specs.cny-base.declared.stop.Stop.{Stop}
 use Rattle.job_targets.specs.tree-disk.Tree.{Name, Tree, same_name, is_dir}
 use Rattle.job_targets.specs.tree-disk.Clear.{is_within, IsBare, without_tree}
-use Rattle.job_targets.specs.tree-disk.ClearLaws.{get-without_tree, or_cases, or_left, or_right}
+use Rattle.job_targets.proofs.tree-disk.ClearLaws.{get-without_tree, or_cases}
 use Rattle.job_targets.specs.tree-disk.Rows.{is_dir_at}
 use Rattle.job_targets.specs.tree-disk.Disk.{DiskModel, one_name}
 use Rattle.job_targets.specs.tree-disk.Steps.{Makes, Within}
 use Rattle.job_targets.specs.tree-disk.Moments.{shows_weaker}
 use Rattle.job_targets.specs.tree-disk.Confined.{AgreesExcept, Among, Confined, DiffersOnlyAt}
-use Rattle.job_targets.specs.tree-disk.ConfinedLaws.{leaves_weaker}
+use Rattle.job_targets.proofs.tree-disk.ConfinedLaws.{leaves_weaker}
 use Rattle.job_targets.proofs.tree-journal.OwnFiles.{base_stands, get-base_other}
 use Rattle.local_db.specs.declared.format.Format.{Format}
 use Rattle.local_db.specs.SystemState.{SystemState, newest, oldest, IsSystemState}
@@ -25,6 +25,8 @@ use Rattle.local_db.proofs.Places.{one_job}
 use Rattle.job_targets.specs.declared.entry.Entry.{Entry}
 use Rattle.rollback_stack.specs.Saving.{is_dropped_place, is_saving_name, made_ready, without_dropped, without_job, AreSaved, IsNextJob, IsSavedJob, KeepsSystem}
 use Rattle.rollback_stack.proofs.Places.{base_not_saved, place_not_base, record_not_saved}
+use Rattle.tree_scan.proofs.tree-disk.Without.{elsewhere}
+use Rattle.change_rel.proofs.cny-base.Bools.{first_false as first_no, or_left, or_right, second_false as rest_no}
 
 -- ---- the names of a run
 
@@ -99,9 +101,6 @@ none_stays t p q none = get-without_tree t p q ∙ either (is_within p q) (get t
 gone : (t : Tree) (p q : Name) → is_within p q ≡ true → get (without_tree t p) q ≡ None
 gone t p q within = get-without_tree t p q ∙ ap (λ (b : Bool). cond b None (get t q)) within
 
-pub elsewhere : (t : Tree) (p q : Name) → is_within p q ≡ false → get (without_tree t p) q ≡ get t q
-elsewhere t p q other = get-without_tree t p q ∙ ap (λ (b : Bool). cond b None (get t q)) other
-
 job_gone : (n : ℕ) (t : Tree) (q : Name) → is_job_place n q ≡ true → get (without_job n t) q ≡ None
 job_gone n t q h = ⊎_elim
     (λ record_is. none_stays (without_tree t (record_file n)) (saved n) q (gone t (record_file n) q record_is))
@@ -110,14 +109,6 @@ job_gone n t q h = ⊎_elim
 
 job_none_stays : (n : ℕ) (t : Tree) (q : Name) → get t q ≡ None → get (without_job n t) q ≡ None
 job_none_stays n t q none = none_stays (without_tree t (record_file n)) (saved n) q (none_stays t (record_file n) q none)
-
-first_no : (a b : Bool) → (a || b) ≡ false → a ≡ false
-first_no true b h = absurd (cc h)
-first_no false b h = refl
-
-rest_no : (a b : Bool) → (a || b) ≡ false → b ≡ false
-rest_no true b h = absurd (cc h)
-rest_no false b h = h
 
 pub job_elsewhere : (n : ℕ) (t : Tree) (q : Name) → is_job_place n q ≡ false → get (without_job n t) q ≡ get t q
 job_elsewhere n t q h =

@@ -1,7 +1,6 @@
 -- Reads of a disk, one after another.
-use Rattle.std.proofs.Common.{◌≡◌, ℕ, ◌≤◌, Bool, refl, sym, ◌∙◌, ap, subst}
+use Rattle.std.proofs.Common.{Bool}
 use Rattle.std.specs.Prelude.{IsTrue}
-use Rattle.job_targets.specs.cny-base.Count.{Rose}
 use Rattle.job_targets.specs.cny-base.declared.stop.Stop.{Stop}
 use Rattle.job_targets.specs.cny-base.declared.stop.Stop.TheVariants as stop
 use Rattle.job_targets.specs.tree-disk.Disk.{DiskModel, HasRead, IsDisk}

@@ -1,30 +1,15 @@
-pub mod Giving
-pub mod SavedByJobs
 pub mod Noting
 pub mod Later
-pub mod Filtered
-pub mod NewestJob
+pub mod Stops
 pub mod OneRecord
-pub mod OneUndone
 pub mod Mapped
 pub mod TakingJobs
 pub mod TakenBack
 pub mod Finding
 pub mod Doubling
-pub mod Holding
 pub mod Rewriting
 pub mod Migrating
-pub mod JobLaws
-pub mod Searching
-pub mod Order
-pub mod Undone
-pub mod Ranging
-pub mod Firsts
-pub mod Meaning
-pub mod Ending
 pub mod Given
-pub mod Rising
-pub mod RisingWrites
 pub mod Preparations
 pub mod Digests
 pub mod Places
@@ -32,10 +17,15 @@ pub mod Putting
 pub mod Saved
 pub mod Keeping
 pub mod Pushed
-pub mod Keyed
-pub mod Before
-pub mod Leading
-pub mod Noted
-pub mod Records
+mod Halves
+pub mod HoldingRecords
+mod JobsRead
+mod RecordedMarks
+mod ToldMarks
+pub mod Mapping
 pub use Rattle.job_record.proofs as job-record
+pub use Rattle.past_jobs.proofs as past-jobs
 pub use Rattle.job_targets.proofs.trove-stream
+pub use Rattle.job_targets.proofs.tree-disk
+pub use Rattle.tree_scan.proofs as tree-scan
+pub use Rattle.job_targets.proofs.cny-base

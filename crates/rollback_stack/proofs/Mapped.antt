@@ -1,5 +1,5 @@
 -- The writes that a map holds.
-use Rattle.std.proofs.Common.{◌≡◌, ⊎_elim, inl, inr, ℕ, zero, suc, ◌+◌, ◌-◌, arith, Bool, true, false, cond, ◌||◌, List, [], ◌∷◌, ◌++◌, map, get_or, Option, Some, None, All, Contains, refl, sym, ◌∙◌, ap, subst}
+use Rattle.std.proofs.Common.{◌≡◌, ⊎_elim, inl, inr, ℕ, zero, suc, ◌+◌, ◌-◌, arith, Bool, true, false, cond, ◌||◌, List, [], ◌∷◌, ◌++◌, map, get_or, Option, Some, All, Contains, refl, sym, ◌∙◌, ap, subst}
 use Rattle.std.specs.Prelude.{◌⊎◌}
 use Rattle.std.specs.BTreeMap.{IsOrdered}
 use Rattle.std.specs.Cmp.Lexicographic.{slice_cmp, nat_list_cmp_total}
@@ -8,23 +8,25 @@ use Rattle.std.specs.Map.{keys_of}
 use Rattle.std.specs.Ordering.{nat_cmp}
 use Rattle.std.proofs.lemmas.Bool.{cases_Bool}
 use Rattle.std.proofs.lemmas.List.{append-nil}
-use Rattle.std.proofs.lemmas.List.Elements.{All-nil, All-cons, All-map, All-contains, All-contains_itself, Contains-get_or}
+use Rattle.std.proofs.lemmas.List.Elements.{All-nil, All-cons, All-map, All-contains, Contains-get_or}
 use Rattle.std.proofs.lemmas.Map.Views.{All-found, Contains-from_lookup}
 use Rattle.job_targets.specs.cny-base.Reserved.{is_reserved}
 use Rattle.job_targets.specs.journal-log.declared.put.Put.{Put}
 use Rattle.job_targets.specs.journal-log.declared.put.Want.{Want}
 use Rattle.job_targets.specs.journal-log.declared.put.Want.TheVariants as want
 use Rattle.job_targets.specs.journal-log.WriteSet.{Rises}
-use Rattle.job_record.proofs.Mapping.{unmapped}
 use Rattle.local_db.proofs.Places.{record_reserved}
-use Rattle.local_db.proofs.Writes.{contains_first, contains_rest, not_both}
+use Rattle.local_db.proofs.Writes.{not_both}
 use Rattle.local_db.specs.Names.{record_file}
 use Rattle.local_db.specs.Steps.{IsUnion, no_record_put}
-use Rattle.job_targets.specs.tree-disk.ClearLaws.{or_cases, or_left, or_right}
-use Rattle.job_targets.specs.tree-disk.Laws.{same_itself, same_means}
+use Rattle.job_targets.proofs.tree-disk.ClearLaws.{or_cases}
+use Rattle.job_targets.specs.tree-disk.Laws.{same_means}
+use Rattle.job_targets.proofs.tree-disk.Laws.{same_itself}
 use Rattle.job_targets.specs.tree-disk.Tree.{Name, same_name}
 use Rattle.rollback_stack.specs.Inverse.{no_records}
 use Rattle.rollback_stack.specs.Wanting.{HasNoRecord, HasNoRecords, Wants, is_record, put_of, puts_in, want_at}
+use Rattle.change_rel.proofs.cny-base.Lists.{contains_first, contains_map, contains_rest}
+use Rattle.change_rel.proofs.cny-base.Bools.{or_false, or_left, or_right}
 
 -- ---- the order
 
@@ -39,9 +41,6 @@ pub all_put : (wants : Wants) (items : List Put) (rest : List (Name × Want)) �
 all_put wants items rest so_far none = sym (append-nil items) ∙ ap (λ (es : List (Name × Want)). items ++ map put_of es) (sym none) ∙ so_far
 
 -- ---- what is among them
-
-contains_map : {A B : Type 0} (f : A → B) (xs : List A) (x : A) → Contains xs x → Contains (map f xs) (f x)
-contains_map f xs x in' = All-contains (λ y. Contains (map f xs) (f y)) xs x (unmapped (Contains (map f xs)) f xs (All-contains_itself (map f xs))) in'
 
 pub put_in : (wants : Wants) (p : Name) (w : Want) → want_at wants p ≡ Some w → Contains (puts_in wants) (record { path = p; want = w })
 put_in wants p w is = contains_map put_of wants.entries (p, w) (Contains-from_lookup {eq = same_name} same_means p w wants.entries is)
@@ -65,10 +64,6 @@ record_free (suc count) number p free = neither (same_name (record_file number) 
 or_assoc : (a b c : Bool) → (a || (b || c)) ≡ ((a || b) || c)
 or_assoc true b c = refl
 or_assoc false b c = refl
-
-or_false : (a : Bool) → (a || false) ≡ a
-or_false true = refl
-or_false false = refl
 
 -- the last of so many records
 is_record_last : (count number : ℕ) (p : Name) → is_record (suc count) number p ≡ (is_record count number p || same_name (record_file (number - count)) p)

@@ -1,39 +1,30 @@
 -- The database and the records of a root of format 1, once more in format 2.
-use Rattle.std.proofs.Common.{◌≡◌, ◌≢◌, inl, inr, ℕ, ◌+◌, ◌-◌, ◌≤◌, Bool, true, false, IsTrue, List, [], ◌∷◌, ◌++◌, Option, Some, None, Result, Ok, Err, All, Contains, refl, sym, ◌∙◌, ap, subst, arith}
-use Rattle.std.specs.Prelude.{IfErr, IfSome}
-use Rattle.std.specs.BTreeMap.{IsOrdered}
-use Rattle.std.specs.Cmp.Lexicographic.{slice_cmp}
+use Rattle.std.proofs.Common.{◌≡◌, inl, inr, ℕ, ◌+◌, Bool, true, false, IsTrue, List, [], ◌++◌, Option, Some, None, sym, ◌∙◌, ap, subst}
 use Rattle.std.specs.FinMap.{get}
-use Rattle.std.specs.Ordering.{nat_cmp}
-use Rattle.job_targets.specs.cny-base.Below.{begins, begins_with}
+use Rattle.job_targets.specs.cny-base.Below.{begins_with}
+use Rattle.job_targets.proofs.cny-base.Below.{begins}
 use Rattle.job_targets.specs.cny-base.declared.node.Node.{Node}
 use Rattle.job_targets.specs.cny-base.declared.node.Node.TheVariants as node
 use Rattle.job_targets.specs.cny-base.declared.stop.Stop.{Stop}
 use Rattle.job_targets.specs.cny-base.declared.stop.Stop.TheVariants as stop
 use Rattle.job_targets.specs.content-store.Store.{file_bytes}
-use Rattle.job_record.specs.JobReading.{IsDamagedRecord, IsReadStop}
+use Rattle.rollback_stack.specs.JobReading.{IsDamagedRecord, IsReadStop}
 use Rattle.job_targets.specs.journal-log.declared.put.Put.{Put}
-use Rattle.job_targets.specs.journal-log.declared.put.Want.TheVariants as want
 use Rattle.local_db.specs.Database.{IsDatabaseFile}
 use Rattle.local_db.specs.declared.db.Db.{Db}
-use Rattle.job_record.specs.Text.{IsRecordText}
-use Rattle.job_record.specs.declared.record.Record.{Record}
 use Rattle.local_db.specs.Formats.{database_bytes, database_magic, trove_text}
 use Rattle.local_db.specs.Names.{database}
-use Rattle.local_db.specs.Steps.{IsUnion}
-use Rattle.local_db.specs.Stores.{HoldsDatabase, HoldsFile, IsDatabase, absent, written}
+use Rattle.local_db.specs.Stores.{HoldsDatabase, IsDatabase, absent, written}
 use Rattle.local_db.specs.declared.format.Format.{Format}
 use Rattle.local_db.specs.declared.format.Format.TheVariants.{One, Two}
 use Rattle.job_targets.specs.trove-parts.Items.{items_bytes}
 use Rattle.job_targets.specs.cny-stream.Item.{item_bytes}
 use Rattle.std.specs.Int.{w32, to_be_bytes}
-use Rattle.job_targets.specs.tree-disk.Looks.{nothing_seen, sees_nothing}
-use Rattle.job_targets.specs.tree-disk.Rows.{look_of}
 use Rattle.job_targets.specs.tree-disk.Tree.{Name, Tree}
 use Rattle.job_targets.specs.trove-stream.declared.parts.TroveParts.{TroveParts}
-use Rattle.rollback_stack.specs.Migrated.{AreMigration, AreWritesOf, IsDamagedFile, IsFileStop, IsMigratedStop, IsNoDatabase, IsOldDatabase, IsOldFile, IsOldIn, IsOtherAt, IsRecordsStop, is_up_to_date}
+use Rattle.rollback_stack.specs.Migrated.{AreMigration, AreWritesOf, IsDamagedFile, IsFileStop, IsMigratedStop, IsNoDatabase, IsOldFile, IsRecordsStop, is_up_to_date}
 use Rattle.rollback_stack.specs.Numbers.{job_count}
-use Rattle.rollback_stack.proofs.Finding.{none_seen}
+use Rattle.change_rel.proofs.cny-base.OptionValues.{same_path as some_bytes}
 
 -- ---- stops
 
@@ -46,49 +37,13 @@ read_stop_map told damaged more rose later (stop.Refused why) to rises is = is
 read_stop_map told damaged more rose later stop.FarFailed to rises is = is
 read_stop_map told damaged more rose later (stop.FarDamaged path) to rises is = is
 
-pub if_err_map : {X E : Type 0} (P Q : E → Type 0) (r : Result X E) → ((e : E) → P e → Q e) → IfErr r P → IfErr r Q
-if_err_map P Q (Ok x) to is = tt
-if_err_map P Q (Err e) to is = to e is
-
--- ---- what stands at a path
-
-pub found_nothing : (x : Tree) (p : Name) → true ≡ sees_nothing (look_of x p) → get x p ≡ None
-found_nothing x p is = nothing_seen x p (sym is)
-
-pub other_at : (x : Tree) (p q : Name) → q ≡ p → false ≡ sees_nothing (look_of x p) → None ≡ file_bytes (get x p) → IsOtherAt x p q
-other_at x p q same seen no_file = record {
-  path_is = same;
-  some = λ none. absurd (cc (seen, none_seen x p none));
-  no_file = sym no_file;
-}
-
 -- ---- the file of the database
-
-some_bytes : (a b : List ℕ) → Some a ≡ Some b → a ≡ b
-some_bytes a b e = cc e
 
 pub of_file : (o : Option Node) (bytes : List ℕ) → file_bytes o ≡ Some bytes → is_up_to_date o ≡ begins_with (database_magic Two) bytes
 of_file None bytes e = absurd (cc e)
 of_file (Some (node.Dir mode)) bytes e = absurd (cc e)
 of_file (Some (node.Link target)) bytes e = absurd (cc e)
 of_file (Some (node.File mode content)) bytes e = ap (begins_with (database_magic Two)) (some_bytes content bytes e)
-
-of_other : (o : Option Node) → o ≢ None → file_bytes o ≡ None → is_up_to_date o ≡ false
-of_other None some e = absurd (some refl)
-of_other (Some (node.Dir mode)) some e = refl
-of_other (Some (node.Link target)) some e = refl
-of_other (Some (node.File mode content)) some e = absurd (cc e)
-
-pub of_nothing : (o : Option Node) → o ≡ None → is_up_to_date o ≡ true
-of_nothing o none = ap is_up_to_date none
-
--- what else stands there is no database
-pub other_is_none : (x : Tree) (path : Name) → IsOtherAt x database path → IsNoDatabase x path
-other_is_none x path is = record { path_is = is.path_is; old = of_other (get x database) is.some is.no_file; none = none }
-  where
-    none : (list : List TroveParts) (oldest newest : ℕ) → HoldsDatabase One x list oldest newest → ⊥
-    none list oldest newest (absent nothing empty low high) = is.some nothing
-    none list oldest newest (written of file) = cc (is.no_file, file)
 
 -- a file of other bytes is none
 pub file_is_none : (x : Tree) (path : Name) (bytes : List ℕ) → path ≡ database → file_bytes (get x database) ≡ Some bytes → begins_with (database_magic Two) bytes ≡ false → ((db : Db) → IsOldFile db bytes → ⊥) → IsNoDatabase x path
@@ -98,9 +53,6 @@ file_is_none x path bytes at file other never = record { path_is = at; old = of_
     none list oldest newest (absent nothing empty low high) = absurd (cc (file, ap file_bytes nothing))
     none list oldest newest (written of file') = never (record { installed = list; oldest = oldest; newest = newest })
         (record { database = of; text = some_bytes bytes (database_bytes One list oldest newest) (sym file ∙ file') })
-
-pub old_holds : (x : Tree) (bytes : List ℕ) (db : Db) → file_bytes (get x database) ≡ Some bytes → IsOldFile db bytes → HoldsDatabase One x db.installed db.oldest db.newest
-old_holds x bytes db file is = written is.database (file ∙ ap Some is.text)
 
 begins_two : (list : List TroveParts) (oldest newest : ℕ) → begins_with (database_magic Two) (database_bytes Two list oldest newest) ≡ true
 begins_two list oldest newest = begins (database_magic Two) (items_bytes (trove_text Two) 0x50 list ++ (item_bytes 0x51 (to_be_bytes w32 oldest ++ to_be_bytes w32 newest) ++ item_bytes 0x5F []))
@@ -122,15 +74,6 @@ file_stop told x rose file bytes (stop.Damaged path) at there is = λ tells. fil
 file_stop told x rose file bytes (stop.Refused why) at there is = is
 file_stop told x rose file bytes stop.FarFailed at there is = is
 file_stop told x rose file bytes (stop.FarDamaged path) at there is = is
-
--- the database of the tree, by the bytes of its file
-pub old_in : (x : Tree) (bytes : List ℕ) (found : Option Db) → file_bytes (get x database) ≡ Some bytes → IsOldIn bytes found → IsOldDatabase x found
-old_in x bytes None file is = of_file (get x database) bytes file ∙ is
-old_in x bytes (Some db) file is = (of_file (get x database) bytes file ∙ is.0, old_holds x bytes db file is.1)
-
-pub old_is_one : (bytes : List ℕ) (found : Option Db) → IsOldIn bytes found → IfSome found (λ db. IsDatabase One db.installed db.oldest db.newest)
-old_is_one bytes None is = tt
-old_is_one bytes (Some db) is = is.1.database
 
 pub as_file : (db : Db) (bytes : List ℕ) → IsOldFile db bytes → IsDatabaseFile db bytes
 as_file db bytes is = record { format = One; database = is.database; text = is.text }

@@ -1,5 +1,5 @@
 -- The jobs of a stack, read from the newest down.
-use Rattle.std.proofs.Common.{◌≡◌, ⊎_elim, ℕ, zero, suc, ◌+◌, ◌-◌, ◌<◌, ◌≤◌, List, [], ◌∷◌, ◌++◌, length, map, refl, sym, ◌∙◌, ap, subst, arith, append_assoc, length-append}
+use Rattle.std.proofs.Common.{◌≡◌, ⊎_elim, ℕ, zero, suc, ◌+◌, ◌-◌, ◌<◌, List, [], ◌∷◌, ◌++◌, length, refl, sym, ◌∙◌, ap, subst, arith, append_assoc, length-append}
 use Rattle.std.proofs.lemmas.List.{append-nil}
 use Rattle.job_targets.specs.trove-stream.declared.parts.TroveParts.{TroveParts}
 use Rattle.job_targets.specs.tree-disk.Tree.{Name, Tree}
@@ -8,14 +8,15 @@ use Rattle.local_db.specs.declared.format.Format.TheVariants.{Two}
 use Rattle.local_db.specs.Formats.{AreEnds}
 use Rattle.local_db.specs.Names.{record_file}
 use Rattle.local_db.specs.Record as state
-use Rattle.job_record.specs.Past.{AreChangedIds}
+use Rattle.past_jobs.specs.Past.{AreChangedIds}
 use Rattle.job_targets.specs.trove-parts.declared.id.TroveId.{TroveId}
-use Rattle.job_record.specs.declared.changes.Change.{Change}
-use Rattle.job_record.specs.Entries as records
-use Rattle.job_record.specs.JobReading.{HoldsNoRecord, HoldsRecord, HoldsRecords, IsDamagedRecord}
+use Rattle.rollback_stack.specs.declared.changes.Change.{Change}
+use Rattle.rollback_stack.specs.JobEntries as records
+use Rattle.rollback_stack.specs.JobReading.{HoldsNoRecord, HoldsRecord, HoldsRecords, IsDamagedRecord}
 use Rattle.rollback_stack.specs.declared.undo.Note.{Note}
 use Rattle.rollback_stack.specs.Numbers.{job_count}
 use Rattle.rollback_stack.specs.Reading.{AreNotes, IsNote}
+use Rattle.change_rel.proofs.cny-base.Lists.{length-map as mapped_length}
 
 -- ---- numbers
 
@@ -47,20 +48,6 @@ pub record AreNotedTo (x : Tree) (newest below : ℕ) (installed list : List Tro
   pub holds : HoldsRecords Two x newest installed good list
   pub noted : (count total : ℕ) (rest : List Note) → total ≡ below + count → AreNotes x count (newest - below) list rest → AreNotes x total newest installed (notes ++ rest)
 
-pub none_noted : (x : Tree) (newest : ℕ) (installed list : List TroveParts) (notes : List Note) → list ≡ installed → notes ≡ [] → AreNotedTo x newest 0 installed list notes
-none_noted x newest installed list notes same none = record {
-  good = [];
-  long = refl;
-  holds = same;
-  noted = λ count total rest is are.
-      let counts : count ≡ total = omega (arith, is) in
-      let numbers : newest - 0 ≡ newest = omega arith in
-      subst (λ (l : List Note). AreNotes x total newest installed (l ++ rest)) (sym none)
-      (subst (λ (n : ℕ). AreNotes x n newest installed rest) counts
-      (subst (λ (n : ℕ). AreNotes x count n installed rest) numbers
-      (subst (λ (l : List TroveParts). AreNotes x count (newest - 0) l rest) same are)));
-}
-
 pub one_noted : (x : Tree) (newest below : ℕ) (installed list next : List TroveParts) (notes more : List Note) (es : List state.Entry) (note : Note)
     → AreNotedTo x newest below installed list notes → HoldsRecord Two x (newest - below) list next es → IsNote list next (newest - below) es note → more ≡ notes ++ note ∷ []
     → AreNotedTo x newest (below + 1) installed next more
@@ -91,10 +78,6 @@ damaged_next x newest below count installed list notes path so_far lt is none = 
   none = subst (λ (n : ℕ). HoldsNoRecord Two x (newest - n) list) (sym so_far.long) none;
   path_is = is ∙ ap (λ (n : ℕ). record_file (newest - n)) (sym so_far.long);
 }
-
-mapped_length : {A B : Type 0} (f : A → B) (xs : List A) → length (map f xs) ≡ length xs
-mapped_length f [] = refl
-mapped_length f (x ∷ xs) = ap suc (mapped_length f xs)
 
 -- what is noted of a job that was read
 pub noted_as : (after before : List TroveParts) (number : ℕ) (was now : List TroveId) (changes : List Change) (note : Note) → AreChangedIds before after was → AreChangedIds after before now

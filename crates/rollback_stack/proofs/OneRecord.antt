@@ -1,5 +1,5 @@
 -- A tree holds one record of a number at most.
-use Rattle.std.proofs.Common.{◌≡◌, ℕ, suc, ◌-◌, List, [], ◌∷◌, length, Option, Some, All, refl, sym, ◌∙◌, ap, subst, arith}
+use Rattle.std.proofs.Common.{◌≡◌, ℕ, ◌-◌, List, [], ◌∷◌, length, All, refl, sym, ◌∙◌, ap, subst, arith}
 use Rattle.job_targets.specs.cny-stream.Item.{FitsItem}
 use Rattle.job_targets.specs.tree-disk.Tree.{Tree}
 use Rattle.job_targets.specs.trove-stream.declared.parts.TroveParts.{TroveParts}
@@ -7,10 +7,8 @@ use Rattle.local_db.specs.declared.format.Format.{Format}
 use Rattle.local_db.specs.Record.{Delta, Entry, TakesBack, entry_value, record_bytes}
 use Rattle.local_db.proofs.OneResult.{OneLed, one_list_back}
 use Rattle.local_db.proofs.Spellings.{Distinct, entries_part, one_delta_list, one_entry_list}
-use Rattle.job_record.specs.JobReading.{HoldsRecord, HoldsRecords}
-
-same_some : {A : Type 0} (x y : A) → Some x ≡ Some y → x ≡ y
-same_some x y e = cc e
+use Rattle.rollback_stack.specs.JobReading.{HoldsRecord, HoldsRecords}
+use Rattle.change_rel.proofs.cny-base.OptionValues.{same_some}
 
 module _ (led : OneLed) (distinct : Distinct) (f : Format) (x : Tree) where
   module _ (n : ℕ) (after b c : List TroveParts) (es ds : List Entry) (h : HoldsRecord f x n after b es) (g : HoldsRecord f x n after c ds) where

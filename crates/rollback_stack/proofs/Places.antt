@@ -1,48 +1,25 @@
 -- Where the contents of a job are saved, and what stands apart from there.
-use Rattle.std.proofs.Common.{◌≡◌, ◌≢◌, ⊎_elim, ℕ, ◌+◌, ◌<◌, ◌≤◌, ◌^◌, Bool, true, false, ◌||◌, List, [], ◌∷◌, ◌++◌, length, get_or, refl, sym, ◌∙◌, ap, arith, length-append, lit<}
-use Rattle.std.specs.Prelude.{◌==◌, ◌%◌}
+use Rattle.std.proofs.Common.{◌≡◌, ◌≢◌, ⊎_elim, ℕ, ◌<◌, ◌^◌, true, false, List, [], ◌∷◌, ◌++◌, length, get_or, refl, ap, arith, length-append}
 use Rattle.std.specs.Fmt.{decimal}
-use Rattle.std.proofs.lemmas.Bool.{cases_Bool}
-use Rattle.std.proofs.lemmas.Bool.Decides.{nat_tests}
-use Rattle.std.proofs.lemmas.Fmt.{decimal_by_steps, length-decimal-le}
 use Rattle.hex.specs.Hex.{encode_lower}
 use Rattle.sha1.specs.Sha1.{sha1}
-use Rattle.job_targets.specs.cny-base.Below.{is_below, below_rest, rest_below, before_join}
-use Rattle.job_targets.specs.cny-base.Path.{is_slash, has_slash, join, or_root, parent, root}
+use Rattle.job_targets.specs.cny-base.Below.{is_below}
+use Rattle.job_targets.proofs.cny-base.Below.{below_rest, rest_below, before_join}
+use Rattle.job_targets.specs.cny-base.Path.{has_slash, join, or_root, parent, root}
 use Rattle.job_targets.specs.cny-base.Reserved.{private_directory}
 use Rattle.job_targets.specs.tree-disk.Tree.{Name, same_name}
 use Rattle.job_targets.specs.tree-disk.Laws.{same_means}
 use Rattle.job_targets.specs.tree-disk.Clear.{is_within}
-use Rattle.job_targets.specs.tree-disk.ClearLaws.{or_cases}
+use Rattle.job_targets.proofs.tree-disk.ClearLaws.{or_cases}
 use Rattle.job_targets.specs.content-store.Store.{content_path}
 use Rattle.local_db.specs.Names.{is_job_place, record_file, saved}
 use Rattle.job_targets.proofs.content-store.Digits.{digits_long}
 use Rattle.rollback_stack.proofs.Digests.{digest_is_name}
+use Rattle.tree_scan.proofs.tree-disk.Names.{within_rest}
+use Rattle.local_db.proofs.tree-journal.Staged.{decimal_plain as no_slash}
+use Rattle.change_rel.proofs.cny-base.Bools.{not_true as not_so}
 
 -- ---- the parent of the directory
-
-no_slash : (n : ℕ) → n < 2 ^ 64 → has_slash (decimal n) ≡ false
-no_slash n fits = decimal_by_steps (λ n ds. has_slash ds ≡ false)
-    (λ n lt. digit n lt)
-    (λ n ds le ih. push ds (48 + n % 10) ih (digit_mod n))
-    n fits
-  where
-    one_digit : (d : ℕ) → d < 10 → (48 + d == 47) ≡ false
-    one_digit d lt = grind (arith, nat_tests)
-
-    digit : (d : ℕ) → d < 10 → has_slash ((48 + d) ∷ []) ≡ false
-    digit d lt = ap (λ b. b || false) (one_digit d lt)
-
-    digit_mod : (n : ℕ) → (48 + n % 10 == 47) ≡ false
-    digit_mod n = grind (arith, nat_tests)
-
-    push : (ds : List ℕ) (c : ℕ) → has_slash ds ≡ false → (c == 47) ≡ false → has_slash (ds ++ c ∷ []) ≡ false
-    push [] c none other = ap (λ b. b || false) other
-    push (d ∷ ds) c none other = both (is_slash d) (has_slash ds) (has_slash (ds ++ c ∷ [])) none (λ h. push ds c h other)
-      where
-        both : (a b r : Bool) → (a || b) ≡ false → (b ≡ false → r ≡ false) → (a || r) ≡ false
-        both true b r h g = absurd (cc h)
-        both false b r h g = g h
 
 plain : (n : ℕ) → n < 2 ^ 64 → has_slash (115 ∷ 46 ∷ decimal n) ≡ false
 plain n fits = no_slash n fits
@@ -50,28 +27,10 @@ plain n fits = no_slash n fits
 pub saved_parent : (n : ℕ) → n < 2 ^ 32 → parent (saved n) ≡ private_directory
 saved_parent n fits = ap or_root (before_join private_directory (115 ∷ 46 ∷ decimal n) false (plain n (omega (arith, fits))))
 
-pub saved_short : (n : ℕ) → n < 2 ^ 32 → length (saved n) ≤ 983
-saved_short n small =
-    let long = length-decimal-le 20 n (lit< tt) (omega (arith, small)) (omega (arith, small)) in
-    omega (arith, long, length-append private_directory (47 ∷ 115 ∷ 46 ∷ decimal n))
-
 -- ---- names apart
-
-within_rest : (p q : Name) → is_within p q ≡ true → (rest : Name) × (q ≡ p ++ rest)
-within_rest p q h = ⊎_elim
-    (λ same. ([], same_means q p same ∙ sym (nil p)))
-    (λ low. let r = below_rest p q low in (47 ∷ r.0, r.1))
-    (or_cases (same_name q p) (is_below p q) h)
-  where
-    nil : (l : Name) → l ++ [] ≡ l
-    nil [] = refl
-    nil (a ∷ l) = ap (λ m. a ∷ m) (nil l)
 
 within_letter : (c : ℕ) (more q : Name) → is_within (private_directory ++ 47 ∷ c ∷ more) q ≡ true → get_or q 18 0 ≡ c
 within_letter c more q h = let r = within_rest (private_directory ++ 47 ∷ c ∷ more) q h in ap (λ (n : Name). get_or n 18 0) r.1
-
-not_so : (b : Bool) → (b ≡ true → ⊥) → b ≡ false
-not_so b never = ⊎_elim (λ h. absurd (never h)) (λ h. h) (cases_Bool b)
 
 pub record_not_saved : (n m : ℕ) (q : Name) → is_within (record_file n) q ≡ true → is_within (saved m) q ≡ false
 record_not_saved n m q record_is = not_so (is_within (saved m) q) (λ saved_is.

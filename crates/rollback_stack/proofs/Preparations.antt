@@ -5,10 +5,11 @@ use Rattle.job_targets.specs.cny-base.declared.stop.Stop.TheVariants.{Refused, M
 use Rattle.job_targets.specs.tree-disk.Tree.{Name, Tree}
 use Rattle.job_targets.specs.tree-disk.Disk.{DiskModel}
 use Rattle.job_targets.specs.tree-disk.Confined.{Among, Confined}
-use Rattle.job_targets.specs.tree-disk.ConfinedLaws.{confined_on, confined_then, confined_wider}
-use Rattle.job_targets.specs.tree-disk.Moments.{rose_before}
+use Rattle.job_targets.proofs.tree-disk.ConfinedLaws.{confined_then, confined_wider}
+use Rattle.job_targets.proofs.tree-disk.Moments.{rose_before}
 use Rattle.job_targets.specs.tree-disk.Steps.{Ended, Makes}
 use Rattle.rollback_stack.specs.Saving.{EndsWith, IsSaveStop, Prepares}
+use Rattle.change_rel.proofs.cny-base.Stops.{stopped}
 
 -- a stop of an earlier count
 stops_earlier : (told : Bool) (a b c : ℕ) (e : Stop) → a ≤ b → IsSaveStop told b c e → IsSaveStop told a c e
@@ -27,10 +28,6 @@ ends_stop told P a b c e (Err s) le is stops = subst (λ x. EndsWith told P (Err
 pub stopped_ends : (told : Bool) (P : Type 0) (a c : ℕ) (e : Stop) (r : Result (Unit {0}) Stop) → IsErrAnd r (λ s. s ≡ e) → IsSaveStop told a c e → EndsWith told P r a c
 stopped_ends told P a c e r is stops = ends_stop told P a a c e r (omega arith) is stops
 
--- the stop of a change
-abbrev stopped : {X : Type 0} → Stop → Result X Stop
-stopped e = Err e
-
 pub made_stops : (X : Type 0) (told : Bool) (after new : Tree) (e : Stop) (a c : ℕ) → Ended told after new (stopped {X = X} e) a c → IsSaveStop told a c e
 made_stops X told after new Failed a c ended = ended
 made_stops X told after new Memory a c ended = tt
@@ -48,19 +45,6 @@ module _ {D : Type 0} {disk : DiskModel D} {names : Name → Type 0} {P : Tree �
     ends = ends_stop disk.tells (P (disk.reads new)) (disk.faults old) (disk.faults mid) (disk.faults new) e r early is stops;
     confined = λ tells. confined_then (first tells) (next tells);
   }
-
-  -- what was done, and a last change
-  pub prepares_makes : {own : Name → Bool} {change : Tree → Tree} {old mid new : D} {r : Result (Unit {0}) Stop} → disk.faults old ≤ disk.faults mid → (IsTrue disk.tells → Confined disk names old mid) → ((q : Name) → Among own q → names q)
-      → Makes disk own change mid new r → (IsTrue disk.tells → disk.reads new ≡ change (disk.reads mid) → P (disk.reads new)) → Prepares disk names P old new r
-  prepares_makes {change = change} {old = old} {mid = mid} {new = new} {r = r} early first within makes so = record {
-    later = omega (arith, early, makes.later);
-    ends = by r makes.ended;
-    confined = λ tells. confined_on (first tells) within (makes.confined tells);
-  }
-    where
-      by : (r : Result (Unit {0}) Stop) → Ended disk.tells (change (disk.reads mid)) (disk.reads new) r (disk.faults mid) (disk.faults new) → EndsWith disk.tells (P (disk.reads new)) r (disk.faults old) (disk.faults new)
-      by (Ok x) ended = λ tells. so tells (ended tells)
-      by (Err e) ended = stops_earlier disk.tells (disk.faults old) (disk.faults mid) (disk.faults new) e early (made_stops (Unit {0}) disk.tells (change (disk.reads mid)) (disk.reads new) e (disk.faults mid) (disk.faults new) ended)
 
   -- what was done, and one run more
   pub prepares_then : {old mid new : D} → disk.faults old ≤ disk.faults mid → (IsTrue disk.tells → Confined disk names old mid) → disk.faults mid ≤ disk.faults new

@@ -12,7 +12,6 @@ use Rattle.job_targets.specs.cny-base.declared.stop.Stop.TheVariants.{Refused, M
 use Rattle.job_targets.specs.tree-disk.Tree.{Name, Tree, same_name, is_file}
 use Rattle.job_targets.specs.tree-disk.Rows.{is_dir_at, is_file_at, with_append}
 use Rattle.job_targets.specs.tree-disk.Disk.{DiskModel, one_name}
-use Rattle.job_targets.specs.tree-disk.ClearLaws.{or_left, or_right}
 use Rattle.job_targets.specs.tree-disk.Confined.{Among}
 use Rattle.job_targets.specs.tree-journal.Apply.{with_base}
 use Rattle.job_targets.proofs.tree-journal.OwnFiles.{get-base_other}
@@ -21,10 +20,10 @@ use Rattle.job_targets.specs.content-store.Store.{content_path, file_bytes}
 use Rattle.job_targets.proofs.content-store.Differences.{none_of_same}
 use Rattle.rollback_stack.specs.Saving.{is_save_name, IsSaveStop, MayHold}
 use Rattle.rollback_stack.proofs.Places.{content_not_dir}
-
--- a put that stopped
-abbrev stopped : {X : Type 0} → Stop → Result X Stop
-stopped e = Err e
+use Rattle.change_rel.proofs.cny-base.Stops.{stopped}
+use Rattle.job_targets.proofs.content-store.Absent.{no_bytes}
+use Rattle.tree_scan.proofs.tree-disk.Looks.{nothing_grows as none_may}
+use Rattle.change_rel.proofs.cny-base.Bools.{or_left, or_right}
 
 -- ---- names
 
@@ -48,10 +47,6 @@ may_still old mid dir bytes is may = ⊎_elim (λ none. inl (here ∙ none)) (λ
     here : get mid (content_path dir (sha1 bytes)) ≡ get old (content_path dir (sha1 bytes))
     here = ap (λ (t : Tree). get t (content_path dir (sha1 bytes))) is ∙ get-base_other dir old (content_path dir (sha1 bytes)) (content_not_dir dir bytes)
 
-none_may : (o : Option Node) → o ≡ None → (not (is_some o) || is_file o) ≡ true
-none_may None is = refl
-none_may (Some n) is = absurd (cc is)
-
 bytes_may : (o : Option Node) (bytes : List ℕ) → file_bytes o ≡ Some bytes → (not (is_some o) || is_file o) ≡ true
 bytes_may None bytes is = refl
 bytes_may (Some (node.Dir mode)) bytes is = absurd (cc is)
@@ -60,10 +55,6 @@ bytes_may (Some (node.Link target)) bytes is = absurd (cc is)
 
 pub can_put : (tree : Tree) (dir path bytes : List ℕ) → is_dir_at tree dir ≡ true → MayHold tree path bytes → CanPut tree dir path
 can_put tree dir path bytes stands may = record { stands = stands; free = ⊎_elim (none_may (get tree path)) (bytes_may (get tree path) bytes) may }
-
-no_bytes : (o : Option Node) → o ≡ None → file_bytes o ≡ None
-no_bytes None is = refl
-no_bytes (Some n) is = absurd (cc is)
 
 outcome_ok : (path name bytes : List ℕ) (tree : Tree) → MayHold tree path bytes → (t : Tree) × (put_outcome path name bytes tree ≡ Ok t)
 outcome_ok path name bytes tree may = ⊎_elim

@@ -1,5 +1,5 @@
 -- Records of jobs that are read in format 1 and written in format 2.
-use Rattle.std.proofs.Common.{◌≡◌, ⊎_elim, inl, inr, ℕ, suc, ◌+◌, ◌-◌, ◌<◌, ◌≤◌, ◌^◌, Bool, true, false, cond, IsTrue, List, [], ◌∷◌, ◌++◌, length, get_or, Option, Some, None, All, Contains, refl, sym, ◌∙◌, ap, subst, arith, append_assoc, length-append}
+use Rattle.std.proofs.Common.{◌≡◌, ⊎_elim, inl, inr, ℕ, suc, ◌+◌, ◌-◌, ◌<◌, ◌≤◌, Bool, true, false, cond, List, [], ◌∷◌, ◌++◌, length, get_or, Option, Some, None, All, Contains, refl, sym, ◌∙◌, ap, subst, arith, append_assoc, length-append}
 use Rattle.std.specs.Prelude.{◌⊎◌}
 use Rattle.std.specs.BTreeMap.{IsOrdered}
 use Rattle.std.specs.Cmp.Lexicographic.{slice_cmp}
@@ -8,23 +8,21 @@ use Rattle.std.proofs.lemmas.Bool.{cases_Bool}
 use Rattle.std.proofs.lemmas.List.{append-nil}
 use Rattle.std.proofs.lemmas.List.Elements.{All-nil, All-cons, All-push, Contains-append_left, Contains-get_or, Contains-push}
 use Rattle.job_targets.specs.cny-base.declared.limits.TheConstants.{JOBS_LIMIT}
-use Rattle.job_targets.specs.cny-base.declared.stop.Stop.{Stop}
-use Rattle.job_targets.specs.cny-base.declared.stop.Stop.TheVariants as stop
-use Rattle.job_record.proofs.Mapping.{implied, implied_both}
-use Rattle.job_record.specs.JobReading.{HoldsNoRecord, HoldsRecord, HoldsRecords, IsDamagedJob, IsDamagedRecord, IsReadStop}
+use Rattle.rollback_stack.proofs.Mapping.{implied_both}
+use Rattle.rollback_stack.specs.JobReading.{HoldsNoRecord, HoldsRecord, HoldsRecords, IsDamagedJob, IsDamagedRecord}
 use Rattle.job_targets.specs.journal-log.declared.put.Put.{Put}
 use Rattle.job_targets.specs.journal-log.declared.put.Want.{Want}
 use Rattle.job_targets.specs.journal-log.declared.put.Want.TheVariants as want
 use Rattle.local_db.specs.declared.db.Db.{Db}
 use Rattle.local_db.proofs.Places.{job_not_database, job_place, one_job, record_is_job}
 use Rattle.local_db.proofs.Systems.{four_bytes}
-use Rattle.local_db.proofs.Writes.{contains_first}
 use Rattle.local_db.specs.Names.{database, is_job_place, record_file}
 use Rattle.local_db.specs.Record as state
 use Rattle.local_db.specs.Steps.{IsUnion, record_put}
 use Rattle.local_db.specs.Formats.{AreEnds, database_bytes}
 use Rattle.local_db.specs.declared.format.Format.TheVariants.{One, Two}
-use Rattle.job_targets.specs.tree-disk.Laws.{same_itself, same_means}
+use Rattle.job_targets.specs.tree-disk.Laws.{same_means}
+use Rattle.job_targets.proofs.tree-disk.Laws.{same_itself}
 use Rattle.job_targets.specs.tree-disk.Tree.{Name, Tree, same_name}
 use Rattle.job_targets.specs.trove-stream.declared.parts.TroveParts.{TroveParts}
 use Rattle.rollback_stack.specs.Migrated.{AreAdded, AreAllRewritten, AreRewritten, AreWritesOf, HasFile, HasRewritten}
@@ -32,6 +30,8 @@ use Rattle.rollback_stack.specs.Wanting.{Wants, puts_in, want_at}
 use Rattle.rollback_stack.proofs.Finding.{nothing_wanted}
 use Rattle.rollback_stack.proofs.Mapped.{put_at, put_in, rises_from}
 use Rattle.rollback_stack.proofs.Noting.{records_push}
+use Rattle.job_record.proofs.ByLists.{implied}
+use Rattle.change_rel.proofs.cny-base.Lists.{contains_first}
 
 -- ---- names of records
 

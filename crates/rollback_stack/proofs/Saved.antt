@@ -11,9 +11,9 @@ use Rattle.job_targets.specs.tree-disk.Tree.{Name, Tree, same_name}
 use Rattle.job_targets.specs.tree-disk.Laws.{same_means}
 use Rattle.job_targets.specs.tree-disk.Disk.{DiskModel, IsDisk}
 use Rattle.job_targets.specs.tree-disk.Clear.{is_within, IsBare}
-use Rattle.job_targets.specs.tree-disk.ClearLaws.{below_within, itself_within, or_cases}
+use Rattle.job_targets.proofs.tree-disk.ClearLaws.{below_within, itself_within, or_cases}
 use Rattle.job_targets.specs.tree-disk.Confined.{AgreesExcept, Among}
-use Rattle.job_targets.specs.tree-disk.ConfinedLaws.{confined_start, confined_wider}
+use Rattle.job_targets.proofs.tree-disk.ConfinedLaws.{confined_start, confined_wider}
 use Rattle.job_targets.specs.content-store.Store.{content_path, file_bytes, stored}
 use Rattle.job_targets.proofs.content-store.Paths.{same_content_path}
 use Rattle.job_targets.specs.journal-log.declared.put.Want.{Want}
@@ -26,12 +26,8 @@ use Rattle.rollback_stack.specs.Saving.{is_save_name, AreSaved, HoldsOld, HoldsO
 use Rattle.rollback_stack.proofs.Digests.{digest_is_name}
 use Rattle.rollback_stack.proofs.Places.{below_not_itself, content_below}
 use Rattle.rollback_stack.proofs.Preparations.{stopped_ends}
-
-some_same : {A : Type 0} (x y : A) → Some x ≡ Some y → x ≡ y
-some_same x y e = cc e
-
-none_some : {A : Type 0} (o : Option A) (x : A) → o ≡ None → o ≡ Some x → ⊥
-none_some o x none some = absurd (cc (none, some))
+use Rattle.local_db.proofs.Apart.{none_some}
+use Rattle.change_rel.proofs.cny-base.OptionValues.{same_some as some_same}
 
 -- ---- one entry
 

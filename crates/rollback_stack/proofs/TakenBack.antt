@@ -1,11 +1,15 @@
 -- Jobs that were taken back, and the writes that come of them.
-use Rattle.std.proofs.Common.{◌≡◌, ◌≢◌, ⊎_elim, inl, inr, cond, ℕ, ◌+◌, ◌-◌, ◌≤◌, Bool, true, false, ◌||◌, IsTrue, List, [], ◌∷◌, length, get_or, Option, Some, None, All, Contains, refl, sym, ◌∙◌, ap, subst, arith}
+use Rattle.std.proofs.Common.{◌≡◌, ◌≢◌, ⊎_elim, inl, inr, ℕ, ◌+◌, ◌-◌, ◌≤◌, Bool, true, false, IsTrue, List, [], ◌∷◌, length, get_or, Option, Some, None, All, Contains, refl, sym, ◌∙◌, ap, subst, arith}
 use Rattle.std.specs.Prelude.{◌⊎◌}
 use Rattle.std.specs.BTreeMap.{IsOrdered, get}
 use Rattle.std.specs.FinMap as tree
 use Rattle.std.specs.Cmp.Lexicographic.{slice_cmp}
+use Rattle.std.specs.List.Sorted.{IsStrictlySortedBy}
+use Rattle.std.specs.Map.{keys_of}
 use Rattle.std.specs.Ordering.{nat_cmp}
-use Rattle.std.proofs.lemmas.List.Elements.{All-head, All-tail, Contains-get_or}
+use Rattle.std.specs.declared.cmp.Ordering.TheVariants.{Less}
+use Rattle.std.proofs.lemmas.List.Elements.{All-contains, All-head, All-tail, Contains-get_or}
+use Rattle.std.proofs.lemmas.Map.Views.{Contains-from_lookup}
 use Rattle.job_targets.specs.cny-base.Reserved.{is_reserved}
 use Rattle.job_targets.specs.cny-base.declared.refusal.Refusal.{Refusal}
 use Rattle.job_targets.specs.cny-base.declared.refusal.Refusal.TheVariants.{Edited, Parent, StackEmpty, NoJob}
@@ -14,9 +18,9 @@ use Rattle.job_targets.specs.cny-base.declared.stop.Stop.TheVariants as stop
 use Rattle.job_targets.specs.journal-log.declared.put.Put.{Put}
 use Rattle.job_targets.specs.journal-log.declared.put.Want.{Want}
 use Rattle.job_targets.specs.journal-log.declared.put.Want.TheVariants as want
-use Rattle.rollback_stack.specs.Writes.{db_below}
-use Rattle.job_record.specs.JobReading.{HoldsNoRecord, HoldsRecord, HoldsRecords, IsReadStop}
-use Rattle.job_record.specs.JobReading as reading
+use Rattle.rollback_stack.specs.Database.{db_below}
+use Rattle.rollback_stack.specs.JobReading.{HoldsNoRecord, HoldsRecord, HoldsRecords, IsReadStop}
+use Rattle.rollback_stack.specs.JobReading as reading
 use Rattle.rollback_stack.specs.declared.undo.Back.{Back}
 use Rattle.local_db.specs.declared.db.Db.{Db}
 use Rattle.job_targets.specs.Old.{IsDamagedOld, IsOldStop}
@@ -26,18 +30,19 @@ use Rattle.local_db.specs.Steps.{IsUnion}
 use Rattle.local_db.specs.SystemState.{IsFree}
 use Rattle.local_db.specs.declared.format.Format.TheVariants.{Two}
 use Rattle.job_targets.specs.tree-disk.Laws.{same_means}
-use Rattle.job_targets.specs.tree-disk.ClearLaws.{or_cases}
+use Rattle.job_targets.proofs.tree-disk.ClearLaws.{or_cases}
 use Rattle.job_targets.specs.tree-disk.Tree.{Name, Tree, same_name}
 use Rattle.job_targets.specs.trove-stream.declared.parts.TroveParts.{TroveParts}
-use Rattle.rollback_stack.specs.declared.found.FoundMark.{FoundMark}
-use Rattle.rollback_stack.specs.Jobs.{AreFound, oldest_with, older, undone_all}
-use Rattle.rollback_stack.specs.Marks.{IsUndoRefusal, is_path_of, marks_of}
-use Rattle.rollback_stack.specs.Outcome.{AreUndone, IsUndoKind, IsUndoStop}
-use Rattle.rollback_stack.specs.Seen.{FoundMarks}
-use Rattle.rollback_stack.proofs.JobLaws.{found_at, not_found}
-use Rattle.rollback_stack.specs.Inverse.{AreJobsTo, AreOldNodes, IsAt, IsBackRefusal, IsBackStop, IsBackTo, IsDamagedContent, IsDamagedJob, IsOldWant, IsOnStack, IsRefusedJob, StaysNothing, no_records}
+use Rattle.past_jobs.specs.declared.found.FoundMark.{FoundMark}
+use Rattle.past_jobs.specs.Jobs.{AreFound, oldest_with, older, undone_all}
+use Rattle.past_jobs.specs.Marks.{IsUndoRefusal, is_path_of, marks_of}
+use Rattle.past_jobs.specs.Outcome.{AreUndone, IsUndoKind, IsUndoStop}
+use Rattle.past_jobs.specs.Seen.{FoundMarks}
+use Rattle.past_jobs.proofs.JobLaws.{found_at, not_found, if_some, number_if}
+use Rattle.rollback_stack.specs.Inverse.{AreJobsTo, AreOldNodes, IsAt, IsBackRefusal, IsBackStop, HoldsOld, IsBackTo, IsDamagedJob, IsOldWant, IsOnStack, IsRefusedJob, StaysNothing, no_records}
 use Rattle.rollback_stack.specs.Taking.{AreTaken, IsJobsStop, IsNoJob, IsNoJobStop, IsNotTaken, IsTakeStop, StopsAt}
-use Rattle.rollback_stack.specs.Wanting.{AreWanted, HasNoRecords, IsDamagedFound, IsWantedOf, Wants, puts_in, want_at}
+use Rattle.rollback_stack.specs.Wanting.{AreWanted, HasNoRecords, IsFirstDamaged, Wants, puts_in, want_at}
+use Rattle.rollback_stack.proofs.Finding.{in_front}
 use Rattle.rollback_stack.proofs.Mapped.{all_writes, put_at, put_in, rises_from}
 
 -- ---- the paths of jobs
@@ -48,13 +53,6 @@ path_free (e ∷ es) p free is = ⊎_elim
     (λ same. ap is_reserved (same_means p e.path same) ∙ (All-head (λ (e : state.Entry). IsFree e.path) e es free).not_reserved)
     (λ rest. path_free es p (All-tail (λ (e : state.Entry). IsFree e.path) e es free) rest)
     (or_cases (same_name p e.path) (is_path_of es p) is)
-
-abbrev number_if : Bool → ℕ → Option ℕ
-number_if b number = cond b (Some number) None
-
-if_some : (b : Bool) (number k : ℕ) → number_if b number ≡ Some k → b ≡ true
-if_some true number k is = refl
-if_some false number k is = absurd (cc is)
 
 -- no job has a path that isn't a job's to change
 pub jobs_free : (x : Tree) (number : ℕ) (after before : List TroveParts) (jobs : List (List state.Entry)) (p : Name) (n : ℕ) → HoldsRecords Two x number after jobs before → oldest_with number jobs p ≡ Some n → is_reserved p ≡ false
@@ -249,23 +247,49 @@ job_stop told x db number rose (stop.Damaged path) on_stack is = λ tells.
 job_stop told x db number rose stop.FarFailed on_stack is = is
 job_stop told x db number rose (stop.FarDamaged path) on_stack is = is
 
+some_number : (n k : ℕ) → Some n ≡ Some k → n ≡ k
+some_number n k same = cc same
+
+-- what the jobs found at a path before that of the first content which isn't saved is saved
+module _ (x : Tree) (newest : ℕ) (jobs : List (List state.Entry)) (found : FoundMarks) (path : Name) (are : AreFound newest jobs found) (bad : IsFirstDamaged x found path) (q : Name) (n : ℕ)
+    (less : slice_cmp nat_cmp q bad.place ≡ Less) (named_ : oldest_with newest jobs q ≡ Some n) where
+  held : (f : FoundMark) → get (slice_cmp nat_cmp) found q ≡ Some f → HoldsOld x f.number f.mark
+  held f has =
+      All-contains (λ (e : Name × FoundMark). HoldsOld x e.1.number e.1.mark) bad.front (q, f) bad.good
+      (in_front bad.front bad.rest (bad.place, bad.at) (q, f)
+      (subst (λ (es : List (Name × FoundMark)). IsStrictlySortedBy (slice_cmp nat_cmp) (keys_of es)) bad.split are.ordered)
+      (subst (λ (es : List (Name × FoundMark)). Contains es (q, f)) bad.split (Contains-from_lookup {eq = same_name} same_means q f found.entries has)) less)
+
+  pub held_before : HoldsOld x n (undone_all jobs (marks_of x) q)
+  held_before = at (get (slice_cmp nat_cmp) found q) refl
+    where
+      at : (o : Option FoundMark) → get (slice_cmp nat_cmp) found q ≡ o → HoldsOld x n (undone_all jobs (marks_of x) q)
+      at None none = absurd (cc (named_, not_found newest jobs found q are none))
+      at (Some f) has =
+          let both = found_at newest jobs found (marks_of x) q f are has in
+          subst (λ (k : ℕ). HoldsOld x k (undone_all jobs (marks_of x) q)) (some_number f.number n (sym both.0 ∙ named_))
+          (subst (HoldsOld x f.number) (sym both.1) (held f has))
+
 -- a content that isn't saved
 pub content_stop : (told : Bool) (x y : Tree) (db : Db) (number : ℕ) (list : List TroveParts) (found : FoundMarks) (rose later : Type 0) (e : Stop) → IsOnStack db number → (IsTrue told → AreTaken x db (db.newest - number + 1) list found)
-    → (rose → later) → (IsTrue told → y ≡ x) → IsOldStop told (IsDamagedFound y found) rose e → IsBackStop told x db number later e
+    → (rose → later) → (IsTrue told → y ≡ x) → IsOldStop told (IsFirstDamaged y found) rose e → IsBackStop told x db number later e
 content_stop told x y db number list found rose later stop.Failed on_stack taken rises reads is = rises is
 content_stop told x y db number list found rose later stop.Memory on_stack taken rises reads is = tt
 content_stop told x y db number list found rose later (stop.Damaged path) on_stack taken rises reads is = λ tells.
     let t = taken tells in
-    let here = subst (λ (t : Tree). IsDamagedFound t found path) (reads tells) (is tells) in
+    let here = subst (λ (t : Tree). IsFirstDamaged t found path) (reads tells) (is tells) in
     let both = found_at db.newest t.jobs found (marks_of x) here.place here.at t.undone.found_are here.among in
     inr (record {
-      jobs = t.jobs;
-      before = list;
-      jobs_are = jobs_to x db number list found on_stack t;
-      place = here.place;
-      job = here.at.number;
-      named = both.0;
-      damaged = subst (λ m. IsDamagedOld x here.at.number m path) (sym both.1) here.damaged;
+      content = record {
+        jobs = t.jobs;
+        before = list;
+        jobs_are = jobs_to x db number list found on_stack t;
+        place = here.place;
+        job = here.at.number;
+        named = both.0;
+        damaged = subst (λ m. IsDamagedOld x here.at.number m path) (sym both.1) here.damaged;
+      };
+      first = λ q n less named_. held_before x db.newest t.jobs found path t.undone.found_are here q n less named_;
     })
 content_stop told x y db number list found rose later (stop.Refused why) on_stack taken rises reads is = absurd is
 content_stop told x y db number list found rose later stop.FarFailed on_stack taken rises reads is = is

@@ -1,12 +1,12 @@
 -- Jobs that are taken back one after the other.
-use Rattle.std.proofs.Common.{◌≡◌, ℕ, ◌+◌, ◌-◌, List, [], ◌∷◌, ◌++◌, length, refl, sym, ◌∙◌, ap, subst, length-append}
+use Rattle.std.proofs.Common.{◌≡◌, ℕ, ◌+◌, ◌-◌, List, [], ◌∷◌, ◌++◌, refl, sym, ◌∙◌, ap, subst, length-append}
 use Rattle.job_targets.specs.trove-stream.declared.parts.TroveParts.{TroveParts}
 use Rattle.job_targets.specs.tree-disk.Tree.{Tree}
 use Rattle.local_db.specs.declared.db.Db.{Db}
 use Rattle.local_db.specs.declared.format.Format.TheVariants.{Two}
-use Rattle.job_record.specs.JobReading.{HoldsRecord}
-use Rattle.rollback_stack.proofs.JobLaws.{none_found, undone_next}
-use Rattle.rollback_stack.specs.Seen.{FoundMarks}
+use Rattle.rollback_stack.specs.JobReading.{HoldsRecord}
+use Rattle.past_jobs.proofs.JobLaws.{none_found, undone_next}
+use Rattle.past_jobs.specs.Seen.{FoundMarks}
 use Rattle.rollback_stack.specs.Taking.{AreTaken, HasTakenJob}
 use Rattle.rollback_stack.proofs.Noting.{records_push}
 

@@ -1,6 +1,9 @@
 -- The writes that take jobs back.
-use Rattle.std.specs.Prelude.{◌≡◌, ◌≢◌, ◌⊎◌, ℕ, zero, suc, ◌+◌, ◌-◌, ◌<◌, ◌≤◌, Bool, IsTrue, List, [], ◌∷◌, map, length, Some, None, All, Contains}
+use Rattle.std.specs.Prelude.{◌≡◌, ◌≢◌, ◌⊎◌, ℕ, zero, suc, ◌+◌, ◌-◌, ◌<◌, ◌≤◌, Bool, IsTrue, List, [], ◌∷◌, length, Some, None, All, Contains}
 use Rattle.std.specs.FinMap.{get}
+use Rattle.std.specs.Cmp.Lexicographic.{slice_cmp}
+use Rattle.std.specs.Ordering.{nat_cmp}
+use Rattle.std.specs.declared.cmp.Ordering.TheVariants.{Less}
 use Rattle.job_targets.specs.cny-base.declared.refusal.Refusal.{Refusal}
 use Rattle.job_targets.specs.cny-base.declared.refusal.Refusal.TheVariants.{StackEmpty, NoJob}
 use Rattle.job_targets.specs.cny-base.declared.stop.Stop.{Stop}
@@ -19,34 +22,12 @@ use Rattle.local_db.specs.Steps.{IsUnion, no_record_put}
 use Rattle.local_db.specs.Record as state
 use Rattle.local_db.specs.declared.db.Db.{Db}
 use Rattle.job_targets.specs.Old.{HasMark, IsDamagedOld, IsSaved}
-use Rattle.rollback_stack.specs.Marks.{IsUndoRefusal, marks_of}
-use Rattle.rollback_stack.specs.Jobs.{CanUndoAll, oldest_with, undone_all}
-use Rattle.rollback_stack.specs.Outcome.{IsUndoKind}
-use Rattle.job_record.specs.JobReading.{HoldsNoRecord, HoldsRecord, HoldsRecords}
+use Rattle.past_jobs.specs.Marks.{IsUndoRefusal, marks_of}
+use Rattle.past_jobs.specs.Jobs.{CanUndoAll, oldest_with, undone_all}
+use Rattle.past_jobs.specs.Outcome.{IsUndoKind}
+use Rattle.rollback_stack.specs.JobReading.{HoldsNoRecord, HoldsRecord, HoldsRecords}
 use Rattle.rollback_stack.specs.declared.undo.Back.{Back}
-use Rattle.rollback_stack.specs.declared.undo.Undo.{Undo}
-use Rattle.rollback_stack.specs.Undo.{LeadsTo}
-use Rattle.rollback_stack.specs.Writes.{db_below, put_of}
-
--- ---- one job
-
--- The old nodes at the paths of the job, and nothing at its record; and the database after the rollback.
-pub record IsBack (undo : Undo) (db : Db) (back : Back) : Type 0 where
-  pub before : List TroveParts
-  pub leads : LeadsTo undo db before
-  pub writes : IsUnion back.puts (map put_of undo.entries) (no_record_put undo.number ∷ [])
-  pub db_is : back.db ≡ db_below db before undo.number
-
--- Why one job isn't taken back.
-abbrev pub IsInverseStop : Bool → Tree → List state.Entry → Type 0 → Stop → Type 0
-IsInverseStop told x es rose stop.Failed = rose
-IsInverseStop told x es rose stop.Memory = Unit {0}
-IsInverseStop told x es rose (stop.Refused why) = IsUndoKind why × (IsTrue told → IsUndoRefusal es (marks_of x) why)
-IsInverseStop told x es rose (stop.Damaged path) = ⊥
-IsInverseStop told x es rose stop.FarFailed = ⊥
-IsInverseStop told x es rose (stop.FarDamaged path) = ⊥
-
--- ---- several jobs
+use Rattle.rollback_stack.specs.Database.{db_below}
 
 -- a job of the stack has this number
 pub record IsOnStack (db : Db) (number : ℕ) : Type 0 where
@@ -137,11 +118,21 @@ pub record IsDamagedContent (x : Tree) (db : Db) (number : ℕ) (path : Name) : 
   pub named : oldest_with db.newest jobs place ≡ Some job
   pub damaged : IsDamagedOld x job (undone_all jobs (marks_of x) place) path
 
+-- a file of this fingerprint, where it is one, is saved
+abbrev pub HoldsOld : Tree → ℕ → Mark → Type 0
+HoldsOld x number mark = (path : Name) → IsDamagedOld x number mark path → ⊥
+
+-- It is the first such content, in the order of the paths at which they are to stand.
+pub record IsFirstDamagedContent (x : Tree) (db : Db) (number : ℕ) (path : Name) : Type 0 where
+  pub content : IsDamagedContent x db number path
+  pub first : (q : Name) (n : ℕ) → slice_cmp nat_cmp q content.place ≡ Less → oldest_with db.newest content.jobs q ≡ Some n
+      → HoldsOld x n (undone_all content.jobs (marks_of x) q)
+
 -- Why several jobs aren't taken back.
 abbrev pub IsBackStop : Bool → Tree → Db → ℕ → Type 0 → Stop → Type 0
 IsBackStop told x db number rose stop.Failed = rose
 IsBackStop told x db number rose stop.Memory = Unit {0}
 IsBackStop told x db number rose (stop.Refused why) = IsBackRefusal told x db number why
-IsBackStop told x db number rose (stop.Damaged path) = IsTrue told → IsDamagedJob x db number path ⊎ IsDamagedContent x db number path
+IsBackStop told x db number rose (stop.Damaged path) = IsTrue told → IsDamagedJob x db number path ⊎ IsFirstDamagedContent x db number path
 IsBackStop told x db number rose stop.FarFailed = ⊥
 IsBackStop told x db number rose (stop.FarDamaged path) = ⊥

@@ -19,7 +19,7 @@ use Rattle.local_db.specs.Record as state
 use Rattle.local_db.specs.Record.{IsRecord}
 use Rattle.local_db.specs.Steps.{IsUnion, record_put}
 use Rattle.local_db.specs.Stores.{HoldsDatabase, IsDatabase}
-use Rattle.job_record.specs.JobReading.{HoldsRecord, IsDamagedRecord, IsReadStop}
+use Rattle.rollback_stack.specs.JobReading.{HoldsRecord, IsDamagedRecord, IsReadStop}
 use Rattle.local_db.specs.declared.db.Db.{Db}
 use Rattle.rollback_stack.specs.Numbers.{job_count}
 use Rattle.rollback_stack.specs.Wanting.{Wants, want_at}

@@ -1,5 +1,5 @@
 -- What is written before the write set of a job, and the write of its record.
-use Rattle.std.specs.Prelude.{◌≡◌, ℕ, Bool, IsTrue, List, [], ◌∷◌}
+use Rattle.std.specs.Prelude.{◌≡◌, ℕ, Bool, List, [], ◌∷◌}
 use Rattle.job_targets.specs.cny-base.declared.stop.Stop.{Stop}
 use Rattle.job_targets.specs.cny-base.declared.stop.Stop.TheVariants as stop
 use Rattle.job_targets.specs.journal-log.declared.put.Put.{Put}
@@ -9,8 +9,8 @@ use Rattle.local_db.specs.Record.{IsRecord}
 use Rattle.local_db.specs.Steps.{record_put}
 use Rattle.local_db.specs.declared.format.Format.TheVariants.{Two}
 use Rattle.local_db.specs.declared.db.Db.{Db}
-use Rattle.rollback_stack.specs.declared.undo.Undo.{Undo}
-use Rattle.rollback_stack.specs.Undo.{entries_of, LeadsTo}
+use Rattle.job_targets.specs.declared.entry.Entry.{Entry}
+use Rattle.rollback_stack.specs.Entries.{entries_of}
 use Rattle.rollback_stack.specs.Saving.{dropped_below, is_saving_name, IsSavedJob, IsUntoldCollision}
 
 -- the names at which it is written before the write set of the job whose database this is
@@ -24,16 +24,14 @@ pub record IsRecordWrite (puts : List Put) : Type 0 where
   pub bytes : List ℕ
   pub puts_are : puts ≡ record_put number mode bytes ∷ []
 
--- The one write is that of the record in format 2. The tree is ready for it: it has the old contents that the record refers to,
--- and nothing stands at the record's name.
-pub record IsPushed (x : Tree) (undo : Undo) (db : Db) (puts : List Put) : Type 0 where
-  pub before : List TroveParts
-  pub leads : LeadsTo undo db before
+-- The one write is that of the record in format 2 of the newest job of the database, which leads from the list before it to that of
+-- the database. The tree is ready for it: it has the old contents that the record refers to, and nothing stands at the record's name.
+pub record IsPushed (x : Tree) (before : List TroveParts) (es : List Entry) (db : Db) (puts : List Put) : Type 0 where
   pub mode : ℕ
   pub bytes : List ℕ
-  pub text : IsRecord Two undo.number before db.installed (entries_of undo.entries) bytes
-  pub puts_are : puts ≡ record_put undo.number mode bytes ∷ []
-  pub ready : IsSavedJob undo.number (dropped_below db.oldest) undo.entries x
+  pub text : IsRecord Two db.newest before db.installed (entries_of es) bytes
+  pub puts_are : puts ≡ record_put db.newest mode bytes ∷ []
+  pub ready : IsSavedJob db.newest (dropped_below db.oldest) es x
 
 -- Why the record isn't pushed: the disk failed, or no memory was left; or, where the disk tells nothing, a content that is saved
 -- collides with a file in a directory that was just made.

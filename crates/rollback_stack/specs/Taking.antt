@@ -5,15 +5,15 @@ use Rattle.job_targets.specs.cny-base.declared.refusal.Refusal.TheVariants.{Stac
 use Rattle.job_targets.specs.cny-base.declared.stop.Stop.{Stop}
 use Rattle.job_targets.specs.cny-base.declared.stop.Stop.TheVariants as stop
 use Rattle.job_targets.specs.trove-stream.declared.parts.TroveParts.{TroveParts}
-use Rattle.job_targets.specs.tree-disk.Tree.{Name, Tree}
+use Rattle.job_targets.specs.tree-disk.Tree.{Tree}
 use Rattle.local_db.specs.declared.format.Format.TheVariants.{Two}
 use Rattle.local_db.specs.Record as state
 use Rattle.local_db.specs.declared.db.Db.{Db}
-use Rattle.job_record.specs.JobReading.{HoldsRecord, HoldsRecords, IsDamagedJob}
-use Rattle.rollback_stack.specs.Marks.{IsUndoRefusal, marks_of}
-use Rattle.rollback_stack.specs.Jobs.{AreFound, undone_all}
-use Rattle.rollback_stack.specs.Outcome.{AreUndone, CanUndoNext, IsUndoKind}
-use Rattle.rollback_stack.specs.Seen.{FoundMarks}
+use Rattle.rollback_stack.specs.JobReading.{HoldsRecord, HoldsRecords, IsDamagedJob}
+use Rattle.past_jobs.specs.Marks.{IsUndoRefusal, marks_of}
+use Rattle.past_jobs.specs.Jobs.{AreFound, undone_all}
+use Rattle.past_jobs.specs.Outcome.{AreUndone, CanUndoNext, IsUndoKind}
+use Rattle.past_jobs.specs.Seen.{FoundMarks}
 
 -- there is no job, or none of this number
 abbrev pub IsNoJob : Db → ℕ → Refusal → Type 0

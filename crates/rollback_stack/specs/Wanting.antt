@@ -1,6 +1,6 @@
 -- The writes that take several jobs back, as they are made in a map.
-use Rattle.std.specs.Prelude.{◌≡◌, ◌≢◌, ◌⊎◌, ℕ, zero, suc, ◌-◌, Bool, ◌&&◌, ◌||◌, false, if◌then◌else◌, List, map, Option, Some, None}
-use Rattle.std.specs.BTreeMap.{BTreeMap, IsOrdered, get}
+use Rattle.std.specs.Prelude.{◌≡◌, ◌≢◌, ◌⊎◌, ℕ, zero, suc, ◌-◌, Bool, ◌&&◌, ◌||◌, false, if◌then◌else◌, List, ◌∷◌, ◌++◌, map, Option, Some, None, All}
+use Rattle.std.specs.BTreeMap.{BTreeMap, get}
 use Rattle.std.specs.Cmp.Lexicographic.{slice_cmp}
 use Rattle.std.specs.FinMap as tree
 use Rattle.std.specs.Ordering.{nat_cmp}
@@ -14,9 +14,9 @@ use Rattle.job_targets.specs.tree-disk.Rows.{look_of}
 use Rattle.job_targets.specs.tree-disk.Tree.{Name, Tree, same_name}
 use Rattle.tree_scan.specs.Marks.{is_nothing}
 use Rattle.tree_scan.specs.declared.mark.Mark.TheVariants.{Nothing}
-use Rattle.rollback_stack.specs.declared.found.FoundMark.{FoundMark}
-use Rattle.rollback_stack.specs.Seen.{FoundMarks}
-use Rattle.rollback_stack.specs.Inverse.{IsOldWant}
+use Rattle.past_jobs.specs.declared.found.FoundMark.{FoundMark}
+use Rattle.past_jobs.specs.Seen.{FoundMarks}
+use Rattle.rollback_stack.specs.Inverse.{HoldsOld, IsOldWant}
 
 abbrev pub Wants : Type 0
 Wants = BTreeMap Name Want
@@ -73,9 +73,13 @@ pub record AreWanted (x : Tree) (found : FoundMarks) (wants : Wants) : Type 0 wh
   pub each : (p : Name) (want_ : Want) → want_at wants p ≡ Some want_ → IsWantedOf x found p want_
   pub all : (p : Name) (f : FoundMark) → get (slice_cmp nat_cmp) found p ≡ Some f → want_at wants p ≡ None → Stays x p f
 
--- the path is that of a content which one of the paths is to have, and which isn't saved
-pub record IsDamagedFound (x : Tree) (found : FoundMarks) (path : Name) : Type 0 where
+-- The path is that of the first content, in the order of the map, that one of the paths is to have and that isn't saved.
+pub record IsFirstDamaged (x : Tree) (found : FoundMarks) (path : Name) : Type 0 where
+  pub front : List (Name × FoundMark)
   pub place : Name
   pub at : FoundMark
+  pub rest : List (Name × FoundMark)
+  pub split : found.entries ≡ front ++ (place, at) ∷ rest
+  pub good : All (λ (e : Name × FoundMark). HoldsOld x e.1.number e.1.mark) front
   pub among : get (slice_cmp nat_cmp) found place ≡ Some at
   pub damaged : IsDamagedOld x at.number at.mark path

@@ -7,14 +7,14 @@ ghost use Rattle.job_targets.specs.cny-base.Count.{Rose};
 ghost use Rattle.job_targets.specs.Old.{IsDamagedOld, IsOldStop};
 ghost use Rattle.job_targets.specs.tree-disk.Disk.{Reads};
 ghost use Rattle.job_targets.specs.tree-disk.Steps.{IsDiskStop, Tests};
-ghost use Rattle.rollback_stack.specs.Wanting.{AreWanted, HasNoRecord, HasNoRecords, HasWanted, IsDamagedFound, puts_in, stays};
+ghost use Rattle.rollback_stack.specs.Wanting.{AreWanted, HasNoRecord, HasNoRecords, HasWanted, IsFirstDamaged, puts_in, stays};
 
-use crate::found::{FoundMark, FoundMarks};
 use job_targets::cny_base::{Copies, OutOfMemory, Path, Stop};
 use job_targets::journal_log::{Put, Puts, Want};
 use job_targets::old_node;
 use job_targets::tree_disk::{TreeDisk, steps};
 use local_db::record_path;
+use past_jobs::{FoundMark, FoundMarks};
 use std::alloc::Global;
 use std::collections::BTreeMap;
 
@@ -103,7 +103,7 @@ fn want_found<D: TreeDisk>(
     Ok(())
 }
 
-/// What jobs found at their paths, as the disk holds it.
+/// What jobs found at their paths, as the disk holds it. They are read in the order of the paths.
 pub(crate) fn old_nodes<D: TreeDisk>(
     alloc: Global,
     disk: &mut D,
@@ -111,7 +111,7 @@ pub(crate) fn old_nodes<D: TreeDisk>(
 ) -> Result<Wants, Stop>
     ensures value { Reads D.disk disk.old disk.new (IfOk result (AreWanted (D.disk.reads disk.old) found.now)) }
     ensures ordered { IfOk result (IsOrdered (slice_cmp nat_cmp)) }
-    ensures stops { IfErr result (IsOldStop D.disk.tells (IsDamagedFound (D.disk.reads disk.old) found.now)
+    ensures stops { IfErr result (IsOldStop D.disk.tells (IsFirstDamaged (D.disk.reads disk.old) found.now)
         (Rose (D.disk.faults disk.old) (D.disk.faults disk.new))) }
     ensures later { D.disk.faults disk.old ≤ D.disk.faults disk.new }
 {

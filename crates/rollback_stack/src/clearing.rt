@@ -7,10 +7,9 @@ ghost use Rattle.job_targets.specs.tree-disk.Steps.{Makes};
 ghost use Rattle.local_db.specs.Names.{is_job_place};
 ghost use Rattle.rollback_stack.specs.Saving.{is_dropped_place, is_saving_name, made_ready, without_dropped, without_job};
 
-use crate::directory::make_dir;
 use job_targets::cny_base::Stop;
 use job_targets::tree_disk::{TreeDisk, steps};
-use local_db::{base_path, record_path, saved_path};
+use local_db::{base_path, make_dir, record_path, saved_path};
 use std::alloc::Global;
 
 // Takes away the record and the saved contents of this number.

@@ -1,6 +1,6 @@
 //! The database once jobs are taken back.
 ghost use Rattle.std.specs.Prelude.{◌≡◌};
-ghost use Rattle.rollback_stack.specs.Writes as spec;
+ghost use Rattle.rollback_stack.specs.Database as spec;
 
 use job_targets::trove_stream::Installed;
 use local_db::Db;

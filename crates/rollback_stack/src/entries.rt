@@ -3,9 +3,9 @@ ghost use Rattle.std.specs.Prelude.{◌≡◌, false, map, All, IfOk};
 ghost use Rattle.job_targets.specs.Old.{is_staged};
 ghost use Rattle.rollback_stack.specs.Entries.{entry_of, told_of};
 
-use crate::change::Change;
 use job_targets::cny_base::{Copies, OutOfMemory};
 use job_targets::{Entry, mark_of};
+use local_db::Change;
 use std::alloc::Global;
 
 fn change_of(entry: &Entry) -> Result<Change, OutOfMemory>

@@ -1,7 +1,7 @@
 //! Jobs that are taken back, the newest first.
 ghost use Rattle.std.specs.Prelude.{◌≡◌, ◌≤◌, ◌+◌, ◌-◌, IfErr, IfOk, OnOk};
 ghost use Rattle.job_targets.specs.cny-base.Count.{Rose};
-ghost use Rattle.job_record.specs.Entries.{entries_of};
+ghost use Rattle.rollback_stack.specs.JobEntries.{entries_of};
 ghost use Rattle.local_db.specs.Formats.{AreEnds, Fits};
 ghost use Rattle.local_db.specs.Installed.{IsInstalled};
 ghost use Rattle.local_db.specs.Stores.{IsDatabase};
@@ -10,13 +10,12 @@ ghost use Rattle.job_targets.specs.tree-disk.Disk.{Reads};
 ghost use Rattle.rollback_stack.specs.Inverse.{IsOnStack};
 ghost use Rattle.rollback_stack.specs.Taking.{AreTaken, HasTakenJob, IsJobsStop, IsNoJobStop, IsTakeStop};
 
-use crate::change::Change;
-use crate::checking::check_undo;
-use crate::found::{FoundMarks, take_back};
-use job_record::{Change as RecordChange, Job, PastList, read_job};
+use crate::changes::Change as RecordChange;
+use crate::job_reading::{Job, read_job};
 use job_targets::cny_base::{OutOfMemory, Refusal, Stop};
 use job_targets::tree_disk::TreeDisk;
-use local_db::{Db, Format};
+use local_db::{Change, Db, Format};
+use past_jobs::{FoundMarks, PastList, check_undo, take_back};
 use std::alloc::Global;
 use std::collections::BTreeMap;
 

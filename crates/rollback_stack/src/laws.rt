@@ -4,7 +4,7 @@ ghost use Rattle.local_db.specs.Record.{Entry};
 ghost use Rattle.local_db.specs.declared.format.Format.{Format};
 ghost use Rattle.job_targets.specs.tree-disk.Tree.{Tree};
 ghost use Rattle.job_targets.specs.trove-stream.declared.parts.TroveParts.{TroveParts};
-ghost use Rattle.job_record.specs.JobReading.{HoldsRecord, HoldsRecords};
+ghost use Rattle.rollback_stack.specs.JobReading.{HoldsRecord, HoldsRecords};
 
 use change_rel::one_result;
 use job_targets::trove_parts::distinct_ids;

@@ -4,57 +4,37 @@
 #![tactic(auto)]
 
 mod back;
-mod change;
-mod checking;
+mod changes;
 mod clearing;
 mod database;
-mod deltas;
-mod directory;
-mod edits;
 mod entries;
-mod foreign;
-mod found;
+mod job_marks;
+mod job_reading;
 mod jobs;
 mod laws;
-mod lists;
-mod marks;
 mod migration;
-mod names;
 mod numbers;
-mod parents;
 mod pushing;
-mod record;
-mod recorded;
 mod saving;
 mod saving_laws;
-mod search;
 mod stack;
 mod taking_back;
-mod troves;
 mod undo;
-mod undoing;
-mod writes;
 
-pub use change::Change;
-pub use checking::check_undo;
+pub use changes::Change;
 pub use database::db_below;
 pub use entries::changes_of;
-pub use found::{FoundMark, FoundMarks, take_back};
+pub use job_reading::{Job, read_job};
 pub use job_targets::{
     Entries, Entry, change_set, cny_base, content_store, journal_log, stashable, tree_disk,
     trove_parts, trove_stream,
 };
 pub use laws::one_record;
-pub use lists::list_before;
 pub use migration::migrated;
 pub use numbers::next_number;
 pub use pushing::push_puts;
-pub use record::record_bytes;
 pub use saving::save_job;
 pub use saving_laws::saving_keeps_system;
-pub use search::are_rising;
-pub use stack::{all, newest};
+pub use stack::all;
 pub use taking_back::inverse_to;
-pub use undo::{Back, Note, Notes, TroveIds, Undo};
-pub use undoing::inverse;
-pub use writes::undo_writes;
+pub use undo::{Back, Note, Notes, TroveIds};

@@ -3,8 +3,7 @@ ghost use Rattle.std.specs.Prelude.{◌≡◌, ◌≤◌, false, IfErr, IfOk, If
 ghost use Rattle.std.specs.FinMap.{get};
 ghost use Rattle.job_targets.specs.cny-base.Below.{begins_with};
 ghost use Rattle.job_targets.specs.cny-base.Count.{Rose};
-ghost use Rattle.job_targets.specs.content-store.Store.{file_bytes};
-ghost use Rattle.job_record.specs.JobReading.{IsDamagedJob, IsReadStop};
+ghost use Rattle.rollback_stack.specs.JobReading.{IsDamagedJob, IsReadStop};
 ghost use Rattle.local_db.specs.Formats.{database_bytes, database_magic};
 ghost use Rattle.local_db.specs.Installed.{IsInstalled};
 ghost use Rattle.local_db.specs.Stores.{IsDatabase};
@@ -16,13 +15,16 @@ ghost use Rattle.job_targets.specs.tree-disk.Steps.{IsDiskStop, Tests};
 ghost use Rattle.rollback_stack.specs.Migrated.{AreAllRewritten, AreWritesOf, HasFile, HasRewritten, IsFileStop, IsFoundFile, IsMigrated, IsMigratedStop, IsNoDatabase, IsOldDatabase, IsOldFile, IsOldIn, IsOtherAt, IsRecordsStop};
 
 use crate::back::{Wants, puts_of};
-use job_record::{PastList, check_record, distinct_records, encode, read_record, records_by_lists};
+use crate::job_reading::{check_record, read_record};
+use job_record::{distinct_records, encode, records_by_lists};
 use job_targets::cny_base::{Bytes, Copies, Fault, Mode, OutOfMemory, Path, Stop, TextFault};
+use job_targets::content_store::file_at;
 use job_targets::journal_log::{Puts, Want};
 use job_targets::tree_disk::{TreeDisk, steps};
 use local_db::{
     Db, Format, database_path, decode, distinct_databases, encode as encode_db, record_path,
 };
+use past_jobs::PastList;
 use std::alloc::Global;
 use std::collections::BTreeMap;
 
@@ -38,20 +40,6 @@ fn stands_nothing<D: TreeDisk>(alloc: Global, disk: &mut D, path: &Path) -> Resu
 {
     let look = steps::look(alloc, disk, path)?;
     Ok(look.is_nothing())
-}
-
-// The bytes of the file at the path, where one stands.
-fn file_at<D: TreeDisk>(alloc: Global, disk: &mut D, path: &Path) -> Result<Option<Bytes>, Stop>
-    ensures tests { Tests D.disk (λ found. found)
-        (λ tree. Ok (file_bytes (get tree path.now)))
-        disk.old disk.new result }
-    ensures stops { IfErr result IsDiskStop }
-{
-    let look = steps::look(alloc, disk, path)?;
-    match look.size() {
-        Some(_) => steps::read_whole(alloc, disk, path, u64::MAX),
-        None => Ok(None),
-    }
 }
 
 // The bytes of the file at the path; none where nothing stands there, and `Damaged` where something else does.

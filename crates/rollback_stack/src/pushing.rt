@@ -14,15 +14,18 @@ ghost use Rattle.job_targets.specs.tree-disk.Confined.{Among, Confined};
 ghost use Rattle.job_targets.specs.tree-disk.Rows.{is_dir_at};
 ghost use Rattle.job_targets.specs.Agree.{AllAgree};
 ghost use Rattle.rollback_stack.specs.Saving.{IsNextJob, KeepsSystem, dropped_below};
-ghost use Rattle.rollback_stack.specs.Undo.{FitsDb};
+ghost use Rattle.job_record.specs.Changed.{AreChangedNames};
+ghost use Rattle.rollback_stack.specs.Entries.{AreEntries};
 ghost use Rattle.rollback_stack.specs.Pushing.{IsPushStop, IsPushed, IsRecordWrite, is_written};
 
-use crate::record::record_bytes;
+use crate::entries::changes_of;
 use crate::saving::save_job;
-use crate::undo::Undo;
-use job_targets::cny_base::{Bytes, Mode, OutOfMemory, Stop};
+use job_record::record_bytes;
+use job_targets::Entry;
+use job_targets::cny_base::{Bytes, Mode, Name, OutOfMemory, Stop};
 use job_targets::journal_log::{Put, Puts, Want};
 use job_targets::tree_disk::TreeDisk;
+use job_targets::trove_stream::Installed;
 use local_db::{Db, record_path};
 use std::alloc::Global;
 
@@ -53,7 +56,8 @@ fn record_puts(alloc: Global, number: u32, bytes: Bytes) -> Result<Puts, OutOfMe
 }
 
 /// The write of the record of a job, which is the newest of the database after it, once the contents that the job replaces were
-/// saved in the private directory.
+/// saved in the private directory. It leads from the list before it to that of the database, and the names are just those whose
+/// trove it changed.
 ///
 /// Before that, what stands at the places of the job's number is cleared; and where the oldest number of the database is above 2
 /// also what stands at those of the number two below it: a job that was dropped, to which no database refers any more. However it
@@ -62,14 +66,18 @@ fn record_puts(alloc: Global, number: u32, bytes: Bytes) -> Result<Puts, OutOfMe
 pub fn push_puts<D: TreeDisk>(
     alloc: Global,
     disk: &mut D,
-    undo: &Undo,
+    before: &Installed,
+    names: &[Name],
+    entries: &[Entry],
     db: &Db,
 ) -> Result<Puts, Stop>
     requires db { IsDatabase Two db.now.installed db.now.oldest db.now.newest }
-    requires fits { FitsDb undo.now db.now }
-    requires agree { AllAgree undo.now.entries }
+    requires job { 1 ≤ db.now.newest }
+    requires names { AreChangedNames before.now db.now.installed names.now }
+    requires entries { AreEntries entries.now }
+    requires agree { AllAgree entries.now }
     requires dir { IsTrue D.disk.tells → IsTrue (is_dir_at (D.disk.reads disk.old) (parent private_directory)) }
-    ensures pushed { IsTrue D.disk.tells → IfOk result (IsPushed (D.disk.reads disk.new) undo.now db.now) }
+    ensures pushed { IsTrue D.disk.tells → IfOk result (IsPushed (D.disk.reads disk.new) before.now entries.now db.now) }
     // On every disk.
     ensures written { IfOk result IsRecordWrite }
     // However it ends, at every moment.
@@ -81,9 +89,17 @@ pub fn push_puts<D: TreeDisk>(
     ensures stops { IfErr result (IsPushStop D.disk.tells (Rose (D.disk.faults disk.old) (D.disk.faults disk.new))) }
     ensures later { D.disk.faults disk.old ≤ D.disk.faults disk.new }
 {
-    let bytes = record_bytes(alloc, undo, db)?;
-    let puts = record_puts(alloc, undo.number, bytes)?;
+    let changes = changes_of(alloc, entries)?;
+    let bytes = record_bytes(
+        alloc,
+        db.newest,
+        before,
+        &db.installed,
+        names,
+        changes.as_slice(),
+    )?;
+    let puts = record_puts(alloc, db.newest, bytes)?;
     let dropped = dropped_number(db);
-    save_job(alloc, disk, undo.number, dropped, undo.entries.get())?;
+    save_job(alloc, disk, db.newest, dropped, entries)?;
     Ok(puts)
 }

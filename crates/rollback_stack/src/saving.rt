@@ -1,6 +1,5 @@
 //! The contents that a job replaces, saved in the private directory.
 ghost use Rattle.std.specs.Prelude.{◌≡◌, ◌≤◌, List, ℕ, All, IsTrue, Some, false, true, length};
-ghost use Rattle.std.specs.Option.{option_copied};
 ghost use Rattle.sha1.specs.Sha1.{sha1};
 ghost use Rattle.job_targets.specs.cny-base.Path.{is_path, parent};
 ghost use Rattle.job_targets.specs.cny-base.Reserved.{private_directory};
@@ -19,27 +18,12 @@ ghost use Rattle.job_targets.specs.Old.{is_staged};
 ghost use Rattle.rollback_stack.specs.Saving.{AreSaved, IsNextJob, IsSavedIn, IsSavedJob, IsSaveName, KeepsSystem, MayHold, Prepares, is_save_name, is_saving_name};
 
 use crate::clearing::make_ready;
-use crate::directory::make_dir;
-use job_targets::Entry;
 use job_targets::cny_base::{Path, Stop};
 use job_targets::content_store::{Sha1Namer, put};
-use job_targets::journal_log::Want;
 use job_targets::tree_disk::TreeDisk;
-use local_db::saved_path;
+use job_targets::{Entry, old_bytes};
+use local_db::{make_dir, saved_path};
 use std::alloc::Global;
-
-// The bytes of the file that stood there.
-fn old_bytes(entry: &Entry) -> Option<&[u8]>
-    ensures { option_copied result ≡ bytes_of entry.now.was }
-{
-    match &entry.was {
-        Want::File { bytes, .. } => Some(bytes.get()),
-        Want::Nothing => None,
-        Want::Dir { .. } => None,
-        Want::Link { .. } => None,
-        Want::Staged { .. } => None,
-    }
-}
 
 // Saves a content in a directory, which is made where there is none.
 fn save<D: TreeDisk>(alloc: Global, disk: &mut D, dir: &Path, bytes: &[u8]) -> Result<(), Stop>

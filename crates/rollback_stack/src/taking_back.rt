@@ -22,8 +22,10 @@ use std::alloc::Global;
 ///
 /// `StackEmpty` exactly where there is no job; `NoJob` where there are jobs and none of this number. The jobs are read and taken
 /// back one after the other, the newest first: `Damaged` with the path of the first record that fails its grammar or a cross-check;
-/// `Edited` and `Parent` as `inverse` answers them, by the tree that the newer jobs left. Where all can be taken back, `Damaged` with
-/// the path of one of the saved contents that are to be put and aren't as their fingerprints tell. It only reads.
+/// by the tree that the newer jobs left, `Edited` for the first path of a job, in their order, that was changed since, or at which the
+/// job made a directory into which something else was put; else `Parent` for the first path of the result whose parent isn't a
+/// directory. Where all can be taken back, `Damaged` with the path of the first saved content, in the order of the paths at which they
+/// are to stand, that isn't as its fingerprint tells. It only reads.
 pub fn inverse_to<D: TreeDisk>(
     alloc: Global,
     disk: &mut D,

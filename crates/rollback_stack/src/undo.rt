@@ -1,25 +1,11 @@
 //! How jobs are taken back.
-use job_targets::Entries;
 use job_targets::cny_base::ListOf;
 use job_targets::journal_log::Puts;
 use job_targets::trove_parts::TroveId;
-use job_targets::trove_stream::Troves;
 use local_db::Db;
 
 /// A list of ids.
 pub type TroveIds = ListOf<TroveId>;
-
-/// How a job is taken back: what it changed of the installed list, and of the tree.
-#[derive(Debug, Drop)]
-pub struct Undo {
-    /// The number of the job.
-    pub number: u32,
-    /// Of the names whose trove the job changed, the troves before it, in the order of the names.
-    pub back: Troves,
-    /// Of the same names, the ids of the troves after it, in the order of the names.
-    pub after: TroveIds,
-    pub entries: Entries,
-}
 
 /// What is noted of a job: what it changed of the installed list, and how many paths.
 #[derive(Debug, Drop)]

@@ -9,11 +9,11 @@ use Rattle.update_job.specs.trove-stream.declared.parts.TroveParts.{TroveParts}
 use Rattle.tree_scan.specs.tree-disk.Tree.{Name, Tree}
 use Rattle.content_store.specs.Contents.{Answers}
 use Rattle.tree_scan.specs.declared.verification.Finding.{Finding}
-use Rattle.tree_scan.specs.declared.verification.Found.{Found}
-use Rattle.root_edits.specs.Verify.{asked, finding_of, is_asked, records, AreAdded, AreFindings, IsFoundAt, LacksOne}
+use Rattle.root_edits.specs.Verify.{asked, finding_of, is_asked, AreAdded, AreFindings, LacksOne}
 use Rattle.root_edits.proofs.Answered.{added_of, lacks_of}
 use Rattle.root_edits.proofs.Listed.{records_next}
 use Rattle.root_edits.proofs.SearchLaws.{SameAnswers}
+use Rattle.root_edits.specs.Local.{records}
 
 cons_append : (o : Option Finding) (a b : List Finding) → cons_option o (a ++ b) ≡ cons_option o a ++ b
 cons_append None a b = refl
@@ -31,10 +31,6 @@ findings_append answers tree (x ∷ xs) ys l m first second = (
 
 pub added_none : (answers : Answers) (tree : Tree) (old : List Finding) → AreAdded answers tree [] old old
 added_none answers tree old = record { more = []; are = refl; is = sym (append-nil old) }
-
-pub added_one : (answers : Answers) (tree : Tree) (file : FileAt) (found : Option Found) (old new : List Finding) → IsFoundAt answers tree file.path file.rec found
-    → new ≡ old ++ cons_option (option_map (finding_of file.path) found) [] → AreAdded answers tree (file ∷ []) old new
-added_one answers tree file found old new here is = record { more = cons_option (option_map (finding_of file.path) found) []; are = (found, [], here, refl, refl); is = is }
 
 added_append : (answers : Answers) (tree : Tree) (xs ys : List FileAt) (a b c : List Finding) → AreAdded answers tree xs a b → AreAdded answers tree ys b c → AreAdded answers tree (xs ++ ys) a c
 added_append answers tree xs ys a b c first second = record {
@@ -57,11 +53,6 @@ added_next one other same tree (u ∷ us) file old new end some is first second 
     added_append one tree (u ∷ []) us old new end
     (subst (λ (f : FileAt). AreAdded one tree (f ∷ []) old new) is (added_of one other same tree (file ∷ []) old new first))
     (subst (λ (l : List FileAt). AreAdded one tree l new end) (behind u us) second)
-
--- the same of the last path
-pub added_end : (answers : Answers) (tree : Tree) (rest : List FileAt) (old : List Finding) → (1 ≤ length rest → ⊥) → AreAdded answers tree rest old old
-added_end answers tree [] old none = added_none answers tree old
-added_end answers tree (u ∷ us) old none = absurd (none (omega arith))
 
 -- the paths that are left are among all
 pub among_next : (rest files : List FileAt) → 1 ≤ length rest → ((f : FileAt) → Contains rest f → Contains files f) → (f : FileAt) → Contains (take (length rest - 1) (drop 1 rest)) f → Contains files f
@@ -91,10 +82,6 @@ troves_next one other same tree names (u ∷ us) t old new end some is first sec
     (added_append one tree (records (asked names (u ∷ []))) (records (asked names us)) old new end
     (subst (λ (v : TroveParts). AreAdded one tree (records (asked names (v ∷ []))) old new) is (added_of one other same tree (records (asked names (t ∷ []))) old new first))
     (subst (λ (l : List TroveParts). AreAdded one tree (records (asked names l)) new end) (behind u us) second))
-
-pub troves_end : (answers : Answers) (tree : Tree) (names : List Name) (rest : List TroveParts) (old : List Finding) → (1 ≤ length rest → ⊥) → AreAdded answers tree (records (asked names rest)) old old
-troves_end answers tree names [] old none = added_none answers tree old
-troves_end answers tree names (u ∷ us) old none = absurd (none (omega arith))
 
 pub troves_among_next : (names : List Name) (rest : List TroveParts) (files : List FileAt) → 1 ≤ length rest → ((f : FileAt) → Contains (records (asked names rest)) f → Contains files f)
     → (f : FileAt) → Contains (records (asked names (take (length rest - 1) (drop 1 rest)))) f → Contains files f

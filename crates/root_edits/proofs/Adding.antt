@@ -10,7 +10,7 @@ use Rattle.update_job.specs.trove-stream.Installed.{IsPlaceOf}
 use Rattle.update_job.specs.trove-parts.declared.id.TroveId.{TroveId}
 use Rattle.update_job.specs.trove-stream.declared.parts.TroveParts.{TroveParts}
 use Rattle.root_edits.specs.Steps.{HasAdded, IsPlaceOfId}
-use Rattle.root_edits.proofs.Members.{nothing_in}
+use Rattle.cny_version.proofs.cny-base.Lists.{nothing_in}
 
 module _ (list : List TroveParts) where
   pub adds_none : (old : List ℕ) → HasAdded list [] old old

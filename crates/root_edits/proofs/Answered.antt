@@ -17,8 +17,10 @@ use Rattle.tree_scan.specs.declared.verification.Found.TheVariants.{Missing}
 use Rattle.tree_scan.specs.declared.verification.Verified.{Verified}
 use Rattle.tree_scan.specs.Marks.{fingerprint_at, is_nothing}
 use Rattle.root_edits.specs.Verify as spec
-use Rattle.root_edits.specs.Verify.{AreAdded, AreFindings, change_at, changed_file, finding_at, finding_of, findings, IsChangeAt, IsChangedFile, IsFoundAt, IsVerified, LacksAt, LacksContent, LacksOne, of_size, records, stands_as, verified}
+use Rattle.root_edits.specs.Verify.{AreAdded, AreFindings, change_at, changed_file, finding_at, finding_of, findings, IsChangeAt, IsFoundAt, IsVerified, LacksContent, LacksOne, stands_as, verified}
 use Rattle.root_edits.proofs.SearchLaws.{SameAnswers}
+use Rattle.cny_version.specs.cny-base.Sized.{of_size}
+use Rattle.root_edits.specs.Local.{records}
 
 match_weaker : (b : Bool) (P Q R : Type 0) → (Q → R) → MatchBool b P Q → MatchBool b P R
 match_weaker true P Q R so h = h

@@ -13,7 +13,10 @@ use Rattle.update_job.specs.Gone.{Leads}
 use Rattle.root_edits.specs.Reached.{AreReached}
 use Rattle.root_edits.specs.Steps.{chosen, ArePlacesReached}
 use Rattle.root_edits.proofs.Gathering.{other_roots}
-use Rattle.root_edits.proofs.Members.{any_of, contains_cases, contains_first, contains_rest, next_one, nothing_in, rises_cons, rises_none}
+use Rattle.root_edits.proofs.Members.{next_one, rises_cons}
+use Rattle.cny_version.proofs.cny-base.Recorded.{any_of}
+use Rattle.cny_version.proofs.cny-base.Lists.{contains_cases, contains_first, contains_rest, nothing_in}
+use Rattle.cny_version.proofs.cny-base.Sorted.{rising_nil as rises_none}
 
 module _ (places : List ℕ) where
   -- one trove more

@@ -8,7 +8,8 @@ use Rattle.update_job.specs.cny-base.declared.stop.Stop.{Stop}
 use Rattle.update_job.specs.cny-base.declared.stop.Stop.TheVariants.{Refused, Memory, Failed, Damaged, FarFailed, FarDamaged}
 use Rattle.tree_scan.specs.tree-disk.Tree.{Tree}
 use Rattle.tree_scan.specs.tree-disk.Disk.{DiskModel, IsDisk}
-use Rattle.tree_scan.specs.tree-disk.Moments.{same_start, same_on, time_start, time_on, rose_before}
+use Rattle.tree_scan.specs.tree-disk.Moments.{same_start, same_on, time_start, time_on}
+use Rattle.tree_scan.proofs.tree-disk.Moments.{rose_before}
 use Rattle.tree_scan.specs.tree-disk.Steps.{Found, Tests}
 use Rattle.root_edits.specs.Finds.{Ends, Finds}
 

@@ -1,29 +1,19 @@
 -- The places that a search from one of them gathers, one after the other.
-use Rattle.std.proofs.Common.{◌≡◌, ℕ, zero, suc, ◌+◌, ◌-◌, ◌<◌, ◌≤◌, ⊎_elim, inl, inr, true, List, [], ◌∷◌, length, get_or, Contains, eqb, refl, sym, ap, subst, ◌∙◌, arith, length-append}
+use Rattle.std.proofs.Common.{◌≡◌, ℕ, zero, suc, ◌+◌, ◌-◌, ◌<◌, ◌≤◌, ⊎_elim, inl, inr, true, List, length, get_or, Contains, eqb, refl, sym, ap, subst, ◌∙◌, arith, length-append}
 use Rattle.std.specs.List.{IsDistinct, list_any}
 use Rattle.std.proofs.lemmas.Bool.{cases_lt, eqb-true}
 use Rattle.std.proofs.lemmas.List.{get_or_append_left, get_or-append_right}
 use Rattle.std.proofs.lemmas.List.Elements.{Contains-append_left, Contains-get_or}
 use Rattle.std.proofs.lemmas.Map.Steps.{length-le_from_distinct_below}
 use Rattle.std.proofs.lemmas.Map.Views.{Contains-from_any}
-use Rattle.std.proofs.lemmas.Option.{slice_get-get_or, slice_get_within, same_Some}
+use Rattle.std.proofs.lemmas.Option.{slice_get_within, same_Some}
 use Rattle.update_job.specs.trove-parts.declared.id.TroveId.{TroveId}
 use Rattle.update_job.specs.trove-stream.declared.parts.TroveParts.{TroveParts}
-use Rattle.update_job.specs.Reach.{IsReachedIn}
 use Rattle.update_job.specs.Gone.{IsPlace, Leads}
 use Rattle.root_edits.specs.Steps.{ArePlacesReached, HasAdded, HasAddedRefs, IsPlaceOfId}
-use Rattle.root_edits.proofs.Members.{place_in}
-
--- in more steps more is reached
-module _ {A : Type 0} (Follows : A → A → Type 0) (IsRoot : A → Type 0) where
-  pub reached_later : (n m : ℕ) (x : A) → n ≤ m → IsReachedIn Follows IsRoot n x → IsReachedIn Follows IsRoot m x
-  reached_later n zero x most h =
-      let same : n ≡ 0 = omega arith in
-      subst (λ (k : ℕ). IsReachedIn Follows IsRoot k x) same h
-  reached_later n (suc m) x most h = elim (cases_lt m n) [
-    | inl past ↦ (let same : n ≡ suc m = omega (arith, past, most) in subst (λ (k : ℕ). IsReachedIn Follows IsRoot k x) same h)
-    | inr before ↦ inl (reached_later n m x before h)
-  ]
+use Rattle.cny_version.specs.cny-base.Reach.{IsReachedIn}
+use Rattle.cny_version.proofs.cny-base.Lists.{number_at}
+use Rattle.cny_version.proofs.cny-base.Reaching.{reached_later}
 
 -- with other roots that the first ones are
 pub other_roots : {A : Type 0} (F : A → A → Type 0) (R S : A → Type 0) → ((x : A) → R x → S x) → (n : ℕ) (x : A) → IsReachedIn F R n x → IsReachedIn F S n x
@@ -32,11 +22,6 @@ other_roots F R S roots (suc n) x h = ⊎_elim
     (λ sooner. inl (other_roots F R S roots n x sooner))
     (λ last. inr (last.0, other_roots F R S roots n last.0 last.1, last.2))
     h
-
-number_at : (keys : List ℕ) (n : ℕ) → Contains keys n → (i : ℕ) × (i < length keys) × (get_or keys i 0 ≡ n)
-number_at keys n among =
-    let at = place_in keys n among in
-    (at.0, at.1, same_Some (get_or keys at.0 0) n (sym (slice_get-get_or keys at.0 0 at.1) ∙ at.2))
 
 -- Places that are reached, each in at most as many steps as there are places before it; the first one is among them, and those to which
 -- the first `done` of them lead.
@@ -63,22 +48,6 @@ module _ (list : List TroveParts) (start : ℕ) where
 
   still_in : (ids : List TroveId) (old new : List ℕ) (place : ℕ) → HasAdded list ids old new → Contains old place → Contains new place
   still_in ids old new place added among = subst (λ (l : List ℕ). Contains l place) (sym added.new_is) (Contains-append_left old added.more place among)
-
-  only_start : (keys : List ℕ) (i : ℕ) → keys ≡ start ∷ [] → i < length keys → get_or keys i 0 ≡ start
-  only_start keys i is within =
-      let long : length keys ≡ 1 = ap length is in
-      let first : i ≡ 0 = omega (arith, long, within) in
-      ap (λ (k : ℕ). get_or keys k 0) first ∙ ap (λ (l : List ℕ). get_or l 0 0) is
-
-  -- the first one alone
-  pub gathered_first : (keys : List ℕ) → IsPlace list start → keys ≡ start ∷ [] → IsGathered list start keys 0
-  gathered_first keys stands is = record {
-    within = omega arith;
-    stand = λ i within. subst (IsPlace list) (sym (only_start keys i is within)) stands;
-    steps = λ i within. reached_later (Leads list) (λ (p : ℕ). p ≡ start) 0 i (get_or keys i 0) (omega arith) (only_start keys i is within);
-    start_in = subst (λ (l : List ℕ). Contains l start) (sym is) (0, omega arith, refl);
-    next_in = λ i none. absurd (omega (arith, none));
-  }
 
   -- and the references of one trove more
   pub gathered_more : (old new : List ℕ) (done : ℕ) → done < length old → IsGathered list start old done → HasAddedRefs list (get_or old done 0) old new → IsGathered list start new (done + 1)

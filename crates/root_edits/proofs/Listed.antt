@@ -10,7 +10,8 @@ use Rattle.update_job.specs.trove-stream.declared.parts.TroveParts.{TroveParts}
 use Rattle.tree_scan.specs.tree-disk.Tree.{Name}
 use Rattle.update_job.specs.trove-stream.Installed.{IsNameless, IsPlaceOf}
 use Rattle.update_job.specs.Lists.{AreInstalled}
-use Rattle.root_edits.specs.Verify.{asked, is_asked, records}
+use Rattle.root_edits.specs.Verify.{asked, is_asked}
+use Rattle.root_edits.specs.Local.{records}
 
 -- ---- names
 

@@ -1,22 +1,18 @@
 -- Ids that move, the refusal of versions that are too long, and references.
-use Rattle.std.proofs.Common.{◌≡◌, ℕ, zero, suc, ◌<◌, ◌≤◌, inl, inr, Bool, true, false, cond, List, [], ◌∷◌, length, get_or, map, slice_get, Contains, All, Option, Some, None, Result, Ok, Err, refl, sym, ap, subst, ◌∙◌, true≢false, arith}
-use Rattle.std.specs.Prelude.{◌↔◌, IsErrOf, OnOk, IfErr, IfNone, IsErrAnd, IsTrue}
-use Rattle.std.specs.Option.{option_copied}
-use Rattle.std.specs.Slice.{IsItemAt}
+use Rattle.std.proofs.Common.{◌≡◌, ℕ, zero, suc, ◌≤◌, Bool, true, false, cond, List, [], ◌∷◌, length, get_or, map, slice_get, Contains, All, Option, Some, None, sym, ap, subst, ◌∙◌, true≢false, arith}
+use Rattle.std.specs.Prelude.{IsTrue}
 use Rattle.std.specs.Str.{bytes_eq}
 use Rattle.std.specs.Cmp.{first_so}
 use Rattle.std.specs.List.{dedup, dedup_from}
 use Rattle.std.specs.List.Retain.{IsFiltered, DiffersFromLast}
 use Rattle.std.specs.List.Sorted.{IsPermutation, IsSorted}
-use Rattle.std.proofs.lemmas.Bool.{lt-ltb, le-ltb, cases_lt}
+use Rattle.std.proofs.lemmas.Bool.{lt-ltb, le-ltb}
 use Rattle.std.proofs.lemmas.List.Elements.{All-contains}
 use Rattle.std.proofs.lemmas.List.Filters.{dedup_is}
 use Rattle.std.proofs.lemmas.List.Kept.{Any-dedup, Contains-from_dedup, IsStrictlySortedBy-dedup}
 use Rattle.std.proofs.lemmas.List.Sorted.{Contains-permutation, IsPermutation-sym, length_permutation}
-use Rattle.std.proofs.lemmas.Option.{same_Some, slice_get-get_or, slice_get_past, slice_get_read, slice_get_within}
-use Rattle.std.proofs.lemmas.Result.{err_from_is_err_and}
+use Rattle.std.proofs.lemmas.Option.{same_Some, slice_get-get_or, slice_get_within}
 use Rattle.std.proofs.lemmas.Slice.Eq.{bytes_eq-Decides}
-use denote.Ref.{Bor}
 use Rattle.update_job.specs.cny-base.Name.{kind_of_name}
 use Rattle.update_job.specs.cny-base.declared.limits.TheConstants.{VERSION_LIMIT}
 use Rattle.update_job.specs.cny-base.declared.refusal.Fault.{Fault}
@@ -24,40 +20,20 @@ use Rattle.update_job.specs.cny-base.declared.refusal.Fault.TheVariants.{Refused
 use Rattle.update_job.specs.cny-base.declared.refusal.Refusal.{Refusal}
 use Rattle.update_job.specs.cny-base.declared.refusal.Refusal.TheVariants as refusal
 use Rattle.update_job.specs.cny-base.declared.refusal.What.TheVariants as what
-use Rattle.cny_version.specs.TooLarge.{TooLargeOrMemory}
-use Rattle.cny_version.specs.Version.{WholeVersion, version_text}
 use Rattle.update_job.specs.trove-stream.Installed.{IsNameless, IsPlaceOf}
 use Rattle.update_job.specs.trove-parts.declared.id.TroveId.{TroveId}
 use Rattle.update_job.specs.trove-parts.Id.{IsTroveId}
 use Rattle.update_job.specs.trove-parts.Order.{id_cmp, id_eq, id_equiv, id_total, id_ties}
 use Rattle.update_job.specs.trove-stream.declared.parts.TroveParts.{TroveParts}
 use Rattle.root_edits.specs.Moved.{is_moving, keeps_others, local_id, local_ref, local_refs, local_size, too_long, AreLocalRefs}
-use Rattle.root_edits.specs.Steps.{HasIdAt, IsRefusalOrMemory, IsTooLong}
-use Rattle.root_edits.proofs.Members.{all_from, any_of, contains_at, filter_short, one_passes, place_in}
+use Rattle.root_edits.specs.Steps.{HasIdAt, IsTooLong}
+use Rattle.root_edits.proofs.Members.{filter_short}
+use Rattle.cny_version.specs.cny-base.Refusals.{IsRefusalOrMemory}
+use Rattle.cny_version.proofs.cny-base.Lists.{all_from, contains_at, place_in, one_passes}
+use Rattle.cny_version.proofs.cny-base.Recorded.{any_of}
+use Rattle.cny_version.proofs.cny-base.Bools.{not_true}
 
 -- ---- faults
-
--- a fault that is handed on
-pub handed_on : {T : Type 0} (P : Fault → Type 0) (r : Result T Fault) (fault : Fault) → IsErrAnd r (λ y. y ≡ fault) → P fault → IfErr r P
-handed_on {T} P r fault handed is =
-    let same = err_from_is_err_and r handed in
-    subst (λ (other : Result T Fault). IfErr other P) (sym same.1) (subst P (sym same.2) is)
-
--- what is made fits
-pub made_fits : (v : WholeVersion) (r : Result WholeVersion Fault) → (IsErrOf r (Refused (refusal.TooLarge what.Version (length (version_text v)))) ↔ (VERSION_LIMIT < length (version_text v)))
-    → OnOk r (length (version_text v) ≤ VERSION_LIMIT)
-made_fits v (Err fault) refused = tt
-made_fits v (Ok made) refused = elim (cases_lt VERSION_LIMIT (length (version_text v))) [
-  | inl long ↦ absurd (cc (refused.1 long))
-  | inr short ↦ short
-]
-
--- what is refused is too long
-pub refused_long : (id : TroveId) (r : Result WholeVersion Fault) → (IsErrOf r (Refused (refusal.TooLarge what.Version (local_size id))) ↔ (VERSION_LIMIT < local_size id))
-    → IfErr r (TooLargeOrMemory what.Version (local_size id)) → IfErr r (IsTooLong id)
-refused_long id (Ok made) refused is = tt
-refused_long id (Err (Refused reason)) refused is = (is, refused.0 (ap (λ (r : Refusal). Err (Refused r)) is))
-refused_long id (Err Memory) refused is = tt
 
 -- ---- the first version that is too long
 
@@ -82,10 +58,6 @@ SameIds = (a b : TroveId) → IsTroveId a → IsTroveId b → IsTrue (id_eq a b)
 names_same : (a b : TroveId) → id_eq a b ≡ true → a.name ≡ b.name
 names_same a b is = (bytes_eq-Decides a.name b.name).0 (first_so (bytes_eq a.name b.name) _ (first_so _ _ is))
 
-not_true : (b : Bool) → (b ≡ true → ⊥) → b ≡ false
-not_true true never = absurd (never refl)
-not_true false never = refl
-
 -- no trove has the name, so none has the id
 pub nameless_stays : (troves : List TroveParts) (id : TroveId) → IsNameless id.name troves → is_moving troves id ≡ false
 nameless_stays troves id none = not_true (is_moving troves id) (λ is.
@@ -101,15 +73,6 @@ other_stays troves id place t at only differs = not_true (is_moving troves id) (
     let same : place ≡ among.0 = same_Some place among.0 (only among.0 (record { trove = one.0; there = among.2; named = names_same one.0.id id one.2 })) in
     let both : t ≡ one.0 = same_Some t one.0 (sym at ∙ ap (slice_get troves) same ∙ among.2) in
     true≢false (sym one.2 ∙ ap (λ (u : TroveParts). id_eq u.id id) (sym both) ∙ differs))
-
--- what `get` of a slice lends
-pub item_at : {A : Type 0} (xs : List A) (i : ℕ) (r : Option (Bor A)) → IsItemAt xs i r → option_copied r ≡ slice_get xs i
-item_at xs i None is = sym (slice_get_past xs i is.3)
-item_at xs i (Some x) is = sym (slice_get_read xs (length xs) i x.now refl is.3.0 is.1)
-
-pub stays_unless : {A : Type 0} (r : Option A) (P : Type 0) → P → IfNone r P
-stays_unless None P p = p
-stays_unless (Some x) P p = tt
 
 -- one has it
 pub id_moves : (troves : List TroveParts) (id : TroveId) (place : ℕ) → HasIdAt troves id place → is_moving troves id ≡ true
@@ -130,9 +93,6 @@ id_at troves ids place t is at = ap (λ (l : List TroveId). slice_get l place) i
 -- a reference to a trove that moves
 pub ref_moves : (keeps : Bool) (troves : List TroveParts) (id : TroveId) → is_moving troves id ≡ true → local_ref keeps troves id ≡ Some (local_id id)
 ref_moves keeps troves id is = ap (λ (b : Bool). cond b (Some (local_id id)) (cond keeps (Some id) None)) is
-
-pub ref_stays : (keeps : Bool) (troves : List TroveParts) (id : TroveId) → is_moving troves id ≡ false → local_ref keeps troves id ≡ cond keeps (Some id) None
-ref_stays keeps troves id is = ap (λ (b : Bool). cond b (Some (local_id id)) (cond keeps (Some id) None)) is
 
 -- no more stay than there were
 dedup_from_short : (k : TroveId) (xs : List TroveId) → length (dedup_from id_eq k xs) ≤ suc (length xs)

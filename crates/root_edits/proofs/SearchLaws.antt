@@ -1,41 +1,17 @@
 -- How runs of calls that read a disk and search contents follow one another.
 use Rattle.std.proofs.Common.{◌≡◌, ℕ, Bool, IsTrue, List, Option, Result, Ok, Err, IsErrAnd, sym, subst, arith}
-use Rattle.update_job.specs.cny-base.Count.{Rose}
 use Rattle.update_job.specs.cny-base.declared.refusal.Refusal.{Refusal}
 use Rattle.update_job.specs.cny-base.declared.stop.Stop.{Stop}
 use Rattle.update_job.specs.cny-base.declared.stop.Stop.TheVariants.{Refused, Memory, Failed, Damaged, FarFailed, FarDamaged}
 use Rattle.tree_scan.specs.tree-disk.Tree.{Name, Tree}
 use Rattle.tree_scan.specs.tree-disk.Disk.{DiskModel, IsDisk}
-use Rattle.tree_scan.specs.tree-disk.Moments.{same_start, same_on, time_start, time_on, rose_before}
-use Rattle.tree_scan.specs.tree-disk.Steps.{IsDiskStop, Found, Tests}
-use Rattle.content_store.specs.Contents.{Answers, ContentsModel, IsSource, KeepsContents, LacksAnswer, StopsFor, stop_of_far}
-use Rattle.content_store.specs.declared.contents.FarStop.{FarStop}
-use Rattle.content_store.specs.declared.contents.FarStop.TheVariants as far_stop
+use Rattle.tree_scan.specs.tree-disk.Moments.{same_start, same_on, time_start, time_on}
+use Rattle.tree_scan.proofs.tree-disk.Moments.{rose_before}
+use Rattle.content_store.specs.Contents.{Answers, ContentsModel, IsSource, KeepsContents}
 use Rattle.root_edits.specs.Search.{Ends, IsFarDamage, Searches}
+use Rattle.content_store.proofs.Sources.{keeps_start, keeps_then}
 
 -- ---- contents
-
-pub keeps_start : {C : Type 0} {contents : ContentsModel C} → IsSource contents → (c : C) → KeepsContents contents c c
-keeps_start laws c = record {
-  map = λ m h. h;
-  answers = λ name found h. h;
-  answers_stay = λ name found h. h;
-  damage = λ told path h. h;
-  damage_stays = λ told path h. h;
-  later = omega arith;
-  searched = laws.none c;
-}
-
-pub keeps_then : {C : Type 0} {contents : ContentsModel C} → IsSource contents → {a b c : C} → KeepsContents contents a b → KeepsContents contents b c → KeepsContents contents a c
-keeps_then laws {a = a} {b = b} {c = c} first then = record {
-  map = λ m h. then.map m (first.map m h);
-  answers = λ name found h. first.answers name found (then.answers name found h);
-  answers_stay = λ name found h. then.answers_stay name found (first.answers_stay name found h);
-  damage = λ told path h. first.damage told path (then.damage told path h);
-  damage_stays = λ told path h. then.damage_stays told path (first.damage_stays told path h);
-  later = omega (arith, first.later, then.later);
-  searched = laws.next a b c first.searched then.searched;
-}
 
 -- ---- ends
 
@@ -65,44 +41,6 @@ ends_stop {X = X} {Z = Z} told P S Q V R U rose far e (Err s) is refuse damage e
     by (Damaged path) ends = ends
     by FarFailed ends = ends
     by (FarDamaged path) ends = damage path ends
-
-ends_memory : {Z : Type 0} (told : Bool) (S : Z → Type 0) (Q : Refusal → Type 0) (R : Name → Type 0) (rose far : Type 0) (r : Result Z Stop) → IsErrAnd r (λ s. s ≡ Memory) → Ends told S Q R rose far r
-ends_memory told S Q R rose far (Ok z) is = absurd is
-ends_memory {Z = Z} told S Q R rose far (Err s) is = subst (λ x. Ends {X = Z} told S Q R rose far (Err x)) (sym is) tt
-
--- a refusal passed on by `?`
-ends_refused : {Z : Type 0} (told : Bool) (S : Z → Type 0) (Q : Refusal → Type 0) (R : Name → Type 0) (rose far : Type 0) (r : Result Z Stop) (refusal : Refusal)
-    → IsErrAnd r (λ s. s ≡ Refused refusal) → Q refusal → Ends told S Q R rose far r
-ends_refused told S Q R rose far (Ok z) refusal is refused = absurd is
-ends_refused {Z = Z} told S Q R rose far (Err s) refusal is refused = subst (λ x. Ends {X = Z} told S Q R rose far (Err x)) (sym is) refused
-
--- a test that stopped
-ends_test : {X Y Z : Type 0} (view : X → Y) (told : Bool) (expected : Result Y Refusal) (S : Z → Type 0) (Q : Refusal → Type 0) (R : Name → Type 0) (far : Type 0) (e : Stop) (r : Result Z Stop) (a c : ℕ)
-    → IsDiskStop e → IsErrAnd r (λ s. s ≡ e) → Found view told expected (Err e) a c → Ends told S Q R (Rose a c) far r
-ends_test view told expected S Q R far e (Ok z) a c stop is found = absurd is
-ends_test {Z = Z} view told expected S Q R far e (Err s) a c stop is found = subst (λ x. Ends {X = Z} told S Q R (Rose a c) far (Err x)) (sym is) (by e stop found)
-  where
-    by : (e : Stop) → IsDiskStop e → Found view told expected (Err e) a c → Ends {X = Z} told S Q R (Rose a c) far (Err e)
-    by (Refused refusal) stop found = absurd stop
-    by Failed stop found = found
-    by Memory stop found = tt
-    by (Damaged path) stop found = absurd stop
-    by FarFailed stop found = absurd stop
-    by (FarDamaged path) stop found = absurd stop
-
--- a search that stopped
-ends_search : {D C Z : Type 0} (disk : DiskModel D) (contents : ContentsModel C) (S : Z → Type 0) (Q : Refusal → Type 0) (R : Answers → Tree → Type 0) (rose : Type 0) (d : D) (name : List ℕ) (far far' : C) (f : FarStop)
-    (r : Result Z Stop) → IsErrAnd r (λ s. s ≡ stop_of_far f) → StopsFor contents far far' name f → (LacksAnswer (contents.answers far) name → R (contents.answers far) (disk.reads d))
-    → Ends disk.tells S Q (IsFarDamage disk contents R d far) rose (Rose (contents.faults far) (contents.faults far')) r
-ends_search disk contents S Q R rose d name far far' f (Ok z) is stops lacks = absurd is
-ends_search {Z = Z} disk contents S Q R rose d name far far' f (Err s) is stops lacks =
-    subst (λ x. Ends {X = Z} disk.tells S Q (IsFarDamage disk contents R d far) rose (Rose (contents.faults far) (contents.faults far')) (Err x)) (sym is) (by f stops)
-  where
-    by : (f : FarStop) → StopsFor contents far far' name f
-        → Ends {X = Z} disk.tells S Q (IsFarDamage disk contents R d far) rose (Rose (contents.faults far) (contents.faults far')) (Err (stop_of_far f))
-    by far_stop.Failed stops = stops
-    by (far_stop.Damaged path) stops = record { damaged = λ told. (stops told).damaged; lacking = λ told tells. lacks (stops told).lacking }
-    by far_stop.Memory stops = tt
 
 -- ---- runs
 
@@ -142,40 +80,7 @@ module _ {D C : Type 0} {disk : DiskModel D} {contents : ContentsModel C} where
         (λ path h. record { damaged = h.damaged; lacking = λ told tells. damage tells (h.lacking told tells) }) run.ends;
   }
 
-  -- an answer without another call
-  pub searches_answer : {X Z : Type 0} {P : Answers → Tree → X → Type 0} {S : Answers → Tree → Z → Type 0} {Q V : Refusal → Type 0} {R U : Answers → Tree → Type 0} {old new : D} {far far' : C} {x : X} {z : Z}
-      → Searches disk contents P Q R old new far far' (Ok x)
-      → (IsTrue disk.tells → P (contents.answers far) (disk.reads old) x → S (contents.answers far) (disk.reads old) z)
-      → Searches disk contents S V U old new far far' (Ok z)
-  searches_answer run is = record { later = run.later; same = run.same; keeps = run.keeps; ends = λ tells. is tells (run.ends tells) }
-
-  -- want of memory after a run, however it ended
-  pub searches_memory : {X Z : Type 0} {P : Answers → Tree → X → Type 0} {S : Answers → Tree → Z → Type 0} {Q V : Refusal → Type 0} {R U : Answers → Tree → Type 0} {old new : D} {far far' : C} {q : Result X Stop} {r : Result Z Stop}
-      → Searches disk contents P Q R old new far far' q → IsErrAnd r (λ s. s ≡ Memory) → Searches disk contents S V U old new far far' r
-  searches_memory {S = S} {V = V} {old = old} {far = far} {r = r} run is = record {
-    later = run.later;
-    same = run.same;
-    keeps = run.keeps;
-    ends = ends_memory disk.tells (S (contents.answers far) (disk.reads old)) V _ _ _ r is;
-  }
-
   module _ (source : IsSource contents) where
-    -- a test of the disk that passed
-    pub tested_answer : {X Y Z : Type 0} {view : X → Y} {test : Tree → Result Y Refusal} {S : Answers → Tree → Z → Type 0} {Q : Refusal → Type 0} {R : Answers → Tree → Type 0} {old new : D} {x : X} {z : Z} (far : C)
-        → Tests disk view test old new (Ok x) → (IsTrue disk.tells → S (contents.answers far) (disk.reads old) z)
-        → Searches disk contents S Q R old new far far (Ok z)
-    tested_answer far tested is = record { later = tested.later; same = tested.same; keeps = keeps_start source far; ends = is }
-
-    -- a test of the disk that stopped, passed on by `?`
-    pub tested_stop : {X Y Z : Type 0} {view : X → Y} {test : Tree → Result Y Refusal} {S : Answers → Tree → Z → Type 0} {Q : Refusal → Type 0} {R : Answers → Tree → Type 0} {old new : D} {e : Stop} {r : Result Z Stop} (far : C)
-        → Tests disk view test old new (Err e) → IsDiskStop e → IsErrAnd r (λ s. s ≡ e) → Searches disk contents S Q R old new far far r
-    tested_stop {view = view} {S = S} {Q = Q} {old = old} {e = e} {r = r} far tested stop is = record {
-      later = tested.later;
-      same = tested.same;
-      keeps = keeps_start source far;
-      ends = ends_test view disk.tells _ (S (contents.answers far) (disk.reads old)) Q _ _ e r _ _ stop is tested.found;
-    }
-
     module _ (laws : IsDisk disk) where
       -- no call at all
       pub searches_start : {Z : Type 0} {S : Answers → Tree → Z → Type 0} {Q : Refusal → Type 0} {R : Answers → Tree → Type 0} (d : D) (far : C) (z : Z)
@@ -185,45 +90,6 @@ module _ {D C : Type 0} {disk : DiskModel D} {contents : ContentsModel C} where
         same = λ tells. record { answer = tt; same = same_start disk d; time = time_start laws d };
         keeps = keeps_start source far;
         ends = is;
-      }
-
-      -- a refusal before the first call
-      pub searches_refused : {Z : Type 0} {S : Answers → Tree → Z → Type 0} {Q : Refusal → Type 0} {R : Answers → Tree → Type 0} (d : D) (far : C) {r : Result Z Stop} (refusal : Refusal)
-          → IsErrAnd r (λ s. s ≡ Refused refusal) → Q refusal → Searches disk contents S Q R d d far far r
-      searches_refused {S = S} {Q = Q} d far {r = r} refusal is refused = record {
-        later = omega arith;
-        same = λ tells. record { answer = tt; same = same_start disk d; time = time_start laws d };
-        keeps = keeps_start source far;
-        ends = ends_refused disk.tells (S (contents.answers far) (disk.reads d)) Q _ _ _ r refusal is refused;
-      }
-
-      -- want of memory before the first call
-      pub searches_no_memory : {Z : Type 0} {S : Answers → Tree → Z → Type 0} {Q : Refusal → Type 0} {R : Answers → Tree → Type 0} (d : D) (far : C) {r : Result Z Stop} → IsErrAnd r (λ s. s ≡ Memory) → Searches disk contents S Q R d d far far r
-      searches_no_memory {S = S} {Q = Q} d far {r = r} is = record {
-        later = omega arith;
-        same = λ tells. record { answer = tt; same = same_start disk d; time = time_start laws d };
-        keeps = keeps_start source far;
-        ends = ends_memory disk.tells (S (contents.answers far) (disk.reads d)) Q _ _ _ r is;
-      }
-
-      -- a search of the contents alone that answered
-      pub searched_answer : {Z : Type 0} {S : Answers → Tree → Z → Type 0} {Q : Refusal → Type 0} {R : Answers → Tree → Type 0} (d : D) {far far' : C} (z : Z) → KeepsContents contents far far'
-          → S (contents.answers far) (disk.reads d) z → Searches disk contents S Q R d d far far' (Ok z)
-      searched_answer d z keeps is = record {
-        later = omega arith;
-        same = λ tells. record { answer = tt; same = same_start disk d; time = time_start laws d };
-        keeps = keeps;
-        ends = λ tells. is;
-      }
-
-      -- one that stopped, passed on by `?`
-      pub searched_stop : {Z : Type 0} {S : Answers → Tree → Z → Type 0} {Q : Refusal → Type 0} {R : Answers → Tree → Type 0} (d : D) {name : List ℕ} {far far' : C} (f : FarStop) {r : Result Z Stop} → KeepsContents contents far far'
-          → StopsFor contents far far' name f → (LacksAnswer (contents.answers far) name → R (contents.answers far) (disk.reads d)) → IsErrAnd r (λ s. s ≡ stop_of_far f) → Searches disk contents S Q R d d far far' r
-      searched_stop {S = S} {Q = Q} {R = R} d {name = name} {far = far} {far' = far'} f {r = r} keeps stops lacks is = record {
-        later = omega arith;
-        same = λ tells. record { answer = tt; same = same_start disk d; time = time_start laws d };
-        keeps = keeps;
-        ends = ends_search disk contents (S (contents.answers far) (disk.reads d)) Q R _ d name far far' f r is stops lacks;
       }
 
       -- one run after another, where the second searches a source that answers the same

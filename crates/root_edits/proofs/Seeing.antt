@@ -1,10 +1,9 @@
 -- What is seen at recorded paths.
-use Rattle.std.proofs.Common.{◌≡◌, ℕ, zero, suc, ◌*◌, ◌/◌, ◌==◌, ◌&&◌, true≢false, length-append, ◌+◌, ◌<◌, ◌≤◌, ⊎_elim, inl, inr, Bool, true, false, cond, List, [], ◌∷◌, ◌++◌, length, map, drop, get_or, Contains, Some, None, Option, Ok, Err, refl, sym, ap, subst, ◌∙◌, arith, append-nil, append_assoc}
-use Rattle.std.specs.Prelude.{IsTrue, nat_lt, nat_le, slice_index}
+use Rattle.std.proofs.Common.{◌≡◌, ℕ, suc, ◌==◌, true≢false, ◌+◌, ◌<◌, ◌≤◌, ⊎_elim, inl, inr, Bool, true, false, cond, List, [], ◌∷◌, ◌++◌, length, map, drop, get_or, Contains, Some, None, Option, Ok, Err, refl, sym, ap, subst, ◌∙◌, arith, append-nil, append_assoc}
+use Rattle.std.specs.Prelude.{IsTrue, nat_lt, nat_le}
 use Rattle.std.specs.Cmp.{first_so}
 use Rattle.std.specs.Cmp.Lexicographic.{slice_cmp}
 use Rattle.std.specs.FinMap.{get}
-use Rattle.std.specs.Int.{w32, to_be_bytes}
 use Rattle.std.specs.Ordering.{nat_cmp}
 use Rattle.std.specs.Str.{bytes_eq}
 use Rattle.std.proofs.lemmas.Bool.Decides.{nat_tests}
@@ -21,7 +20,7 @@ use Rattle.std.proofs.lemmas.Bool.{lt-ltb, cases_lt}
 use Rattle.std.proofs.lemmas.List.{at_drop_more}
 use Rattle.std.proofs.lemmas.List.Elements.{All-contains, Contains-push_cases}
 use Rattle.std.proofs.lemmas.Option.{none-some, same_Some}
-use Rattle.sha1.specs.Sha1.{digest_bytes, hash_after, padded_message, sha1}
+use Rattle.sha1.specs.Sha1.{sha1}
 use Rattle.update_job.specs.cny-base.declared.limits.TheConstants.{CONTENT_LIMIT}
 use Rattle.update_job.specs.cny-base.declared.node.Node.{Node}
 use Rattle.update_job.specs.cny-base.declared.node.Node.TheVariants as node
@@ -36,7 +35,12 @@ use Rattle.update_job.specs.change-set.declared.change.Carried.{Carried}
 use Rattle.tree_scan.specs.tree-disk.Tree.{is_byte, is_node, Tree}
 use Rattle.root_edits.specs.Standing.{Sight, content_of_node, file_with, owner_of, record_of, sight_of, sights, local_content, local_contents, local_file, local_files, too_large, too_large_node}
 use Rattle.root_edits.specs.Steps.{within_limit, Fits, HaveSeen}
-use Rattle.root_edits.proofs.Members.{all_from, contains_first, contains_rest, contains_map, filter_map_push, filter_short, from_filter, map_push, nothing_in, rises_cons, rises_none}
+use Rattle.root_edits.proofs.Members.{filter_map_push, filter_short, from_filter, rises_cons}
+use Rattle.cny_version.proofs.cny-base.Lists.{all_from, contains_first, contains_map, contains_rest, map_push, nothing_in}
+use Rattle.cny_version.proofs.cny-base.Bools.{both}
+use Rattle.cny_version.proofs.cny-base.Sorted.{rising_nil as rises_none}
+use Rattle.cny_version.proofs.cny-base.Below.{equal_test as same_number}
+use Rattle.change_rel.proofs.file-stream.Digests.{digest_long as sha1_length}
 
 -- ---- one more
 
@@ -123,18 +127,6 @@ not_large mode bytes small =
       | inr short ↦ short
     ]
 
-digest_length : (h : List ℕ) (n : ℕ) → length (digest_bytes h n) ≡ n * 4
-unfolding digest_bytes
-digest_length h zero = refl
-digest_length h (suc n) =
-    let four : length (to_be_bytes w32 (slice_index h n)) ≡ 4 = refl in
-    let before = digest_length h n in
-    length-append (digest_bytes h n) (to_be_bytes w32 (slice_index h n)) ∙ omega (arith, four, before)
-
-pub sha1_length : (bytes : List ℕ) → length (sha1 bytes) ≡ 20
-unfolding sha1
-sha1_length bytes = digest_length (hash_after (padded_message bytes) (length (padded_message bytes) / 64)) 5
-
 owner_valid : (r : FileRec) → IsFileRecord r → IsTrue (is_owner (owner_of r))
 owner_valid (rec.Dir mode owner) is = is.1
 owner_valid (rec.File mode owner flags size name) is = is.3
@@ -204,16 +196,6 @@ files_few told tree files made before after seen =
     let of_files = ap (λ (l : List FileAt). length l) seen.files_are in
     omega (arith, made_len, short, same, of_files)
 
-pub files_none : (told : Bool) (tree : Tree) (files made : List FileAt) (before after : List Carried) → HaveSeen told tree files made before after → files ≡ [] → made ≡ []
-files_none told tree files made before after seen none =
-    let few = files_few told tree files made before after seen in
-    let zero_len = ap (λ (l : List FileAt). length l) none in
-    length_zero made (omega (arith, few, zero_len))
-  where
-    length_zero : (l : List FileAt) → length l ≡ 0 → l ≡ []
-    length_zero [] is = refl
-    length_zero (f ∷ l) is = absurd (omega (arith, is))
-
 -- ---- contents
 
 -- what is carried of a path: the content of the file there, which its new record has and its old one hasn't
@@ -227,14 +209,6 @@ pub record IsCarried (s : Sight) (c : Carried) : Type 0 where
 
 abbrev carried_as : List ℕ → Carried
 carried_as bytes = record { name = sha1 bytes; bytes = bytes }
-
-both : (a b : Bool) → a ≡ true → b ≡ true → (a && b) ≡ true
-both true true one other = refl
-both true false one other = other
-both false b one other = one
-
-same_number : (n : ℕ) → (n == n) ≡ true
-same_number n = grind (arith, nat_tests)
 
 carried_by : (s : Sight) (mode : ℕ) (bytes : List ℕ) (c : Carried) (b : Bool) → has_name_and_size (sha1 bytes) (length bytes) s.file.rec ≡ b
     → cond b None (Some (carried_as bytes)) ≡ Some c → (has_name_and_size (sha1 bytes) (length bytes) s.file.rec ≡ false) × (c ≡ carried_as bytes)

@@ -1,22 +1,14 @@
 -- The parts and the contents of the local changes.
-use Rattle.std.proofs.Common.{◌≡◌, ℕ, ◌+◌, ◌<◌, ⊎_elim, inr, Bool, List, [], ◌∷◌, ◌++◌, length, get_or, drop, Contains, All, Some, None, Option, refl, sym, ap, subst, ◌∙◌, true≢false, arith, append-nil, length-append}
+use Rattle.std.proofs.Common.{◌≡◌, ℕ, ◌+◌, ◌<◌, ⊎_elim, inr, Bool, List, [], ◌∷◌, ◌++◌, length, get_or, drop, Contains, All, Some, None, Option, refl, sym, ap, subst, ◌∙◌, true≢false, append-nil}
 use Rattle.std.specs.Prelude.{IsTrue}
 use Rattle.std.specs.List.Sorted.{IsStrictlySortedBy}
 use Rattle.std.specs.Option.{option_map, option_or}
-use Rattle.std.specs.declared.cmp.Ordering.TheVariants.{Less}
-use Rattle.std.specs.Cmp.Lexicographic.{nat_list_cmp_total, slice_cmp}
-use Rattle.std.specs.Ordering.{nat_cmp}
-use Rattle.std.proofs.lemmas.Cmp.{tied_itself}
 use Rattle.std.proofs.lemmas.Grind.{flat_map-append}
 use Rattle.std.proofs.lemmas.List.{at_drop_more, map-append}
-use Rattle.std.proofs.lemmas.List.Elements.{All-contains, All-from_recursion, Contains-append_left, Contains-push, Contains-push_cases, filter_map-append}
-use Rattle.std.proofs.lemmas.Map.Keys.{sorted_head, sorted_tail}
+use Rattle.std.proofs.lemmas.List.Elements.{All-contains, Contains-append_left, Contains-push, Contains-push_cases, filter_map-append}
 use Rattle.update_job.specs.cny-base.declared.refusal.Refusal.{Refusal}
-use Rattle.cny_version.specs.Made.{part_of}
 use Rattle.update_job.specs.file-stream.Record.{has_name_and_size}
-use Rattle.update_job.specs.trove-parts.declared.id.TroveId.{TroveId}
 use Rattle.update_job.specs.trove-parts.declared.files.FileAt.{FileAt}
-use Rattle.update_job.specs.trove-parts.Files.{file_cmp, path_of}
 use Rattle.update_job.specs.trove-stream.declared.parts.TroveParts.{TroveParts}
 use Rattle.update_job.specs.trove-stream.Trove.{IsTrove}
 use Rattle.update_job.specs.trove-stream.declared.rel.RelParts.{RelParts}
@@ -31,41 +23,15 @@ use Rattle.update_job.specs.cny-base.declared.refusal.Fault.TheVariants as fault
 use Rattle.root_edits.specs.Reached.{AreReached}
 use Rattle.tree_scan.specs.tree-disk.Tree.{Tree}
 use Rattle.root_edits.specs.Local.{all_contents, all_sights, collision, collision_of, first_refusal, records, AreLocalParts, IsLocal, IsLocalPart, IsLocalRefusal, IsLocalTrove}
-use Rattle.root_edits.specs.Moved.{local_id, too_long}
+use Rattle.root_edits.specs.Moved.{too_long}
 use Rattle.root_edits.specs.Standing.{Sight, local_content, local_contents, local_file, sight_of, sights, too_large}
 use Rattle.root_edits.specs.Steps.{HasAddedPart, HaveAddedParts, HaveSeen}
-use Rattle.root_edits.proofs.Members.{all_from, any_of, append_cases, contains_cases, contains_map, from_filter, in_filter, nothing_in, one_passes}
-use Rattle.root_edits.proofs.Seeing.{IsCarried, carried_of, large_behind, large_in_front, none_large, sha1_length}
-
--- ---- ids
-
--- a version isn't that of a branch which leaves from it
-pub other_id : (id : TroveId) → id ≡ local_id id → ⊥
-other_id id same =
-    let longer = ap (λ (i : TroveId). length i.version.branch.before) same in
-    let pushed = length-append id.version.branch.before (part_of id.version.branch id.version.revision ∷ []) in
-    omega (arith, longer, pushed)
-
--- ---- files of one path
-
-not_less : (x y : FileAt) → path_of x ≡ path_of y → file_cmp x y ≡ Less → ⊥
-not_less x y same less = cc (tied_itself nat_list_cmp_total (path_of y), ap (λ (p : List ℕ). slice_cmp nat_cmp p (path_of y)) same, less)
-
-later_less : (f : FileAt) (files : List FileAt) → IsStrictlySortedBy file_cmp (f ∷ files) → (y : FileAt) → Contains files y → file_cmp f y ≡ Less
-later_less f files rises y among = All-contains (λ z. file_cmp f z ≡ Less) files y (All-from_recursion (λ z. file_cmp f z ≡ Less) files (sorted_head file_cmp f files rises)) among
-
-one_at : (files : List FileAt) → IsStrictlySortedBy file_cmp files → (x y : FileAt) → Contains files x → Contains files y → path_of x ≡ path_of y → x ≡ y
-one_at [] rises x y h g same = absurd (nothing_in x h)
-one_at (f ∷ files) rises x y h g same = ⊎_elim
-    (λ e. ⊎_elim
-    (λ e'. sym e ∙ e')
-    (λ later. absurd (not_less f y (ap path_of e ∙ same) (later_less f files rises y later)))
-    (contains_cases f y files g))
-    (λ later. ⊎_elim
-    (λ e'. absurd (not_less f x (ap path_of e' ∙ sym same) (later_less f files rises x later)))
-    (λ later'. one_at files (sorted_tail file_cmp f files rises) x y later later' same)
-    (contains_cases f y files g))
-    (contains_cases f x files h)
+use Rattle.root_edits.proofs.Members.{append_cases, from_filter, in_filter}
+use Rattle.root_edits.proofs.Seeing.{IsCarried, carried_of, large_behind, large_in_front, none_large}
+use Rattle.cny_version.proofs.cny-base.Lists.{all_from, contains_cases, contains_map, nothing_in, one_passes}
+use Rattle.cny_version.proofs.cny-base.Recorded.{any_of}
+use Rattle.change_rel.proofs.Sent.{one_at}
+use Rattle.change_rel.proofs.file-stream.Digests.{digest_long as sha1_length}
 
 -- ---- contents and the parts that record them
 

@@ -1,5 +1,5 @@
 -- Why no local changes are told, on every disk.
-use Rattle.std.proofs.Common.{◌≡◌, ℕ, Bool, true, false, cond, List, [], ◌∷◌, Option, Some, None, Result, Ok, Err, IfErr, IsErrAnd, refl, sym, ap, subst, ◌∙◌}
+use Rattle.std.proofs.Common.{◌≡◌, ℕ, Bool, true, false, cond, List, [], ◌∷◌, Some, None, Result, Ok, Err, IfErr, IsErrAnd, refl, sym, ap, subst, ◌∙◌}
 use Rattle.std.specs.Prelude.{nat_lt}
 use Rattle.update_job.specs.cny-base.Stop.{stop_of_fault}
 use Rattle.update_job.specs.cny-base.declared.limits.TheConstants.{VERSION_LIMIT}
@@ -20,7 +20,8 @@ use Rattle.root_edits.specs.Finds.{IsSizeRefusal, IsSizeStop}
 use Rattle.root_edits.specs.Local.{IsLocalAnswer, IsLocalStop, PassesVersions}
 use Rattle.root_edits.specs.Moved.{local_size, too_long}
 use Rattle.root_edits.specs.Reached.{AreReached}
-use Rattle.root_edits.specs.Steps.{IsRefusalOrMemory, IsUninstalled}
+use Rattle.root_edits.specs.Steps.{IsUninstalled}
+use Rattle.cny_version.specs.cny-base.Refusals.{IsRefusalOrMemory}
 
 -- ---- what stands
 

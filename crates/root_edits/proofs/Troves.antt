@@ -12,7 +12,8 @@ use Rattle.update_job.specs.trove-parts.Files.{AreFiles}
 use Rattle.update_job.specs.trove-stream.declared.parts.TroveParts.{TroveParts}
 use Rattle.update_job.specs.trove-stream.Trove.{IsTrove, KeepsKind, IsComponentOf, HasOtherName}
 use Rattle.root_edits.specs.Moved.{keeps_others, is_moving, local_id, local_ref, local_version, AreLocalRefs}
-use Rattle.root_edits.proofs.Members.{all_from, contains_first, from_filter, nothing_in}
+use Rattle.root_edits.proofs.Members.{from_filter}
+use Rattle.cny_version.proofs.cny-base.Lists.{all_from, contains_first, nothing_in}
 
 -- what a reference becomes: its new id, or where the others are kept itself
 ref_cases : (keeps moves : Bool) (r id : TroveId) → cond moves (Some (local_id r)) (cond keeps (Some r) None) ≡ Some id → (id ≡ local_id r) ⊎ ((keeps ≡ true) × (id ≡ r))

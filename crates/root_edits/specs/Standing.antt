@@ -1,5 +1,5 @@
 -- Files by what stands at their paths: their records, the contents that are carried, and files that are too large.
-use Rattle.std.specs.Prelude.{false, if◌then◌else◌, nat_lt, List, [], ◌∷◌, length, map, Option, Some, None}
+use Rattle.std.specs.Prelude.{if◌then◌else◌, nat_lt, List, [], ◌∷◌, length, map, Option, Some, None}
 use Rattle.std.specs.FinMap.{get}
 use Rattle.std.specs.List.{filter_map}
 use Rattle.std.specs.Option.{option_map, option_or}
@@ -10,11 +10,10 @@ use Rattle.update_job.specs.cny-base.declared.node.Node.TheVariants as node
 use Rattle.update_job.specs.cny-base.declared.refusal.Refusal.{Refusal}
 use Rattle.update_job.specs.cny-base.declared.refusal.Refusal.TheVariants as refusal
 use Rattle.update_job.specs.cny-base.declared.refusal.What.TheVariants as what
-use Rattle.update_job.specs.file-stream.declared.record.Flags.{Flags}
 use Rattle.update_job.specs.file-stream.declared.record.FileRec.{FileRec}
 use Rattle.update_job.specs.file-stream.declared.record.FileRec.TheVariants.{Dir, File, Link}
+use Rattle.update_job.specs.file-stream.Record.{flags_of, has_name_and_size}
 use Rattle.update_job.specs.file-stream.Owner.{OwnerNames, root_owner}
-use Rattle.update_job.specs.file-stream.Record.{has_name_and_size}
 use Rattle.update_job.specs.trove-parts.declared.files.FileAt.{FileAt}
 use Rattle.update_job.specs.change-set.declared.change.Carried.{Carried}
 use Rattle.tree_scan.specs.tree-disk.Tree.{Tree}
@@ -38,15 +37,6 @@ abbrev pub owner_of : FileRec → OwnerNames
 owner_of (Dir mode owner) = owner
 owner_of (File mode owner flags size name) = owner
 owner_of (Link target) = root_owner
-
-abbrev pub no_flags : Flags
-no_flags = record { config = false; initial = false; transient = false }
-
--- the flags of a file's record; none of another one's
-abbrev pub flags_of : FileRec → Flags
-flags_of (Dir mode owner) = no_flags
-flags_of (File mode owner flags size name) = flags
-flags_of (Link target) = no_flags
 
 -- The record of what stands where this one was: kind and mode, size and SHA-1, and target are those of what stands; the owner stays,
 -- and the flags of a file stay with a file.

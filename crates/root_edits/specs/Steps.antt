@@ -26,11 +26,7 @@ use Rattle.tree_scan.specs.tree-disk.Tree.{Tree, may_stand}
 use Rattle.update_job.specs.Gone.{IsReached}
 use Rattle.root_edits.specs.Local.{all_contents, all_sights, AreLocalParts, IsLocalTrove, IsNotInstalled}
 use Rattle.root_edits.specs.Standing.{Sight, sights, local_contents, local_files, too_large, too_large_node}
-
--- this refusal, where there is one; or want of memory
-abbrev pub IsRefusalOrMemory : Option Refusal → Fault → Type 0
-IsRefusalOrMemory found (Refused refused) = found ≡ Some refused
-IsRefusalOrMemory found Memory = Unit {0}
+pub use Rattle.cny_version.specs.cny-base.Refusals.{IsRefusalOrMemory}
 
 abbrev pub IsUninstalled : List TroveParts → List ℕ → Fault → Type 0
 IsUninstalled list name (Refused refused) = IsNotInstalled list name refused

@@ -1,5 +1,5 @@
 -- How a tree differs from what troves record.
-use Rattle.std.specs.Prelude.{◌≡◌, ℕ, ◌-◌, ◌^◌, min, Bool, false, ◌==◌, ◌||◌, if◌then◌else◌, List, [], ◌∷◌, ◌++◌, length, filter, flat_map, Option, Some, None, IsSomeAnd, MatchBool, Contains}
+use Rattle.std.specs.Prelude.{◌≡◌, ℕ, ◌-◌, ◌^◌, min, Bool, false, ◌==◌, ◌||◌, if◌then◌else◌, List, [], ◌∷◌, ◌++◌, length, filter, Option, Some, None, IsSomeAnd, MatchBool, Contains}
 use Rattle.std.specs.List.{cons_option, list_any}
 use Rattle.std.specs.Option.{option_map}
 use Rattle.std.specs.Str.{bytes_eq}
@@ -18,6 +18,8 @@ use Rattle.tree_scan.specs.declared.verification.Found.TheVariants.{Missing, Cha
 use Rattle.tree_scan.specs.declared.verification.Verified.{Verified}
 use Rattle.tree_scan.specs.Differing.{count_of_differing_bytes}
 use Rattle.tree_scan.specs.Marks.{fingerprint_at, is_dir, is_nothing, same_mark}
+pub use Rattle.cny_version.specs.cny-base.Sized.{of_size}
+pub use Rattle.root_edits.specs.Local.{records}
 
 -- ---- one path
 
@@ -26,11 +28,6 @@ abbrev pub stands_as : Mark → FileRec → Bool
 stands_as mark (rec.Dir mode owner) = is_dir mark
 stands_as mark (rec.File mode owner flags size name) = same_mark mark (File mode size name)
 stands_as mark (rec.Link target) = same_mark mark (Link target)
-
--- a content that was found for a name, if it has the recorded size
-abbrev pub of_size : ℕ → Option (List ℕ) → Option (List ℕ)
-of_size size None = None
-of_size size (Some bytes) = if length bytes == size then Some bytes else None
 
 -- a file with these bytes stands where another one is recorded: in how many bytes they differ, where the recorded content is known
 abbrev pub changed_file : List ℕ → Option (List ℕ) → Found
@@ -61,10 +58,6 @@ finding_at map tree file = option_map (finding_of file.path) (found_at map tree 
 abbrev pub findings : ContentMap → Tree → List FileAt → List Finding
 findings map tree [] = []
 findings map tree (file ∷ files) = cons_option (finding_at map tree file) (findings map tree files)
-
--- what the troves record, trove by trove
-abbrev pub records : List TroveParts → List FileAt
-records troves = flat_map (λ (t : TroveParts). t.files) troves
 
 -- whether the trove is one of those asked for; with no names all are
 abbrev pub is_asked : List Name → TroveParts → Bool

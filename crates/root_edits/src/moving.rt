@@ -2,10 +2,8 @@
 ghost use Rattle.std.specs.Prelude.{◌≡◌, ◌≤◌, ◌++◌, [], false, length, map, All, IfErr, IfNone, IfOk, IfSome, OnOk};
 ghost use Rattle.std.specs.List.{cons_option};
 ghost use Rattle.update_job.specs.cny-base.declared.limits.TheConstants.{VERSION_LIMIT};
-ghost use Rattle.update_job.specs.cny-base.declared.refusal.Fault.TheVariants as fault;
 ghost use Rattle.update_job.specs.trove-parts.Id.{IsTroveId};
 ghost use Rattle.update_job.specs.trove-parts.Files.{AreFiles};
-ghost use Rattle.update_job.specs.trove-stream.Trove.{IsTrove};
 ghost use Rattle.root_edits.specs.Moved as spec;
 ghost use Rattle.root_edits.specs.Moved.{is_moving, local_refs, local_size, too_long, AreLocalRefs};
 ghost use Rattle.root_edits.specs.Steps.{HasIdAt, IsMadeOf, IsRefusalOrMemory, IsTooLong};
@@ -151,24 +149,6 @@ fn moved_refs(
     Ok(Refs::new(refs))
 }
 
-// The trove of these parts, which are those of one.
-fn trove_of(parts: TroveParts) -> Trove
-    requires { IsTrove parts }
-    ensures { result ≡ parts }
-{
-    let TroveParts {
-        id,
-        files,
-        refs,
-        requires_,
-        provides,
-    } = parts;
-    match Trove::make(id, files, refs, requires_, provides) {
-        Ok(trove) => trove,
-        Err(_) => unreachable!(),
-    }
-}
-
 /// The new trove of one of those that move: with this id, which is its new one, with these files, and with the references that are
 /// left.
 pub(crate) fn moved_trove(
@@ -197,7 +177,7 @@ pub(crate) fn moved_trove(
         requires_,
         provides,
     } = trove.copy()?.into_parts();
-    Ok(trove_of(TroveParts {
+    Ok(Trove::from_parts(TroveParts {
         id,
         files,
         refs,

@@ -19,7 +19,7 @@ use update_job::change_set::Carried;
 use update_job::cny_base::{
     CONTENT_LIMIT, Copies, Mode, Node, OutOfMemory, Path, Refusal, Stop, TextFault, What,
 };
-use update_job::file_stream::{FileRec, Flags, Owner};
+use update_job::file_stream::{FileRec, Owner};
 use update_job::trove_parts::{FileAt, Files};
 
 // ---- what stands
@@ -101,22 +101,6 @@ fn owner_of(alloc: Global, rec: &FileRec) -> Result<Owner, OutOfMemory>
     }
 }
 
-// The flags of a file's record; none of another one's.
-fn flags_of(rec: &FileRec) -> Flags
-    ensures { result ≡ spec.flags_of rec.now }
-{
-    let none = Flags {
-        config: false,
-        initial: false,
-        transient: false,
-    };
-    match rec {
-        FileRec::Dir { .. } => none,
-        FileRec::File { flags, .. } => *flags,
-        FileRec::Link { .. } => none,
-    }
-}
-
 // The SHA-1 of a file's bytes.
 fn name_of(node: &Node) -> [u8; 20]
     ensures { IsNameOf result node.now }
@@ -147,7 +131,7 @@ fn record_of(
         Node::File { mode, bytes } => FileRec::File {
             mode: *mode,
             owner: owner_of(alloc, rec)?,
-            flags: flags_of(rec),
+            flags: rec.flags(),
             size: bytes.get().len() as u32,
             name,
         },

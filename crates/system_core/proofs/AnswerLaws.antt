@@ -1,5 +1,5 @@
 -- What a job answers on every disk, from the tests on.
-use Rattle.std.proofs.Common.{◌≡◌, ◌⊎◌, ⊎_elim, IsTrue, List, Result, Ok, Err, IsErrAnd, refl, sym, subst, arith}
+use Rattle.std.proofs.Common.{◌≡◌, ◌⊎◌, ⊎_elim, List, Result, Ok, Err, IsErrAnd, refl, sym, subst, arith}
 use Rattle.std.specs.Prelude.{IfErr, Option, ℕ}
 use Rattle.rollback_stack.specs.cny-base.Stop.{stop_of_fault}
 use Rattle.rollback_stack.specs.cny-base.declared.refusal.Fault.{Fault}
@@ -13,8 +13,7 @@ use Rattle.rollback_stack.specs.tree-disk.Disk.{DiskModel, HasRead}
 use Rattle.rollback_stack.specs.content-store.Contents.{ContentsModel}
 use Rattle.rollback_stack.specs.journal-log.declared.put.Put.{Put}
 use Rattle.job_targets.specs.declared.entry.Entry.{Entry}
-use Rattle.conflict_plan.specs.declared.planned.Planned.{Planned}
-use Rattle.conflict_plan.specs.Plan.{IsPlanRefusal, IsPlanStop, IsUnshared, RefusesShared, TellsShared}
+use Rattle.conflict_plan.specs.Plan.{IsPlanRefusal, IsPlanStop, RefusesShared, TellsShared}
 use Rattle.dep_closure.specs.Closed.{IsClosed, IsUnmetOrMemory}
 use Rattle.update_job.specs.declared.comparing.Change.{Change}
 use Rattle.update_job.specs.Changes.{AreChanges}
@@ -26,12 +25,12 @@ use Rattle.system_core.specs.JobWriting.{AnswersJob, CollidesWriting, IsJobStop}
 use Rattle.local_db.specs.declared.db.Db.{Db}
 use Rattle.local_db.specs.Installed.{IsInstalled}
 use Rattle.system_core.specs.declared.done.Done.{Done}
-use Rattle.system_core.specs.Answers.{AnswersCall, AnswersDone, AnswersRefusal, HasList, IsTestAnswer, IsTestStop, PassesListTests, collided, last, no_list, untested}
+use Rattle.system_core.specs.Answers.{AnswersCall, AnswersRefusal, HasList, IsTestAnswer, IsTestStop, PassesListTests, collided, last, no_list, untested}
 use Rattle.system_core.specs.Job.{IsTestRefusal, IsTested, Sources}
 use Rattle.system_core.specs.Lists.{ListStep, to_list}
 use Rattle.system_core.specs.Something.{HasNothing}
-use Rattle.system_core.proofs.JobLaws.{err_is}
-use Rattle.system_core.proofs.ReadFirst.{read_as}
+use Rattle.system_core.proofs.EndingAll.{err_is}
+use Rattle.rollback_stack.proofs.Later.{read_as}
 
 -- ---- the tests
 
@@ -131,7 +130,7 @@ module _ {D C : Type 0} {disk : DiskModel D} {contents : ContentsModel C} (from 
 
 -- ---- from there to the call that leads to the list
 
-led : (step : ListStep) (list l : List TroveParts) → step.leads list → l ≡ list → step.leads l
+pub led : (step : ListStep) (list l : List TroveParts) → step.leads list → l ≡ list → step.leads l
 led step list l leads is = subst step.leads (sym is) leads
 
 module _ {D : Type 0} (disk : DiskModel D) (from : Sources) (step : ListStep) (db : Db) (old new : D) (now : Db) where

@@ -1,5 +1,5 @@
 -- From the job with a list after it to the call that leads to the list.
-use Rattle.std.proofs.Common.{◌≡◌, ⊎_elim, ℕ, List, [], Contains, None, Result, Ok, Err, IsErrAnd, refl, sym, subst, arith}
+use Rattle.std.proofs.Common.{◌≡◌, ⊎_elim, ℕ, List, Contains, None, Result, Ok, Err, IsErrAnd, refl, sym, subst, arith}
 use Rattle.std.specs.Prelude.{IfErr}
 use Rattle.std.proofs.lemmas.List.Elements.{All-contains, All-contains_itself, All-weaker}
 use Rattle.rollback_stack.specs.cny-base.Count.{Rose}
@@ -9,8 +9,6 @@ use Rattle.rollback_stack.specs.cny-base.declared.refusal.Fault.TheVariants as f
 use Rattle.rollback_stack.specs.cny-base.declared.refusal.Refusal.{Refusal}
 use Rattle.rollback_stack.specs.cny-base.declared.stop.Stop.{Stop}
 use Rattle.rollback_stack.specs.cny-base.declared.stop.Stop.TheVariants.{Refused, Memory, Failed, Damaged, FarFailed, FarDamaged}
-use Rattle.std.specs.List.Sorted.{IsStrictlySortedBy}
-use Rattle.rollback_stack.specs.change-set.ChangeSet.{content_cmp}
 use Rattle.rollback_stack.specs.content-store.Contents.{ContentsModel, empty_contents}
 use Rattle.rollback_stack.specs.trove-stream.Forbidden.{first_forbidden}
 use Rattle.rollback_stack.specs.trove-stream.declared.parts.TroveParts.{TroveParts}
@@ -18,14 +16,15 @@ use Rattle.rollback_stack.specs.tree-disk.Disk.{DiskModel, IsDisk}
 use Rattle.rollback_stack.specs.tree-disk.Moments.{same_start, time_start}
 use Rattle.local_db.specs.declared.db.Db.{Db}
 use Rattle.update_job.specs.Lists.{IsErased, IsOld, IsUpdated, Stays}
-use Rattle.update_job.proofs.Elements.{contains_at}
 use Rattle.local_db.specs.SystemState.{SystemState}
 use Rattle.system_core.specs.declared.done.Done.{Done}
 use Rattle.system_core.specs.Job.{Sources}
 use Rattle.system_core.specs.Lists.{AreAllowed, ListStep, to_list}
 use Rattle.system_core.specs.Steps.{Ends, HasCause, HasOwnCause, IsOnTheWay, IsRefusal, no_job, no_list, reading, writing}
-use Rattle.system_core.proofs.ReadFirst.{read_as}
-use Rattle.system_core.proofs.JobLaws.{err_is}
+use Rattle.local_db.proofs.cny-base.Lists.{contains_at}
+use Rattle.system_core.proofs.EndingAll.{err_is}
+use Rattle.system_core.proofs.AnswerLaws.{led}
+use Rattle.rollback_stack.proofs.Later.{read_as}
 
 -- ---- lists that may be
 
@@ -50,9 +49,6 @@ erased_allowed installed names list old is =
     All-weaker (Contains list) IsAllowed (λ t among. stays_allowed installed _ t old (is.stays t among)) list (All-contains_itself list)
 
 -- ---- how a call ends
-
-led : (step : ListStep) (list l : List TroveParts) → step.leads list → l ≡ list → step.leads l
-led step list l leads is = subst step.leads (sym is) leads
 
 refusal_by : (from : Sources) (step : ListStep) (s : SystemState) (list : List TroveParts) → step.leads list → (why : Refusal) → IsRefusal from (to_list list) s why → IsRefusal from step s why
 refusal_by from step s list leads why (no_list never) = absurd never
@@ -95,7 +91,7 @@ pub own_fault_cause : (rose : Type 0) (e : Fault) → HasOwnCause rose (stop_of_
 own_fault_cause rose (fault.Refused why) = tt
 own_fault_cause rose fault.Memory = tt
 
-no_rise : Rose 0 0 → ⊥
+pub no_rise : Rose 0 0 → ⊥
 no_rise h = omega (arith, h)
 
 -- a source without contents never fails, and nothing of it is damaged
@@ -110,8 +106,3 @@ own_cause far far' rose (FarDamaged path) cause = let h = cause refl in h.1.dama
 pub own_cause_of : {T : Type 0} (rose : Type 0) (e : Stop) (r : Result T Stop) → IsErrAnd r (λ x. x ≡ e) → HasOwnCause rose e → IfErr r (HasOwnCause rose)
 own_cause_of rose e (Ok x) is cause = tt
 own_cause_of rose e (Err x) is cause = subst (HasOwnCause rose) (sym is) cause
-
--- nothing carried rises
-pub no_carried : IsStrictlySortedBy content_cmp []
-unfolding IsStrictlySortedBy
-no_carried = tt

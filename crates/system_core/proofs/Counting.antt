@@ -3,12 +3,12 @@ use Rattle.std.proofs.Common.{◌≡◌, ◌≢◌, ⊎_elim, ℕ, ◌+◌, ◌-
 use Rattle.std.specs.Prelude.{nat_lt, if◌then◌else◌}
 use Rattle.std.proofs.lemmas.Bool.{cases_order}
 use Rattle.std.proofs.lemmas.Bool.Decides.{nat_tests}
-use Rattle.std.proofs.lemmas.List.{length-take-le}
 use Rattle.local_db.specs.SystemState.{AreNumbered, StackItem, newest, oldest}
-use Rattle.local_db.proofs.Systems.{low_at_least, numbered_rest, numbers_by_length}
-use Rattle.local_db.proofs.Writes.{contains_cases, contains_first, contains_rest, nothing_in}
-use Rattle.rollback_stack.specs.Writes.{newest_below, oldest_below}
+use Rattle.local_db.proofs.Systems.{low_at_least, numbers_by_length}
+use Rattle.rollback_stack.specs.Database.{newest_below, oldest_below}
 use Rattle.system_core.specs.Several.{HasJob, count_to, jobs_below, jobs_to}
+use Rattle.local_db.proofs.Several.{numbered_end}
+use Rattle.local_db.proofs.cny-base.Lists.{contains_cases, contains_first, contains_rest, nothing_in}
 
 -- ---- which numbers have a job
 
@@ -65,27 +65,23 @@ numbers_apart o (p ∷ os) r rest numbered =
     let later = numbers_apart p os r rest numbered.1 in
     omega (arith, next, later)
 
-oldest_stays : (os : List StackItem) (r : StackItem) (rest : List StackItem) → oldest (os ++ r ∷ rest) ≡ oldest (r ∷ rest)
+pub oldest_stays : (os : List StackItem) (r : StackItem) (rest : List StackItem) → oldest (os ++ r ∷ rest) ≡ oldest (r ∷ rest)
 oldest_stays [] r rest = refl
 oldest_stays (o ∷ []) r rest = refl
 oldest_stays (o ∷ p ∷ os) r rest = oldest_stays (p ∷ os) r rest
 
-numbered_end : (os rest : List StackItem) → AreNumbered (os ++ rest) → AreNumbered rest
-numbered_end [] rest numbered = numbered
-numbered_end (o ∷ os) rest numbered = numbered_end os rest (numbered_rest o (os ++ rest) numbered)
-
-is_below : (a b : ℕ) → a < b → nat_lt a b ≡ true
+pub is_below : (a b : ℕ) → a < b → nat_lt a b ≡ true
 is_below a b lt = grind (arith, nat_tests)
 
-chosen : (b : Bool) (x y : ℕ) → b ≡ true → (if b then x else y) ≡ x
+pub chosen : (b : Bool) (x y : ℕ) → b ≡ true → (if b then x else y) ≡ x
 chosen true x y is = refl
 chosen false x y is = absurd (cc is)
 
-other : (b : Bool) (x y : ℕ) → b ≡ false → (if b then x else y) ≡ y
+pub other : (b : Bool) (x y : ℕ) → b ≡ false → (if b then x else y) ≡ y
 other true x y is = absurd (cc is)
 other false x y is = refl
 
-not_lower : (a b : ℕ) → b ≤ a → nat_lt a b ≡ false
+pub not_lower : (a b : ℕ) → b ≤ a → nat_lt a b ≡ false
 not_lower a b le = grind (arith, nat_tests)
 
 pub record AreLeft (stack rest : List StackItem) (number : ℕ) : Type 0 where
@@ -128,6 +124,3 @@ numbers_left (o ∷ os) (r ∷ rest) number numbered low high count =
 
 pub split_at : (number : ℕ) (stack : List StackItem) → stack ≡ jobs_to number stack ++ jobs_below number stack
 split_at number stack = sym (take-append-drop (count_to number stack) stack)
-
-pub length_to : (number : ℕ) (stack : List StackItem) → count_to number stack ≤ length stack → length (jobs_to number stack) ≡ count_to number stack
-length_to number stack few = length-take-le (count_to number stack) stack few

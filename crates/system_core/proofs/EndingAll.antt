@@ -18,20 +18,22 @@ use Rattle.local_db.specs.SystemState.{IsStackItem, StackItem, SystemState, newe
 use Rattle.local_db.specs.declared.format.Format.{Format}
 use Rattle.local_db.specs.declared.format.Format.TheVariants.{Two}
 use Rattle.local_db.proofs.Several.{rollbacks_system}
-use Rattle.local_db.proofs.Writes.{nothing_in}
 use Rattle.rollback_stack.specs.declared.undo.Back.{Back}
 use Rattle.system_core.specs.RootWriting.{AreSettled, Goes, IsPut, RestsAt}
 use Rattle.rollback_stack.specs.Inverse.{IsBackRefusal, IsBackStop}
 use Rattle.rollback_stack.proofs.Later.{read_as}
 use Rattle.system_core.specs.RestoringAll.{AreRestored, AreUnedited, IsExceptionTo, RestoresTo}
-use Rattle.system_core.specs.Rollback.{HasCause, IsReadyWith, db_of}
+use Rattle.system_core.specs.Rollback.{HasCause, IsReadyWith}
 use Rattle.system_core.specs.Several.{EndsTo, HasJob, HasStepTo, HasTakenBackTo, IsRefusalKindTo, IsRefusalTo, IsStepTo, RollsBackTo, StopsTo, jobs_below, jobs_to, paths_of_jobs, rolled_back_to}
 use Rattle.system_core.proofs.Counting.{split_at}
 use Rattle.system_core.proofs.Moving.{moved}
 use Rattle.system_core.proofs.Restored.{left_alone, put_into}
 use Rattle.system_core.proofs.Sequence.{after_list, after_tree, after_whole}
 use Rattle.system_core.proofs.SteppingAll.{IsSystemStepTo, system_step_to, unfinished_to}
-use Rattle.system_core.proofs.NewestStored.{OneDatabase, OneRecord, all_front, all_middle, one_held}
+use Rattle.system_core.proofs.Held.{OneDatabase, one_held}
+use Rattle.system_core.proofs.Migration.{OneRecord}
+use Rattle.system_core.specs.Job.{db_of}
+use Rattle.local_db.proofs.cny-base.Lists.{left_all as all_front, all_at as all_middle, nothing_in}
 
 -- an error that is handed on
 pub err_is : {T : Type 0} (r : Result T Stop) (e : Stop) → IsErrAnd r (λ s. s ≡ e) → r ≡ Err e

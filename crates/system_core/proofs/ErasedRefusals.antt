@@ -23,15 +23,14 @@ use Rattle.job_targets.specs.Outcome.{IsMissing}
 use Rattle.job_targets.proofs.Changing.{own_plans}
 use Rattle.system_core.specs.Last.{too_large, too_many}
 use Rattle.update_job.specs.Lists.{IsErased, IsNotInstalled}
-use Rattle.update_job.proofs.Elements.{contains_at}
 use Rattle.local_db.specs.Installed.{IsInstalled}
 use Rattle.local_db.specs.SystemState.{SystemState}
-use Rattle.local_db.proofs.Writes.{contains_first, contains_rest}
 use Rattle.system_core.specs.declared.done.Done.{Done}
 use Rattle.system_core.specs.Job.{IsJobRefusal, IsTestRefusal, Sources, last, unmet, unplanned, untargeted, untested}
 use Rattle.system_core.specs.Lists.{to_erased}
 use Rattle.system_core.specs.Steps.{Ends, HasOwnCause, IsErasureRefusal, IsErasureStop, IsJobLimit, IsRefusal, no_job, no_list}
 use Rattle.system_core.proofs.Erasing.{erased_dir, erased_owned, erased_unshared}
+use Rattle.local_db.proofs.cny-base.Lists.{contains_at, contains_first, contains_rest}
 
 in_split : (front : List Planned) (x : Planned) (rest : List Planned) → Contains (front ++ x ∷ rest) x
 in_split [] x rest = contains_first x rest

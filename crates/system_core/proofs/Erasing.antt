@@ -6,35 +6,38 @@ use Rattle.std.proofs.lemmas.Slice.Eq.{bytes_eq-Decides}
 use Rattle.std.specs.List.{AllByRecursion, AllPairs}
 use Rattle.std.specs.List.Sorted.{IsStrictlySortedBy}
 use Rattle.std.specs.Cmp.Lexicographic.{slice_cmp}
-use Rattle.std.specs.Ordering.{nat_cmp, is_eq}
+use Rattle.std.specs.Ordering.{nat_cmp}
 use Rattle.std.specs.Str.{bytes_eq}
 use Rattle.std.specs.declared.cmp.Ordering.TheVariants.{Less}
 use Rattle.rollback_stack.specs.cny-base.Reserved.{is_pinned}
 use Rattle.rollback_stack.specs.cny-base.declared.options.Options.{Options}
 use Rattle.rollback_stack.specs.cny-base.declared.refusal.Refusal.TheVariants as refusal
 use Rattle.rollback_stack.specs.file-stream.declared.record.FileRec.{FileRec}
-use Rattle.rollback_stack.specs.file-stream.Record.{is_dir}
+use Rattle.rollback_stack.specs.file-stream.Record.{is_dir, flags_of}
 use Rattle.rollback_stack.specs.trove-parts.declared.files.FileAt.{FileAt}
 use Rattle.rollback_stack.specs.trove-parts.Files.{file_cmp}
 use Rattle.rollback_stack.specs.trove-stream.declared.parts.TroveParts.{TroveParts}
 use Rattle.rollback_stack.specs.trove-stream.Trove.{IsTrove}
 use Rattle.rollback_stack.specs.trove-stream.Installed.{by_name, IsRising}
-use Rattle.rollback_stack.specs.tree-disk.Laws.{same_itself, same_means}
+use Rattle.rollback_stack.specs.tree-disk.Laws.{same_means}
 use Rattle.rollback_stack.specs.tree-disk.Tree.{Name, Tree, same_name}
 use Rattle.rollback_stack.specs.tree-scan.declared.mark.Mark.{Mark}
-use Rattle.rollback_stack.specs.tree-scan.MarkLaws.{same_mark_itself}
+use Rattle.rollback_stack.proofs.tree-scan.MarkLaws.{same_mark_itself}
 use Rattle.rollback_stack.specs.tree-scan.Marks as marks
 use Rattle.rollback_stack.specs.tree-scan.Marks.{fingerprint_at, fingerprint_of_record, is_nothing}
 use Rattle.conflict_plan.specs.declared.planned.Planned.{Planned}
 use Rattle.conflict_plan.specs.declared.table.Outcome.{Outcome}
 use Rattle.conflict_plan.specs.declared.table.Outcome.TheVariants.{Stays, Removed, Written, Unowned, Edited}
 use Rattle.conflict_plan.specs.Claims.{Claim, claims, claims_in, first_record, owners, owners_at, record_at}
-use Rattle.conflict_plan.specs.Plan.{ArePlanned, HasChild, IsAnswer, change_of, conflict_at, mark_after, outcome_at, planned_at, refusal_of}
-use Rattle.conflict_plan.specs.Table.{changed_outcome, flags_of, is_recorded_so, matches, otherwise_outcome, outcome_by, path_outcome, recorded_outcome, unrecorded_outcome}
+use Rattle.conflict_plan.specs.Plan.{ArePlanned, HasChild, change_of, conflict_at, mark_after, outcome_at, planned_at, refusal_of}
+use Rattle.conflict_plan.specs.Table.{changed_outcome, is_recorded_so, matches, otherwise_outcome, outcome_by, path_outcome, recorded_outcome, unrecorded_outcome}
 use Rattle.local_db.specs.Installed.{are_apart, SharesDirsAlone}
-use Rattle.local_db.proofs.Writes.{contains_cases, contains_first, contains_rest, nothing_in}
 use Rattle.system_core.proofs.Formed.{same_other}
-use Rattle.system_core.proofs.Shared.{AreDirs, HasClaim, both_true, claim_dir, claims_behind, claims_front, dirs_unowned}
+use Rattle.system_core.proofs.Shared.{AreDirs, HasClaim, claim_dir, claims_behind, claims_front, dirs_unowned}
+use Rattle.update_job.specs.cny-base.Answer.{IsAnswer}
+use Rattle.local_db.proofs.cny-base.Doubling.{both as both_true}
+use Rattle.local_db.proofs.cny-base.Lists.{contains_cases, contains_first, contains_rest, nothing_in}
+use Rattle.update_job.proofs.Bases.{other_name as name_differs}
 
 -- ---- claims
 
@@ -161,9 +164,6 @@ one_claim name path (f ∷ fs) rising = at (same_name f.path path) refl (one_cla
         subst (λ (l : List Claim). AtMostOne ((name, f.rec) ∷ l))
         (sym (no_claim name path fs (subst (λ (p : Name). AllByRecursion (λ (g : FileAt). slice_cmp nat_cmp p g.path ≡ Less) fs) (same_means f.path path same) rising.0))) tt
     at false other rest = rest
-
-name_differs : (t u : TroveParts) → by_name t u ≡ Less → t.id.name ≡ u.id.name → ⊥
-name_differs t u less same = absurd (cc (same_itself u.id.name, ap is_eq (ap (λ (n : Name). slice_cmp nat_cmp n u.id.name) (sym same) ∙ less)))
 
 -- among troves of a list of a system a path has one claim at most, or claims of directories alone
 lone : (installed : List TroveParts) → AllPairs SharesDirsAlone installed → All IsTrove installed → (list : List TroveParts) → IsRising list → ((t : TroveParts) → Contains list t → Contains installed t)

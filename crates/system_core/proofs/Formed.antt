@@ -13,7 +13,8 @@ use Rattle.rollback_stack.specs.cny-base.Path.{is_path, parent, root}
 use Rattle.rollback_stack.specs.cny-base.Reserved.{is_pinned}
 use Rattle.rollback_stack.specs.cny-base.declared.node.Node.{Node}
 use Rattle.rollback_stack.specs.cny-base.declared.node.Node.TheVariants as node
-use Rattle.rollback_stack.specs.tree-disk.Laws.{get_put, get_put_here, get_put_other, same_itself, same_means}
+use Rattle.rollback_stack.specs.tree-disk.Laws.{get_put, same_means}
+use Rattle.rollback_stack.proofs.tree-disk.Laws.{get_put_here, get_put_other, same_itself}
 use Rattle.rollback_stack.specs.tree-disk.Tree.{Name, Tree, is_dir, may_stand, put, same_name, WellFormed}
 use Rattle.rollback_stack.specs.tree-scan.Marks as marks
 use Rattle.rollback_stack.specs.tree-scan.Marks.{fingerprint, fingerprint_at}
@@ -23,6 +24,7 @@ use Rattle.local_db.specs.SystemState.{IsFree}
 use Rattle.conflict_plan.specs.declared.planned.Planned.{Planned}
 use Rattle.conflict_plan.specs.Plan.{mark_after, planned_at, planned_cmp, planned_mark, IsOrphan}
 use Rattle.job_targets.specs.Targets.{HavePuts}
+use Rattle.tree_journal.proofs.tree-disk.Order.{other_way}
 
 -- ---- what holds at each name
 
@@ -55,12 +57,6 @@ none_later path (y ∷ xs) later = at (same_name y.path path) refl (none_later p
     at : (b : Bool) → same_name y.path path ≡ b → planned_at xs path ≡ None → cond b (Some y) (planned_at xs path) ≡ None
     at true same rest = absurd (same_other path y.path later.0 same)
     at false other rest = rest
-
-other_way : (p q : Name) → same_name p q ≡ false → same_name q p ≡ false
-other_way p q other = ⊎_elim
-    (λ same. absurd (cc (other, subst (λ x. same_name x q ≡ true) (same_means q p same) (same_itself q))))
-    (λ o. o)
-    (cases_Bool (same_name q p))
 
 -- at each name the result has the fingerprint that the plan leaves there
 pub planned_marks : (xs : List Planned) (ps : List Put) (t : Tree) → IsStrictlySortedBy planned_cmp xs → HavePuts xs ps

@@ -1,5 +1,5 @@
 -- A tree holds one database.
-use Rattle.std.proofs.Common.{◌≡◌, ℕ, List, Some, None, sym, ◌∙◌, ap}
+use Rattle.std.proofs.Common.{◌≡◌, ℕ, List, None, sym, ◌∙◌, ap}
 use Rattle.std.specs.FinMap.{get}
 use Rattle.rollback_stack.specs.content-store.Store.{file_bytes}
 use Rattle.rollback_stack.specs.trove-stream.declared.parts.TroveParts.{TroveParts}
@@ -11,6 +11,7 @@ use Rattle.local_db.specs.Formats.{database_bytes}
 use Rattle.local_db.specs.Names.{database}
 use Rattle.local_db.specs.Stores.{HoldsDatabase, HoldsFile, IsDatabase, SameDatabase, StoresIn, absent, written}
 use Rattle.local_db.specs.SystemState.{SystemState, newest, oldest}
+use Rattle.local_db.proofs.cny-base.OptionValues.{same_some}
 
 abbrev pub OneDatabase : Type 0
 OneDatabase = (f g : Format) (list other : List TroveParts) (low high lower higher : ℕ) → IsDatabase f list low high → IsDatabase g other lower higher
@@ -21,10 +22,7 @@ pub record SameParts (list other : List TroveParts) (low high lower higher : ℕ
   pub lows : low ≡ lower
   pub highs : high ≡ higher
 
-same_some : {A : Type 0} (x y : A) → Some x ≡ Some y → x ≡ y
-same_some x y e = cc e
-
-no_file : (x : Tree) (bytes : List ℕ) → get x database ≡ None → HoldsFile x database bytes → ⊥
+pub no_file : (x : Tree) (bytes : List ℕ) → get x database ≡ None → HoldsFile x database bytes → ⊥
 no_file x bytes none file = absurd (cc (ap file_bytes none, file))
 
 -- a tree holds one database

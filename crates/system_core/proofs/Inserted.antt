@@ -5,12 +5,13 @@ use Rattle.std.proofs.lemmas.List.Elements.{All-cons, All-head, All-nil, All-tai
 use Rattle.rollback_stack.specs.journal-log.declared.put.Put.{Put}
 use Rattle.rollback_stack.specs.journal-log.WriteSet.{ComesBefore, Rises}
 use Rattle.rollback_stack.specs.journal-log.Targets.{is_target}
-use Rattle.rollback_stack.specs.tree-disk.Laws.{same_itself}
+use Rattle.rollback_stack.proofs.tree-disk.Laws.{same_itself}
 use Rattle.rollback_stack.specs.tree-disk.Tree.{Name, same_name}
 use Rattle.local_db.specs.Steps.{IsUnion}
-use Rattle.local_db.proofs.Writes.{first_before}
-use Rattle.rollback_stack.proofs.Order.{name_cmp, placed}
 use Rattle.system_core.specs.Inserting.{without}
+use Rattle.tree_journal.proofs.WriteSets.{first_before}
+use Rattle.tree_journal.proofs.tree-disk.Order.{name_cmp}
+use Rattle.conflict_plan.proofs.Order.{placed}
 
 abbrev IsBefore : Put → Put → Type 0
 IsBefore q p = name_cmp p.path q.path ≡ Less

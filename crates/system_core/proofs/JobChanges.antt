@@ -1,54 +1,36 @@
--- How a job is taken back, by the changes from one list to the other.
-use Rattle.std.proofs.Common.{◌≡◌, ⊎_elim, inl, inr, ℕ, ◌+◌, ◌<◌, Bool, true, false, cond, ◌||◌, List, [], ◌∷◌, ◌++◌, length, take, get_or, IsTrue, Option, Some, None, Contains, refl, sym, ◌∙◌, ap, subst}
+-- The names that a job changes, by the changes from one list to the other.
+use Rattle.std.proofs.Common.{◌≡◌, ⊎_elim, inl, inr, Bool, true, false, ◌||◌, List, [], ◌∷◌, IsTrue, Option, Some, None, Contains, refl, sym, ◌∙◌, ap, subst}
 use Rattle.std.specs.Prelude.{◌≢◌}
-use Rattle.std.specs.List.{cons_option, filter_map, AllByRecursion}
-use Rattle.std.proofs.lemmas.List.{map_push, take_more}
-use Rattle.std.specs.Option.{option_map}
-use Rattle.std.specs.List.Sorted.{IsStrictlySortedBy}
-use Rattle.std.specs.Ordering.{nat_cmp}
-use Rattle.std.specs.Cmp.Lexicographic.{slice_cmp}
 use Rattle.std.specs.Str.{bytes_eq}
-use Rattle.std.specs.declared.cmp.Ordering.TheVariants.{Less}
 use Rattle.std.proofs.lemmas.Bool.{cases_Bool, false≢true}
 use Rattle.std.proofs.lemmas.Slice.Eq.{bytes_eq-Decides}
-use Rattle.std.proofs.lemmas.List.Elements.{All-contains, filter_map-append}
+use Rattle.std.proofs.lemmas.List.Elements.{All-contains}
 use Rattle.rollback_stack.specs.file-stream.declared.encoding.Encoding.TheVariants.{Explicit}
 use Rattle.rollback_stack.specs.trove-stream.Installed.{trove_of}
 use Rattle.rollback_stack.proofs.trove-stream.Places.{found, missed}
-use Rattle.rollback_stack.proofs.job-record.Names.{one_list}
-use Rattle.rollback_stack.specs.trove-parts.declared.id.TroveId.{TroveId}
 use Rattle.rollback_stack.specs.trove-stream.declared.parts.TroveParts.{TroveParts}
 use Rattle.rollback_stack.specs.trove-stream.Stream.{stream_bytes}
 use Rattle.rollback_stack.specs.trove-stream.Trove.{IsTrove}
 use Rattle.rollback_stack.specs.journal-log.declared.put.Put.{Put}
 use Rattle.rollback_stack.specs.tree-disk.Tree.{Name, same_name}
-use Rattle.rollback_stack.specs.tree-disk.Laws.{same_means, same_itself}
-use Rattle.rollback_stack.specs.tree-disk.ClearLaws.{or_left, or_right}
+use Rattle.rollback_stack.specs.tree-disk.Laws.{same_means}
+use Rattle.rollback_stack.proofs.tree-disk.Laws.{same_itself}
 use Rattle.update_job.specs.declared.comparing.Change.{Change}
 use Rattle.update_job.specs.declared.comparing.Change.TheVariants.{Installed, Updated, Erased}
-use Rattle.update_job.specs.Changes.{name_of, by_change, AreChanges, IsChange, IsFresh, IsLost}
+use Rattle.update_job.specs.Changes.{name_of, AreChanges, IsChange, IsFresh, IsLost}
 use Rattle.update_job.proofs.Noting.{found_in, nameless_from}
 use Rattle.local_db.specs.Installed.{IsInstalled}
 use Rattle.local_db.specs.SystemState.{is_listed}
-use Rattle.local_db.proofs.Writes.{nothing_in, contains_first, contains_rest, contains_cases}
-use Rattle.rollback_stack.proofs.Giving.{Distinct}
-use Rattle.rollback_stack.specs.Undo.{GivesBack, GivesBackAt, id_of}
-use Rattle.system_core.specs.JobLists.{names_of, troves_of, id_in, ids_of}
-use Rattle.system_core.proofs.Keyed.{found_at, rises_at}
-
-some_same : {A : Type 0} (x y : A) → Some x ≡ Some y → x ≡ y
-some_same x y e = cc e
+use Rattle.rollback_stack.specs.job-record.Changed.{AreChangedNames}
+use Rattle.system_core.specs.Changing.{names_of}
+use Rattle.system_core.proofs.ListChanges.{AreDistinct, names_rise}
+use Rattle.local_db.proofs.trove-stream.Names.{one_list}
+use Rattle.local_db.proofs.cny-base.Lists.{contains_cases, contains_first, contains_rest, nothing_in}
+use Rattle.local_db.proofs.Sorted.{in_listed as listed_from, listed_in as listed_is}
+use Rattle.local_db.proofs.cny-base.Bools.{or_left, or_right}
+use Rattle.local_db.proofs.cny-base.OptionValues.{same_some as some_same}
 
 -- ---- the names of the changes
-
--- what is found under the names of one change more
-pub found_more : {B : Type 0} (f : Name → Option B) (changes : List Change) (k : ℕ) (c : Change) → k < length changes → c ≡ get_or changes k c
-    → filter_map f (names_of (take (k + 1) changes)) ≡ filter_map f (names_of (take k changes)) ++ cons_option (f (name_of c)) []
-found_more f changes k c lt is =
-    ap (λ (l : List Change). filter_map f (names_of l)) (take_more changes k c lt)
-    ∙ ap (filter_map f) (map_push name_of (take k changes) (get_or changes k c))
-    ∙ filter_map-append f (names_of (take k changes)) (name_of (get_or changes k c) ∷ [])
-    ∙ ap (λ (y : Change). filter_map f (names_of (take k changes)) ++ cons_option (f (name_of y)) []) (sym is)
 
 pub record ChangeOf (changes : List Change) (name : Name) : Type 0 where
   pub change : Change
@@ -72,22 +54,9 @@ is_listed-from (d ∷ changes) c in' = ⊎_elim
     (λ (later : Contains changes c). or_right (same_name (name_of c) (name_of d)) _ (is_listed-from changes c later))
     (contains_cases d c changes in')
 
-later_names : (c : Change) (changes : List Change) → AllByRecursion (λ (d : Change). by_change c d ≡ Less) changes → AllByRecursion (λ (n : Name). slice_cmp nat_cmp (name_of c) n ≡ Less) (names_of changes)
-later_names c [] all = tt
-later_names c (d ∷ changes) all = (all.0, later_names c changes all.1)
-
-names_rise : (changes : List Change) → IsStrictlySortedBy by_change changes → IsStrictlySortedBy (slice_cmp nat_cmp) (names_of changes)
-unfolding IsStrictlySortedBy
-names_rise [] rise = tt
-names_rise (c ∷ changes) rise = (later_names c changes rise.0, names_rise changes rise.1)
-
 -- ---- what changes
 
-id_keyed : (list : List TroveParts) (n : Name) (o : Option TroveParts) (id : TroveId) → trove_of n list ≡ o → option_map (λ (t : TroveParts). t.id) o ≡ Some id → id.name ≡ n
-id_keyed list n None id is some = absurd (cc some)
-id_keyed list n (Some t) id is some = ap (λ (i : TroveId). i.name) (sym (some_same t.id id some)) ∙ (found_in list n t is).1
-
-module _ (distinct : Distinct) (before after : List TroveParts) (was : IsInstalled before) (now : IsInstalled after) (changes : List Change) (are : AreChanges before after changes) where
+module _ (distinct : AreDistinct) (before after : List TroveParts) (was : IsInstalled before) (now : IsInstalled after) (changes : List Change) (are : AreChanges before after changes) where
   lost_differs : (t : TroveParts) (c : Change) → Contains before t → IsLost after t c → trove_of (name_of c) before ≢ trove_of (name_of c) after
   lost_differs t c in' lost same =
       let at : name_of c ≡ t.id.name = ap name_of lost.change_is in
@@ -161,53 +130,14 @@ module _ (distinct : Distinct) (before after : List TroveParts) (was : IsInstall
   pub same_at : (name : Name) → is_listed (names_of changes) name ≡ false → trove_of name before ≡ trove_of name after
   same_at name out = both_same name out (trove_of name before) (trove_of name after) refl refl
 
-  -- ---- the lists of an undoing
-
-  back_at : (name : Name) → trove_of name (troves_of before (names_of changes)) ≡ cond (is_listed (names_of changes) name) (trove_of name before) None
-  back_at name = found_at (λ (t : TroveParts). t.id.name) (λ (n : Name). trove_of n before) (λ n t is. (found_in before n t is).1) (names_of changes) name
-
-  ids_at : (name : Name) → id_of name (ids_of after (names_of changes)) ≡ cond (is_listed (names_of changes) name) (id_in after name) None
-  ids_at name = found_at (λ (id : TroveId). id.name) (id_in after) (λ n id is. id_keyed after n (trove_of n after) id refl is) (names_of changes) name
-
-  at_these : (name : Name) (b : Option TroveParts) (i : Option TroveId) (n a : Option TroveParts) → trove_of name (troves_of before (names_of changes)) ≡ b → id_of name (ids_of after (names_of changes)) ≡ i
-      → trove_of name after ≡ n → trove_of name before ≡ a → GivesBackAt b i n a
-      → GivesBackAt (trove_of name (troves_of before (names_of changes))) (id_of name (ids_of after (names_of changes))) (trove_of name after) (trove_of name before)
-  at_these name b i n a b_is i_is n_is a_is gives =
-      subst (λ (o : Option TroveParts). GivesBackAt o (id_of name (ids_of after (names_of changes))) (trove_of name after) (trove_of name before)) (sym b_is)
-      (subst (λ (o : Option TroveId). GivesBackAt b o (trove_of name after) (trove_of name before)) (sym i_is)
-      (subst (λ (o : Option TroveParts). GivesBackAt b i o (trove_of name before)) (sym n_is)
-      (subst (λ (o : Option TroveParts). GivesBackAt b i n o) (sym a_is) gives)))
-
-  where_listed : (name : Name) → is_listed (names_of changes) name ≡ true → (a n : Option TroveParts) → trove_of name before ≡ a → trove_of name after ≡ n
-      → GivesBackAt (trove_of name (troves_of before (names_of changes))) (id_of name (ids_of after (names_of changes))) (trove_of name after) (trove_of name before)
-  where_listed name is a n a_is n_is =
-      let b_is : trove_of name (troves_of before (names_of changes)) ≡ a = back_at name ∙ ap (λ (b : Bool). cond b (trove_of name before) None) is ∙ a_is in
-      let i_is : id_of name (ids_of after (names_of changes)) ≡ option_map (λ (t : TroveParts). t.id) n =
-      ids_at name ∙ ap (λ (b : Bool). cond b (id_in after name) None) is ∙ ap (option_map (λ (t : TroveParts). t.id)) n_is in
-      at_these name a (option_map (λ (t : TroveParts). t.id) n) n a b_is i_is n_is a_is (gives a n a_is n_is)
-    where
-      gives : (a n : Option TroveParts) → trove_of name before ≡ a → trove_of name after ≡ n → GivesBackAt a (option_map (λ (t : TroveParts). t.id) n) n a
-      gives None None a_is n_is = absurd (differs_at name is (a_is ∙ sym n_is))
-      gives None (Some u) a_is n_is = (refl, refl)
-      gives (Some t) None a_is n_is = (refl, refl)
-      gives (Some t) (Some u) a_is n_is =
-          (refl, refl, (found_in before name t a_is).1 ∙ sym (found_in after name u n_is).1, λ same. differs_at name is (a_is ∙ ap Some (sym same) ∙ sym n_is))
-
-  gives_at : (name : Name) → GivesBackAt (trove_of name (troves_of before (names_of changes))) (id_of name (ids_of after (names_of changes))) (trove_of name after) (trove_of name before)
-  gives_at name = ⊎_elim
-      (λ (is : is_listed (names_of changes) name ≡ true). where_listed name is (trove_of name before) (trove_of name after) refl refl)
-      (λ (out : is_listed (names_of changes) name ≡ false). at_these name None None (trove_of name after) (trove_of name before)
-      (back_at name ∙ ap (λ (b : Bool). cond b (trove_of name before) None) out)
-      (ids_at name ∙ ap (λ (b : Bool). cond b (id_in after name) None) out)
-      refl refl (same_at name out))
-      (cases_Bool (is_listed (names_of changes) name))
-
-  pub gives_back : GivesBack (troves_of before (names_of changes)) (ids_of after (names_of changes)) after before
-  gives_back = record {
-    back_rises = rises_at (λ (t : TroveParts). t.id.name) (λ (n : Name). trove_of n before) (λ n t is. (found_in before n t is).1) (names_of changes) (names_rise changes are.rising);
-    ids_rise = rises_at (λ (id : TroveId). id.name) (id_in after) (λ n id is. id_keyed after n (trove_of n after) id refl is) (names_of changes) (names_rise changes are.rising);
-    before_rises = was.rising;
-    each = gives_at;
+  pub changed_names : AreChangedNames before after (names_of changes)
+  changed_names = record {
+    rising = names_rise changes are.rising;
+    changed = λ name there. record { differs = differs_at name (listed_from (names_of changes) name there) };
+    others = λ name none. ⊎_elim
+        (λ (is : is_listed (names_of changes) name ≡ true). absurd (none (listed_is (names_of changes) name is)))
+        (λ (out : is_listed (names_of changes) name ≡ false). same_at name out)
+        (cases_Bool (is_listed (names_of changes) name));
   }
 
   -- without a change the lists are one

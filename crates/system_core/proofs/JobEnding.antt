@@ -1,7 +1,6 @@
 -- How a job ends.
-use Rattle.std.proofs.Common.{◌≡◌, inl, inr, ℕ, ◌+◌, ◌≤◌, Bool, false, IsTrue, List, Option, Some, None, Result, Ok, Err, IfErr, IsErrAnd, All, refl, sym, ◌∙◌, ap, subst, arith}
+use Rattle.std.proofs.Common.{◌≡◌, inl, inr, ℕ, ◌+◌, ◌≤◌, Bool, false, IsTrue, List, Option, Some, None, Result, Ok, Err, IfErr, IsErrAnd, refl, sym, ◌∙◌, ap, subst, arith}
 use Rattle.std.specs.Prelude.{◌≢◌, IsErrOf}
-use Rattle.std.proofs.lemmas.List.Elements.{All-map}
 use Rattle.std.specs.FinMap.{get}
 use Rattle.rollback_stack.specs.content-store.Store.{file_bytes}
 use Rattle.rollback_stack.specs.cny-base.Count.{Rose}
@@ -14,11 +13,11 @@ use Rattle.rollback_stack.specs.cny-base.declared.refusal.Fault.TheVariants as f
 use Rattle.rollback_stack.specs.cny-base.declared.stop.Stop.{Stop}
 use Rattle.rollback_stack.specs.cny-base.declared.stop.Stop.TheVariants.{Refused, Memory, Failed, Damaged, FarFailed, FarDamaged}
 use Rattle.rollback_stack.specs.trove-stream.declared.parts.TroveParts.{TroveParts}
-use Rattle.rollback_stack.specs.tree-disk.Tree.{Tree, is_dir}
+use Rattle.rollback_stack.specs.tree-disk.Tree.{Name, Tree, is_dir}
 use Rattle.rollback_stack.specs.tree-disk.Disk.{DiskModel, IsDisk}
 use Rattle.rollback_stack.specs.tree-disk.Confined.{Among}
-use Rattle.rollback_stack.specs.tree-disk.ConfinedLaws.{confined_start}
-use Rattle.rollback_stack.specs.tree-disk.Moments.{rose_before}
+use Rattle.rollback_stack.proofs.tree-disk.ConfinedLaws.{confined_start}
+use Rattle.rollback_stack.proofs.tree-disk.Moments.{rose_before}
 use Rattle.rollback_stack.specs.tree-disk.Steps.{IsDiskStop}
 use Rattle.rollback_stack.specs.journal-log.declared.put.Put.{Put}
 use Rattle.job_targets.specs.declared.entry.Entry.{Entry}
@@ -27,24 +26,22 @@ use Rattle.local_db.specs.declared.format.Format.TheVariants.{Two}
 use Rattle.local_db.specs.Formats.{database_bytes, AreEnds, Fits}
 use Rattle.local_db.specs.Installed.{IsInstalled}
 use Rattle.local_db.specs.Names.{database}
-use Rattle.local_db.specs.Record as state
-use Rattle.local_db.specs.Record.{PassesChecks}
 use Rattle.local_db.specs.Stores.{absent, written, HoldsDatabase, IsDatabase, SameDatabase, StoresIn}
-use Rattle.local_db.specs.SystemState.{SystemState, newest, oldest, IsFree}
+use Rattle.local_db.specs.SystemState.{SystemState, newest, oldest}
 use Rattle.local_db.specs.Steps.{after_job, old_of}
 use Rattle.local_db.specs.declared.db.Db.{Db}
-use Rattle.rollback_stack.proofs.job-record.Mapping.{unmapped}
 use Rattle.rollback_stack.specs.Pushing.{IsPushStop}
 use Rattle.rollback_stack.proofs.Pushed.{keeps_start}
 use Rattle.rollback_stack.specs.Saving.{is_saving_name}
-use Rattle.rollback_stack.specs.declared.undo.Undo.{Undo}
-use Rattle.rollback_stack.specs.Undo.{entries_of, entry_of, AreEntries, FitsDb, GivesBack, LeadsTo}
+use Rattle.rollback_stack.specs.job-record.Changed.{AreChangedNames}
 use Rattle.system_core.specs.RootWriting.{Goes}
-use Rattle.system_core.specs.Last.{db_after, number_after, oldest_after, too_large, too_many, ChangesNothing, IsLastOrMemory, IsRefusedLast, IsRefusedOrMemory, PassesLast}
+use Rattle.system_core.specs.Last.{number_after, oldest_after, too_large, too_many, ChangesNothing, IsLastOrMemory, IsRefusedOrMemory, PassesLast}
 use Rattle.system_core.specs.Last as last
-use Rattle.system_core.specs.JobWriting.{AnswersJob, AreTargets, AreTargetsOf, CanPutJob, CanWriteJob, IsJobFrom, IsJobOf, IsJobStop, JobEnds, done}
-use Rattle.system_core.proofs.JobNumbers.{below_limit, ends_after, number_is, oldest_pushed}
+use Rattle.system_core.specs.JobWriting.{AnswersJob, AreTargetsOf, CanPutJob, CanWriteJob, IsJobFrom, IsJobOf, IsJobStop, JobEnds, done}
+use Rattle.system_core.proofs.JobNumbers.{ends_after, number_is, oldest_pushed}
 use Rattle.system_core.proofs.JobRunning.{stopped_before}
+use Rattle.rollback_stack.proofs.Rewriting.{most as below_limit}
+use Rattle.local_db.proofs.cny-base.OptionValues.{same_some as some_same}
 
 -- ---- one database
 
@@ -55,9 +52,6 @@ Unique = (f g : Format) (list other : List TroveParts) (low high lower higher : 
 no_file : {A : Type 0} (n : Option Node) (bytes : List ℕ) → n ≡ None → file_bytes n ≡ Some bytes → A
 no_file n bytes none some = absurd (cc (some, ap file_bytes none))
 
-some_same : {A : Type 0} (x y : A) → Some x ≡ Some y → x ≡ y
-some_same x y e = cc e
-
 one_database : Unique → (x : Tree) (list other : List TroveParts) (low high lower higher : ℕ) → HoldsDatabase Two x list low high → HoldsDatabase Two x other lower higher
     → SameDatabase Two Two list other low high lower higher
 one_database unique x list other low high lower higher (absent none list_is low_is high_is) (absent gone other_is lower_is higher_is) =
@@ -67,7 +61,7 @@ one_database unique x list other low high lower higher (written is file) (absent
 one_database unique x list other low high lower higher (written is file) (written are file') =
     unique Two Two list other low high lower higher is are (some_same _ _ (sym file ∙ file'))
 
-is_file_or_none : (n : Option Node) (bytes : List ℕ) → file_bytes n ≡ Some bytes → is_dir n ≡ false
+pub is_file_or_none : (n : Option Node) (bytes : List ℕ) → file_bytes n ≡ Some bytes → is_dir n ≡ false
 is_file_or_none None bytes is = refl
 is_file_or_none (Some (node.Dir mode)) bytes is = absurd (cc is)
 is_file_or_none (Some (node.File mode got)) bytes is = refl
@@ -79,8 +73,8 @@ no_dir_at x list low high (written is file) = is_file_or_none (get x database) _
 
 -- ---- the job, by the values
 
-module _ (before : Db) (list : List TroveParts) (puts : List Put) (es : List Entry) (undo : Undo) (db : Db) (bytes : List ℕ)
-    (is : IsJobOf before list es undo db bytes) (room : before.newest ≢ JOBS_LIMIT) (was : IsDatabase Two before.installed before.oldest before.newest) (installed : IsInstalled list) where
+module _ (before : Db) (list : List TroveParts) (puts : List Put) (es : List Entry) (names : List Name) (db : Db) (bytes : List ℕ)
+    (is : IsJobOf before list names db bytes) (room : before.newest ≢ JOBS_LIMIT) (was : IsDatabase Two before.installed before.oldest before.newest) (installed : IsInstalled list) where
   list_is : db.installed ≡ list
   list_is = ap (λ (d : Db). d.installed) is.db_is
 
@@ -100,55 +94,37 @@ module _ (before : Db) (list : List TroveParts) (puts : List Put) (es : List Ent
     fits = subst (Fits Two) (sym list_is) is.fits;
   }
 
-  gives_db : GivesBack undo.back undo.after db.installed before.installed
-  gives_db = subst (λ (l : List TroveParts). GivesBack undo.back undo.after l before.installed) (sym list_is) is.gives
+  pub is_first : 1 ≤ db.newest
+  is_first = let next = next_is in omega (arith, next)
 
-  free_paths : AreTargets puts es → All (λ (e : state.Entry). IsFree e.path) (entries_of es)
-  free_paths targets = All-map (λ (e : state.Entry). IsFree e.path) entry_of es
-      (unmapped IsFree (λ (e : Entry). e.path) es (subst (All IsFree) (sym targets.paths) (All-map IsFree (λ (p : Put). p.path) puts targets.free)))
-
-  leads : AreTargets puts es → LeadsTo undo db before.installed
-  leads targets = record {
-    is_job = let next = is.number ∙ next_is in omega (arith, next);
-    newest = is.number;
-    gives = gives_db;
-    entries_are = subst AreEntries (sym is.entries) targets.entries;
-    checks = subst (λ (l : List Entry). PassesChecks Two before.installed (entries_of l)) (sym is.entries) (record {
-      list = was.installed;
-      fits = was.fits;
-      free = free_paths targets;
-      something = targets.something;
-    });
-  }
-
-  pub fits_db : AreTargets puts es → FitsDb undo db
-  fits_db targets = record { before = before.installed; leads = leads targets }
+  pub names_db : AreChangedNames before.installed db.installed names
+  names_db = subst (λ (l : List TroveParts). AreChangedNames before.installed l names) (sym list_is) is.names_are
 
   -- from a system that the root stores
-  pub job_from : Unique → (x : Tree) (s : SystemState) → HoldsDatabase Two x before.installed before.oldest before.newest → StoresIn Two x s → IsJobFrom s puts undo db
+  pub job_from : Unique → (x : Tree) (s : SystemState) → HoldsDatabase Two x before.installed before.oldest before.newest → StoresIn Two x s → IsJobFrom s puts before.installed db
   job_from unique x s holds stores =
       let same = one_database unique x before.installed s.installed before.oldest before.newest (oldest s.stack) (newest s.stack) holds stores.list in
       record {
         newest_is = next_is ∙ ap (λ (n : ℕ). n + 1) same.newest;
         oldest_is = oldest_is ∙ (λ i. oldest_after (same.oldest i) (number_after (same.newest i)))
             ∙ sym (oldest_pushed (old_of puts s) s.stack stores.system.numbered stores.system.few refl stores.system.number (λ full. room (same.newest ∙ full)));
-        gives = subst (GivesBack undo.back undo.after db.installed) same.lists gives_db;
+        list_is = same.lists;
       }
 
   -- ---- what the root holds
 
   module _ {D : Type 0} {disk : DiskModel D} (laws : IsDisk disk) (old : D) (can : CanWriteJob disk before puts es old) where
-    pub can_put : CanPutJob disk puts undo.entries old
-    can_put = record {
+    pub can_put : (fs : List Entry) → fs ≡ es → CanPutJob disk puts fs old
+    can_put fs same = record {
       flag_clear = can.flag_clear;
       synced = can.synced;
       pinned = can.pinned;
       no_dir = no_dir_at (disk.reads old) before.installed before.oldest before.newest can.holds;
-      targets = subst (AreTargetsOf (disk.reads old) puts) (sym is.entries) can.targets;
+      targets = subst (AreTargetsOf (disk.reads old) puts) (sym same) can.targets;
     }
 
     module _ (unique : Unique) (new : D) (s : SystemState) (stores : StoresIn Two (disk.reads old) s) where
-      from : IsJobFrom s puts undo db
+      from : IsJobFrom s puts before.installed db
       from = job_from unique (disk.reads old) s can.holds stores
 
       as_list : (result : Result (Unit {0}) Stop) → Goes disk Two s (after_job puts db.installed s) puts old new result → Goes disk Two s (after_job puts list s) puts old new result

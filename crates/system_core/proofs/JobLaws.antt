@@ -13,7 +13,8 @@ use Rattle.rollback_stack.specs.trove-stream.declared.parts.TroveParts.{TrovePar
 use Rattle.rollback_stack.specs.trove-stream.Trove.{IsTrove}
 use Rattle.rollback_stack.specs.tree-disk.Tree.{Tree}
 use Rattle.rollback_stack.specs.tree-disk.Disk.{DiskModel, HasRead, IsDisk}
-use Rattle.rollback_stack.specs.tree-disk.Moments.{rose_before, same_start, time_start}
+use Rattle.rollback_stack.specs.tree-disk.Moments.{same_start, time_start}
+use Rattle.rollback_stack.proofs.tree-disk.Moments.{rose_before}
 use Rattle.rollback_stack.specs.content-store.Contents.{ContentsModel}
 use Rattle.rollback_stack.specs.journal-log.declared.put.Put.{Put}
 use Rattle.local_db.specs.declared.db.Db.{Db}
@@ -37,12 +38,9 @@ use Rattle.system_core.specs.Steps.{EndsWith, Ends, HasCause, IsOnTheWay, change
 use Rattle.system_core.proofs.Held.{OneDatabase, SameParts, one_held}
 use Rattle.system_core.proofs.Managed.{IsManaged, KeepsOut}
 use Rattle.system_core.proofs.ManagedTargets.{test_refusal_managed, tested_managed}
-use Rattle.system_core.proofs.ReadFirst.{goes_behind, read_as}
-
--- an error that is handed on
-pub err_is : {T : Type 0} (r : Result T Stop) (e : Stop) → IsErrAnd r (λ s. s ≡ e) → r ≡ Err e
-err_is (Ok x) e is = absurd is
-err_is (Err s) e is = ap Err is
+use Rattle.system_core.proofs.ReadFirst.{goes_behind}
+use Rattle.system_core.proofs.EndingAll.{err_is}
+use Rattle.rollback_stack.proofs.Later.{read_as}
 
 -- ---- why it stops, on every disk
 

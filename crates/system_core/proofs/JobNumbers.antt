@@ -25,10 +25,6 @@ stack_is = refl
 pub number_is : (newest : ℕ) → newest ≤ JOBS_LIMIT → newest ≢ JOBS_LIMIT → number_after newest ≡ newest + 1
 number_is newest most other = omega (arith, jobs_is, most, other)
 
-pub below_limit : (oldest newest : ℕ) → AreEnds oldest newest → newest ≤ JOBS_LIMIT
-below_limit oldest newest (inl none) = omega (arith, jobs_is, none.1)
-below_limit oldest newest (inr some) = some.3
-
 -- they are those of a database
 pub ends_after : (oldest newest : ℕ) → AreEnds oldest newest → newest ≢ JOBS_LIMIT → AreEnds (oldest_after oldest (number_after newest)) (number_after newest)
 ends_after oldest newest (inl none) room = inr (

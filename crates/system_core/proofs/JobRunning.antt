@@ -7,16 +7,17 @@ use Rattle.std.specs.FinMap.{get}
 use Rattle.rollback_stack.specs.cny-base.Reserved.{private_directory, is_reserved}
 use Rattle.rollback_stack.specs.cny-base.declared.limits.TheConstants.{JOBS_LIMIT}
 use Rattle.rollback_stack.specs.cny-base.declared.stop.Stop.{Stop}
-use Rattle.rollback_stack.specs.trove-parts.declared.id.TroveId.{TroveId}
 use Rattle.rollback_stack.specs.trove-stream.declared.parts.TroveParts.{TroveParts}
 use Rattle.rollback_stack.specs.tree-disk.Tree.{Name, Tree, same_name, is_dir, may_stand}
-use Rattle.rollback_stack.specs.tree-disk.ClearLaws.{or_left, or_right, or_cases}
-use Rattle.rollback_stack.specs.tree-disk.Laws.{same_itself, same_means}
+use Rattle.rollback_stack.proofs.tree-disk.ClearLaws.{or_cases}
+use Rattle.rollback_stack.specs.tree-disk.Laws.{same_means}
+use Rattle.rollback_stack.proofs.tree-disk.Laws.{same_itself}
 use Rattle.rollback_stack.specs.tree-disk.Disk.{DiskModel, IsDisk}
 use Rattle.rollback_stack.specs.tree-disk.Moments.{shows_weaker}
-use Rattle.rollback_stack.specs.tree-disk.Confined.{AgreesExcept, Among, Confined, DiffersOnlyAt, IsSynced, IsUnsyncedOr, LeavesOnly}
-use Rattle.rollback_stack.specs.tree-disk.ConfinedLaws.{confined_then, confined_wider, false_from_not, leaves_then, leaves_weaker}
-use Rattle.rollback_stack.specs.tree-disk.Unfailed.{UnlessFailed, unfailed_then}
+use Rattle.rollback_stack.specs.tree-disk.Confined.{Among, Confined, DiffersOnlyAt, IsSynced, IsUnsyncedOr, LeavesOnly}
+use Rattle.rollback_stack.proofs.tree-disk.ConfinedLaws.{confined_then, confined_wider, false_from_not, leaves_then, leaves_weaker}
+use Rattle.rollback_stack.specs.tree-disk.Unfailed.{UnlessFailed}
+use Rattle.rollback_stack.proofs.tree-disk.Unfailed.{unfailed_then}
 use Rattle.rollback_stack.specs.journal-log.declared.put.Put.{Put}
 use Rattle.rollback_stack.specs.journal-log.Own.{gate}
 use Rattle.rollback_stack.specs.journal-log.Targets.{is_target, node_of, with_targets}
@@ -30,35 +31,22 @@ use Rattle.local_db.specs.Record.{IsRecord}
 use Rattle.local_db.specs.Stores.{StoresIn, IsDatabase}
 use Rattle.local_db.specs.SystemState.{SystemState, newest, IsFree}
 use Rattle.local_db.specs.Steps.{after_job, old_of, record_put, IsUnion}
-use Rattle.local_db.proofs.Jobs.{neither}
 use Rattle.local_db.proofs.Places.{database_reserved, place_not_database, place_reserved, record_reserved}
-use Rattle.local_db.proofs.Writes.{contains_cases, is_target-from, nothing_in, target_at}
-use Rattle.rollback_stack.proofs.job-record.Names.{one_list}
-use Rattle.rollback_stack.specs.trove-stream.Installed.{trove_of}
 use Rattle.local_db.specs.declared.db.Db.{Db}
 use Rattle.rollback_stack.specs.Saving.{dropped_below, is_dropped_place, is_saving_name, IsNextJob, KeepsSystem}
 use Rattle.rollback_stack.proofs.Keeping.{not_counted}
-use Rattle.rollback_stack.specs.declared.undo.Undo.{Undo}
-use Rattle.rollback_stack.specs.Undo.{entries_of, id_of, FitsDb, GivesBack, GivesBackAt}
+use Rattle.job_targets.specs.declared.entry.Entry.{Entry}
+use Rattle.rollback_stack.specs.Entries.{AreEntries, entries_of}
 use Rattle.rollback_stack.specs.Pushing.{is_written, IsPushed}
 use Rattle.system_core.specs.RootWriting.{AreSettled, CanWrite, Goes, RecoversToEither, ShowsEither, is_private_or_target}
 use Rattle.system_core.specs.JobWriting.{CanPutJob, IsJobFrom}
 use Rattle.system_core.specs.JobWriting as spec
 use Rattle.system_core.proofs.StoredJob as stored
-
--- ---- one list before
-
-determined : (b : Option TroveParts) (i : Option TroveId) (n x y : Option TroveParts) → GivesBackAt b i n x → GivesBackAt b i n y → x ≡ y
-determined None None n x y p q = p ∙ sym q
-determined (Some was) None n x y p q = p.1 ∙ sym q.1
-determined None (Some id) None x y p q = absurd p
-determined None (Some id) (Some t) x y p q = p.1 ∙ sym q.1
-determined (Some was) (Some id) None x y p q = absurd p
-determined (Some was) (Some id) (Some t) x y p q = p.1 ∙ sym q.1
-
-pub one_before : (back : List TroveParts) (ids : List TroveId) (now a b : List TroveParts) → GivesBack back ids now a → GivesBack back ids now b → a ≡ b
-one_before back ids now a b p q = one_list a b p.before_rises q.before_rises
-    (λ name. determined (trove_of name back) (id_of name ids) (trove_of name now) (trove_of name a) (trove_of name b) (p.each name) (q.each name))
+use Rattle.tree_journal.proofs.WriteSets.{target_at}
+use Rattle.local_db.proofs.cny-base.Lists.{contains_cases, nothing_in}
+use Rattle.tree_journal.proofs.journal-log.Walking.{listed as is_target-from}
+use Rattle.tree_journal.proofs.tree-disk.Children.{or_none as neither}
+use Rattle.local_db.proofs.cny-base.Bools.{or_left, or_right}
 
 -- ---- the names that are written before the write set
 
@@ -205,8 +193,8 @@ module _ {D : Type 0} {disk : DiskModel D} where
         }
 
 -- the job comes next
-pub next_job : (puts : List Put) (undo : Undo) (db : Db) (s : SystemState) → IsJobFrom s puts undo db → IsNextJob s db.newest (dropped_below db.oldest)
-next_job puts undo db s from = record {
+pub next_job : (puts : List Put) (before : List TroveParts) (db : Db) (s : SystemState) → IsJobFrom s puts before db → IsNextJob s db.newest (dropped_below db.oldest)
+next_job puts before db s from = record {
   job = old_of puts s;
   number_is = sym from.newest_is;
   next = from.newest_is;
@@ -215,9 +203,9 @@ next_job puts undo db s from = record {
 
 -- ---- what the write set asks, and the system after it
 
-module _ {D : Type 0} {disk : DiskModel D} (laws : IsDisk disk) (puts : List Put) (undo : Undo) (db : Db) (rises : Rises puts) (free : All (λ (p : Put). IsFree p.path) puts)
-    (given : All (λ (p : Put). is_staged p.want ≡ false) puts) (is_db : IsDatabase Two db.installed db.oldest db.newest) (fits : FitsDb undo db)
-    (old mid : D) (can : CanPutJob disk puts undo.entries old) (confined : Confined disk (Among (is_written db)) old mid) where
+module _ {D : Type 0} {disk : DiskModel D} (laws : IsDisk disk) (puts : List Put) (before : List TroveParts) (es : List Entry) (db : Db) (rises : Rises puts) (free : All (λ (p : Put). IsFree p.path) puts)
+    (given : All (λ (p : Put). is_staged p.want ≡ false) puts) (is_db : IsDatabase Two db.installed db.oldest db.newest) (are : AreEntries es)
+    (old mid : D) (can : CanPutJob disk puts es old) (confined : Confined disk (Among (is_written db)) old mid) where
   outer_same : (q : Name) → is_reserved q ≡ false → get (disk.reads mid) q ≡ get (disk.reads old) q
   outer_same q out = outer_stays db.newest (dropped_below db.oldest) puts old mid can.flag_clear can.synced confined q out
 
@@ -228,18 +216,12 @@ module _ {D : Type 0} {disk : DiskModel D} (laws : IsDisk disk) (puts : List Put
       top low high (inl none) = let limit : JOBS_LIMIT ≡ 4294967295 = refl in omega (arith, limit, none.1)
       top low high (inr some) = some.3
 
-  module _ (records all : List Put) (bytes : List ℕ) (pushed_is : IsPushed (disk.reads mid) undo db records) (union : IsUnion all puts (records ++ spec.database_write bytes ∷ []))
+  module _ (records all : List Put) (bytes : List ℕ) (pushed_is : IsPushed (disk.reads mid) before es db records) (union : IsUnion all puts (records ++ spec.database_write bytes ∷ []))
       (stand : All (λ (p : Put). IsTrue (may_stand (node_of p.want))) all) where
-    number_same : undo.number ≡ db.newest
-    number_same = fits.leads.newest
-
-    union_is : IsUnion all puts (record_put undo.number pushed_is.mode pushed_is.bytes ∷ spec.database_write bytes ∷ [])
+    union_is : IsUnion all puts (record_put db.newest pushed_is.mode pushed_is.bytes ∷ spec.database_write bytes ∷ [])
     union_is = subst (λ (l : List Put). IsUnion all puts (l ++ spec.database_write bytes ∷ [])) pushed_is.puts_are union
 
-    number_fits : undo.number ≤ JOBS_LIMIT
-    number_fits = subst (λ (k : ℕ). k ≤ JOBS_LIMIT) (sym number_same) most
-
-    unstaged : (p : Put) → Contains puts p ⊎ Contains (record_put undo.number pushed_is.mode pushed_is.bytes ∷ spec.database_write bytes ∷ []) p → is_staged p.want ≡ false
+    unstaged : (p : Put) → Contains puts p ⊎ Contains (record_put db.newest pushed_is.mode pushed_is.bytes ∷ spec.database_write bytes ∷ []) p → is_staged p.want ≡ false
     unstaged p (inl in') = All-contains (λ (p : Put). is_staged p.want ≡ false) puts p given in'
     unstaged p (inr in') = ⊎_elim
         (λ same. ap (λ (q : Put). is_staged q.want) (sym same))
@@ -247,7 +229,7 @@ module _ {D : Type 0} {disk : DiskModel D} (laws : IsDisk disk) (puts : List Put
         (λ same. ap (λ (q : Put). is_staged q.want) (sym same))
         (λ none. absurd (nothing_in p none))
         (contains_cases (spec.database_write bytes) p [] rest))
-        (contains_cases (record_put undo.number pushed_is.mode pushed_is.bytes) p (spec.database_write bytes ∷ []) in')
+        (contains_cases (record_put db.newest pushed_is.mode pushed_is.bytes) p (spec.database_write bytes ∷ []) in')
 
     pub can_write : CanWrite disk all mid
     can_write = record {
@@ -255,34 +237,27 @@ module _ {D : Type 0} {disk : DiskModel D} (laws : IsDisk disk) (puts : List Put
       flag_synced = flag_synced db.newest (dropped_below db.oldest) puts old mid can.flag_clear can.synced confined;
       given = λ k d lt. unstaged (get_or all k d) (union_is.no_other k d lt);
       some = puts;
-      more = record_put undo.number pushed_is.mode pushed_is.bytes ∷ spec.database_write bytes ∷ [];
+      more = record_put db.newest pushed_is.mode pushed_is.bytes ∷ spec.database_write bytes ∷ [];
       managed = with_targets puts (disk.reads old);
-      puttable = stored.puttable puts undo.entries (disk.reads old) (disk.reads mid) rises free can.targets outer_same
-          all undo.number pushed_is.mode pushed_is.bytes bytes union_is number_fits (laws.reads_well_formed mid) pushed_is.ready.base
-          (pushed_is.ready.no_record (record_file undo.number) (or_left (same_name (record_file undo.number) (record_file undo.number)) _ (same_itself (record_file undo.number))))
+      puttable = stored.puttable puts es (disk.reads old) (disk.reads mid) rises free can.targets outer_same
+          all db.newest pushed_is.mode pushed_is.bytes bytes union_is most (laws.reads_well_formed mid) pushed_is.ready.base
+          (pushed_is.ready.no_record (record_file db.newest) (or_left (same_name (record_file db.newest) (record_file db.newest)) _ (same_itself (record_file db.newest))))
           (no_dir_stays db.newest (dropped_below db.oldest) puts old mid can.flag_clear can.synced confined can.no_dir) stand;
     }
 
-    module _ (s : SystemState) (stores : StoresIn Two (disk.reads old) s) (from : IsJobFrom s puts undo db) (text : bytes ≡ database_bytes Two db.installed db.oldest db.newest) where
+    module _ (s : SystemState) (stores : StoresIn Two (disk.reads old) s) (from : IsJobFrom s puts before db) (text : bytes ≡ database_bytes Two db.installed db.oldest db.newest) where
       pub settled : AreSettled disk mid s
       settled q counted = still_synced db.newest (dropped_below db.oldest) puts old mid can.flag_clear can.synced confined q (⊎_elim
-          (λ is. absurd (cc (counted, not_counted s db.newest (dropped_below db.oldest) (next_job puts undo db s from) four stores.system q is)))
+          (λ is. absurd (cc (counted, not_counted s db.newest (dropped_below db.oldest) (next_job puts before db s from) four stores.system q is)))
           (λ out. out)
           (cases_Bool (is_saving_name db.newest (dropped_below db.oldest) q)))
         where
           four : db.newest < 2 ^ 32
           four = let top : JOBS_LIMIT ≡ 4294967295 = refl in omega (arith, top, most)
 
-      number_next : undo.number ≡ newest s.stack + 1
-      number_next = number_same ∙ from.newest_is
-
       pub after_stored : StoresIn Two (with_targets all (disk.reads mid)) (after_job puts db.installed s)
-      after_stored = stored.job_stored puts undo.entries (disk.reads old) (disk.reads mid) rises free can.targets outer_same s stores
-          db.installed fits.leads.entries_are.entries_are is_db.installed is_db.fits
-          all undo.number db.oldest pushed_is.mode (dropped_below db.oldest) pushed_is.bytes bytes union_is number_next number_fits from.oldest_is
-          (text ∙ ap (database_bytes Two db.installed db.oldest) (sym number_same))
-          (subst (λ (l : List TroveParts). IsRecord Two undo.number l db.installed (entries_of undo.entries) pushed_is.bytes)
-          (one_before undo.back undo.after db.installed pushed_is.before s.installed pushed_is.leads.gives from.gives) pushed_is.text)
-          pushed_is.ready.contents.each
-          (subst (λ (k : ℕ). IsNextJob s k (dropped_below db.oldest)) (sym number_same) (next_job puts undo db s from))
-          (subst (λ (k : ℕ). AgreesExcept (Among (is_saving_name k (dropped_below db.oldest))) (disk.reads mid) (disk.reads old)) (sym number_same) confined.reads)
+      after_stored = stored.job_stored puts es (disk.reads old) (disk.reads mid) rises free can.targets outer_same s stores
+          db.installed are.entries_are is_db.installed is_db.fits
+          all db.newest db.oldest pushed_is.mode (dropped_below db.oldest) pushed_is.bytes bytes union_is from.newest_is most from.oldest_is text
+          (subst (λ (l : List TroveParts). IsRecord Two db.newest l db.installed (entries_of es) pushed_is.bytes) from.list_is pushed_is.text)
+          pushed_is.ready.contents.each (next_job puts before db s from) confined.reads

@@ -7,7 +7,7 @@ use Rattle.job_targets.specs.declared.entry.Entry.{Entry}
 use Rattle.rollback_stack.specs.tree-scan.declared.mark.Mark.{Mark}
 use Rattle.rollback_stack.specs.tree-scan.declared.mark.Mark.TheVariants as mark
 use Rattle.rollback_stack.specs.tree-scan.Marks.{fingerprint, is_nothing}
-use Rattle.rollback_stack.specs.Undo.{entry_of}
+use Rattle.rollback_stack.specs.Entries.{entry_of}
 use Rattle.system_core.specs.JobWriting.{IsSomething}
 use Rattle.system_core.specs.Something.{is_some_by, is_something}
 

@@ -1,15 +1,12 @@
-pub mod Items
+pub mod FixedPaths
 pub mod Written
 pub mod Loaded
 pub mod MadeReady
 pub mod Migration
 pub mod Opened
-pub mod Passing
-pub mod Recovering
 pub mod Rewritten
 pub mod Sameness
 pub mod Systems
-pub mod Keyed
 pub mod JobChanges
 pub mod Joining
 pub mod JobNumbers
@@ -49,5 +46,8 @@ pub mod Restored
 pub mod Moving
 pub mod EndingAll
 pub mod OneJob
+pub mod FixedDirsLaws
 pub use Rattle.rollback_stack.proofs.job-record
+pub use Rattle.rollback_stack.proofs.past-jobs
 pub use Rattle.rollback_stack.proofs.trove-stream
+pub use Rattle.rollback_stack.proofs.tree-disk

@@ -17,16 +17,20 @@ use Rattle.rollback_stack.specs.trove-stream.Installed.{IsNameless, IsRising, tr
 use Rattle.rollback_stack.specs.trove-stream.declared.parts.TroveParts.{TroveParts}
 use Rattle.rollback_stack.specs.trove-stream.Stream.{stream_bytes, trove_bytes}
 use Rattle.rollback_stack.specs.trove-stream.Trove.{IsTrove}
-use Rattle.dep_closure.specs.Changed.{IsChanged, RefusesChange, or_else, trove_after}
+use Rattle.dep_closure.specs.Changed.{IsChanged, RefusesChange, trove_after}
 use Rattle.dep_closure.specs.Closed.{IsClosed, IsUnmetOrMemory}
 use Rattle.dep_closure.specs.Slots.{listed}
-use Rattle.dep_closure.proofs.Names.{bytes_mean, found_first, found_other, is_named, is_there, listed_rises}
-use Rattle.dep_closure.proofs.Provided.{first_or_later, nothing_in}
+use Rattle.dep_closure.proofs.Names.{listed_rises, either}
 use Rattle.update_job.specs.declared.comparing.Change.{Change}
 use Rattle.update_job.specs.declared.comparing.Change.TheVariants.{Installed, Updated, Erased}
 use Rattle.update_job.specs.Changes.{AreChanges, IsChange, by_change, name_of}
 use Rattle.update_job.proofs.Noting.{nameless_from}
 use Rattle.system_core.specs.Changing.{names_of, troves_of}
+use Rattle.local_db.proofs.cny-base.ByteLists.{bytes_mean}
+use Rattle.local_db.proofs.trove-stream.Names.{found_first, found_other, is_named, is_there}
+use Rattle.update_job.specs.trove-stream.Either.{or_else}
+use Rattle.local_db.proofs.cny-base.Lists.{contains_cases as first_or_later, nothing_in}
+use Rattle.local_db.proofs.cny-base.Bools.{or_right as or_true}
 
 -- ---- one more of them
 
@@ -44,10 +48,6 @@ troves_more list names i x within is =
 -- ---- what the list has of some names
 
 module _ (troves : List ℕ → Option TroveParts) (named : (name : List ℕ) (t : TroveParts) → troves name ≡ Some t → t.id.name ≡ name) where
-  either : (b : Bool) (o : Option TroveParts) → o ≡ None → cond b o None ≡ o
-  either true o none = refl
-  either false o none = sym none
-
   other_one : (n : List ℕ) (names : List (List ℕ)) (name : List ℕ) (t : TroveParts) → trove_of name (listed troves names) ≡ cond (list_any (bytes_eq name) names) (troves name) None
       → troves n ≡ Some t → bytes_eq name n ≡ false → (b : Bool) → bytes_eq t.id.name name ≡ b
       → trove_of name (t ∷ listed troves names) ≡ cond (list_any (bytes_eq name) names) (troves name) None
@@ -57,7 +57,7 @@ module _ (troves : List ℕ → Option TroveParts) (named : (name : List ℕ) (t
   one_more : (n : List ℕ) (names : List (List ℕ)) (name : List ℕ) → trove_of name (listed troves names) ≡ cond (list_any (bytes_eq name) names) (troves name) None
       → (o : Option TroveParts) (b : Bool) → troves n ≡ o → bytes_eq name n ≡ b
       → trove_of name (option_to_list o ++ listed troves names) ≡ cond (b || list_any (bytes_eq name) names) (troves name) None
-  one_more n names name rest None true is equal = rest ∙ either (list_any (bytes_eq name) names) (troves name) (ap troves (bytes_mean name n equal) ∙ is)
+  one_more n names name rest None true is equal = rest ∙ either troves named (list_any (bytes_eq name) names) (troves name) (ap troves (bytes_mean name n equal) ∙ is)
   one_more n names name rest None false is equal = rest
   one_more n names name rest (Some t) true is equal =
       let own : t.id.name ≡ name = named n t is ∙ sym (bytes_mean name n equal) in
@@ -76,14 +76,10 @@ above : (name : List ℕ) (changes : List Change) → AllByRecursion (λ (c : Ch
 above name [] all = tt
 above name (c ∷ changes) all = (all.0, above name changes all.1)
 
-names_rise : (changes : List Change) → IsStrictlySortedBy by_change changes → IsStrictlySortedBy (slice_cmp nat_cmp) (names_of changes)
+pub names_rise : (changes : List Change) → IsStrictlySortedBy by_change changes → IsStrictlySortedBy (slice_cmp nat_cmp) (names_of changes)
 unfolding IsStrictlySortedBy
 names_rise [] sorted = tt
 names_rise (c ∷ changes) sorted = (above (name_of c) changes sorted.0, names_rise changes sorted.1)
-
-or_true : (b c : Bool) → c ≡ true → (b || c) ≡ true
-or_true true c is = refl
-or_true false c is = is
 
 any_named : (changes : List Change) (name : List ℕ) (c : Change) → Contains changes c → name_of c ≡ name → list_any (bytes_eq name) (names_of changes) ≡ true
 any_named [] name c among named = absurd (nothing_in c among)

@@ -1,5 +1,5 @@
 -- A root at rest whose database is loaded, once it is in format 2.
-use Rattle.std.proofs.Common.{◌≡◌, inl, inr, ℕ, ◌≤◌, true, false, IsTrue, List, [], Option, Some, None, Result, Ok, Err, Contains, refl, sym, ◌∙◌, ap, subst, arith}
+use Rattle.std.proofs.Common.{◌≡◌, inl, inr, ℕ, ◌≤◌, true, false, IsTrue, List, [], Option, Some, None, Result, Ok, Err, Contains, sym, ◌∙◌, ap, subst, arith}
 use Rattle.std.specs.Prelude.{IfErr, IfOk}
 use Rattle.std.proofs.lemmas.List.Elements.{All-head}
 use Rattle.std.specs.FinMap.{get}
@@ -13,11 +13,10 @@ use Rattle.rollback_stack.specs.journal-log.Own.{StoresSame}
 use Rattle.rollback_stack.specs.journal-log.Targets.{with_targets}
 use Rattle.rollback_stack.specs.trove-stream.declared.parts.TroveParts.{TroveParts}
 use Rattle.rollback_stack.specs.tree-disk.Disk.{DiskModel, HasRead, IsDisk, Reads}
-use Rattle.rollback_stack.specs.tree-disk.ConfinedLaws.{leaves_then}
-use Rattle.rollback_stack.specs.tree-disk.Moments.{rose_before}
+use Rattle.rollback_stack.proofs.tree-disk.ConfinedLaws.{leaves_then}
+use Rattle.rollback_stack.proofs.tree-disk.Moments.{rose_before}
 use Rattle.rollback_stack.specs.tree-disk.Tree.{Name, Tree, AgreesOutside}
-use Rattle.rollback_stack.specs.tree-disk.Unfailed.{unfailed_then}
-use Rattle.tree_journal.specs.Recovery.{RecoversTo}
+use Rattle.rollback_stack.proofs.tree-disk.Unfailed.{unfailed_then}
 use Rattle.local_db.specs.Database.{IsDb}
 use Rattle.local_db.specs.Loading.{HoldsDb, IsLoadStop}
 use Rattle.local_db.specs.declared.db.Db.{Db}
@@ -25,14 +24,16 @@ use Rattle.local_db.specs.Names.{database}
 use Rattle.local_db.specs.Stores.{HoldsDatabase, IsDatabase, absent, written}
 use Rattle.local_db.specs.declared.format.Format.{Format}
 use Rattle.local_db.specs.declared.format.Format.TheVariants.{One, Two}
-use Rattle.local_db.proofs.Writes.{with_targets_outside, with_targets_target}
+use Rattle.local_db.proofs.Writes.{with_targets_target}
 use Rattle.rollback_stack.specs.Migrated.{AreMigration, IsMigrated, is_up_to_date}
 use Rattle.rollback_stack.proofs.Doubling.{fits_two}
 use Rattle.rollback_stack.proofs.Later.{read_then}
 use Rattle.system_core.specs.Migrating.{HasLoaded, HasMigrated, IsBrought, IsDamagedStore, IsLoadingStop, IsMigratingStop, Loads, Migrates, RecoversInAFormat, with_migration}
 use Rattle.system_core.proofs.Migration.{file_is_old, not_absent, not_outer}
 use Rattle.system_core.proofs.Rewritten.{read_only, rest_leaves, rest_read, rest_reads, rest_shows}
-use Rattle.system_core.proofs.Sameness.{database_not_own, not_own, same_back, same_database, same_date, same_db}
+use Rattle.system_core.proofs.Sameness.{database_not_own, not_own, same_database, same_date, same_db}
+use Rattle.tree_journal.proofs.WriteSets.{with_targets_outside}
+use Rattle.local_db.proofs.Together.{flip_same as same_back}
 
 -- ---- databases
 
@@ -46,7 +47,7 @@ all_two (Ok db) is = is_two is.format db.installed db.oldest db.newest is.databa
 all_two (Err e) is = tt
 
 -- one that is up to date is held in format 2
-two_held : (x : Tree) (db : Db) → is_up_to_date (get x database) ≡ true → HoldsDb x db → HoldsDatabase Two x db.installed db.oldest db.newest
+pub two_held : (x : Tree) (db : Db) → is_up_to_date (get x database) ≡ true → HoldsDb x db → HoldsDatabase Two x db.installed db.oldest db.newest
 two_held x db new held = by held.format held.holds
   where
     by : (f : Format) → HoldsDatabase f x db.installed db.oldest db.newest → HoldsDatabase Two x db.installed db.oldest db.newest
@@ -60,7 +61,7 @@ module _ (x y : Tree) (puts : List Put) (old : is_up_to_date (get x database) �
   abbrev pub db_made : Db
   db_made = record { installed = m.list; oldest = m.oldest; newest = m.newest }
 
-  old_held : IsDatabase One m.list m.oldest m.newest
+  pub old_held : IsDatabase One m.list m.oldest m.newest
   old_held = by m.holds
     where
       by : HoldsDatabase One x m.list m.oldest m.newest → IsDatabase One m.list m.oldest m.newest
@@ -78,11 +79,6 @@ brought_outer x y brought = by brought.found brought.migrated brought.stores
     by : (found : Option (List Put)) → IsMigrated x found → StoresSame private_directory y (with_migration found x) → AgreesOutside is_reserved y x
     by None m stores q out = stores q (not_own q out)
     by (Some puts) m stores q out = stores q (not_own q out) ∙ with_targets_outside puts x q (not_outer x puts m.0 m.1 q out)
-
--- so what recovers to a tree in a format recovers to one that is the same outside the private directory
-pub recovers_outer : (x image : Tree) → RecoversInAFormat x image → (y : Tree) × RecoversTo private_directory image y × AgreesOutside is_reserved y x
-recovers_outer x image (inl is) = (x, is, λ q out. refl)
-recovers_outer x image (inr is) = (is.0, is.2, brought_outer x is.0 is.1)
 
 -- ---- the migration stopped
 
@@ -161,7 +157,7 @@ module _ {D : Type 0} {disk : DiskModel D} (laws : IsDisk disk) (old mid new : D
             }
         by (Some puts) m stores = absurd (none Two m.1.list m.1.oldest m.1.newest (new_held (disk.reads old) (disk.reads mid) puts m.0 m.1 stores))
 
-  load_stops : (IsTrue disk.tells → HasRead disk mid new (Unit {0})) → (r : Result Db Stop) → IfErr r (IsLoadStop disk.tells (disk.reads mid) (Rose (disk.faults mid) (disk.faults new))) → IfErr r (IsLoadingStop disk old new)
+  pub load_stops : (IsTrue disk.tells → HasRead disk mid new (Unit {0})) → (r : Result Db Stop) → IfErr r (IsLoadStop disk.tells (disk.reads mid) (Rose (disk.faults mid) (disk.faults new))) → IfErr r (IsLoadingStop disk old new)
   load_stops read (Ok db) is = tt
   load_stops read (Err stop.Failed) is = rose_before (disk.faults old) (disk.faults mid) (disk.faults new) early is
   load_stops read (Err stop.Memory) is = tt

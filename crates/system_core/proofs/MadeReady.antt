@@ -7,24 +7,24 @@ use Rattle.rollback_stack.specs.cny-base.Reserved.{private_directory, is_reserve
 use Rattle.rollback_stack.specs.cny-base.declared.stop.Stop.{Stop}
 use Rattle.rollback_stack.specs.cny-base.declared.stop.Stop.TheVariants as stop
 use Rattle.rollback_stack.specs.tree-disk.Confined.{Among}
-use Rattle.rollback_stack.specs.tree-disk.ConfinedLaws.{confined_read, confined_then, leaves_then, leaves_weaker}
+use Rattle.rollback_stack.proofs.tree-disk.ConfinedLaws.{confined_read, confined_then, leaves_then, leaves_weaker}
 use Rattle.rollback_stack.specs.tree-disk.Disk.{DiskModel, IsDisk}
-use Rattle.rollback_stack.specs.tree-disk.Moments.{rose_before}
+use Rattle.rollback_stack.proofs.tree-disk.Moments.{rose_before}
 use Rattle.rollback_stack.specs.tree-disk.Rows.{is_dir_at}
 use Rattle.rollback_stack.specs.tree-disk.Steps.{no_name}
 use Rattle.rollback_stack.specs.tree-disk.Tree.{Name, Tree}
-use Rattle.rollback_stack.specs.tree-disk.Unfailed.{unfailed_then, unfailed_weaker}
+use Rattle.rollback_stack.proofs.tree-disk.Unfailed.{unfailed_then, unfailed_weaker}
 use Rattle.local_db.specs.declared.db.Db.{Db}
 use Rattle.local_db.specs.Names.{database}
 use Rattle.rollback_stack.specs.Migrated.{is_up_to_date}
-use Rattle.system_core.specs.FixedDirsLaws.{dirs_of, dirs_recovered}
-use Rattle.system_core.specs.FixedPaths.{directory_path}
+use Rattle.system_core.proofs.FixedDirsLaws.{dirs_of, dirs_recovered}
 use Rattle.system_core.specs.Migrating.{HasLoaded, IsLoadingStop, Loads}
 use Rattle.system_core.specs.Opening.{IsOpen, IsOpeningStop, Opens}
 use Rattle.system_core.specs.Ready.{HasReadied, IsReadyStop, Readies}
 use Rattle.system_core.proofs.Loaded.{brought_outer}
 use Rattle.system_core.proofs.Rewritten.{rest_read}
 use Rattle.system_core.proofs.Sameness.{not_own, same_brought, same_damaged, same_db, same_in_a_format}
+use Rattle.local_db.proofs.FileNames.{base_is_path as directory_path}
 
 -- ---- it wasn't opened
 
@@ -78,7 +78,7 @@ module _ {D : Type 0} {disk : DiskModel D} (laws : IsDisk disk) (old mid new : D
           };
         }
 
-  ready_stops : (r : Result Db Stop) → IfErr r (IsLoadingStop disk mid new) → IfErr r (IsReadyStop disk old new)
+  pub ready_stops : (r : Result Db Stop) → IfErr r (IsLoadingStop disk mid new) → IfErr r (IsReadyStop disk old new)
   ready_stops (Ok db) is = tt
   ready_stops (Err stop.Failed) is = rose_before (disk.faults old) (disk.faults mid) (disk.faults new) opens.later is
   ready_stops (Err stop.Memory) is = tt

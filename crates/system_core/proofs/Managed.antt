@@ -23,15 +23,17 @@ use Rattle.conflict_plan.specs.declared.planned.Planned.{Planned}
 use Rattle.conflict_plan.specs.declared.table.Outcome.{Outcome}
 use Rattle.conflict_plan.specs.declared.table.Outcome.TheVariants.{Stays}
 use Rattle.conflict_plan.specs.Claims.{record_at}
-use Rattle.conflict_plan.specs.Plan.{ArePlanned, HasChild, IsAnswer, IsFirstConflict, IsFirstOrphan, IsFirstRefusal, IsOrphan, IsPlan, change_of, conflict_at, mark_after, outcome_at, planned_at, planned_mark, refusal_of}
+use Rattle.conflict_plan.specs.Plan.{ArePlanned, HasChild, IsFirstConflict, IsFirstOrphan, IsFirstRefusal, IsOrphan, IsPlan, change_of, conflict_at, mark_after, outcome_at, planned_at, planned_mark, refusal_of}
 use Rattle.conflict_plan.specs.Table.{outcome_by, path_outcome}
 use Rattle.conflict_plan.proofs.Order.{child_parent}
 use Rattle.conflict_plan.proofs.Remaining.{some_stands}
 use Rattle.job_targets.proofs.Changing.{own_plans}
 use Rattle.local_db.proofs.Writes.{not_both}
 use Rattle.system_core.specs.Lists.{AreAllowed}
-use Rattle.system_core.proofs.Outer.{parent_inner, parent_outer}
+use Rattle.system_core.proofs.Outer.{parent_inner}
 use Rattle.system_core.proofs.Recorded.{IsRecordable, list_recordable}
+use Rattle.update_job.specs.cny-base.Answer.{IsAnswer}
+use Rattle.local_db.proofs.Putting.{parent_outer}
 
 -- a list of troves none of which records a path that no trove may record
 pub record KeepsOut (list : List TroveParts) : Type 0 where
@@ -45,31 +47,31 @@ pub record IsManaged (x t : Tree) : Type 0 where
   pub agrees : AgreesOutside is_reserved x t
   pub empty : (q : Name) → is_reserved q ≡ true → get t q ≡ None
 
-recordable : (list : List TroveParts) → KeepsOut list → (path : Name) (rec : FileRec) → record_at list path ≡ Some rec → IsRecordable path
+pub recordable : (list : List TroveParts) → KeepsOut list → (path : Name) (rec : FileRec) → record_at list path ≡ Some rec → IsRecordable path
 recordable list out path rec is =
     list_recordable list path (recursion_from_All IsTrove list out.troves) (recursion_from_All _ list out.allowed) (ap is_some is)
 
 -- a list records nothing in the private directory
-not_recorded : (list : List TroveParts) → KeepsOut list → (path : Name) → is_reserved path ≡ true → record_at list path ≡ None
+pub not_recorded : (list : List TroveParts) → KeepsOut list → (path : Name) → is_reserved path ≡ true → record_at list path ≡ None
 not_recorded list out path inner = at (record_at list path) refl
   where
     at : (o : Option FileRec) → record_at list path ≡ o → o ≡ None
     at None is = refl
     at (Some rec) is = not_both (is_reserved path) inner (let r = recordable list out path rec is in r.outside)
 
-dir_mark : (o : Option Node) → IsTrue (is_dir o) → marks.is_dir (fingerprint o) ≡ true
+pub dir_mark : (o : Option Node) → IsTrue (is_dir o) → marks.is_dir (fingerprint o) ≡ true
 dir_mark None is = absurd (cc is)
 dir_mark (Some (node.Dir mode)) is = refl
 dir_mark (Some (node.File mode bytes)) is = absurd (cc is)
 dir_mark (Some (node.Link target)) is = absurd (cc is)
 
 module _ (old fresh : List TroveParts) (options : Options) (x t : Tree) (man : IsManaged x t) (olds : KeepsOut old) (freshes : KeepsOut fresh) where
-  mark_same : (q : Name) → is_reserved q ≡ false → fingerprint_at x q ≡ fingerprint_at t q
+  pub mark_same : (q : Name) → is_reserved q ≡ false → fingerprint_at x q ≡ fingerprint_at t q
   mark_same q out = ap fingerprint (man.agrees q out)
 
   -- ---- where there is nothing to do
 
-  none_stays : (tree : Tree) (q : Name) (remains : Bool) → record_at old q ≡ None → record_at fresh q ≡ None → outcome_at old fresh options tree q remains ≡ Stays
+  pub none_stays : (tree : Tree) (q : Name) (remains : Bool) → record_at old q ≡ None → record_at fresh q ≡ None → outcome_at old fresh options tree q remains ≡ Stays
   none_stays tree q remains no_old no_fresh =
       ap (λ (o : Option FileRec). path_outcome q o (record_at fresh q) (fingerprint_at tree q) remains options) no_old
       ∙ ap (λ (o : Option FileRec). path_outcome q None o (fingerprint_at tree q) remains options) no_fresh
@@ -79,13 +81,13 @@ module _ (old fresh : List TroveParts) (options : Options) (x t : Tree) (man : I
       by true = refl
       by false = refl
 
-  inner_stays : (tree : Tree) (q : Name) (remains : Bool) → is_reserved q ≡ true → outcome_at old fresh options tree q remains ≡ Stays
+  pub inner_stays : (tree : Tree) (q : Name) (remains : Bool) → is_reserved q ≡ true → outcome_at old fresh options tree q remains ≡ Stays
   inner_stays tree q remains inner = none_stays tree q remains (not_recorded old olds q inner) (not_recorded fresh freshes q inner)
 
-  pinned_stays : (tree : Tree) (q : Name) (remains : Bool) → is_pinned q ≡ true → outcome_at old fresh options tree q remains ≡ Stays
+  pub pinned_stays : (tree : Tree) (q : Name) (remains : Bool) → is_pinned q ≡ true → outcome_at old fresh options tree q remains ≡ Stays
   pinned_stays tree q remains pinned = ap (λ (b : Bool). cond b Stays (outcome_by (record_at old q) (record_at fresh q) (fingerprint_at tree q) remains options)) pinned
 
-  recorded_or_not : (q : Name) → IsRecordable q ⊎ ((record_at old q ≡ None) × (record_at fresh q ≡ None))
+  pub recorded_or_not : (q : Name) → IsRecordable q ⊎ ((record_at old q ≡ None) × (record_at fresh q ≡ None))
   recorded_or_not q = at (record_at old q) (record_at fresh q) refl refl
     where
       at : (o n : Option FileRec) → record_at old q ≡ o → record_at fresh q ≡ n → IsRecordable q ⊎ ((record_at old q ≡ None) × (record_at fresh q ≡ None))
@@ -93,14 +95,14 @@ module _ (old fresh : List TroveParts) (options : Options) (x t : Tree) (man : I
       at None (Some rec) was is = inl (recordable fresh freshes q rec is)
       at None None was is = inr (was, is)
 
-  conflict_same : (q : Name) → conflict_at old fresh options x q ≡ conflict_at old fresh options t q
+  pub conflict_same : (q : Name) → conflict_at old fresh options x q ≡ conflict_at old fresh options t q
   conflict_same q = ⊎_elim
       (λ inner. ap (λ (o : Outcome). refusal_of o q) (inner_stays x q false inner ∙ sym (inner_stays t q false inner)))
       (λ out. ap (λ (m : Mark). refusal_of (path_outcome q (record_at old q) (record_at fresh q) m false options) q) (mark_same q out))
       (cases_Bool (is_reserved q))
 
   -- a name directly below a path outside that isn't pinned is outside
-  child_outer : (p q : Name) → is_reserved p ≡ false → is_pinned p ≡ false → is_child p q ≡ true → is_reserved q ≡ false
+  pub child_outer : (p q : Name) → is_reserved p ≡ false → is_pinned p ≡ false → is_child p q ≡ true → is_reserved q ≡ false
   child_outer p q out unpinned child = ⊎_elim
       (λ inner. ⊎_elim
       (λ (low : is_reserved (parent q) ≡ true). not_both (is_reserved p) (ap is_reserved (sym (child_parent p q child)) ∙ low) out)
@@ -232,14 +234,14 @@ module _ (old fresh : List TroveParts) (options : Options) (x t : Tree) (man : I
     no_orphan = λ q orphan. is.no_orphan q (orphan_from plan is.planned q orphan);
   }
 
-  conflict_managed : (path : Name) (why : Refusal) → IsFirstConflict old fresh options x path why → IsFirstConflict old fresh options t path why
+  pub conflict_managed : (path : Name) (why : Refusal) → IsFirstConflict old fresh options x path why → IsFirstConflict old fresh options t path why
   conflict_managed path why is = record {
     unshared = is.unshared;
     refused = sym (conflict_same path) ∙ is.refused;
     first_path = λ q less. sym (conflict_same q) ∙ is.first_path q less;
   }
 
-  orphan_managed : (path : Name) → IsFirstOrphan old fresh options x path → IsFirstOrphan old fresh options t path
+  pub orphan_managed : (path : Name) → IsFirstOrphan old fresh options x path → IsFirstOrphan old fresh options t path
   orphan_managed path is = record {
     unshared = is.unshared;
     no_conflict = λ q. sym (conflict_same q) ∙ is.no_conflict q;

@@ -22,11 +22,12 @@ use Rattle.conflict_plan.specs.declared.planned.Planned.{Planned}
 use Rattle.conflict_plan.specs.Plan.{mark_of_want}
 use Rattle.local_db.specs.Steps.{want_of}
 use Rattle.job_targets.specs.declared.targets.Targets.{Targets}
-use Rattle.job_targets.specs.Contents.{Finds, FindsBehind, carried_bytes, is_file_of, of_size, standing}
+use Rattle.job_targets.specs.Contents.{Finds, FindsBehind, carried_bytes, is_file_of, standing}
 use Rattle.job_targets.specs.Outcome.{AreTargets, IsFirstClash, IsFirstLarge, IsFirstRefusal, IsFirstUnfound, IsMissing, IsUnfound}
 use Rattle.job_targets.specs.Targets.{ArePutsOf, IsTarget, entries_at, entry_at}
 use Rattle.system_core.specs.Job.{IsTestRefusal, IsTested, Sources, unmet, unplanned, untargeted}
 use Rattle.system_core.proofs.Managed.{IsManaged, KeepsOut, outer_plan, plan_managed, refusal_managed}
+use Rattle.update_job.specs.cny-base.Sized.{of_size}
 
 -- none of these paths is in the private directory
 abbrev AreOuter : List Planned → Type 0

@@ -11,7 +11,7 @@ use Rattle.rollback_stack.specs.content-store.Store.{file_bytes}
 use Rattle.rollback_stack.specs.journal-log.declared.put.Put.{Put}
 use Rattle.rollback_stack.specs.journal-log.declared.put.Want.TheVariants as want
 use Rattle.rollback_stack.specs.journal-log.Own.{gate}
-use Rattle.rollback_stack.specs.journal-log.Targets.{is_target, node_of, with_targets}
+use Rattle.rollback_stack.specs.journal-log.Targets.{is_target, node_of}
 use Rattle.rollback_stack.specs.trove-stream.declared.parts.TroveParts.{TroveParts}
 use Rattle.rollback_stack.specs.tree-disk.Disk.{DiskModel}
 use Rattle.rollback_stack.specs.tree-disk.Tree.{Name, Tree, WellFormed, is_dir, may_stand}
@@ -20,7 +20,7 @@ use Rattle.local_db.specs.Formats.{database_bytes}
 use Rattle.local_db.specs.Names.{database, record_file}
 use Rattle.local_db.specs.Record as state
 use Rattle.local_db.specs.Record.{IsRecord}
-use Rattle.local_db.specs.Stores.{HoldsDatabase, HoldsItem, HoldsStack, IsDatabase, SameDatabase, StoresIn, StoresSystem, absent, written}
+use Rattle.local_db.specs.Stores.{HoldsDatabase, HoldsItem, HoldsStack, StoresIn, StoresSystem, absent, written}
 use Rattle.local_db.specs.SystemState.{AreNumbered, IsFree, IsStackItem, StackItem, SystemState, newest, oldest}
 use Rattle.local_db.specs.Steps.{AreMigrated, IsMigration, IsOwnWrite, IsPuttable, IsUnion, database_put, record_put}
 use Rattle.local_db.specs.declared.format.Format.{Format}
@@ -29,17 +29,19 @@ use Rattle.local_db.proofs.FileNames.{database_is_path, record_is_path}
 use Rattle.local_db.proofs.Other.{checks_law}
 use Rattle.local_db.proofs.Places.{database_reserved, database_write, record_reserved, record_write}
 use Rattle.local_db.proofs.Systems.{four_bytes, low_at_least, numbers_by_length}
-use Rattle.local_db.proofs.Writes.{contains_cases, contains_first, contains_rest, not_both, nothing_in, target_at, with_targets_outside, with_targets_target}
+use Rattle.local_db.proofs.Writes.{not_both}
 use Rattle.tree_journal.specs.Recovery.{is_committed}
-use Rattle.rollback_stack.specs.job-record.JobReading.{HoldsRecord, HoldsRecords}
+use Rattle.rollback_stack.specs.JobReading.{HoldsRecord, HoldsRecords}
 use Rattle.system_core.specs.RootWriting.{CanWrite}
 use Rattle.rollback_stack.specs.Numbers.{job_count}
 use Rattle.rollback_stack.specs.Migrated.{AreMigration, AreRewritten, IsDamagedFile, is_up_to_date}
 use Rattle.system_core.specs.Opening.{IsAtRest}
-
-abbrev pub OneDatabase : Type 0
-OneDatabase = (f g : Format) (list other : List TroveParts) (low high lower higher : ℕ) → IsDatabase f list low high → IsDatabase g other lower higher
-    → database_bytes f list low high ≡ database_bytes g other lower higher → SameDatabase f g list other low high lower higher
+use Rattle.system_core.proofs.Held.{OneDatabase}
+use Rattle.tree_journal.proofs.WriteSets.{target_at, with_targets_outside}
+use Rattle.local_db.proofs.cny-base.Lists.{contains_cases, contains_first, contains_rest, nothing_in}
+use Rattle.system_core.proofs.JobEnding.{is_file_or_none as no_dir}
+use Rattle.local_db.proofs.OneSystem.{empty_stack as no_jobs}
+use Rattle.local_db.proofs.cny-base.OptionValues.{same_some}
 
 abbrev pub OneRecord : Type 0
 OneRecord = (f : Format) (x : Tree) (n : ℕ) (after before other : List TroveParts) (es ds : List state.Entry)
@@ -48,11 +50,11 @@ OneRecord = (f : Format) (x : Tree) (n : ℕ) (after before other : List TrovePa
 -- ---- the writes of the records
 
 -- they are numbered from this one down
-abbrev AreFrom : ℕ → List StackItem → Type 0
+abbrev pub AreFrom : ℕ → List StackItem → Type 0
 AreFrom n [] = Unit {0}
 AreFrom n (o ∷ olds) = (o.number ≡ n) × AreFrom (n - 1) olds
 
-from_newest : (stack : List StackItem) → AreNumbered stack → AreFrom (newest stack) stack
+pub from_newest : (stack : List StackItem) → AreNumbered stack → AreFrom (newest stack) stack
 from_newest [] numbered = tt
 from_newest (o ∷ []) numbered = (refl, tt)
 from_newest (o ∷ p ∷ olds) numbered =
@@ -68,12 +70,6 @@ rewritten_all P x each zero number after (p ∷ puts) are = absurd are
 rewritten_all P x each (suc count) number after [] are = absurd are
 rewritten_all P x each (suc count) number after (p ∷ puts) are =
     All-cons P p puts (subst P (sym are.6) (each number after are.0 are.1 are.2 are.3 are.4)) (rewritten_all P x each count (number - 1) are.0 puts are.7)
-
-no_dir : (n : Option Node) (bytes : List ℕ) → file_bytes n ≡ Some bytes → is_dir n ≡ false
-no_dir None bytes is = refl
-no_dir (Some (node.Dir mode)) bytes is = absurd (cc is)
-no_dir (Some (node.File mode b)) bytes is = refl
-no_dir (Some (node.Link target)) bytes is = refl
 
 some_file : (n : Option Node) (bytes : List ℕ) → file_bytes n ≡ Some bytes → is_some n ≡ true
 some_file None bytes is = absurd (cc is)
@@ -117,11 +113,8 @@ held_file x puts old m = at m.holds
     at (absent none list low high) = absurd (not_absent x old none)
     at (written is file) = file
 
-same_some : {A : Type 0} (x y : A) → Some x ≡ Some y → x ≡ y
-same_some x y e = cc e
-
 -- the writes of the database and of the records, with none of others
-all_union : (puts records : List Put) (q : Put) → IsUnion puts (q ∷ []) records → IsUnion puts [] (q ∷ records)
+pub all_union : (puts records : List Put) (q : Put) → IsUnion puts (q ∷ []) records → IsUnion puts [] (q ∷ records)
 all_union puts records q u = record {
   rises = u.rises;
   some_in = All-nil (Contains puts);
@@ -163,10 +156,6 @@ module _ (x : Tree) (puts : List Put) (old : is_up_to_date (get x database) ≡ 
 
   given : All (λ (p : Put). is_staged p.want ≡ false) puts
   given = all_of (λ (p : Put). is_staged p.want ≡ false) refl (all_records (λ (p : Put). is_staged p.want ≡ false) (λ n after before es mode bytes held. refl))
-
-  -- with them the database is one of format 2
-  pub now_new : is_up_to_date (get (with_targets puts x) database) ≡ true
-  now_new = ap is_up_to_date (with_targets_target puts x _ m.writes.rises (All-head (Contains puts) _ [] m.writes.some_in))
 
   module _ (well : WellFormed x) (nodes : All (λ (p : Put). IsTrue (may_stand (node_of p.want))) puts) where
     node_at : (p : Put) → Contains puts p → may_stand (node_of p.want) ≡ true
@@ -217,7 +206,7 @@ job_of x n list o held item number_is = subst (λ (k : ℕ). HoldsRecord One x k
     (record { bytes = held.bytes; file = held.file; text = held.text; checks = checks_law One x list o item held })
 
 -- the records that were rewritten are those of the stack
-migrated_of : OneRecord → (x : Tree) (n : ℕ) (after : List TroveParts) (stack : List StackItem) (records : List Put) → HoldsStack One x after stack → All IsStackItem stack → AreFrom n stack
+pub migrated_of : OneRecord → (x : Tree) (n : ℕ) (after : List TroveParts) (stack : List StackItem) (records : List Put) → HoldsStack One x after stack → All IsStackItem stack → AreFrom n stack
     → AreRewritten x (length stack) n after records → AreMigrated after stack records
 migrated_of one x n after [] [] held items from are = tt
 migrated_of one x n after [] (p ∷ puts) held items from are = absurd are
@@ -230,11 +219,11 @@ migrated_of one x n after (o ∷ olds) (p ∷ puts) held items from are =
       migrated_of one x (n - 1) o.list olds puts held.1 (All-tail IsStackItem o olds items) from.1 (subst (λ (l : List TroveParts). AreRewritten x (length olds) (n - 1) l puts) same.0 are.7),
     )
 
-counted : (low high long : ℕ) → 1 ≤ low → high ≡ low + long → job_count low high ≡ long + 1
+pub counted : (low high long : ℕ) → 1 ≤ low → high ≡ low + long → job_count low high ≡ long + 1
 counted zero high long some far = absurd (omega (arith, some))
 counted (suc below) high long some far = omega (arith, far)
 
-count_of : (stack : List StackItem) → AreNumbered stack → job_count (oldest stack) (newest stack) ≡ length stack
+pub count_of : (stack : List StackItem) → AreNumbered stack → job_count (oldest stack) (newest stack) ≡ length stack
 count_of [] numbered = refl
 count_of (o ∷ olds) numbered =
     let far = numbers_by_length o olds numbered in
@@ -268,13 +257,6 @@ is_migration one_db one x puts s old m stores = by stores.list
             }
 
 -- ---- a root that is up to date
-
-no_jobs : (stack : List StackItem) → AreNumbered stack → newest stack ≡ 0 → stack ≡ []
-no_jobs [] numbered none = refl
-no_jobs (o ∷ olds) numbered none =
-    let least = low_at_least o olds numbered in
-    let far = numbers_by_length o olds numbered in
-    absurd (omega (arith, least, far, none))
 
 -- it stores its systems in format 2
 pub in_two : (x : Tree) (s : SystemState) → is_up_to_date (get x database) ≡ true → StoresSystem x s → StoresIn Two x s

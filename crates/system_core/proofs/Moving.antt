@@ -8,11 +8,12 @@ use Rattle.rollback_stack.specs.journal-log.declared.put.Put.{Put}
 use Rattle.rollback_stack.specs.journal-log.Targets.{is_target}
 use Rattle.rollback_stack.specs.tree-disk.Disk.{DiskModel, HasRead, IsDisk}
 use Rattle.rollback_stack.specs.tree-disk.Confined.{LeavesOnly}
-use Rattle.rollback_stack.specs.tree-disk.ConfinedLaws.{confined_read, leaves_then, leaves_weaker}
-use Rattle.rollback_stack.specs.tree-disk.Laws.{same_tree}
+use Rattle.rollback_stack.proofs.tree-disk.ConfinedLaws.{confined_read, leaves_then, leaves_weaker}
+use Rattle.rollback_stack.proofs.tree-disk.Laws.{same_tree}
 use Rattle.rollback_stack.specs.tree-disk.Moments.{shows_weaker}
 use Rattle.rollback_stack.specs.tree-disk.Tree.{Name, Tree}
-use Rattle.rollback_stack.specs.tree-disk.Unfailed.{UnlessFailed, unfailed_then}
+use Rattle.rollback_stack.specs.tree-disk.Unfailed.{UnlessFailed}
+use Rattle.rollback_stack.proofs.tree-disk.Unfailed.{unfailed_then}
 use Rattle.tree_journal.specs.Recovery.{is_committed}
 use Rattle.local_db.specs.declared.db.Db.{Db}
 use Rattle.local_db.specs.Stores.{RecoversToSystem, StoresIn}

@@ -1,78 +1,33 @@
 -- The database of a root, and a job by the record and the contents that the root holds of it.
-use Rattle.std.proofs.Common.{◌≡◌, ℕ, false, List, [], ◌∷◌, ◌++◌, map, Option, Some, None, All, Contains, refl, sym, ◌∙◌, ap, subst}
-use Rattle.std.proofs.lemmas.List.Elements.{All-cons, All-head, All-nil, All-tail}
+use Rattle.std.proofs.Common.{◌≡◌, ℕ, false, List, [], ◌∷◌, ◌++◌, map, Option, Some, None, Contains, refl, sym, ◌∙◌, ap, subst}
 use Rattle.std.specs.FinMap.{get}
 use Rattle.sha1.specs.Sha1.{sha1}
 use Rattle.rollback_stack.specs.cny-base.declared.node.Node.{Node}
 use Rattle.rollback_stack.specs.cny-base.declared.node.Node.TheVariants as node
-use Rattle.rollback_stack.specs.content-store.Store.{file_bytes, stored}
+use Rattle.rollback_stack.specs.content-store.Store.{stored}
 use Rattle.rollback_stack.specs.journal-log.declared.put.Want.{Want}
 use Rattle.rollback_stack.specs.journal-log.declared.put.Want.TheVariants as want
 use Rattle.rollback_stack.specs.journal-log.Targets.{node_of}
 use Rattle.rollback_stack.specs.tree-disk.Tree.{Name, Tree}
-use Rattle.rollback_stack.specs.tree-scan.declared.mark.Mark.{Mark}
-use Rattle.rollback_stack.specs.tree-scan.declared.mark.Mark.TheVariants as mark
 use Rattle.rollback_stack.specs.tree-scan.Marks.{fingerprint}
 use Rattle.rollback_stack.specs.trove-stream.declared.parts.TroveParts.{TroveParts}
-use Rattle.job_targets.specs.declared.entry.Entry.{Entry}
 use Rattle.job_targets.specs.Old.{IsDamagedOld, IsSaved, is_staged}
-use Rattle.local_db.specs.Formats.{database_bytes}
-use Rattle.local_db.specs.Names.{database, saved}
+use Rattle.local_db.specs.Names.{saved}
 use Rattle.local_db.specs.Record as state
-use Rattle.local_db.specs.Stores.{HoldsDatabase, HoldsFile, HoldsItem, HoldsSaved, IsDatabase, SameDatabase, absent, written}
+use Rattle.local_db.specs.Stores.{HoldsItem, HoldsSaved}
 use Rattle.local_db.specs.SystemState.{IsStackItem, StackItem}
 use Rattle.local_db.specs.Steps.{want_of}
-use Rattle.local_db.specs.declared.format.Format.{Format}
 use Rattle.local_db.specs.declared.format.Format.TheVariants.{Two}
 use Rattle.local_db.proofs.Other.{checks_law}
-use Rattle.rollback_stack.specs.job-record.JobReading.{HoldsRecord}
+use Rattle.rollback_stack.specs.JobReading.{HoldsRecord}
+use Rattle.local_db.proofs.OneSystem.{bytes_in, mode_in}
+use Rattle.local_db.proofs.cny-base.OptionValues.{same_some}
 
 -- ---- the database
 
-abbrev pub OneDatabase : Type 0
-OneDatabase = (f g : Format) (list other : List TroveParts) (low high lower higher : ℕ) → IsDatabase f list low high → IsDatabase g other lower higher
-    → database_bytes f list low high ≡ database_bytes g other lower higher → SameDatabase f g list other low high lower higher
-
-pub record SameParts (list other : List TroveParts) (low high lower higher : ℕ) : Type 0 where
-  pub lists : list ≡ other
-  pub lows : low ≡ lower
-  pub highs : high ≡ higher
-
-same_some : {A : Type 0} (x y : A) → Some x ≡ Some y → x ≡ y
-same_some x y e = cc e
-
-no_file : (x : Tree) (bytes : List ℕ) → get x database ≡ None → HoldsFile x database bytes → ⊥
-no_file x bytes none file = absurd (cc (ap file_bytes none, file))
-
--- a tree holds one database
-pub one_held : OneDatabase → (x : Tree) (list other : List TroveParts) (low high lower higher : ℕ) → HoldsDatabase Two x list low high → HoldsDatabase Two x other lower higher
-    → SameParts list other low high lower higher
-one_held one x list other low high lower higher (absent n l a b) (absent m k c d) = record { lists = l ∙ sym k; lows = a ∙ sym c; highs = b ∙ sym d }
-one_held one x list other low high lower higher (absent n l a b) (written is file) = absurd (no_file x _ n file)
-one_held one x list other low high lower higher (written is file) (absent n l a b) = absurd (no_file x _ n file)
-one_held one x list other low high lower higher (written is file) (written its too) =
-    let same = one Two Two list other low high lower higher is its (same_some _ _ (sym file ∙ too)) in
-    record { lists = same.lists; lows = same.oldest; highs = same.newest }
-
 -- ---- the record of a job
 
-abbrev pub OneRecord : Type 0
-OneRecord = (f : Format) (x : Tree) (n : ℕ) (after before other : List TroveParts) (es ds : List state.Entry)
-    → HoldsRecord f x n after before es → HoldsRecord f x n after other ds → (before ≡ other) × (es ≡ ds)
-
 -- ---- nodes by their fingerprints
-
-mode_in : Mark → ℕ
-mode_in mark.Nothing = 0
-mode_in (mark.Dir mode) = mode
-mode_in (mark.File mode size name) = mode
-mode_in (mark.Link target) = 0
-
-bytes_in : Mark → List ℕ
-bytes_in mark.Nothing = []
-bytes_in (mark.Dir mode) = []
-bytes_in (mark.File mode size name) = name
-bytes_in (mark.Link target) = target
 
 -- a write with the fingerprint of a node is that of the node, where the contents of a SHA-1 are one
 pub same_want : (w : Want) (n : Option Node) → is_staged w ≡ false → fingerprint (node_of w) ≡ fingerprint n
@@ -120,14 +75,6 @@ split_map f (x ∷ xs) (c ∷ front) b rest e =
     let split = more.split in
     let fronts = more.front_is in
     record { before = x ∷ more.before; one = more.one; behind = more.behind; split = ap (λ l. x ∷ l) split; front_is = λ i. head i ∷ fronts i; one_is = more.one_is }
-
-pub all_front : {A : Type 0} (P : A → Type 0) (front rest : List A) → All P (front ++ rest) → All P front
-all_front P [] rest all = All-nil P
-all_front P (x ∷ front) rest all = All-cons P x front (All-head P x (front ++ rest) all) (all_front P front rest (All-tail P x (front ++ rest) all))
-
-pub all_middle : {A : Type 0} (P : A → Type 0) (front : List A) (x : A) (rest : List A) → All P (front ++ x ∷ rest) → P x
-all_middle P [] x rest all = All-head P x rest all
-all_middle P (y ∷ front) x rest all = all_middle P front x rest (All-tail P y (front ++ x ∷ rest) all)
 
 -- ---- saved contents
 

@@ -1,5 +1,5 @@
 -- What holds of all jobs from the newest down to its own number holds of the newest job.
-use Rattle.std.proofs.Common.{◌≡◌, ⊎_elim, ℕ, ◌+◌, ◌-◌, ◌<◌, ◌≤◌, Bool, true, false, List, [], ◌∷◌, ◌++◌, take, Result, Ok, Err, All, Contains, refl, sym, ◌∙◌, ap, subst, arith}
+use Rattle.std.proofs.Common.{◌≡◌, ⊎_elim, ℕ, ◌+◌, ◌-◌, ◌≤◌, Bool, true, false, List, [], ◌∷◌, ◌++◌, take, Result, Ok, Err, All, Contains, refl, sym, ◌∙◌, ap, subst, arith}
 use Rattle.std.specs.Prelude.{if◌then◌else◌}
 use Rattle.std.specs.FinMap.{get}
 use Rattle.std.proofs.lemmas.List.Elements.{All-contains, All-head}
@@ -16,19 +16,19 @@ use Rattle.local_db.specs.Stores.{HoldsDatabase, IsDatabase, StoresIn}
 use Rattle.local_db.specs.SystemState.{AreNumbered, IsFree, IsStackItem, IsSystemState, StackItem, SystemState, is_listed, newest, oldest}
 use Rattle.local_db.specs.Steps.{after_rollbacks}
 use Rattle.local_db.proofs.Sorted.{listed_in}
-use Rattle.local_db.proofs.Writes.{contains_first}
 use Rattle.system_core.specs.Restoring.{IsException, IsLeftAlone, IsPutInto, IsRestored, IsUnedited, Restores}
 use Rattle.system_core.specs.RestoringAll.{AreRestored, AreUnedited, IsExceptionTo, RestoresTo}
 use Rattle.system_core.specs.Rollback.{HasCause}
 use Rattle.system_core.specs.Several.{HasJob, HasTakenBackTo, IsRefusalKind, IsRefusalKindTo, OfTurn, jobs_to}
 use Rattle.system_core.proofs.Counting.{numbers_apart}
-use Rattle.system_core.proofs.NewestStored.{OneDatabase, one_held}
+use Rattle.system_core.proofs.Held.{OneDatabase, one_held}
+use Rattle.local_db.proofs.cny-base.Lists.{contains_first}
 
-picked : {A : Type 0} (b : Bool) (x y : A) → b ≡ true → (if b then x else y) ≡ x
+pub picked : {A : Type 0} (b : Bool) (x y : A) → b ≡ true → (if b then x else y) ≡ x
 picked true x y is = refl
 picked false x y is = absurd (cc is)
 
-left_over : {A : Type 0} (b : Bool) (x y : A) → b ≡ false → (if b then x else y) ≡ y
+pub left_over : {A : Type 0} (b : Bool) (x y : A) → b ≡ false → (if b then x else y) ≡ y
 left_over true x y is = absurd (cc is)
 left_over false x y is = refl
 
@@ -37,27 +37,27 @@ module _ (s : SystemState) (system : IsSystemState s) (o : StackItem) (olds : Li
   has_newest = (o, subst (λ (l : List StackItem). Contains l o) (sym stack) (contains_first o olds), sym (ap newest stack))
 
   -- it is the only one
-  alone : jobs_to (newest s.stack) s.stack ≡ o ∷ []
+  pub alone : jobs_to (newest s.stack) s.stack ≡ o ∷ []
   alone = ap (λ (l : List StackItem). jobs_to (newest l) l) stack ∙ ap (λ (k : ℕ). take k (o ∷ olds)) one
     where
       one : o.number + 1 - o.number ≡ 1
       one = omega arith
 
   -- none is newer
-  none_newer : (p : StackItem) (more : List StackItem) (job : StackItem) (rest : List StackItem) → s.stack ≡ (p ∷ more) ++ job ∷ rest → newest s.stack ≤ job.number → ⊥
+  pub none_newer : (p : StackItem) (more : List StackItem) (job : StackItem) (rest : List StackItem) → s.stack ≡ (p ∷ more) ++ job ∷ rest → newest s.stack ≤ job.number → ⊥
   none_newer p more job rest is low =
       let apart = numbers_apart p more job rest (subst AreNumbered is system.numbered) in
       let top : newest s.stack ≡ p.number = ap newest is in
       omega (arith, apart, top, low)
 
-  same_job : (job : StackItem) (rest : List StackItem) → s.stack ≡ job ∷ rest → job ≡ o
+  pub same_job : (job : StackItem) (rest : List StackItem) → s.stack ≡ job ∷ rest → job ≡ o
   same_job job rest is = let both : job ∷ rest ≡ o ∷ olds = sym is ∙ stack in cc both
 
   pub newest_unedited : IsUnedited o s.tree → AreUnedited s (newest s.stack)
   newest_unedited unedited [] job rest is low can = subst (λ (j : StackItem). IsUnedited j s.tree) (sym (same_job job rest is)) unedited
   newest_unedited unedited (p ∷ more) job rest is low can = absurd (none_newer p more job rest is low)
 
-  outer : (q : Name) → is_listed o.paths q ≡ true → is_reserved q ≡ false
+  pub outer : (q : Name) → is_listed o.paths q ≡ true → is_reserved q ≡ false
   outer q own = (All-contains IsFree o.paths q item.free (listed_in o.paths q own)).not_reserved
     where
       item : IsStackItem o
@@ -73,7 +73,7 @@ module _ (s : SystemState) (system : IsSystemState s) (o : StackItem) (olds : Li
         whole = λ same. all.whole (same, tt);
       }
 
-  turn_of : (P : StackItem → Tree → Type 0) → OfTurn s (newest s.stack) P → P o s.tree
+  pub turn_of : (P : StackItem → Tree → Type 0) → OfTurn s (newest s.stack) P → P o s.tree
   turn_of P is = at is.newer is.job is.olds is.stack_is is.down_to is.holds
     where
       at : (newer : List StackItem) (job : StackItem) (rest : List StackItem) → s.stack ≡ newer ++ job ∷ rest → newest s.stack ≤ job.number → P job (after_rollbacks newer (job ∷ rest) s).tree → P o s.tree

@@ -11,18 +11,20 @@ use Rattle.rollback_stack.specs.journal-log.declared.put.Put.{Put}
 use Rattle.rollback_stack.specs.tree-disk.Tree.{Name, Tree}
 use Rattle.rollback_stack.specs.tree-disk.Disk.{DiskModel, IsDisk, HasRead}
 use Rattle.rollback_stack.specs.tree-disk.Confined.{Among, Confined, LeavesOnly}
-use Rattle.rollback_stack.specs.tree-disk.ConfinedLaws.{confined_read, confined_then, leaves_then, leaves_step, leaves_weaker}
-use Rattle.rollback_stack.specs.tree-disk.Laws.{same_tree}
-use Rattle.rollback_stack.specs.tree-disk.Moments.{rose_before, same_images}
+use Rattle.rollback_stack.proofs.tree-disk.ConfinedLaws.{confined_read, confined_then, leaves_then, leaves_step, leaves_weaker}
+use Rattle.rollback_stack.proofs.tree-disk.Laws.{same_tree}
+use Rattle.rollback_stack.specs.tree-disk.Moments.{same_images}
+use Rattle.rollback_stack.proofs.tree-disk.Moments.{rose_before}
 use Rattle.rollback_stack.specs.tree-disk.Steps.{no_name, Found, Tests}
-use Rattle.rollback_stack.specs.tree-disk.Unfailed.{UnlessFailed, unfailed_confined, unfailed_then, unfailed_weaker}
+use Rattle.rollback_stack.specs.tree-disk.Unfailed.{UnlessFailed}
+use Rattle.rollback_stack.proofs.tree-disk.Unfailed.{unfailed_confined, unfailed_then, unfailed_weaker}
 use Rattle.tree_journal.specs.CanBePut.{CanBePut}
 use Rattle.tree_journal.specs.Recovery.{is_committed, RecoversTo, at_rest, by_log, RecoversAsThen, IsRecovered, IsDamagedAt, log_damaged, staged_damaged}
 use Rattle.tree_journal.specs.Recovering.{IsVisibleIn}
 use Rattle.tree_journal.specs.Staging.{has_content, outcome}
 use Rattle.system_core.specs.FixedDirs.{RefusesPath, fixed_dirs}
 use Rattle.system_core.specs.Opening.{IsOpen, IsOpeningStop, Opens}
-use Rattle.system_core.specs.Recovered.{IsKept, RecoversAt, RecoversToNone, RecoveryStops, RefusesLog}
+use Rattle.tree_journal.specs.Recovered.{IsKept, RecoversAt, RecoversToNone, RecoveryStops, RefusesLog}
 
 -- ---- a root that recovers to some tree has no log that can't be put, and none that is damaged
 
@@ -44,10 +46,10 @@ never_damaged_log {base = base} {tree = tree} (staged_damaged set puts holds onl
     let fails : has_content base tree first.write.want ≡ false = first.fails in
     absurd (cc (stands, fails))
 
-visible_itself : (base : Name) (t : Tree) → IsVisibleIn base t t
+pub visible_itself : (base : Name) (t : Tree) → IsVisibleIn base t t
 visible_itself base t tree r q out = inl refl
 
-kept_so : (base : Name) (tree : Tree) → IsKept base tree tree
+pub kept_so : (base : Name) (tree : Tree) → IsKept base tree tree
 kept_so base tree = record { still = λ recovered r. r; same = λ clear. refl }
 
 module _ {D : Type 0} {disk : DiskModel D} (laws : IsDisk disk) where
@@ -56,10 +58,10 @@ module _ {D : Type 0} {disk : DiskModel D} (laws : IsDisk disk) where
   read_shown {old = old} read = unfailed_confined (confined_read laws (Among no_name) read) (λ t agrees. same_tree t (disk.reads old) (λ p. agrees p (λ among. absurd cc)))
 
   -- it leaves what a crash might leave before, and shows what stood before
-  read_leaves : (old new : D) → HasRead disk old new (Unit {0}) → LeavesOnly disk old new (RecoversAsThen disk private_directory old)
+  pub read_leaves : (old new : D) → HasRead disk old new (Unit {0}) → LeavesOnly disk old new (RecoversAsThen disk private_directory old)
   read_leaves old new read = leaves_step laws read.time (λ image is. inl is) (λ image is. inl (same_images read.same image is))
 
-  read_visible : (old new : D) → HasRead disk old new (Unit {0}) → UnlessFailed disk old new (IsVisibleIn private_directory (disk.reads old))
+  pub read_visible : (old new : D) → HasRead disk old new (Unit {0}) → UnlessFailed disk old new (IsVisibleIn private_directory (disk.reads old))
   read_visible old new read = unfailed_weaker (λ t is. subst (IsVisibleIn private_directory (disk.reads old)) (sym is) (visible_itself private_directory (disk.reads old))) (read_shown read)
 
   -- ---- the root was only read
@@ -78,7 +80,7 @@ module _ {D : Type 0} {disk : DiskModel D} (laws : IsDisk disk) where
   }
 
   -- a test stopped
-  found_stops : (told : Bool) (expected : Result (Unit {0}) Refusal) (e : Stop) (old new : D) → disk.tells ≡ told → expected ≡ fixed_dirs (disk.reads old) → (IsTrue disk.tells → HasRead disk old new (Unit {0})) → Found (λ (d : Unit {0}). d) told expected (Err e) (disk.faults old) (disk.faults new) → RefusesPath e → IsOpeningStop disk old new e
+  pub found_stops : (told : Bool) (expected : Result (Unit {0}) Refusal) (e : Stop) (old new : D) → disk.tells ≡ told → expected ≡ fixed_dirs (disk.reads old) → (IsTrue disk.tells → HasRead disk old new (Unit {0})) → Found (λ (d : Unit {0}). d) told expected (Err e) (disk.faults old) (disk.faults new) → RefusesPath e → IsOpeningStop disk old new e
   found_stops told expected stop.Failed old new is same read found of_path = found
   found_stops told expected stop.Memory old new is same read found of_path = tt
   found_stops told expected (stop.Refused r) old new is same read found of_path = (of_path, λ t. record { cause = inl (sym same ∙ found (sym is ∙ t)); kept = confined_read laws (Among no_name) (read t) })
@@ -91,21 +93,21 @@ module _ {D : Type 0} {disk : DiskModel D} (laws : IsDisk disk) where
 
   -- ---- it was recovered
 
-  as_at : (old mid : D) → HasRead disk old mid (Unit {0}) → (image : Tree) → RecoversAsThen disk private_directory mid image → RecoversAsThen disk private_directory old image
+  pub as_at : (old mid : D) → HasRead disk old mid (Unit {0}) → (image : Tree) → RecoversAsThen disk private_directory mid image → RecoversAsThen disk private_directory old image
   as_at old mid read image h = ⊎_elim
       (λ is. inl (same_images read.same image is))
       (λ r. inr (λ tree to. r tree (subst (λ (t : Tree). RecoversTo private_directory t tree) (sym read.same.reads) to)))
       h
 
   -- a recovered disk recovers to what it reads
-  recovers_to_new : (mid new : D) → IsRecovered disk private_directory mid new → IsKept private_directory (disk.reads mid) (disk.reads new) → (b : Bool) → is_committed private_directory (disk.reads mid) ≡ b → RecoversTo private_directory (disk.reads mid) (disk.reads new)
+  pub recovers_to_new : (mid new : D) → IsRecovered disk private_directory mid new → IsKept private_directory (disk.reads mid) (disk.reads new) → (b : Bool) → is_committed private_directory (disk.reads mid) ≡ b → RecoversTo private_directory (disk.reads mid) (disk.reads new)
   recovers_to_new mid new recovered kept true set =
       let log = recovered.had_log set in
       let stores = recovered.stores (outcome private_directory log.puts (disk.reads mid)) (by_log set log.puts log.holds log.stand log.can (λ p out. refl)) in
       by_log set log.puts log.holds log.stand log.can (λ p out. sym (stores p out))
   recovers_to_new mid new recovered kept false clear = at_rest clear (λ p out. ap (λ (t : Tree). get t p) (sym (kept.same clear)))
 
-  is_open : (old mid new : D) → HasRead disk old mid (Unit {0}) → fixed_dirs (disk.reads old) ≡ Ok tt → IsRecovered disk private_directory mid new → IsKept private_directory (disk.reads mid) (disk.reads new) → IsOpen disk old new
+  pub is_open : (old mid new : D) → HasRead disk old mid (Unit {0}) → fixed_dirs (disk.reads old) ≡ Ok tt → IsRecovered disk private_directory mid new → IsKept private_directory (disk.reads mid) (disk.reads new) → IsOpen disk old new
   is_open old mid new read fixed recovered kept = record {
     rests = record { flag_clear = recovered.flag_clear; synced = recovered.synced };
     fixed = fixed;

@@ -5,20 +5,22 @@ use Rattle.std.proofs.lemmas.List.Elements.{All-cons, All-contains, All-head, Al
 use Rattle.rollback_stack.specs.cny-base.Reserved.{is_reserved}
 use Rattle.rollback_stack.specs.journal-log.declared.put.Put.{Put}
 use Rattle.rollback_stack.specs.journal-log.Targets.{is_target}
-use Rattle.rollback_stack.specs.tree-disk.Laws.{same_itself}
+use Rattle.rollback_stack.proofs.tree-disk.Laws.{same_itself}
 use Rattle.rollback_stack.specs.tree-disk.Tree.{Name, Tree, same_name}
 use Rattle.local_db.specs.declared.db.Db.{Db}
 use Rattle.local_db.specs.Names.{database, record_file}
 use Rattle.local_db.specs.Steps.{IsUnion, no_record_put}
 use Rattle.local_db.proofs.Places.{database_reserved, job_not_database, record_is_job}
-use Rattle.local_db.proofs.Writes.{contains_cases, contains_first, contains_rest, not_both, nothing_in, target_at}
-use Rattle.rollback_stack.specs.Jobs.{oldest_with, undone_all}
-use Rattle.rollback_stack.specs.Marks.{marks_of}
+use Rattle.local_db.proofs.Writes.{not_both}
+use Rattle.rollback_stack.specs.past-jobs.Jobs.{oldest_with, undone_all}
+use Rattle.rollback_stack.specs.past-jobs.Marks.{marks_of}
 use Rattle.rollback_stack.specs.declared.undo.Back.{Back}
 use Rattle.rollback_stack.specs.Inverse.{IsBackTo, IsOldWant, no_records}
 use Rattle.system_core.specs.Inserting.{HasBytes, put_of_db}
 use Rattle.system_core.specs.Several.{IsStepTo}
 use Rattle.system_core.proofs.PuttingAll.{told_in}
+use Rattle.tree_journal.proofs.WriteSets.{target_at}
+use Rattle.local_db.proofs.cny-base.Lists.{contains_cases, contains_first, contains_rest, nothing_in}
 
 not_record : (n : ℕ) → database ≡ record_file n → ⊥
 not_record n is = not_both (same_name (record_file n) database) (subst (λ (q : Name). same_name q database ≡ true) is (same_itself database)) (job_not_database n (record_file n) (record_is_job n))

@@ -9,7 +9,8 @@ use Rattle.sha1.specs.Sha1.{sha1}
 use Rattle.rollback_stack.specs.journal-log.declared.put.Want.{Want}
 use Rattle.rollback_stack.specs.journal-log.declared.put.Want.TheVariants as want
 use Rattle.rollback_stack.specs.journal-log.Targets.{node_of}
-use Rattle.rollback_stack.specs.tree-disk.Nodes.{bytes-File, is_node-Dir, is_node-File, is_node-Link}
+use Rattle.rollback_stack.specs.tree-disk.Nodes.{is_node-Dir}
+use Rattle.rollback_stack.proofs.tree-disk.Nodes.{bytes-File, is_node-File, is_node-Link}
 use Rattle.rollback_stack.specs.tree-disk.Tree.{Tree, WellFormed, is_byte, is_dir, may_stand}
 use Rattle.rollback_stack.specs.tree-scan.Marks.{fingerprint}
 use Rattle.job_targets.specs.Old.{IsSaved}
@@ -18,6 +19,7 @@ use Rattle.local_db.specs.Names.{database, saved}
 use Rattle.local_db.specs.Stores.{HoldsDatabase, absent, written}
 use Rattle.local_db.specs.declared.format.Format.TheVariants.{Two}
 use Rattle.local_db.specs.declared.db.Db.{Db}
+use Rattle.system_core.proofs.JobEnding.{is_file_or_none as no_dir}
 
 bytes_of_file : (n : Option Node) (bytes : List ℕ) → may_stand n ≡ true → file_bytes n ≡ Some bytes → list_all is_byte bytes ≡ true
 bytes_of_file None bytes stands is = absurd (cc is)
@@ -33,12 +35,6 @@ may_be x number (want.File mode bytes) well is_mark saved_ =
     is_node-File mode bytes is_mark.0 (bytes_of_file (get x (content_path (saved number) (sha1 bytes))) bytes (well.nodes (content_path (saved number) (sha1 bytes))) saved_)
 may_be x number (want.Link target) well is_mark saved_ = is_node-Link target is_mark
 may_be x number (want.Staged mode id size name) well is_mark saved_ = absurd saved_
-
-pub no_dir : (n : Option Node) (bytes : List ℕ) → file_bytes n ≡ Some bytes → is_dir n ≡ false
-no_dir None bytes is = refl
-no_dir (Some (node.Dir mode)) bytes is = absurd (cc is)
-no_dir (Some (node.File mode b)) bytes is = refl
-no_dir (Some (node.Link target)) bytes is = refl
 
 pub not_none : (n : Option Node) (bytes : List ℕ) → file_bytes n ≡ Some bytes → n ≢ None
 not_none n bytes is none = absurd (cc (sym is ∙ ap file_bytes none))

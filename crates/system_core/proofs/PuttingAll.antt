@@ -12,7 +12,7 @@ use Rattle.rollback_stack.specs.journal-log.Targets.{is_target, node_of, with_ta
 use Rattle.rollback_stack.specs.trove-stream.declared.parts.TroveParts.{TroveParts}
 use Rattle.rollback_stack.specs.tree-disk.Disk.{DiskModel}
 use Rattle.rollback_stack.specs.tree-disk.Laws.{same_means}
-use Rattle.rollback_stack.specs.tree-disk.Nodes.{is_node-File}
+use Rattle.rollback_stack.proofs.tree-disk.Nodes.{is_node-File}
 use Rattle.rollback_stack.specs.tree-disk.Tree.{Name, Tree, WellFormed, is_dir, may_stand, same_name}
 use Rattle.rollback_stack.specs.tree-scan.Marks as marks
 use Rattle.rollback_stack.specs.tree-scan.Marks.{fingerprint}
@@ -25,16 +25,16 @@ use Rattle.local_db.specs.SystemState.{IsFree}
 use Rattle.local_db.specs.Steps.{IsOwnWrite, IsPuttable, no_record_put}
 use Rattle.local_db.specs.declared.format.Format.TheVariants.{Two}
 use Rattle.local_db.proofs.FileNames.{database_is_path, record_is_path}
-use Rattle.local_db.proofs.Jobs.{neither, outer_differs}
+use Rattle.local_db.proofs.Jobs.{outer_differs}
 use Rattle.local_db.proofs.Places.{database_reserved, database_write, record_reserved, record_write}
 use Rattle.local_db.proofs.Systems.{four_bytes}
 use Rattle.local_db.proofs.Unions.{wrote_alike}
-use Rattle.local_db.proofs.Writes.{is_target-from, not_both, target_at, with_targets_outside, with_targets_target}
+use Rattle.local_db.proofs.Writes.{not_both, with_targets_target}
 use Rattle.tree_journal.specs.Recovery.{is_committed}
-use Rattle.rollback_stack.specs.Jobs.{CanUndoAll, older, oldest_with, undone_all}
-use Rattle.rollback_stack.specs.Marks.{IsOrphan, Marks, is_path_of, marks_of, undone}
-use Rattle.rollback_stack.proofs.JobLaws.{none_with}
-use Rattle.rollback_stack.specs.job-record.JobReading.{HoldsRecord, HoldsRecords}
+use Rattle.rollback_stack.specs.past-jobs.Jobs.{CanUndoAll, older, oldest_with, undone_all}
+use Rattle.rollback_stack.specs.past-jobs.Marks.{IsOrphan, Marks, is_path_of, marks_of, undone}
+use Rattle.rollback_stack.proofs.past-jobs.JobLaws.{none_with}
+use Rattle.rollback_stack.specs.JobReading.{HoldsRecord, HoldsRecords}
 use Rattle.rollback_stack.specs.declared.undo.Back.{Back}
 use Rattle.local_db.specs.declared.db.Db.{Db}
 use Rattle.system_core.specs.RootWriting.{CanWrite}
@@ -42,8 +42,13 @@ use Rattle.rollback_stack.specs.Inverse.{IsOldWant, no_records}
 use Rattle.system_core.specs.Inserting.{put_of_db}
 use Rattle.system_core.specs.Rollback.{IsReadyWith}
 use Rattle.system_core.specs.Several.{IsStepTo}
-use Rattle.system_core.proofs.Putting.{may_be, no_database_dir, no_dir, not_none, stands, there}
-use Rattle.system_core.proofs.UndoneEntries.{dir_told, none_told}
+use Rattle.system_core.proofs.Putting.{may_be, no_database_dir, not_none, stands, there}
+use Rattle.tree_journal.proofs.WriteSets.{target_at, with_targets_outside}
+use Rattle.conflict_plan.proofs.Sighted.{stands_dir as dir_told}
+use Rattle.tree_journal.proofs.journal-log.Walking.{listed as is_target-from}
+use Rattle.tree_journal.proofs.tree-disk.Children.{or_none as neither}
+use Rattle.system_core.proofs.JobEnding.{is_file_or_none as no_dir}
+use Rattle.local_db.proofs.Other.{nothing_there as none_told}
 
 -- ---- a path of one of the jobs
 
@@ -52,7 +57,7 @@ pub record IsTold (jobs : List (List state.Entry)) (q : Name) : Type 0 where
   pub free : IsFree q
   pub mark : (m : Marks) → IsMark (undone_all jobs m q)
 
-told_by_one : (es : List state.Entry) (q : Name) → All state.IsEntry es → All (λ (e : state.Entry). IsFree e.path) es → is_path_of es q ≡ true → IsFree q × ((m : Marks) → IsMark (undone es m q))
+pub told_by_one : (es : List state.Entry) (q : Name) → All state.IsEntry es → All (λ (e : state.Entry). IsFree e.path) es → is_path_of es q ≡ true → IsFree q × ((m : Marks) → IsMark (undone es m q))
 told_by_one [] q are free is = absurd (cc is)
 told_by_one (e ∷ es) q are free is = at (same_name q e.path) refl is
     (λ hit. told_by_one es q (All-tail state.IsEntry e es are) (All-tail (λ (e : state.Entry). IsFree e.path) e es free) hit)
@@ -65,7 +70,7 @@ told_by_one (e ∷ es) q are free is = at (same_name q e.path) refl is
     )
     at false same hit later = later hit
 
-own_path : (b : Bool) (n k : ℕ) → cond b (Some n) None ≡ Some k → b ≡ true
+pub own_path : (b : Bool) (n k : ℕ) → cond b (Some n) None ≡ Some k → b ≡ true
 own_path true n k is = refl
 own_path false n k is = absurd (cc is)
 
@@ -128,11 +133,11 @@ module _ (x : Tree) (db : Db) (number : ℕ) (step : Back) (is : IsStepTo x db n
   unfolding Named
   wanted p among = let n = named p among in (n.0, n.2)
 
-  told : (p : Put) → Contains is.nodes p → IsTold is.jobs p.path
+  pub told : (p : Put) → Contains is.nodes p → IsTold is.jobs p.path
   unfolding Named
   told p among = let n = named p among in told_in x db.newest db.installed is.before is.jobs p.path n.0 is.jobs_are.holds n.1
 
-  free : All (λ (p : Put). IsFree p.path) is.nodes
+  pub free : All (λ (p : Put). IsFree p.path) is.nodes
   free k d lt = (told (get_or is.nodes k d) (Contains-get_or is.nodes k d lt)).free
 
   -- the fingerprints once all jobs are taken back are those of the tree with the writes

@@ -6,10 +6,11 @@ use Rattle.rollback_stack.specs.cny-base.declared.stop.Stop.{Stop}
 use Rattle.rollback_stack.specs.tree-disk.Tree.{Name, Tree}
 use Rattle.rollback_stack.specs.tree-disk.Disk.{DiskModel, HasRead, IsDisk}
 use Rattle.rollback_stack.specs.tree-disk.Confined.{Among, IsSynced, LeavesOnly}
-use Rattle.rollback_stack.specs.tree-disk.ConfinedLaws.{confined_read, confined_then, leaves_then, leaves_weaker}
-use Rattle.rollback_stack.specs.tree-disk.Laws.{same_tree}
-use Rattle.rollback_stack.specs.tree-disk.Moments.{same_on, shows_weaker, time_on}
-use Rattle.rollback_stack.specs.tree-disk.Unfailed.{UnlessFailed, unfailed_then}
+use Rattle.rollback_stack.proofs.tree-disk.ConfinedLaws.{confined_read, confined_then, leaves_then, leaves_weaker}
+use Rattle.rollback_stack.proofs.tree-disk.Laws.{same_tree}
+use Rattle.rollback_stack.specs.tree-disk.Moments.{shows_weaker}
+use Rattle.rollback_stack.specs.tree-disk.Unfailed.{UnlessFailed}
+use Rattle.rollback_stack.proofs.tree-disk.Unfailed.{unfailed_then}
 use Rattle.tree_journal.specs.Recovery.{is_committed}
 use Rattle.rollback_stack.specs.journal-log.declared.put.Put.{Put}
 use Rattle.local_db.specs.declared.format.Format.{Format}
@@ -20,18 +21,6 @@ use Rattle.local_db.proofs.Together.{at_rest_stores}
 use Rattle.system_core.specs.RootWriting.{Goes, ShowsEither, is_private_or_target}
 
 module _ {D : Type 0} {disk : DiskModel D} where
-  -- one reading after another, and what is answered
-  pub read_on : {A B C : Type 0} {old mid new : D} → IsDisk disk → HasRead disk old mid A → HasRead disk mid new B → C → HasRead disk old new C
-  read_on laws first second answer = record {
-    answer = answer;
-    same = same_on first.same second.same;
-    time = time_on laws first.same first.time second.time;
-  }
-
-  -- another answer of it
-  pub read_as : {A B : Type 0} {old new : D} → HasRead disk old new A → B → HasRead disk old new B
-  read_as read answer = record { answer = answer; same = read.same; time = read.time }
-
   module _ (laws : IsDisk disk) (s : SystemState) {old : D} (clear : is_committed private_directory (disk.reads old) ≡ false) (synced : IsSynced disk old) (stores : StoresIn Two (disk.reads old) s) where
     now : RecoversToSystem (disk.reads old) s
     now = (at_rest_stores (disk.reads old) s clear).1 (inr stores)

@@ -1,5 +1,5 @@
 -- What two lists record is what a job may change.
-use Rattle.std.proofs.Common.{◌≡◌, ◌⊎◌, inl, inr, ⊎_elim, Bool, true, false, ◌||◌, ◌&&◌, cond, IsTrue, List, [], ◌∷◌, ◌++◌, Option, Some, None, refl, sym, ◌∙◌, ap, subst}
+use Rattle.std.proofs.Common.{◌≡◌, ◌⊎◌, inl, inr, ⊎_elim, Bool, true, false, cond, List, [], ◌∷◌, ◌++◌, Option, Some, None, refl, subst}
 use Rattle.std.proofs.lemmas.List.Elements.{recursion_from_All}
 use Rattle.std.specs.List.{All, AllByRecursion}
 use Rattle.std.specs.Option.{is_some}
@@ -16,19 +16,13 @@ use Rattle.local_db.specs.SystemState.{IsFree}
 use Rattle.conflict_plan.specs.declared.planned.Planned.{Planned}
 use Rattle.conflict_plan.specs.Claims.{Claim, claims, claims_in, first_record, record_at}
 use Rattle.conflict_plan.specs.Plan.{IsPlannable}
+use Rattle.local_db.proofs.cny-base.Bools.{first_false}
+use Rattle.tree_journal.proofs.tree-disk.ClearLaws.{or_cases as or_means}
 
 -- a path that a trove may record
 pub record IsRecordable (path : Name) : Type 0 where
   pub path_is : is_path path ≡ true
   pub outside : is_reserved path ≡ false
-
--- the files are at paths, and none is forbidden
-abbrev pub AreRecordable : List FileAt → Type 0
-AreRecordable files = AllByRecursion IsFileAt files × (first_forbidden files ≡ None)
-
-first_false : (a b : Bool) → (a || b) ≡ false → a ≡ false
-first_false true b is = absurd (cc is)
-first_false false b is = refl
 
 -- where the first file is no forbidden one, and no later one is
 allowed_first : (b : Bool) (path : Name) (rest : Option Name) → cond b (Some path) rest ≡ None → (b ≡ false) × (rest ≡ None)
@@ -62,10 +56,6 @@ list_recordable (t ∷ list) path are allowed is = ⊎_elim
     (λ here. files_recordable t.id.name t.files path (recursion_from_All IsFileAt t.files are.0.lists.files.valid) allowed.0 here)
     (λ later. list_recordable list path are.1 allowed.1 later)
     (either_claims (claims_in t.id.name t.files path) (claims list path) is)
-
-or_means : (a b : Bool) → (a || b) ≡ true → (a ≡ true) ⊎ (b ≡ true)
-or_means true b is = inl refl
-or_means false b is = inr is
 
 -- what is planned by two lists is at paths that a job may change
 pub plannable_free : (old fresh : List TroveParts) (x : Planned) → All IsTrove old → All IsTrove fresh

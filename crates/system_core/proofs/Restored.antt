@@ -14,11 +14,8 @@ use Rattle.local_db.proofs.Sorted.{in_listed, listed_in}
 use Rattle.local_db.proofs.Writes.{not_both}
 use Rattle.system_core.specs.Restoring.{IsLeftAlone, IsPutInto, IsUnedited}
 use Rattle.system_core.specs.Tests.{IsEdited, IsFirstEdited, IsFirstOrphan}
-use Rattle.system_core.proofs.UndoneEntries.{dir_told}
-
-stands : (n : Option Node) → n ≢ None → is_some n ≡ true
-stands None some = absurd (some refl)
-stands (Some n) some = refl
+use Rattle.system_core.proofs.Putting.{stands}
+use Rattle.conflict_plan.proofs.Sighted.{stands_dir as dir_told}
 
 none_of : (n : Option Node) → (is_some n ≡ true → ⊥) → n ≡ None
 none_of None never = refl

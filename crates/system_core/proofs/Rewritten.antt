@@ -1,6 +1,6 @@
 -- A root at rest that is brought to format 2.
 use Rattle.std.proofs.Common.{◌≡◌, inl, inr, ⊎_elim, ◌≤◌, true, false, IsTrue, List, Option, Some, None, Result, Ok, Err, All, refl, sym, ◌∙◌, ap, subst}
-use Rattle.std.specs.Prelude.{OnOk, IfErr, IsErrAnd, IsErrOf}
+use Rattle.std.specs.Prelude.{OnOk, IfErr, IsErrOf}
 use Rattle.std.specs.FinMap.{get}
 use Rattle.rollback_stack.specs.cny-base.Count.{Rose}
 use Rattle.rollback_stack.specs.cny-base.Reserved.{private_directory, is_reserved}
@@ -12,18 +12,19 @@ use Rattle.rollback_stack.specs.journal-log.declared.put.Put.{Put}
 use Rattle.rollback_stack.specs.journal-log.Own.{StoresSame, gate, is_own}
 use Rattle.rollback_stack.specs.journal-log.Targets.{is_target, node_of, with_targets}
 use Rattle.rollback_stack.specs.tree-disk.Disk.{DiskModel, Elapses, HasRead, IsDisk, IsImageOf, Unchanged}
-use Rattle.rollback_stack.specs.tree-disk.ClearLaws.{or_cases}
+use Rattle.rollback_stack.proofs.tree-disk.ClearLaws.{or_cases}
 use Rattle.rollback_stack.specs.tree-disk.Confined.{LeavesOnly}
-use Rattle.rollback_stack.specs.tree-disk.ConfinedLaws.{leaves_step, leaves_then, leaves_weaker}
-use Rattle.rollback_stack.specs.tree-disk.Moments.{rose_before, same_images}
+use Rattle.rollback_stack.proofs.tree-disk.ConfinedLaws.{leaves_step, leaves_then, leaves_weaker}
+use Rattle.rollback_stack.specs.tree-disk.Moments.{same_images}
+use Rattle.rollback_stack.proofs.tree-disk.Moments.{rose_before}
 use Rattle.rollback_stack.specs.tree-disk.Steps.{IsDiskStop}
 use Rattle.rollback_stack.specs.tree-disk.Tree.{Tree, AgreesOutside, may_stand}
-use Rattle.rollback_stack.specs.tree-disk.Unfailed.{UnlessFailed, unfailed_then, unfailed_weaker}
+use Rattle.rollback_stack.specs.tree-disk.Unfailed.{UnlessFailed}
+use Rattle.rollback_stack.proofs.tree-disk.Unfailed.{unfailed_then, unfailed_weaker}
 use Rattle.tree_journal.specs.Recovery.{RecoversTo, at_rest, is_committed, is_flag}
 use Rattle.tree_journal.specs.Visible.{IsVisible, ShowsNode, differ_in_kind}
 use Rattle.local_db.specs.Names.{database}
-use Rattle.local_db.proofs.Writes.{with_targets_outside}
-use Rattle.rollback_stack.specs.job-record.JobReading.{IsReadStop}
+use Rattle.rollback_stack.specs.JobReading.{IsReadStop}
 use Rattle.system_core.specs.RootWriting.{CanWrite, IsPut, Writes}
 use Rattle.rollback_stack.specs.Migrated.{AreMigration, IsDamagedFile, is_up_to_date}
 use Rattle.system_core.specs.Migrating.{HasMigrated, IsBrought, IsMigratingStop, Migrates, RecoversInAFormat}
@@ -31,6 +32,7 @@ use Rattle.system_core.specs.Opening.{IsAtRest}
 use Rattle.system_core.proofs.Migration.{can_write, not_outer}
 use Rattle.system_core.proofs.Opened.{read_shown}
 use Rattle.system_core.proofs.Sameness.{not_own, same_recovers}
+use Rattle.tree_journal.proofs.WriteSets.{with_targets_outside}
 
 -- ---- a root at rest
 
@@ -181,8 +183,3 @@ written_stop disk old mid new early (Err e) is failed = written_stops disk old m
 pub on_ok : {P Q : Type 0} (result : Result (Unit {0}) Stop) → (P → Q) → OnOk result P → OnOk result Q
 on_ok (Ok done) to p = to p
 on_ok (Err e) to p = tt
-
--- a stop that was passed on by `?`
-pub err_passed : {T : Type 0} (P : Stop → Type 0) (r : Result T Stop) (e : Stop) → IsErrAnd r (λ s. s ≡ e) → P e → IfErr r P
-err_passed P (Ok x) e is p = absurd is
-err_passed P (Err s) e is p = subst P (sym is) p

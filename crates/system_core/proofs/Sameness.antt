@@ -7,8 +7,7 @@ use Rattle.rollback_stack.specs.journal-log.declared.put.Put.{Put}
 use Rattle.rollback_stack.specs.journal-log.Own.{is_own, StoresSame}
 use Rattle.rollback_stack.specs.journal-log.Targets.{is_target, with_targets}
 use Rattle.rollback_stack.specs.trove-stream.declared.parts.TroveParts.{TroveParts}
-use Rattle.rollback_stack.specs.tree-disk.Laws.{same_itself}
-use Rattle.rollback_stack.specs.tree-disk.ClearLaws.{or_left, or_right}
+use Rattle.rollback_stack.proofs.tree-disk.Laws.{same_itself}
 use Rattle.rollback_stack.specs.tree-disk.Tree.{Name, Tree, same_name}
 use Rattle.tree_journal.specs.Recovery.{RecoversTo, at_rest, by_log}
 use Rattle.local_db.specs.Loading.{HoldsDb}
@@ -22,11 +21,14 @@ use Rattle.local_db.specs.declared.format.Format.{Format}
 use Rattle.local_db.specs.declared.format.Format.TheVariants.{One}
 use Rattle.local_db.proofs.Frame.{file_stays}
 use Rattle.local_db.proofs.Places.{own_doesnt_count, own_reserved, record_is_job}
-use Rattle.local_db.proofs.Writes.{target_at, with_targets_outside, with_targets_target}
-use Rattle.rollback_stack.specs.job-record.JobReading.{HoldsNoRecord, HoldsRecord, HoldsRecords, IsDamagedRecord}
+use Rattle.local_db.proofs.Writes.{with_targets_target}
+use Rattle.rollback_stack.specs.JobReading.{HoldsNoRecord, HoldsRecord, HoldsRecords, IsDamagedRecord}
 use Rattle.rollback_stack.specs.Migrated.{AreMigration, AreRewritten, IsDamagedFile, IsMigrated, is_up_to_date}
 use Rattle.rollback_stack.specs.Numbers.{job_count}
 use Rattle.system_core.specs.Migrating.{IsBrought, IsDamagedStore, RecoversInAFormat, with_migration}
+use Rattle.tree_journal.proofs.WriteSets.{target_at, with_targets_outside}
+use Rattle.local_db.proofs.cny-base.Bools.{or_left, or_right}
+use Rattle.local_db.proofs.Together.{flip_same as same_back}
 
 -- ---- the database and the records aren't the journal's own
 
@@ -46,9 +48,6 @@ record_not_own x n = own_doesnt_count (no_tree x (job_at x n)) (record_file n)
 
 pub not_own : (q : Name) → is_reserved q ≡ false → is_own private_directory q ≡ false
 not_own q out = ⊎_elim (λ own. absurd (cc (own_reserved q own, out))) (λ other. other) (cases_Bool (is_own private_directory q))
-
-pub same_back : (x y : Tree) → StoresSame private_directory x y → StoresSame private_directory y x
-same_back x y same q out = sym (same q out)
 
 pub same_on : (x y z : Tree) → StoresSame private_directory x y → StoresSame private_directory y z → StoresSame private_directory x z
 same_on x y z first then q out = first q out ∙ then q out

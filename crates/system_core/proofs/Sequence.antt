@@ -9,39 +9,27 @@ use Rattle.rollback_stack.specs.trove-stream.declared.parts.TroveParts.{TrovePar
 use Rattle.rollback_stack.specs.tree-disk.Tree.{Name, Tree, same_name}
 use Rattle.local_db.specs.Record as state
 use Rattle.local_db.specs.Stores.{HoldsSaved, HoldsStack}
-use Rattle.local_db.specs.SystemState.{AreNumbered, IsStackItem, StackItem, SystemState, is_listed, newest}
+use Rattle.local_db.specs.SystemState.{IsStackItem, StackItem, SystemState, is_listed}
 use Rattle.local_db.specs.Steps as steps
 use Rattle.local_db.specs.Steps.{CanRollBackAll, after_rollback, after_rollbacks, backs, no_record_put}
 use Rattle.local_db.specs.declared.format.Format.TheVariants.{Two}
 use Rattle.local_db.proofs.Images.{all_restored, kept, restored}
-use Rattle.local_db.proofs.Writes.{contains_cases, contains_first, contains_rest, nothing_in}
-use Rattle.rollback_stack.specs.Jobs.{CanUndoAll, older, oldest_with, undone_all}
-use Rattle.rollback_stack.specs.Marks.{Marks, is_path_of, undone}
-use Rattle.rollback_stack.specs.job-record.JobReading.{HoldsRecords}
+use Rattle.rollback_stack.specs.past-jobs.Jobs.{CanUndoAll, older, oldest_with, undone_all}
+use Rattle.rollback_stack.specs.past-jobs.Marks.{Marks, is_path_of, undone}
+use Rattle.rollback_stack.specs.JobReading.{HoldsRecords}
 use Rattle.rollback_stack.specs.Inverse.{no_records}
 use Rattle.system_core.specs.RestoringAll.{FollowEachOther, list_before, old_node, tree_before}
 use Rattle.system_core.specs.Several.{paths_of_jobs}
-use Rattle.system_core.proofs.NewestStored.{OneRecord, job_record}
+use Rattle.system_core.proofs.NewestStored.{job_record}
 use Rattle.system_core.proofs.Turn.{IsTurn, can_roll_back, next_turn}
 use Rattle.system_core.proofs.UndoneEntries.{path_listed}
+use Rattle.system_core.proofs.Migration.{AreFrom, OneRecord}
+use Rattle.local_db.proofs.cny-base.Lists.{contains_cases, contains_first, contains_rest, nothing_in}
 
 abbrev pub entries_all : List StackItem → List (List state.Entry)
 entries_all os = map state.entries_of os
 
 -- ---- their numbers
-
--- they are numbered from this one down
-abbrev pub AreFrom : ℕ → List StackItem → Type 0
-AreFrom n [] = Unit {0}
-AreFrom n (o ∷ olds) = (o.number ≡ n) × AreFrom (n - 1) olds
-
-pub from_newest : (stack : List StackItem) → AreNumbered stack → AreFrom (newest stack) stack
-from_newest [] numbered = tt
-from_newest (o ∷ []) numbered = (refl, tt)
-from_newest (o ∷ p ∷ olds) numbered =
-    let next = numbered.0 in
-    let less : p.number ≡ o.number - 1 = omega (arith, next) in
-    (refl, subst (λ (n : ℕ). AreFrom n (p ∷ olds)) less (from_newest (p ∷ olds) numbered.1))
 
 pub from_front : (n : ℕ) (os rest : List StackItem) → AreFrom n (os ++ rest) → AreFrom n os
 from_front n [] rest from = tt
@@ -110,12 +98,12 @@ no_older (Some k) b n is = absurd (cc is)
 no_older None true n is = absurd (cc is)
 no_older None false n is = (refl, refl)
 
-own_number : (b : Bool) (n k : ℕ) → cond b (Some n) None ≡ Some k → (b ≡ true) × (n ≡ k)
+pub own_number : (b : Bool) (n k : ℕ) → cond b (Some n) None ≡ Some k → (b ≡ true) × (n ≡ k)
 own_number true n k is = (refl, cc is)
 own_number false n k is = absurd (cc is)
 
 -- what stood there before this job, or else this
-abbrev first_node : StackItem → Name → Option Node → Option Node
+abbrev pub first_node : StackItem → Name → Option Node → Option Node
 first_node o q stood = cond (is_listed o.paths q) (get o.before q) stood
 
 pub none_old : (n : ℕ) (os : List StackItem) (q : Name) → oldest_with n (entries_all os) q ≡ None → (stood : Option Node) → old_node os q stood ≡ stood

@@ -1,26 +1,22 @@
 -- A list in which no two troves have a path that they can't share is one of a system.
-use Rattle.std.proofs.Common.{◌≡◌, ◌⊎◌, inl, inr, ℕ, Bool, true, false, not, ◌||◌, ◌&&◌, cond, IsTrue, List, [], ◌∷◌, ◌++◌, Option, Some, None, refl, sym, ◌∙◌, ap, subst, arith}
+use Rattle.std.proofs.Common.{◌≡◌, ◌⊎◌, inl, inr, ℕ, Bool, true, false, ◌&&◌, cond, IsTrue, List, [], ◌∷◌, ◌++◌, Option, Some, None, refl, sym, ◌∙◌, ap, subst, arith}
 use Rattle.std.proofs.lemmas.List.Elements.{All-from_recursion}
 use Rattle.std.proofs.lemmas.List.Kept.{AllPairs-cons}
-use Rattle.std.proofs.lemmas.Slice.Eq.{bytes_eq-Decides}
 use Rattle.std.specs.List.{All, AllByRecursion, AllPairs}
-use Rattle.std.specs.Str.{bytes_eq}
 use Rattle.rollback_stack.specs.file-stream.declared.record.FileRec.{FileRec}
 use Rattle.rollback_stack.specs.file-stream.Record.{is_dir}
 use Rattle.rollback_stack.specs.trove-parts.declared.files.FileAt.{FileAt}
 use Rattle.rollback_stack.specs.trove-stream.declared.parts.TroveParts.{TroveParts}
-use Rattle.rollback_stack.specs.tree-disk.Laws.{same_itself}
+use Rattle.rollback_stack.proofs.tree-disk.Laws.{same_itself}
 use Rattle.rollback_stack.specs.tree-disk.Tree.{Name, same_name}
 use Rattle.local_db.specs.Installed.{are_apart, SharesDirsAlone}
 use Rattle.conflict_plan.specs.Claims.{Claim, claims, claims_in, owners, owners_at, rival, with_rival}
+use Rattle.local_db.proofs.Apart.{apart_when as apart_by}
+use Rattle.local_db.proofs.cny-base.Doubling.{both as both_true}
 
 -- all of them are of directories
 abbrev pub AreDirs : List Claim → Type 0
 AreDirs cs = AllByRecursion (λ (c : Claim). is_dir c.1 ≡ true) cs
-
-pub both_true : (a b : Bool) → (a && b) ≡ true → (a ≡ true) × (b ≡ true)
-both_true true b is = (refl, is)
-both_true false b is = absurd (cc is)
 
 -- where no later one is a rival, the first is a directory if there are later ones, and they are
 rival_none : (rec : FileRec) (c : Claim) (cs : List Claim) → rival rec (c ∷ cs) ≡ None → (is_dir rec ≡ true) × (is_dir c.1 ≡ true) × (rival rec cs ≡ None)
@@ -120,16 +116,6 @@ pair_dirs rec other a (d ∷ b) is has_a has_b =
     let begins = split_claims rec a has_a in
     let dirs = both_dirs a d b is begins.0 begins.1 begins.2 in
     (claim_dir rec (a ++ d ∷ b) (claims_front rec a (d ∷ b) has_a) dirs, claim_dir other (a ++ d ∷ b) (claims_behind other a (d ∷ b) has_b) dirs)
-
-apart_by : (file other : FileAt) → (file.path ≡ other.path → (is_dir file.rec ≡ true) × (is_dir other.rec ≡ true)) → IsTrue (are_apart file other)
-apart_by file other so = at (bytes_eq file.path other.path) refl
-  where
-    and_true : (a b : Bool) → a ≡ true → b ≡ true → (a && b) ≡ true
-    and_true a b is_a is_b = ap (λ x. x && b) is_a ∙ is_b
-
-    at : (b : Bool) → bytes_eq file.path other.path ≡ b → (not b || (is_dir file.rec && is_dir other.rec)) ≡ true
-    at true same = let two = so ((bytes_eq-Decides file.path other.path).0 same) in and_true (is_dir file.rec) (is_dir other.rec) two.0 two.1
-    at false differ = refl
 
 module _ (t : TroveParts) where
   -- a later trove shares directories alone with this one

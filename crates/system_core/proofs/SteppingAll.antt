@@ -26,25 +26,29 @@ use Rattle.local_db.specs.Steps.{CanRollBackAll, IsUnion, after_rollbacks, datab
 use Rattle.local_db.specs.declared.format.Format.TheVariants.{Two}
 use Rattle.local_db.proofs.Several.{rollbacks_stored}
 use Rattle.local_db.proofs.Sorted.{listed_in}
-use Rattle.local_db.proofs.Writes.{not_both, target_at}
-use Rattle.rollback_stack.specs.Jobs.{CanUndoAll, oldest_with, undone_all}
-use Rattle.rollback_stack.specs.Marks as undo
-use Rattle.rollback_stack.specs.Marks.{marks_of}
-use Rattle.rollback_stack.specs.job-record.JobReading.{HoldsRecord, HoldsRecords}
+use Rattle.local_db.proofs.Writes.{not_both}
+use Rattle.rollback_stack.specs.past-jobs.Jobs.{CanUndoAll, oldest_with, undone_all}
+use Rattle.rollback_stack.specs.past-jobs.Marks as undo
+use Rattle.rollback_stack.specs.past-jobs.Marks.{marks_of}
+use Rattle.rollback_stack.specs.JobReading.{HoldsRecord, HoldsRecords}
 use Rattle.rollback_stack.specs.declared.undo.Back.{Back}
-use Rattle.rollback_stack.specs.Writes.{newest_below, oldest_below}
+use Rattle.rollback_stack.specs.Database.{newest_below, oldest_below}
 use Rattle.rollback_stack.specs.Inverse.{AreOldNodes, IsBackRefusal, IsBackStop, IsDamagedContent, IsDamagedJob, IsOnStack, IsRefusedJob, no_records}
 use Rattle.system_core.specs.Inserting.{put_of_db}
 use Rattle.system_core.specs.RestoringAll.{list_before}
-use Rattle.system_core.specs.Rollback.{db_of}
 use Rattle.system_core.specs.Several.{EndsTo, HasJob, IsRefusalTo, IsStepTo, OfTurn, count_to, jobs_below, jobs_to, paths_of_jobs, rolled_back_to}
 use Rattle.system_core.specs.Tests as test
 use Rattle.system_core.proofs.Counting.{AreLeft, few_jobs, has_job, least, numbers_left}
 use Rattle.system_core.proofs.PuttingAll.{not_target_to}
-use Rattle.system_core.proofs.Sequence.{AreFrom, AreTurns, after_list, all_turns, entries_all, from_front, from_newest, from_rest, held_jobs, job_listed, oldest_is, records_by_number, saved_in, stack_left}
-use Rattle.system_core.proofs.NewestStored.{OneDatabase, OneRecord, SameParts, all_middle, job_record, not_damaged, one_held}
+use Rattle.system_core.proofs.Sequence.{AreTurns, after_list, all_turns, entries_all, from_front, from_rest, held_jobs, job_listed, oldest_is, records_by_number, saved_in, stack_left}
+use Rattle.system_core.proofs.NewestStored.{job_record, not_damaged}
 use Rattle.system_core.proofs.Together.{free_of, mark_after, nodes_free, oldest_of, together, turns}
 use Rattle.system_core.proofs.Turn.{first_edited_to, first_orphan_to, first_turn}
+use Rattle.system_core.proofs.Migration.{AreFrom, OneRecord, from_newest}
+use Rattle.system_core.proofs.Held.{OneDatabase, SameParts, one_held}
+use Rattle.system_core.specs.Job.{db_of}
+use Rattle.tree_journal.proofs.WriteSets.{target_at}
+use Rattle.local_db.proofs.cny-base.Lists.{all_at as all_middle}
 
 -- what the step is to the system
 pub record IsSystemStepTo (x : Tree) (s : SystemState) (number : ℕ) (step : Back) : Type 0 where
@@ -56,7 +60,7 @@ pub record IsSystemStepTo (x : Tree) (s : SystemState) (number : ℕ) (step : Ba
   pub outside : (q : Name) → is_reserved q ≡ false → is_listed (paths_of_jobs (jobs_to number s.stack)) q ≡ false → is_target step.puts q ≡ false
 
 -- the jobs of the stack of which these are the entries, and those below them
-record AreRead (x : Tree) (s : SystemState) (jobs : List (List state.Entry)) (after : List TroveParts) : Type 0 where
+pub record AreRead (x : Tree) (s : SystemState) (jobs : List (List state.Entry)) (after : List TroveParts) : Type 0 where
   pub os : List StackItem
   pub rest : List StackItem
   pub os_are : os ≡ take (length jobs) s.stack
@@ -105,7 +109,7 @@ module _ (one_db : OneDatabase) (one : OneRecord) (x : Tree) (s : SystemState) (
       no_jobs (o ∷ []) numbered none = absurd (omega (arith, numbered, none))
       no_jobs (o ∷ p ∷ olds) numbered none = absurd (omega (arith, numbered.0, none))
 
-  from : AreFrom (newest s.stack) s.stack
+  pub from : AreFrom (newest s.stack) s.stack
   from = from_newest s.stack stores.system.numbered
 
   module _ (number : ℕ) (on_stack : IsOnStack db number) where
@@ -257,9 +261,6 @@ module _ (one_db : OneDatabase) (one : OneRecord) (x : Tree) (s : SystemState) (
   -- ---- the step
 
   module _ (number : ℕ) (step : Back) (is : IsStepTo x db number step) where
-    on : IsOnStack db number
-    on = is.jobs_are.on_stack
-
     count : length is.jobs + number ≡ newest s.stack + 1
     count =
         let long = is.jobs_are.count in
@@ -297,7 +298,7 @@ module _ (one_db : OneDatabase) (one : OneRecord) (x : Tree) (s : SystemState) (
           (subst (λ (l : List StackItem). number ≤ newest l) r.stack_is (high number is.jobs_are.on_stack))
           (ap (λ (k : ℕ). k + number) r.long ∙ count ∙ ap (λ (l : List StackItem). newest l + 1) r.stack_is))
 
-      db_is : step.db ≡ db_of (after_rollbacks r.os r.rest s)
+      pub db_is : step.db ≡ db_of (after_rollbacks r.os r.rest s)
       db_is =
           let list : is.before ≡ (after_rollbacks r.os r.rest s).installed = r.after_is ∙ sym (after_list r.os r.rest s) in
           let low : oldest_below db.oldest number ≡ oldest (after_rollbacks r.os r.rest s).stack = ap (λ (k : ℕ). oldest_below k number) parts.lows ∙ numbers.low ∙ ap oldest (sym turned_all.left) in
@@ -311,7 +312,7 @@ module _ (one_db : OneDatabase) (one : OneRecord) (x : Tree) (s : SystemState) (
           (λ i. no_records (length (r.jobs_are i)) (parts.highs i)) ∙ records_by_number (newest s.stack) r.os r.from in
           subst (IsUnion step.puts is.nodes) (λ i. data_ i ∷ records i) is.writes
 
-      stored : StoresIn Two (with_targets step.puts x) (after_rollbacks r.os r.rest s)
+      pub stored : StoresIn Two (with_targets step.puts x) (after_rollbacks r.os r.rest s)
       stored = rollbacks_stored Two x s r.os r.rest step.puts stores r.stack_is turned_all.can (record {
         nodes = is.nodes;
         rises = is.nodes_are.rises;
@@ -321,7 +322,7 @@ module _ (one_db : OneDatabase) (one : OneRecord) (x : Tree) (s : SystemState) (
         writes = union;
       })
 
-      outside : (q : Name) → is_reserved q ≡ false → is_listed (paths_of_jobs r.os) q ≡ false → is_target step.puts q ≡ false
+      pub outside : (q : Name) → is_reserved q ≡ false → is_listed (paths_of_jobs r.os) q ≡ false → is_target step.puts q ≡ false
       outside q out other = not_target_to x db number step is well holds q out (⊎_elim
           (λ hit.
           let t = target_at is.nodes q hit in
@@ -367,7 +368,7 @@ module _ (one_db : OneDatabase) (one : OneRecord) (x : Tree) (s : SystemState) (
   unwritten_to told number rose left stop.Failed tells is = tt
   unwritten_to told number rose left stop.Memory tells is = tt
   unwritten_to told number rose left (stop.Refused why) tells is = refusal_to number why (subst (λ (b : Bool). IsBackRefusal b x db number why) tells is)
-  unwritten_to told number rose left (stop.Damaged path) tells is = ⊎_elim (λ job. no_damaged_job number job.at.on_stack path job) (λ content. no_damaged_content number content.jobs_are.on_stack path content) (is tells)
+  unwritten_to told number rose left (stop.Damaged path) tells is = ⊎_elim (λ job. no_damaged_job number job.at.on_stack path job) (λ bad. no_damaged_content number bad.content.jobs_are.on_stack path bad.content) (is tells)
   unwritten_to told number rose left stop.FarFailed tells is = is
   unwritten_to told number rose left (stop.FarDamaged path) tells is = is
 

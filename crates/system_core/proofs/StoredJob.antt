@@ -3,20 +3,16 @@ use Rattle.std.proofs.Common.{◌≡◌, ◌⊎◌, ⊎_elim, inl, inr, ℕ, ◌
 use Rattle.std.specs.Prelude.{◌≢◌}
 use Rattle.std.proofs.lemmas.Bool.{cases_Bool}
 use Rattle.std.proofs.lemmas.List.Elements.{All-cons, All-head, All-nil, All-tail, All-contains, Contains-get_or}
-use Rattle.std.proofs.lemmas.Slice.Eq.{bytes_eq-Decides}
-use Rattle.std.specs.Str.{bytes_eq}
 use Rattle.std.specs.FinMap.{get}
 use Rattle.sha1.specs.Sha1.{sha1}
 use Rattle.rollback_stack.specs.content-store.Store.{stored}
 use Rattle.rollback_stack.specs.cny-base.Path.{is_path, parent, root}
-use Rattle.rollback_stack.specs.cny-base.Below.{is_below, child_below}
 use Rattle.rollback_stack.specs.cny-base.Reserved.{private_directory, is_reserved}
 use Rattle.rollback_stack.specs.cny-base.declared.limits.TheConstants.{JOBS_LIMIT}
 use Rattle.rollback_stack.specs.cny-base.declared.node.Node.{Node}
 use Rattle.rollback_stack.specs.cny-base.declared.node.Node.TheVariants as node
 use Rattle.rollback_stack.specs.trove-stream.declared.parts.TroveParts.{TroveParts}
 use Rattle.rollback_stack.specs.tree-disk.Tree.{Name, Tree, same_name, is_dir, may_stand, WellFormed}
-use Rattle.rollback_stack.specs.tree-disk.ClearLaws.{or_right, or_cases, below_trans}
 use Rattle.rollback_stack.specs.tree-disk.Confined.{AgreesExcept, Among}
 use Rattle.rollback_stack.specs.journal-log.declared.put.Want.TheVariants as want
 use Rattle.rollback_stack.specs.journal-log.declared.put.Put.{Put}
@@ -34,41 +30,26 @@ use Rattle.local_db.specs.Stores.{HoldsSaved, StoresIn}
 use Rattle.local_db.specs.SystemState.{SystemState, newest, oldest, IsFree, IsTellable}
 use Rattle.local_db.specs.Steps.{after_job, database_put, old_of, paths_of, pushed, record_put, want_of, CanJob, IsJobReady, IsOwnWrite, IsPuttable, IsUnion}
 use Rattle.local_db.proofs.FileNames.{database_is_path, record_is_path}
-use Rattle.local_db.proofs.Jobs.{neither, outer_differs}
+use Rattle.local_db.proofs.Jobs.{outer_differs}
 use Rattle.local_db.proofs.Places.{database_reserved, database_write, record_reserved, record_write}
 use Rattle.local_db.proofs.Systems.{free_targets, node_of_want}
 use Rattle.local_db.proofs.Together.{job_after}
 use Rattle.local_db.proofs.Unions.{wrote_alike}
-use Rattle.local_db.proofs.Writes.{contains_cases, contains_first, contains_rest, not_both, nothing_in, target_at, with_targets_outside, with_targets_target}
+use Rattle.local_db.proofs.Writes.{with_targets_target}
 use Rattle.job_targets.specs.declared.entry.Entry.{Entry}
 use Rattle.job_targets.specs.Old.{IsSaved}
 use Rattle.rollback_stack.specs.Saving.{is_saving_name, IsNextJob}
 use Rattle.rollback_stack.proofs.Keeping.{not_counted}
-use Rattle.rollback_stack.proofs.job-record.Mapping.{unmapped}
-use Rattle.rollback_stack.specs.Undo.{entries_of, entry_of}
+use Rattle.rollback_stack.specs.Entries.{entries_of, entry_of}
 use Rattle.system_core.specs.JobWriting.{AreTargetsOf, entries_over, entry_over}
 use Rattle.system_core.specs.JobWriting as spec
+use Rattle.tree_journal.proofs.WriteSets.{target_at, with_targets_outside}
+use Rattle.rollback_stack.proofs.job-record.ByLists.{unmapped}
+use Rattle.local_db.proofs.cny-base.Lists.{contains_cases, contains_first, contains_rest, nothing_in}
+use Rattle.tree_journal.proofs.tree-disk.Children.{or_none as neither}
+use Rattle.local_db.proofs.Putting.{parent_outer}
 
 -- ---- names
-
--- what lies in a reserved directory is reserved
-parent_outer : (q : Name) → is_path q ≡ true → is_reserved q ≡ false → is_reserved (parent q) ≡ false
-parent_outer q path out = ⊎_elim (λ h. absurd (never h)) (λ h. h) (cases_Bool (is_reserved (parent q)))
-  where
-    below_reserved : (p : Name) → is_below private_directory p ≡ true → is_reserved p ≡ true
-    below_reserved p low = or_right _ (is_below private_directory p) low
-
-    in_parent : is_reserved (parent q) ≡ true → is_below (parent q) q ≡ true → ⊥
-    in_parent h low = ⊎_elim
-        (λ at. not_both (is_reserved q) (below_reserved q (ap (λ (n : Name). is_below n q) (sym ((bytes_eq-Decides (parent q) private_directory).0 at)) ∙ low)) out)
-        (λ under. not_both (is_reserved q) (below_reserved q (below_trans private_directory (parent q) q under low)) out)
-        (or_cases (bytes_eq (parent q) private_directory) (is_below private_directory (parent q)) h)
-
-    never : is_reserved (parent q) ≡ true → ⊥
-    never h = ⊎_elim
-        (λ at_root. not_both (is_reserved (parent q)) h (ap is_reserved at_root))
-        (λ low. in_parent h low)
-        (child_below q path)
 
 none_or_some : (n : Option Node) → n ≡ None → is_some n ≡ true → ⊥
 none_or_some n none some = absurd (cc (some, ap is_some none))

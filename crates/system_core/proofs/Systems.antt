@@ -10,10 +10,10 @@ use Rattle.rollback_stack.specs.content-store.Store.{file_bytes}
 use Rattle.rollback_stack.specs.journal-log.declared.put.Put.{Put}
 use Rattle.rollback_stack.specs.journal-log.Own.{StoresSame}
 use Rattle.rollback_stack.specs.journal-log.Targets.{with_targets}
-use Rattle.rollback_stack.specs.tree-disk.ConfinedLaws.{leaves_weaker}
+use Rattle.rollback_stack.proofs.tree-disk.ConfinedLaws.{leaves_weaker}
 use Rattle.rollback_stack.specs.tree-disk.Disk.{DiskModel}
 use Rattle.rollback_stack.specs.tree-disk.Tree.{Name, Tree, AgreesOutside}
-use Rattle.rollback_stack.specs.tree-disk.Unfailed.{unfailed_weaker}
+use Rattle.rollback_stack.proofs.tree-disk.Unfailed.{unfailed_weaker}
 use Rattle.tree_journal.specs.Recovery.{RecoversTo}
 use Rattle.tree_journal.specs.Visible.{ShowsNode}
 use Rattle.local_db.specs.Loading.{HoldsDb}
@@ -28,25 +28,25 @@ use Rattle.local_db.proofs.Places.{own_doesnt_count}
 use Rattle.system_core.specs.RootWriting.{RestsAt}
 use Rattle.rollback_stack.specs.Migrated.{IsMigrated}
 use Rattle.system_core.specs.Migrating.{IsBrought, IsDamagedStore, RecoversInAFormat, with_migration}
-use Rattle.system_core.specs.Ready.{EndsReady, HasReadied, IsReadyStop, MakesReady, Readies, ShowsOnTheWay, db_of}
-use Rattle.system_core.proofs.Migration.{OneDatabase, OneRecord, in_one, in_two, is_migration, none_damaged}
+use Rattle.system_core.specs.Ready.{EndsReady, HasReadied, IsReadyStop, MakesReady, Readies, ShowsOnTheWay}
+use Rattle.system_core.proofs.Migration.{OneRecord, in_one, in_two, is_migration, none_damaged}
 use Rattle.system_core.proofs.Opened.{never_blocked, never_damaged_log}
+use Rattle.system_core.proofs.Held.{OneDatabase}
+use Rattle.system_core.specs.Job.{db_of}
+use Rattle.local_db.proofs.cny-base.OptionValues.{same_some}
 
 abbrev pub KeepsSystem : Type 0
 KeepsSystem = (x : Tree) (s : SystemState) (all : List Put) → StoresIn One x s → IsMigration s all → StoresIn Two (with_targets all x) s
 
 -- ---- what a system tells
 
-managed_so : (x : Tree) (s : SystemState) → StoresSystem x s → AgreesOutside is_reserved x s.tree
+pub managed_so : (x : Tree) (s : SystemState) → StoresSystem x s → AgreesOutside is_reserved x s.tree
 managed_so x s (inl one) = one.managed
 managed_so x s (inr two) = two.managed
 
 list_so : (x : Tree) (s : SystemState) → StoresSystem x s → (f : Format) × HoldsDatabase f x s.installed (oldest s.stack) (newest s.stack)
 list_so x s (inl one) = (One, one.list)
 list_so x s (inr two) = (Two, two.list)
-
-same_some : {A : Type 0} (x y : A) → Some x ≡ Some y → x ≡ y
-same_some x y e = cc e
 
 -- a tree holds one database
 one_held : OneDatabase → (x : Tree) (a b : Db) → HoldsDb x a → HoldsDb x b → a ≡ b

@@ -21,8 +21,8 @@ use Rattle.job_targets.specs.declared.targets.Targets.{Targets}
 use Rattle.job_targets.specs.Gathering.{Ends, Gathers, IsDamage}
 use Rattle.job_targets.specs.Outcome as outcome
 use Rattle.job_targets.specs.Outcome.{AreChanges, AreGiven, AreOver, AreSavable, AreTargets, FitPlan}
-use Rattle.job_targets.proofs.GatherLaws.{gathers_memory, gathers_refuse, gathers_stop, gathers_then, keeps_start}
-use Rattle.rollback_stack.specs.Undo.{entries_of}
+use Rattle.job_targets.proofs.GatherLaws.{gathers_memory, gathers_refuse, gathers_stop, gathers_then}
+use Rattle.rollback_stack.specs.Entries.{entries_of}
 use Rattle.system_core.specs.JobWriting as writing
 use Rattle.system_core.specs.JobWriting.{AreTargetsOf, IsSomething}
 use Rattle.local_db.specs.Installed.{IsInstalled}
@@ -32,6 +32,7 @@ use Rattle.system_core.specs.Something.{HasNothing, LacksOne}
 use Rattle.system_core.proofs.Formed.{targets_formed}
 use Rattle.system_core.proofs.Shared.{unshared_pairs}
 use Rattle.system_core.proofs.Values.{are_targets, nothing_lacks, puts_free}
+use Rattle.job_targets.proofs.content-store.Sources.{keeps_start}
 
 -- ---- as values
 

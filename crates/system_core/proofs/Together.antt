@@ -6,7 +6,7 @@ use Rattle.std.specs.FinMap.{get}
 use Rattle.rollback_stack.specs.cny-base.Reserved.{is_reserved}
 use Rattle.rollback_stack.specs.journal-log.declared.put.Put.{Put}
 use Rattle.rollback_stack.specs.journal-log.Targets.{is_target, node_of, with_targets}
-use Rattle.rollback_stack.specs.tree-disk.Laws.{same_tree}
+use Rattle.rollback_stack.proofs.tree-disk.Laws.{same_tree}
 use Rattle.rollback_stack.specs.tree-disk.Tree.{Name, Tree, WellFormed}
 use Rattle.rollback_stack.specs.tree-scan.Marks.{fingerprint}
 use Rattle.job_targets.specs.Old.{IsSaved}
@@ -16,15 +16,19 @@ use Rattle.local_db.specs.Steps.{after_rollbacks, want_of}
 use Rattle.local_db.specs.declared.format.Format.TheVariants.{Two}
 use Rattle.local_db.proofs.Sorted.{listed_in}
 use Rattle.local_db.proofs.Systems.{node_of_want}
-use Rattle.local_db.proofs.Writes.{is_target-from, not_both, target_at, with_targets_outside, with_targets_target}
-use Rattle.rollback_stack.specs.Jobs.{CanUndoAll, oldest_with, undone_all}
-use Rattle.rollback_stack.specs.Marks.{marks_of}
+use Rattle.local_db.proofs.Writes.{not_both, with_targets_target}
+use Rattle.rollback_stack.specs.past-jobs.Jobs.{CanUndoAll, oldest_with, undone_all}
+use Rattle.rollback_stack.specs.past-jobs.Marks.{marks_of}
 use Rattle.rollback_stack.specs.Inverse.{AreOldNodes, IsOldWant, StaysNothing}
 use Rattle.system_core.specs.RestoringAll.{old_node}
-use Rattle.system_core.proofs.Sequence.{AreFrom, AreTurns, IsOldest, after_tree, all_turns, entries_all, none_old, oldest_is, saved_in}
-use Rattle.system_core.proofs.NewestStored.{all_front, one_content, same_want}
+use Rattle.system_core.proofs.Sequence.{AreTurns, IsOldest, after_tree, all_turns, entries_all, none_old, oldest_is, saved_in}
+use Rattle.system_core.proofs.NewestStored.{one_content, same_want}
 use Rattle.system_core.proofs.Turn.{first_turn}
-use Rattle.system_core.proofs.UndoneEntries.{none_told}
+use Rattle.system_core.proofs.Migration.{AreFrom}
+use Rattle.tree_journal.proofs.WriteSets.{target_at, with_targets_outside}
+use Rattle.local_db.proofs.cny-base.Lists.{left_all as all_front}
+use Rattle.tree_journal.proofs.journal-log.Walking.{listed as is_target-from}
+use Rattle.local_db.proofs.Other.{nothing_there as none_told}
 
 module _ (x : Tree) (s : SystemState) (stores : StoresIn Two x s) (well : WellFormed x) (n : ℕ) (os rest : List StackItem) (stack : s.stack ≡ os ++ rest) (from : AreFrom n os)
     (can : CanUndoAll (entries_all os) (marks_of x)) where

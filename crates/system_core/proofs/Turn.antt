@@ -1,11 +1,10 @@
 -- A job when its turn comes to be taken back, by the fingerprints at all paths and the system that the newer ones left.
-use Rattle.std.proofs.Common.{◌≡◌, ◌≢◌, ◌⊎◌, inl, inr, ⊎_elim, true, false, List, ◌∷◌, ◌++◌, map, get_or, Option, Some, None, is_some, All, refl, sym, ◌∙◌, ap, subst}
+use Rattle.std.proofs.Common.{◌≡◌, ◌≢◌, ◌⊎◌, inl, inr, ⊎_elim, true, false, List, ◌∷◌, ◌++◌, map, get_or, None, is_some, All, refl, sym, ◌∙◌, ap, subst}
 use Rattle.std.proofs.lemmas.Bool.{cases_Bool}
 use Rattle.std.proofs.lemmas.List.Elements.{All-contains, All-head}
 use Rattle.std.specs.FinMap.{get}
 use Rattle.rollback_stack.specs.cny-base.Path.{is_path, parent, root}
 use Rattle.rollback_stack.specs.cny-base.Reserved.{is_pinned, is_reserved}
-use Rattle.rollback_stack.specs.cny-base.declared.node.Node.{Node}
 use Rattle.rollback_stack.specs.journal-log.WriteSet.{Rises}
 use Rattle.rollback_stack.specs.journal-log.Targets.{with_targets}
 use Rattle.rollback_stack.specs.tree-disk.Tree.{Name, Tree, WellFormed, is_dir, may_stand}
@@ -19,15 +18,21 @@ use Rattle.local_db.specs.declared.format.Format.TheVariants.{Two}
 use Rattle.local_db.proofs.Images.{kept, restored}
 use Rattle.local_db.proofs.Sorted.{listed_in}
 use Rattle.local_db.proofs.Systems.{listed_backs, rising_backs, rollback_is_system}
-use Rattle.local_db.proofs.Writes.{not_both, with_targets_outside}
-use Rattle.rollback_stack.proofs.JobLaws.{undone_other}
-use Rattle.rollback_stack.specs.Marks as undo
-use Rattle.rollback_stack.specs.Marks.{CanUndo, Marks, marks_of, undone}
-use Rattle.rollback_stack.proofs.job-record.Mapping.{unmapped}
+use Rattle.local_db.proofs.Writes.{not_both}
+use Rattle.rollback_stack.proofs.past-jobs.JobLaws.{undone_other}
+use Rattle.rollback_stack.specs.past-jobs.Marks as undo
+use Rattle.rollback_stack.specs.past-jobs.Marks.{CanUndo, Marks, marks_of, undone}
 use Rattle.system_core.specs.Tests as test
-use Rattle.system_core.proofs.Outer.{parent_inner, parent_outer}
-use Rattle.system_core.proofs.NewestStored.{all_front, all_middle, split_map}
-use Rattle.system_core.proofs.UndoneEntries.{dir_told, none_told, not_different, path_listed, told_at, undone_back}
+use Rattle.system_core.proofs.Outer.{parent_inner}
+use Rattle.system_core.proofs.NewestStored.{split_map}
+use Rattle.system_core.proofs.UndoneEntries.{not_different, path_listed, told_at, undone_back}
+use Rattle.system_core.proofs.Putting.{stands}
+use Rattle.rollback_stack.proofs.job-record.ByLists.{unmapped}
+use Rattle.tree_journal.proofs.WriteSets.{with_targets_outside}
+use Rattle.local_db.proofs.cny-base.Lists.{left_all as all_front, all_at as all_middle}
+use Rattle.conflict_plan.proofs.Sighted.{stands_dir as dir_told}
+use Rattle.local_db.proofs.Other.{nothing_there as none_told}
+use Rattle.local_db.proofs.Putting.{parent_outer}
 
 -- The fingerprints are those of the system's tree outside the private directory, and of a well-formed tree at the reserved and the
 -- pinned names.
@@ -41,22 +46,18 @@ pub record IsTurn (x : Tree) (m : Marks) (s : SystemState) : Type 0 where
 pub first_turn : (x : Tree) (s : SystemState) → StoresIn Two x s → WellFormed x → IsTurn x (marks_of x) s
 first_turn x s stores well = record { well = well; system = stores.system; outer = λ q out. ap fingerprint (stores.managed q out); inner = λ q why. refl }
 
-stands : (n : Option Node) → n ≢ None → is_some n ≡ true
-stands None some = absurd (some refl)
-stands (Some n) some = refl
-
 module _ (x : Tree) (m : Marks) (s : SystemState) (turn : IsTurn x m s) (o : StackItem) (olds : List StackItem) (stack : s.stack ≡ o ∷ olds) where
   pub item : IsStackItem o
   item = All-head IsStackItem o olds (subst (All IsStackItem) stack turn.system.olds)
 
-  rises : Rises (backs o)
+  pub rises : Rises (backs o)
   rises = rising_backs o item.rising
 
-  free_at : (p : Name) → is_listed o.paths p ≡ true → IsFree p
+  pub free_at : (p : Name) → is_listed o.paths p ≡ true → IsFree p
   free_at p own = All-contains IsFree o.paths p item.free (listed_in o.paths p own)
 
   -- what isn't a path of the job, because it is reserved or pinned
-  not_listed : (q : Name) → (is_reserved q ≡ true) ⊎ (is_pinned q ≡ true) → is_listed o.paths q ≡ false
+  pub not_listed : (q : Name) → (is_reserved q ≡ true) ⊎ (is_pinned q ≡ true) → is_listed o.paths q ≡ false
   not_listed q why = ⊎_elim
       (λ own. absurd (⊎_elim (λ (in' : is_reserved q ≡ true). not_both {A = ⊥} (is_reserved q) in' (free_at q own).not_reserved) (λ (pin : is_pinned q ≡ true). not_both {A = ⊥} (is_pinned q) pin (free_at q own).not_pinned) why))
       (λ out. out)
@@ -64,13 +65,13 @@ module _ (x : Tree) (m : Marks) (s : SystemState) (turn : IsTurn x m s) (o : Sta
 
   -- ---- names outside the private directory
 
-  outer_name : (q : Name) → get s.tree q ≢ None → is_reserved q ≡ false
+  pub outer_name : (q : Name) → get s.tree q ≢ None → is_reserved q ≡ false
   outer_name q some = ⊎_elim (λ in'. absurd (some (turn.system.managed q in'))) (λ out. out) (cases_Bool (is_reserved q))
 
   -- ---- edits
 
   -- what stands directly in a path of the job is outside the private directory
-  child_outer : (p q : Name) → IsFree p → parent q ≡ p → is_reserved q ≡ false
+  pub child_outer : (p q : Name) → IsFree p → parent q ≡ p → is_reserved q ≡ false
   child_outer p q free above = ⊎_elim
       (λ in'. absurd (⊎_elim
       (λ (low : is_reserved (parent q) ≡ true). not_both {A = ⊥} (is_reserved p) (ap is_reserved (sym above) ∙ low) free.not_reserved)
@@ -79,7 +80,7 @@ module _ (x : Tree) (m : Marks) (s : SystemState) (turn : IsTurn x m s) (o : Sta
       (λ out. out)
       (cases_Bool (is_reserved q))
 
-  foreign_to : (p : Name) → IsFree p → undo.HasForeignEntry (state.entries_of o) m (told_at o p) → HasForeignEntry o s.tree p
+  pub foreign_to : (p : Name) → IsFree p → undo.HasForeignEntry (state.entries_of o) m (told_at o p) → HasForeignEntry o s.tree p
   foreign_to p free h =
       let q = h.2.0 in
       let out = child_outer p q free h.2.2 in (
@@ -93,7 +94,7 @@ module _ (x : Tree) (m : Marks) (s : SystemState) (turn : IsTurn x m s) (o : Sta
         ),
       )
 
-  foreign_from : (p : Name) → HasForeignEntry o s.tree p → undo.HasForeignEntry (state.entries_of o) m (told_at o p)
+  pub foreign_from : (p : Name) → HasForeignEntry o s.tree p → undo.HasForeignEntry (state.entries_of o) m (told_at o p)
   foreign_from p h =
       let q = h.2.0 in (
         dir_told (get o.before p) ∙ h.0,
@@ -106,52 +107,52 @@ module _ (x : Tree) (m : Marks) (s : SystemState) (turn : IsTurn x m s) (o : Sta
         ),
       )
 
-  edited_to : (p : Name) → IsFree p → undo.IsEdited (state.entries_of o) m (told_at o p) → test.IsEdited o s.tree p
+  pub edited_to : (p : Name) → IsFree p → undo.IsEdited (state.entries_of o) m (told_at o p) → test.IsEdited o s.tree p
   edited_to p free (inl other) = inl (λ same. other (turn.outer p free.not_reserved ∙ same))
   edited_to p free (inr foreign) = inr (foreign_to p free foreign)
 
-  edited_from : (p : Name) → IsFree p → test.IsEdited o s.tree p → undo.IsEdited (state.entries_of o) m (told_at o p)
+  pub edited_from : (p : Name) → IsFree p → test.IsEdited o s.tree p → undo.IsEdited (state.entries_of o) m (told_at o p)
   edited_from p free (inl other) = inl (λ same. other (sym (turn.outer p free.not_reserved) ∙ same))
   edited_from p free (inr foreign) = inr (foreign_from p foreign)
 
   -- no path of the job is edited
-  unedited_to : (paths : List Name) → All IsFree paths → All (λ (e : state.Entry). undo.IsEdited (state.entries_of o) m e → ⊥) (map (told_at o) paths)
+  pub unedited_to : (paths : List Name) → All IsFree paths → All (λ (e : state.Entry). undo.IsEdited (state.entries_of o) m e → ⊥) (map (told_at o) paths)
       → All (λ (p : Name). test.IsEdited o s.tree p → ⊥) paths
   unedited_to paths free none k d lt = λ edited. unmapped (λ (e : state.Entry). undo.IsEdited (state.entries_of o) m e → ⊥) (told_at o) paths none k d lt (edited_from (get_or paths k d) (free k d lt) edited)
 
   -- ---- the tree with the nodes before the job
 
-  result_at : (q : Name) → is_reserved q ≡ false → undone (state.entries_of o) m q ≡ fingerprint (get (with_targets (backs o) s.tree) q)
+  pub result_at : (q : Name) → is_reserved q ≡ false → undone (state.entries_of o) m q ≡ fingerprint (get (with_targets (backs o) s.tree) q)
   result_at q out = undone_back o o.paths m s.tree q rises (turn.outer q out)
 
-  result_inner : (q : Name) → is_reserved q ≡ true → get (with_targets (backs o) s.tree) q ≡ None
+  pub result_inner : (q : Name) → is_reserved q ≡ true → get (with_targets (backs o) s.tree) q ≡ None
   result_inner q in' = with_targets_outside (backs o) s.tree q (listed_backs o q ∙ not_listed q (inl in')) ∙ turn.system.managed q in'
 
-  result_path : (q : Name) → get (with_targets (backs o) s.tree) q ≢ None → is_path q ≡ true
+  pub result_path : (q : Name) → get (with_targets (backs o) s.tree) q ≢ None → is_path q ≡ true
   result_path q some = ⊎_elim
       (λ own. (free_at q own).path_is)
       (λ other. turn.system.tree.paths q (stands (get s.tree q) (λ none. some (with_targets_outside (backs o) s.tree q (listed_backs o q ∙ other) ∙ none))))
       (cases_Bool (is_listed o.paths q))
 
-  result_outer : (q : Name) → get (with_targets (backs o) s.tree) q ≢ None → is_reserved q ≡ false
+  pub result_outer : (q : Name) → get (with_targets (backs o) s.tree) q ≢ None → is_reserved q ≡ false
   result_outer q some = ⊎_elim (λ in'. absurd (some (result_inner q in'))) (λ out. out) (cases_Bool (is_reserved q))
 
   -- an orphan of the result is one by the fingerprints
-  orphan_from : (q : Name) → test.IsOrphan (with_targets (backs o) s.tree) q → undo.IsOrphan (undone (state.entries_of o) m) q
+  pub orphan_from : (q : Name) → test.IsOrphan (with_targets (backs o) s.tree) q → undo.IsOrphan (undone (state.entries_of o) m) q
   orphan_from q h =
       let out = result_outer q h.0 in (
         λ nothing. h.0 (none_told (get (with_targets (backs o) s.tree) q) (sym (result_at q out) ∙ nothing)),
         ap marks.is_dir (result_at (parent q) (parent_outer q (result_path q h.0) out)) ∙ dir_told (get (with_targets (backs o) s.tree) (parent q)) ∙ h.1,
       )
 
-  undone_as_read : (q : Name) → is_listed o.paths q ≡ false → undone (state.entries_of o) m q ≡ m q
+  pub undone_as_read : (q : Name) → is_listed o.paths q ≡ false → undone (state.entries_of o) m q ≡ m q
   undone_as_read q other = undone_other (state.entries_of o) m q (path_listed o o.paths q ∙ other)
 
-  inner_as_read : (q : Name) → (is_reserved q ≡ true) ⊎ (is_pinned q ≡ true) → undone (state.entries_of o) m q ≡ fingerprint (get x q)
+  pub inner_as_read : (q : Name) → (is_reserved q ≡ true) ⊎ (is_pinned q ≡ true) → undone (state.entries_of o) m q ≡ fingerprint (get x q)
   inner_as_read q why = undone_as_read q (not_listed q why) ∙ turn.inner q why
 
   -- an orphan by the fingerprints is outside the private directory
-  orphan_outer : (q : Name) → undo.IsOrphan (undone (state.entries_of o) m) q → is_reserved q ≡ false
+  pub orphan_outer : (q : Name) → undo.IsOrphan (undone (state.entries_of o) m) q → is_reserved q ≡ false
   orphan_outer q h = ⊎_elim (λ in'. absurd (never in')) (λ out. out) (cases_Bool (is_reserved q))
     where
       some : is_reserved q ≡ true → get x q ≢ None
@@ -161,13 +162,13 @@ module _ (x : Tree) (m : Marks) (s : SystemState) (turn : IsTurn x m s) (o : Sta
       never in' = not_both (is_dir (get x (parent q))) (turn.well.parents q (stands (get x q) (some in')))
           (sym (dir_told (get x (parent q))) ∙ ap marks.is_dir (sym (inner_as_read (parent q) (parent_inner q in'))) ∙ h.1)
 
-  orphan_path : (q : Name) → undo.IsOrphan (undone (state.entries_of o) m) q → is_path q ≡ true
+  pub orphan_path : (q : Name) → undo.IsOrphan (undone (state.entries_of o) m) q → is_path q ≡ true
   orphan_path q h = ⊎_elim
       (λ own. (free_at q own).path_is)
       (λ other. turn.system.tree.paths q (stands (get s.tree q) (λ none. h.0 (undone_as_read q other ∙ turn.outer q (orphan_outer q h) ∙ ap fingerprint none))))
       (cases_Bool (is_listed o.paths q))
 
-  orphan_to : (q : Name) → undo.IsOrphan (undone (state.entries_of o) m) q → test.IsOrphan (with_targets (backs o) s.tree) q
+  pub orphan_to : (q : Name) → undo.IsOrphan (undone (state.entries_of o) m) q → test.IsOrphan (with_targets (backs o) s.tree) q
   orphan_to q h =
       let out = orphan_outer q h in (
         λ none. h.0 (result_at q out ∙ ap fingerprint none),

@@ -1,41 +1,27 @@
 -- What the entries of a job undo, and the tree with the writes that take it back.
-use Rattle.std.proofs.Common.{◌≡◌, ◌≢◌, ⊎_elim, Bool, true, false, ◌||◌, List, [], ◌∷◌, map, Option, Some, None, refl, sym, ◌∙◌, ap, subst}
+use Rattle.std.proofs.Common.{◌≡◌, ◌≢◌, ⊎_elim, Bool, true, false, ◌||◌, List, [], ◌∷◌, map, refl, sym, ◌∙◌, ap, subst}
 use Rattle.std.specs.Prelude.{if◌then◌else◌}
 use Rattle.std.proofs.lemmas.Bool.{cases_Bool}
 use Rattle.std.specs.FinMap.{get}
-use Rattle.rollback_stack.specs.cny-base.declared.node.Node.{Node}
-use Rattle.rollback_stack.specs.cny-base.declared.node.Node.TheVariants as node
 use Rattle.rollback_stack.specs.journal-log.declared.put.Put.{Put}
 use Rattle.rollback_stack.specs.journal-log.WriteSet.{Rises}
 use Rattle.rollback_stack.specs.journal-log.Targets.{node_of, with_targets}
-use Rattle.rollback_stack.specs.tree-disk.Laws.{get_put_other, same_means}
-use Rattle.rollback_stack.specs.tree-disk.Tree as disk
+use Rattle.rollback_stack.specs.tree-disk.Laws.{same_means}
+use Rattle.rollback_stack.proofs.tree-disk.Laws.{get_put_other}
 use Rattle.rollback_stack.specs.tree-disk.Tree.{Name, Tree, put, same_name}
 use Rattle.rollback_stack.specs.tree-scan.declared.mark.Mark.{Mark}
-use Rattle.rollback_stack.specs.tree-scan.declared.mark.Mark.TheVariants as mark
-use Rattle.rollback_stack.specs.tree-scan.Marks.{fingerprint, is_dir, same_mark}
-use Rattle.rollback_stack.specs.tree-scan.MarkLaws.{same_mark_itself, same_mark_means}
+use Rattle.rollback_stack.specs.tree-scan.Marks.{fingerprint, same_mark}
+use Rattle.rollback_stack.proofs.tree-scan.MarkLaws.{same_mark_itself, same_mark_means}
 use Rattle.local_db.specs.Record as state
 use Rattle.local_db.specs.SystemState.{StackItem, is_listed}
 use Rattle.local_db.specs.Steps.{want_of}
 use Rattle.local_db.proofs.Systems.{node_of_want}
-use Rattle.local_db.proofs.Writes.{contains_first, with_targets_target}
+use Rattle.local_db.proofs.Writes.{with_targets_target}
 use Rattle.job_targets.specs.declared.entry.Entry.{Entry}
-use Rattle.rollback_stack.specs.Marks.{Marks, is_path_of, undone}
+use Rattle.rollback_stack.specs.past-jobs.Marks.{Marks, is_path_of, undone}
+use Rattle.local_db.proofs.cny-base.Lists.{contains_first}
 
 -- ---- fingerprints of nodes
-
-pub none_told : (n : Option Node) → fingerprint n ≡ mark.Nothing → n ≡ None
-none_told None e = refl
-none_told (Some (node.Dir mode)) e = absurd (cc e)
-none_told (Some (node.File mode bytes)) e = absurd (cc e)
-none_told (Some (node.Link target)) e = absurd (cc e)
-
-pub dir_told : (n : Option Node) → is_dir (fingerprint n) ≡ disk.is_dir n
-dir_told None = refl
-dir_told (Some (node.Dir mode)) = refl
-dir_told (Some (node.File mode bytes)) = refl
-dir_told (Some (node.Link target)) = refl
 
 -- what isn't different is the same
 pub not_different : (a b : Mark) → (a ≢ b → ⊥) → a ≡ b

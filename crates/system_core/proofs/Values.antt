@@ -20,7 +20,7 @@ use Rattle.conflict_plan.specs.Plan.{ArePlannable, IsPlannable}
 use Rattle.job_targets.specs.Targets.{HaveEntries, HavePuts}
 use Rattle.job_targets.specs.Outcome.{AreGiven, AreSavable, FitPlan}
 use Rattle.job_targets.specs.declared.targets.Targets.{Targets}
-use Rattle.rollback_stack.specs.Undo.{entries_of}
+use Rattle.rollback_stack.specs.Entries.{entries_of}
 use Rattle.system_core.specs.JobWriting.{entries_over, AreTargets, IsSomething}
 use Rattle.system_core.specs.Something.{is_something, is_some_by, LacksOne}
 use Rattle.system_core.specs.Lists.{AreAllowed}

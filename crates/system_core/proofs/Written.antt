@@ -1,25 +1,25 @@
 -- A write set put on a root, as a step from system to system.
-use Rattle.std.proofs.Common.{◌≡◌, inl, inr, ⊎_elim, true, false, List, [], ◌∷◌, map, get_or, All, Option, Some, None, is_some, Result, Ok, Err, refl, sym, ◌∙◌, ap, subst, arith}
+use Rattle.std.proofs.Common.{◌≡◌, inl, inr, ⊎_elim, true, false, List, [], ◌∷◌, map, get_or, All, Option, Result, Ok, Err, refl, sym, ◌∙◌, ap, subst, arith}
 use Rattle.std.specs.Prelude.{IsErrAnd, OnOk, OnErr}
-use Rattle.std.proofs.lemmas.Bool.{cases_Bool}
 use Rattle.std.proofs.lemmas.List.Elements.{All-head, All-tail}
 use Rattle.std.specs.FinMap.{get}
 use Rattle.rollback_stack.specs.cny-base.Reserved.{private_directory, is_reserved}
 use Rattle.rollback_stack.specs.cny-base.declared.node.Node.{Node}
 use Rattle.rollback_stack.specs.cny-base.declared.stop.Stop.{Stop}
 use Rattle.rollback_stack.specs.tree-disk.Tree.{Name, Tree, is_dir, WellFormed}
-use Rattle.rollback_stack.specs.tree-disk.ClearLaws.{or_cases, or_left, or_right}
+use Rattle.rollback_stack.proofs.tree-disk.ClearLaws.{or_cases}
 use Rattle.rollback_stack.specs.tree-disk.Disk.{DiskModel, IsDisk, IsImageOf}
 use Rattle.rollback_stack.specs.tree-disk.Confined.{Among, Confined, LeavesOnly}
-use Rattle.rollback_stack.specs.tree-disk.ConfinedLaws.{confined_start, confined_wider, leaves_weaker}
-use Rattle.rollback_stack.specs.tree-disk.Unfailed.{UnlessFailed, unfailed_start, unfailed_weaker}
+use Rattle.rollback_stack.proofs.tree-disk.ConfinedLaws.{confined_start, confined_wider, leaves_weaker}
+use Rattle.rollback_stack.specs.tree-disk.Unfailed.{UnlessFailed}
+use Rattle.rollback_stack.proofs.tree-disk.Unfailed.{unfailed_start, unfailed_weaker}
 use Rattle.rollback_stack.specs.journal-log.declared.put.Want.{Want}
 use Rattle.rollback_stack.specs.journal-log.declared.put.Want.TheVariants as want
 use Rattle.rollback_stack.specs.journal-log.declared.put.Put.{Put}
 use Rattle.rollback_stack.specs.journal-log.Own.{gate, is_own, StoresSame}
 use Rattle.rollback_stack.specs.journal-log.Targets.{is_target, with_targets}
 use Rattle.tree_journal.specs.Apply as apply
-use Rattle.tree_journal.specs.Apply.{with_base, CanApply, IsAtRest, IsBeforeOrAfter, IsOneOf, is_own_or_target}
+use Rattle.tree_journal.specs.Apply.{CanApply, IsAtRest, IsBeforeOrAfter, IsOneOf, is_own_or_target}
 use Rattle.tree_journal.specs.CanBePut.{AllCanBePut}
 use Rattle.tree_journal.specs.Recovery.{is_committed, is_flag, RecoversTo, at_rest}
 use Rattle.tree_journal.specs.Staging.{has_content, resolved, resolve, outcome}
@@ -35,6 +35,9 @@ use Rattle.local_db.proofs.Places.{own_doesnt_count, own_reserved}
 use Rattle.local_db.proofs.Putting.{all_can, all_formed, all_named}
 use Rattle.local_db.proofs.Together.{at_every_moment}
 use Rattle.system_core.specs.RootWriting.{AreSettled, CanWrite, Goes, IsPut, RecoversToOneOf, RestsAt, RecoversToEither, ShowsEither, KeepsOthers, Writes, is_private_or_target}
+use Rattle.system_core.proofs.Sameness.{not_own}
+use Rattle.local_db.proofs.cny-base.Bools.{or_left, or_right}
+use Rattle.tree_journal.proofs.tree-disk.Children.{some_dir as stands_dir}
 
 -- ---- no bytes are staged
 
@@ -67,10 +70,6 @@ goal_is puts x given base =
 
 -- ---- what the journal asks
 
-stands_dir : (n : Option Node) → is_dir n ≡ true → is_some n ≡ true
-stands_dir None dir = absurd (cc dir)
-stands_dir (Some n) dir = refl
-
 module _ {D : Type 0} (disk : DiskModel D) (puts : List Put) (old : D) (can : CanWrite disk puts old) where
   pub whole : apply.goal private_directory puts (disk.reads old) ≡ with_targets puts (disk.reads old)
   whole = goal_is puts (disk.reads old) can.given can.puttable.base
@@ -100,9 +99,6 @@ not_put Why P (Err stop) is = tt
 stores_either : (f : Format) (x : Tree) (s : SystemState) → StoresIn f x s → StoresSystem x s
 stores_either One x s h = inl h
 stores_either Two x s h = inr h
-
-not_own : (q : Name) → is_reserved q ≡ false → is_own private_directory q ≡ false
-not_own q out = ⊎_elim (λ own. absurd (cc (own_reserved q own, out))) (λ other. other) (cases_Bool (is_own private_directory q))
 
 same_itself : (x : Tree) → StoresSame private_directory x x
 same_itself x q out = refl

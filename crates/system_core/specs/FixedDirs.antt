@@ -6,7 +6,7 @@ use Rattle.rollback_stack.specs.cny-base.declared.stop.Stop.{Stop}
 use Rattle.rollback_stack.specs.cny-base.declared.stop.Stop.TheVariants as stop
 use Rattle.rollback_stack.specs.tree-disk.Rows.{is_dir_at}
 use Rattle.rollback_stack.specs.tree-disk.Tree.{Name, Tree}
-use Rattle.system_core.specs.Recovered.{IsPathRefusal}
+use Rattle.tree_journal.specs.Recovered.{IsPathRefusal}
 
 -- where these tests are refused, it is for a path
 abbrev pub RefusesPath : Stop → Type 0

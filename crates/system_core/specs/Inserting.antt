@@ -8,10 +8,7 @@ use Rattle.rollback_stack.specs.tree-disk.Tree.{Name, is_byte, same_name}
 use Rattle.local_db.specs.declared.format.Format.TheVariants.{Two}
 use Rattle.local_db.specs.Formats.{Fits, database_bytes}
 use Rattle.local_db.specs.Names.{database}
-
--- the mode of the database's file, 0644
-abbrev pub file_mode : ℕ
-file_mode = 420
+pub use Rattle.update_job.specs.cny-base.Modes.{file_mode}
 
 -- the bytes of the database, in format 2
 abbrev pub bytes_of : Db → List ℕ

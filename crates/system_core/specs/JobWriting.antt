@@ -13,7 +13,7 @@ use Rattle.job_targets.specs.declared.entry.Entry.{Entry}
 use Rattle.job_targets.specs.Agree.{AllAgree}
 use Rattle.job_targets.specs.Old.{is_staged}
 use Rattle.rollback_stack.specs.trove-stream.declared.parts.TroveParts.{TroveParts}
-use Rattle.rollback_stack.specs.tree-disk.Tree.{Tree, is_dir, WellFormed}
+use Rattle.rollback_stack.specs.tree-disk.Tree.{Name, Tree, is_dir, WellFormed}
 use Rattle.rollback_stack.specs.tree-disk.Rows.{is_dir_at}
 use Rattle.rollback_stack.specs.tree-disk.Disk.{DiskModel}
 use Rattle.rollback_stack.specs.tree-disk.Confined.{IsSynced}
@@ -28,9 +28,9 @@ use Rattle.local_db.specs.SystemState.{SystemState, newest, oldest, IsFree, IsTe
 use Rattle.local_db.specs.Stores.{HoldsDatabase}
 use Rattle.local_db.specs.Steps.{after_job, old_of, paths_of, pushed, want_of}
 use Rattle.local_db.specs.declared.db.Db.{Db}
-use Rattle.rollback_stack.specs.declared.undo.Undo.{Undo}
 use Rattle.rollback_stack.specs.Saving.{IsUntoldCollision}
-use Rattle.rollback_stack.specs.Undo.{AreEntries, GivesBack, entries_of}
+use Rattle.rollback_stack.specs.job-record.Changed.{AreChangedNames}
+use Rattle.rollback_stack.specs.Entries.{AreEntries, entries_of}
 use Rattle.system_core.specs.RootWriting.{Goes}
 use Rattle.system_core.specs.Last.{ChangesNothing, IsRefusedLast, PassesLast, db_after}
 
@@ -86,20 +86,18 @@ pub record CanPutJob {D : Type 0} (disk : DiskModel D) (puts : List Put) (es : L
 abbrev pub database_write : List ℕ → Put
 database_write bytes = record { path = database; want = want.File 420 bytes }
 
--- What is made of a job before it is written: how it is taken back, the database after it, and that database's bytes.
-pub record IsJobOf (before : Db) (list : List TroveParts) (es : List Entry) (undo : Undo) (db : Db) (bytes : List ℕ) : Type 0 where
+-- What is made of a job before it is written: the names whose trove it changes, the database after it, and that database's bytes.
+pub record IsJobOf (before : Db) (list : List TroveParts) (names : List Name) (db : Db) (bytes : List ℕ) : Type 0 where
   pub db_is : db ≡ db_after before list
-  pub number : undo.number ≡ db.newest
-  pub entries : undo.entries ≡ es
-  pub gives : GivesBack undo.back undo.after list before.installed
+  pub names_are : AreChangedNames before.installed list names
   pub fits : Fits Two list
   pub text : bytes ≡ database_bytes Two db.installed db.oldest db.newest
 
--- The undoing and the database are those of a job from this system.
-pub record IsJobFrom (s : SystemState) (puts : List Put) (undo : Undo) (db : Db) : Type 0 where
+-- The list before it and the database after it are those of a job from this system.
+pub record IsJobFrom (s : SystemState) (puts : List Put) (before : List TroveParts) (db : Db) : Type 0 where
   pub newest_is : db.newest ≡ newest s.stack + 1
   pub oldest_is : db.oldest ≡ oldest (pushed (old_of puts s) s.stack)
-  pub gives : GivesBack undo.back undo.after db.installed s.installed
+  pub list_is : before ≡ s.installed
 
 -- ---- at rest
 

@@ -1,13 +1,9 @@
 pub mod RootReady
 pub mod RootWriting
 pub mod FixedDirs
-pub mod FixedDirsLaws
-pub mod FixedPaths
-pub mod Recovered
 pub mod Opening
 pub mod Migrating
 pub mod Ready
-pub mod JobLists
 pub mod Last
 pub mod JobWriting
 pub mod Answers
@@ -29,6 +25,7 @@ pub use Rattle.conflict_plan.specs as conflict-plan
 pub use Rattle.rollback_stack.specs.content-store
 pub use Rattle.rollback_stack.specs.file-stream
 pub use Rattle.rollback_stack.specs.job-record
+pub use Rattle.rollback_stack.specs.past-jobs
 pub use Rattle.job_targets.specs as job-targets
 pub use Rattle.rollback_stack.specs.journal-log
 pub use Rattle.rollback_stack.specs as rollback-stack

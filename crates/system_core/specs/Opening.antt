@@ -14,7 +14,7 @@ use Rattle.rollback_stack.specs.journal-log.Own.{StoresSame}
 use Rattle.tree_journal.specs.Recovering.{IsVisibleIn}
 use Rattle.tree_journal.specs.Recovery.{is_committed, RecoversTo, RecoversAsThen, IsDamagedAt}
 use Rattle.system_core.specs.FixedDirs.{fixed_dirs}
-use Rattle.system_core.specs.Recovered.{IsKept, IsPathRefusal, RecoversToNone, RefusesLog}
+use Rattle.tree_journal.specs.Recovered.{IsKept, IsPathRefusal, RecoversToNone, RefusesLog}
 
 -- The commit flag isn't set, and a crash leaves just what the root reads.
 pub record IsAtRest {D : Type 0} (disk : DiskModel D) (d : D) : Type 0 where

@@ -18,7 +18,7 @@ use Rattle.local_db.specs.declared.db.Db.{Db}
 use Rattle.local_db.specs.Loading.{HoldsDb}
 use Rattle.local_db.specs.declared.format.Format.TheVariants.{Two}
 use Rattle.local_db.specs.Names.{database}
-use Rattle.local_db.specs.SystemState.{SystemState, newest, oldest}
+use Rattle.local_db.specs.SystemState.{SystemState}
 use Rattle.local_db.specs.Stores.{IsDatabase, RecoversToSystem}
 use Rattle.system_core.specs.RootReady.{IsReady}
 use Rattle.system_core.specs.RootWriting.{RestsAt}
@@ -26,7 +26,8 @@ use Rattle.rollback_stack.specs.Migrated.{is_up_to_date}
 use Rattle.system_core.specs.FixedDirs.{fixed_dirs}
 use Rattle.system_core.specs.Migrating.{IsBrought, IsDamagedStore, RecoversInAFormat}
 use Rattle.system_core.specs.Opening.{IsAtRest, IsRefused, MeetsDamagedLog}
-use Rattle.system_core.specs.Recovered.{IsPathRefusal, RecoversToNone}
+use Rattle.tree_journal.specs.Recovered.{IsPathRefusal, RecoversToNone}
+pub use Rattle.system_core.specs.Job.{db_of}
 
 -- ---- by the trees to which the root recovers
 
@@ -88,10 +89,6 @@ pub record Readies {D : Type 0} (disk : DiskModel D) (old new : D) (result : Res
   pub stops : IfErr result (IsReadyStop disk old new)
 
 -- ---- by a system to which the root recovers
-
--- the database of a system
-abbrev pub db_of : SystemState → Db
-db_of s = record { installed = s.installed; oldest = oldest s.stack; newest = newest s.stack }
 
 -- Nothing is damaged of a root that recovers to a system, and the one refusal is that of a fixed directory.
 abbrev pub EndsReady : SystemState → Tree → Result Db Stop → Type 0

@@ -12,9 +12,10 @@ use Rattle.rollback_stack.specs.tree-disk.Unfailed.{UnlessFailed}
 use Rattle.tree_journal.specs.Recovery.{is_committed}
 use Rattle.local_db.specs.declared.db.Db.{Db}
 use Rattle.local_db.specs.declared.format.Format.TheVariants.{Two}
-use Rattle.local_db.specs.SystemState.{SystemState, newest, oldest, is_listed}
+use Rattle.local_db.specs.SystemState.{SystemState, is_listed}
 use Rattle.local_db.specs.Stores.{HoldsDatabase}
 use Rattle.system_core.specs.RootWriting.{RecoversToEither, RestsAt, ShowsEither}
+pub use Rattle.system_core.specs.Job.{db_of}
 
 -- A root that is made ready, with its database: its commit flag isn't set, a crash leaves just what it reads, and this is the
 -- database of its tree, in format 2.
@@ -22,10 +23,6 @@ pub record IsReadyWith {D : Type 0} (disk : DiskModel D) (db : Db) (d : D) : Typ
   pub flag_clear : is_committed private_directory (disk.reads d) ≡ false
   pub synced : IsSynced disk d
   pub holds : HoldsDatabase Two (disk.reads d) db.installed db.oldest db.newest
-
--- the database of a system
-abbrev pub db_of : SystemState → Db
-db_of s = record { installed = s.installed; oldest = oldest s.stack; newest = newest s.stack }
 
 -- outside the private directory each name that isn't one of these paths reads as before
 abbrev pub KeepsOtherPaths : List Name → Tree → Tree → Type 0

@@ -12,14 +12,15 @@ use Rattle.local_db.specs.declared.db.Db.{Db}
 use Rattle.local_db.specs.Record as state
 use Rattle.local_db.specs.SystemState.{StackItem, SystemState, newest}
 use Rattle.local_db.specs.Steps.{CanRollBackAll, IsUnion, after_rollbacks}
-use Rattle.rollback_stack.specs.Outcome.{IsUndoKind}
+use Rattle.rollback_stack.specs.past-jobs.Outcome.{IsUndoKind}
 use Rattle.rollback_stack.specs.declared.undo.Back.{Back}
-use Rattle.rollback_stack.specs.Writes.{db_below}
+use Rattle.rollback_stack.specs.Database.{db_below}
 use Rattle.system_core.specs.RootWriting.{IsPut}
-use Rattle.rollback_stack.specs.Inverse.{AreJobsTo, AreOldNodes, IsBackRefusal, IsDamagedContent, IsDamagedJob, no_records}
+use Rattle.rollback_stack.specs.Inverse.{AreJobsTo, AreOldNodes, IsBackRefusal, IsDamagedJob, IsFirstDamagedContent, no_records}
 use Rattle.system_core.specs.Inserting.{HasBytes, put_of_db}
-use Rattle.system_core.specs.Rollback.{HasOnlyRead, Moves, db_of}
+use Rattle.system_core.specs.Rollback.{HasOnlyRead, Moves}
 use Rattle.system_core.specs.Tests.{IsFirstEdited, IsFirstOrphan}
+use Rattle.system_core.specs.Job.{db_of}
 
 -- ---- the writes
 
@@ -138,7 +139,7 @@ IsRefusalKind db why = IsUndoKind why
 -- A refusal and a damaged file change nothing. Where there is no step nothing is done but reading.
 abbrev pub StopsTo : {D : Type 0} → DiskModel D → Db → ℕ → D → D → Stop → Type 0
 StopsTo disk db number old new (stop.Refused why) = HasRead disk old new (IsBackRefusal disk.tells (disk.reads old) db number why)
-StopsTo disk db number old new (stop.Damaged path) = HasRead disk old new (IsDamagedJob (disk.reads old) db number path ⊎ IsDamagedContent (disk.reads old) db number path)
+StopsTo disk db number old new (stop.Damaged path) = HasRead disk old new (IsDamagedJob (disk.reads old) db number path ⊎ IsFirstDamagedContent (disk.reads old) db number path)
 StopsTo disk db number old new stop.Failed = HasOnlyRead disk old new ⊎ HasStepTo (disk.reads old) db number
 StopsTo disk db number old new stop.Memory = HasOnlyRead disk old new ⊎ HasStepTo (disk.reads old) db number
 StopsTo disk db number old new stop.FarFailed = ⊥

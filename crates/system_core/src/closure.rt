@@ -3,37 +3,16 @@ ghost use Rattle.std.specs.Prelude.{◌≡◌, ◌++◌, All, IfErr, IfOk, OnOk}
 ghost use Rattle.std.specs.Option.{option_copied, option_to_list};
 ghost use Rattle.dep_closure.specs.Closed.{IsClosed, IsUnmetOrMemory};
 ghost use Rattle.rollback_stack.specs.trove-stream.Trove.{IsTrove};
-ghost use Rattle.update_job.specs.Changes as change_spec;
 ghost use Rattle.update_job.specs.Changes.{AreChanges};
 ghost use Rattle.system_core.specs.Changing as spec;
 
 use crate::listed::troves_keep_rules;
+use crate::names::names_of;
 use dep_closure::{Closure, one_changed_list};
 use rollback_stack::cny_base::{Copies, Fault, Name, OutOfMemory};
 use rollback_stack::trove_stream::{Installed, Trove, distinct_troves};
 use std::alloc::Global;
 use update_job::Change;
-
-fn name_of(change: &Change) -> &Name
-    ensures { result.now ≡ change_spec.name_of change.now }
-{
-    match change {
-        Change::Installed(id) => &id.name,
-        Change::Updated(id) => &id.name,
-        Change::Erased(id) => &id.name,
-    }
-}
-
-// The names of the troves that change.
-fn names_of(alloc: Global, changes: &[Change]) -> Result<Vec<Name>, OutOfMemory>
-    ensures { IfOk result (λ names. names.items ≡ spec.names_of changes.now) }
-{
-    let mut names = Vec::new(alloc);
-    for change in changes {
-        names.push(name_of(change).copy()?)?;
-    }
-    Ok(names)
-}
 
 // Appends a copy of the trove, if there is one.
 fn push_copy(troves: &mut Vec<Trove>, found: Option<&Trove>) -> Result<(), OutOfMemory>

@@ -2,7 +2,7 @@
 ghost use Rattle.std.specs.Prelude.{◌≡◌, ◌↔◌, ◌⊎◌, ◌≤◌, [], false, All, IfErr, IfNone, IfOk, IfSome, IsTrue, OnOk};
 ghost use Rattle.rollback_stack.specs.cny-base.Count.{Rose};
 ghost use Rattle.rollback_stack.specs.journal-log.declared.put.Put as declared;
-ghost use Rattle.update_job.specs.declared.comparing.Change as comparing;
+ghost use Rattle.update_job.specs.Changes.{AreChanges};
 ghost use Rattle.job_targets.specs.Agree.{AllAgree};
 ghost use Rattle.job_targets.specs.Old.{is_staged};
 ghost use Rattle.local_db.specs.declared.format.Format.TheVariants.{Two};
@@ -11,30 +11,31 @@ ghost use Rattle.local_db.specs.Installed.{IsInstalled};
 ghost use Rattle.local_db.specs.SystemState.{IsFree, SystemState};
 ghost use Rattle.local_db.specs.Steps.{after_job};
 ghost use Rattle.local_db.specs.Stores.{HoldsDatabase, IsDatabase, StoresIn};
-ghost use Rattle.rollback_stack.specs.Undo.{FitsDb};
+ghost use Rattle.rollback_stack.specs.job-record.Changed.{AreChangedNames};
+ghost use Rattle.rollback_stack.specs.Entries.{AreEntries};
 ghost use Rattle.rollback_stack.specs.Pushing.{IsPushStop};
 ghost use Rattle.system_core.specs.RootWriting.{Goes};
 ghost use Rattle.system_core.specs.Last.{ChangesNothing, IsRefusedOrMemory, PassesLast};
 ghost use Rattle.system_core.specs.JobWriting.{AnswersJob, AreTargets, CanPutJob, CanWriteJob, IsJobFrom, IsJobOf, IsJobStop, IsSettled, JobEnds};
 
 use crate::last::{database_of, db_after};
+use crate::names::changed_names;
 use crate::root_writing::write_all;
-use crate::undoing::undo_of;
-use crate::union::{all_writes, put_ranges};
-use job_targets::Entries;
+use crate::union::all_writes;
+use job_targets::{Entries, Entry};
 use local_db::{Db, distinct_databases};
-use rollback_stack::cny_base::{Bytes, Fault, Stop};
-use rollback_stack::journal_log::Puts;
+use rollback_stack::cny_base::{Bytes, Fault, Name, Stop};
+use rollback_stack::journal_log::{Puts, put_ranges};
+use rollback_stack::push_puts;
 use rollback_stack::tree_disk::TreeDisk;
 use rollback_stack::trove_stream::{Installed, distinct_troves};
-use rollback_stack::{Undo, push_puts};
 use std::alloc::Global;
-use update_job::{Change, changed};
+use update_job::Change;
 
-/// What is made of a job before it is written: how it is taken back, the database after it, and that database's bytes.
+/// What is made of a job before it is written: the names whose trove it changes, the database after it, and that database's bytes.
 #[derive(Drop)]
 struct Job {
-    undo: Undo,
+    names: Vec<Name>,
     db: Db,
     bytes: Bytes,
 }
@@ -49,62 +50,60 @@ fn is_nothing(puts: &Puts, changes: &[Change]) -> bool
     changes.is_empty()
 }
 
-// What is made of a job with these targets and this list after it, where the last tests pass; none where it changes nothing.
+// What is made of a job with these targets, which leads to this list by these changes, where the last tests pass; none where it
+// changes nothing.
 fn job_of(
     alloc: Global,
     db: &Db,
     list: Installed,
+    changes: &[Change],
     puts: &Puts,
-    entries: Entries,
 ) -> Result<Option<Job>, Fault>
     requires db { IsDatabase Two db.now.installed db.now.oldest db.now.newest }
     requires list { IsInstalled list }
-    ensures some { IfOk result (λ found. IfSome found (λ job. IsJobOf db.now list entries job.undo job.db job.bytes)) }
+    requires changes { AreChanges db.now.installed list changes.now }
+    ensures some { IfOk result (λ found. IfSome found (λ job. IsJobOf db.now list job.names.items job.db job.bytes)) }
     ensures passes { IfOk result (λ found. IfSome found (λ job. PassesLast db.now list puts.now)) }
     ensures none { IfOk result (λ found. IfNone found (ChangesNothing db.now list puts.now)) }
     ensures refused { IfErr result (IsRefusedOrMemory db.now list puts.now) }
 {
     // Troves that are equal by their texts are one trove.
     distinct_troves();
-    let changes = changed(alloc, &db.installed, &list)?;
-    if is_nothing(puts, changes.get()) {
+    if is_nothing(puts, changes) {
         return Ok(None);
     }
+    let names = changed_names(alloc, &db.installed, &list, changes)?;
     let after = db_after(db, list);
     let bytes = database_of(alloc, db, &after)?;
-    let number = after.newest;
-    let undo = undo_of(
-        alloc,
-        number,
-        &db.installed,
-        &after.installed,
-        changes.get(),
-        entries,
-    )?;
     Ok(Some(Job {
-        undo,
+        names,
         db: after,
         bytes,
     }))
 }
 
-// Puts a job on the root: saves what its targets replace, and then puts them, its record and the database at once.
+// Puts a job on the root: saves what its targets replace, and then puts them, its record and the database at once. It leads from the
+// list before it to that of the database.
 fn put_job<T: TreeDisk>(
     alloc: Global,
     root: &mut T,
-    undo: &Undo,
+    before: &Installed,
+    names: &[Name],
+    entries: &[Entry],
     db: &Db,
     bytes: Bytes,
     targets: Puts,
 ) -> Result<(), Stop>
     requires db { IsDatabase Two db.now.installed db.now.oldest db.now.newest }
-    requires fits { FitsDb undo.now db.now }
-    requires agree { AllAgree undo.now.entries }
+    requires job { 1 ≤ db.now.newest }
+    requires names { AreChangedNames before.now db.now.installed names.now }
+    requires entries { AreEntries entries.now }
+    requires agree { AllAgree entries.now }
     requires free { All (λ (p : declared.Put). IsFree p.path) targets }
     requires given { All (λ (p : declared.Put). is_staged p.want ≡ false) targets }
     requires text { bytes ≡ database_bytes Two db.now.installed db.now.oldest db.now.newest }
-    requires told { IsTrue T.disk.tells → CanPutJob T.disk targets undo.now.entries root.old }
-    ensures goes { IsTrue T.disk.tells → (s : SystemState) → StoresIn Two (T.disk.reads root.old) s → IsJobFrom s targets undo.now db.now
+    requires told { IsTrue T.disk.tells → CanPutJob T.disk targets entries.now root.old }
+    ensures goes { IsTrue T.disk.tells → (s : SystemState) → StoresIn Two (T.disk.reads root.old) s → IsJobFrom s targets before.now db.now
         → Goes T.disk Two s (after_job targets db.now.installed s) targets root.old root.new result }
     // Also on a root that stores no system.
     ensures rests { IsTrue T.disk.tells → OnOk result (IsSettled T.disk root.new) }
@@ -113,14 +112,14 @@ fn put_job<T: TreeDisk>(
 {
     // Its clause says that the paths of the targets rise.
     let _items = targets.get();
-    let pushed = push_puts(alloc, root, undo, db)?;
+    let pushed = push_puts(alloc, root, before, names, entries, db)?;
     let all = all_writes(alloc, targets, pushed, bytes)?;
     put_ranges(all.get());
     write_all(alloc, root, &all)
 }
 
-/// Writes a job with these targets, this list after it and these entries of its record, once the tests of the list and the targets
-/// have passed, and answers its number. It takes effect as a whole or not at all, whenever the machine stops.
+/// Writes a job with these targets, this list after it, to which these changes lead, and these entries of its record, once the tests of
+/// the list and the targets have passed, and answers its number. It takes effect as a whole or not at all, whenever the machine stops.
 ///
 /// `TooLarge` where the database with the list is larger than a database may be, with its size; then, where the job changes neither
 /// the tree nor the list, no number is answered and nothing is done; then `TooLarge` where the newest job has the greatest number.
@@ -134,11 +133,13 @@ pub fn write_job<T: TreeDisk>(
     root: &mut T,
     db: &mut Db,
     list: Installed,
+    changes: &[Change],
     puts: Puts,
     entries: Entries,
 ) -> Result<Option<u32>, Stop>
     requires db { IsDatabase Two db.old.installed db.old.oldest db.old.newest }
     requires list { IsInstalled list }
+    requires changes { AreChanges db.old.installed list changes.now }
     requires targets { AreTargets puts entries }
     requires told { IsTrue T.disk.tells → CanWriteJob T.disk db.old puts entries root.old }
     // From each system that the root stores.
@@ -159,15 +160,24 @@ pub fn write_job<T: TreeDisk>(
 {
     // No tree holds two databases.
     distinct_databases();
-    let Some(job) = job_of(alloc, db, list, &puts, entries)? else {
+    let Some(job) = job_of(alloc, db, list, changes, &puts)? else {
         return Ok(None);
     };
     let Job {
-        undo,
+        names,
         db: after,
         bytes,
     } = job;
-    put_job(alloc, root, &undo, &after, bytes, puts)?;
+    put_job(
+        alloc,
+        root,
+        &db.installed,
+        names.as_slice(),
+        entries.get(),
+        &after,
+        bytes,
+        puts,
+    )?;
     let number = after.newest;
     *db = after;
     Ok(Some(number))

@@ -1,5 +1,5 @@
 //! The last tests of a job, and the database after it.
-ghost use Rattle.std.specs.Prelude.{◌≡◌, ◌≢◌, ◌≤◌, IfErr, IfOk, OnOk};
+ghost use Rattle.std.specs.Prelude.{◌≡◌, ◌≢◌, IfErr, IfOk, OnOk};
 ghost use Rattle.rollback_stack.specs.cny-base.declared.limits.TheConstants.{JOBS_LIMIT};
 ghost use Rattle.local_db.specs.declared.format.Format.TheVariants.{Two};
 ghost use Rattle.local_db.specs.Formats.{database_bytes, Fits};

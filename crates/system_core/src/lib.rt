@@ -16,17 +16,15 @@ mod last;
 mod listed;
 mod making_ready;
 mod migrating;
+mod names;
 mod newest_job;
 mod opening;
 mod preparing;
-mod ranges;
-mod recovered;
 mod root_writing;
 mod running;
 mod several_jobs;
 mod something;
 mod testing;
-mod undoing;
 mod union;
 
 pub use calls::{adopt, erase, update};
@@ -34,12 +32,12 @@ pub use done::Done;
 pub use fixed_dirs::check_fixed_dirs;
 pub use job_writing::write_job;
 pub use making_ready::ready;
+pub use names::changed_names;
 pub use newest_job::rollback;
-pub use ranges::put_ranges;
-pub use recovered::recover_disk;
 pub use rollback_stack::{
     change_set, cny_base, content_store, journal_log, tree_disk, trove_parts, trove_stream,
 };
 pub use root_edits::{local, verify};
 pub use root_writing::write_all;
 pub use several_jobs::rollback_to;
+pub use tree_journal::recover_disk;

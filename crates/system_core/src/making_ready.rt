@@ -17,7 +17,7 @@ ghost use Rattle.local_db.specs.declared.format.Format.TheVariants.{Two};
 ghost use Rattle.system_core.specs.FixedDirs.{fixed_dirs};
 ghost use Rattle.system_core.specs.Migrating.{RecoversInAFormat};
 ghost use Rattle.system_core.specs.Ready.{HasReadied, IsOnTheWay, IsReadyStop, MakesReady, Readies, ShowsOnTheWay};
-ghost use Rattle.system_core.specs.Recovered.{RecoversToNone};
+ghost use Rattle.tree_journal.specs.Recovered.{RecoversToNone};
 
 use crate::migrating::load_migrated;
 use crate::opening::open_root;

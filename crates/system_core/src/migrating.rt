@@ -3,10 +3,10 @@ ghost use Rattle.std.specs.Prelude.{◌≤◌, IfErr, IsTrue};
 ghost use Rattle.system_core.specs.Migrating.{IsMigratingStop, Loads, Migrates};
 ghost use Rattle.system_core.specs.Opening.{IsAtRest};
 
-use crate::ranges::put_ranges;
 use crate::root_writing::write_all;
 use local_db::{Db, load};
 use rollback_stack::cny_base::Stop;
+use rollback_stack::journal_log::put_ranges;
 use rollback_stack::migrated;
 use rollback_stack::tree_disk::TreeDisk;
 use std::alloc::Global;

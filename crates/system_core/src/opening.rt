@@ -2,11 +2,11 @@
 ghost use Rattle.system_core.specs.Opening.{Opens};
 
 use crate::fixed_dirs::check_fixed_dirs;
-use crate::recovered::recover_disk;
 use local_db::base_path;
 use rollback_stack::cny_base::Stop;
 use rollback_stack::tree_disk::TreeDisk;
 use std::alloc::Global;
+use tree_journal::recover_disk;
 
 /// Tests the fixed directories on the root as it reads, and recovers it.
 pub(crate) fn open_root<T: TreeDisk>(alloc: Global, root: &mut T) -> Result<(), Stop>

@@ -70,6 +70,6 @@ pub(crate) fn job<T: TreeDisk, C: Contents>(
         options,
     )?;
     let Targets { puts, entries } = made;
-    let number = write_job(alloc, root, db, list, puts, entries)?;
+    let number = write_job(alloc, root, db, list, changes.get(), puts, entries)?;
     Ok(Done { changes, number })
 }

@@ -23,9 +23,9 @@ use std::alloc::Global;
 /// tree: `Edited` and `Parent` only for the first job, the newest first, that can't be taken back once the newer ones are: `Edited` for
 /// the first path of it, in their order, that was changed since, or at which the job made a directory into which something else was put;
 /// `Parent` where there is no such path, for the first path of the result whose parent isn't a directory. `Damaged` only for the first
-/// record of the jobs that is, once the newer jobs can be taken back, or for one of the contents that are to stand again, once all can.
-/// After a refusal and a damaged file the disk is as it was: all tests come before the one write set, and where one of them fails
-/// nothing is written, whatever is answered.
+/// record of the jobs that is, once the newer jobs can be taken back, or, once all can, for the first content that is to stand again, in
+/// the order of their paths. After a refusal and a damaged file the disk is as it was: all tests come before the one write set, and
+/// where one of them fails nothing is written, whatever is answered.
 ///
 /// There too, at every moment a crash leaves a tree that recovers to the system before or to the one with all these jobs taken back,
 /// and after Ok to that after alone. On every disk `Failed` comes only where the root's count of faults rose, and no refusal but

@@ -1,8 +1,6 @@
 //! Entries at whose path something stands before or after the job.
 ghost use Rattle.std.specs.Prelude.{◌≡◌, true, IfErr, OnOk, All};
-ghost use Rattle.rollback_stack.specs.cny-base.declared.refusal.Refusal.TheVariants as refusal;
-ghost use Rattle.job_targets.specs.declared.entry.Entry as declared;
-ghost use Rattle.rollback_stack.specs.Undo.{entries_of};
+ghost use Rattle.rollback_stack.specs.Entries.{entries_of};
 ghost use Rattle.system_core.specs.JobWriting.{IsSomething};
 ghost use Rattle.system_core.specs.Something.{is_something, HasNothing, IsNothing};
 

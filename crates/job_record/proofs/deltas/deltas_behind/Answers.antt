@@ -1,10 +1,10 @@
 use Rattle.std.proofs.Common.{Err, List, ap, subst, sym}
 use Rattle.std.proofs.lemmas.Result.{err_from_is_err_and}
 use Rattle.local_db.specs.cny-base.declared.text.TextFault.TheVariants.{Bad}
-use Rattle.job_record.specs.declared.record.Delta.{Delta}
+use Rattle.local_db.specs.declared.record.Delta.{Delta}
 use Rattle.job_record.specs.Reading.{AreDeltasTo}
 use Rattle.job_record.proofs.DeltaItems.{last_deltas, no_deltas, one_more}
-use Rattle.job_record.proofs.Handing.{handed_on}
+use Rattle.change_rel.proofs.cny-dep.Faults.{handed_on}
 use Rattle.job_record.proofs.deltas.deltas_behind.Goals as goal
 
 pub items-init : goal.items-init

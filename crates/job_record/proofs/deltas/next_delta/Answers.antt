@@ -4,12 +4,12 @@ use Rattle.std.proofs.lemmas.Result.{err_from_is_err_and}
 use Rattle.std.proofs.lemmas.List.Elements.{All-head}
 use Rattle.local_db.specs.cny-base.declared.text.TextFault.TheVariants.{Bad}
 use Rattle.cny_stream.specs.Item.{item_bytes}
-use Rattle.job_record.specs.Text.{IsToldEntry, delta_value, entries_text, entry_text}
-use Rattle.job_record.specs.declared.record.Delta.TheVariants.{Came, Was, Turned}
-use Rattle.job_record.specs.declared.record.ToldEntry.{ToldEntry}
+use Rattle.local_db.specs.RecordText.{IsToldEntry, delta_value, entries_text, entry_text}
+use Rattle.local_db.specs.declared.record.Delta.TheVariants.{Came, Was, Turned}
+use Rattle.local_db.specs.declared.record.ToldEntry.{ToldEntry}
 use Rattle.job_record.proofs.DeltaItems.{below_entries, delta_not_entries, no_delta_here}
 use Rattle.job_record.proofs.EntryItems.{entry_fits}
-use Rattle.job_record.proofs.Handing.{handed_on}
+use Rattle.change_rel.proofs.cny-dep.Faults.{handed_on}
 use Rattle.job_record.proofs.deltas.next_delta.Goals as goal
 
 pub returns-in_default-clause-no_delta : goal.returns-in_default-clause-no_delta

@@ -1,10 +1,10 @@
 use Rattle.std.proofs.Common.{Err, List, ap, subst, sym}
 use Rattle.std.proofs.lemmas.Result.{err_from_is_err_and}
 use Rattle.local_db.specs.cny-base.declared.text.TextFault.TheVariants.{Bad}
-use Rattle.job_record.specs.declared.record.ToldEntry.{ToldEntry}
+use Rattle.local_db.specs.declared.record.ToldEntry.{ToldEntry}
 use Rattle.job_record.specs.Reading.{AreEntriesTo}
 use Rattle.job_record.proofs.EntryItems.{last_entries, no_entries, one_more}
-use Rattle.job_record.proofs.Handing.{handed_on}
+use Rattle.change_rel.proofs.cny-dep.Faults.{handed_on}
 use Rattle.job_record.proofs.entries.entries_from.Goals as goal
 
 pub items-init : goal.items-init

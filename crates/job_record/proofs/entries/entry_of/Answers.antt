@@ -2,9 +2,9 @@ use Rattle.std.proofs.Common.{[], ◌+◌, ◌-◌, Err, length, drop, ap, sym, 
 use Rattle.std.proofs.lemmas.List.{length-drop, take_all, drop-drop}
 use Rattle.std.proofs.lemmas.Result.{err_from_is_err_and}
 use Rattle.local_db.specs.cny-base.declared.text.TextFault.TheVariants.{Bad}
-use Rattle.job_record.specs.Text.{told_text}
+use Rattle.local_db.specs.RecordText.{told_text}
 use Rattle.job_record.proofs.Fronts.{entry_here, nothing_behind, second_behind, tolds_behind}
-use Rattle.job_record.proofs.Handing.{handed_on}
+use Rattle.change_rel.proofs.cny-dep.Faults.{handed_on}
 use Rattle.job_record.proofs.entries.entry_of.Goals as goal
 
 pub returns-in_err-before-clause-bad : goal.returns-in_err-before-clause-bad

@@ -2,9 +2,9 @@ use Rattle.std.proofs.Common.{[], Err, ap, refl, sym, ◌∙◌, arith, append-n
 use Rattle.std.proofs.lemmas.Result.{err_from_is_err_and}
 use Rattle.local_db.specs.cny-base.declared.text.TextFault.TheVariants.{Bad}
 use Rattle.cny_stream.specs.Item.{item_bytes}
-use Rattle.job_record.specs.Text.{entry_text}
+use Rattle.local_db.specs.RecordText.{entry_text}
 use Rattle.job_record.proofs.EntryItems.{entry_fits, no_entry_here}
-use Rattle.job_record.proofs.Handing.{handed_on}
+use Rattle.change_rel.proofs.cny-dep.Faults.{handed_on}
 use Rattle.job_record.proofs.entries.next_entry.Goals as goal
 
 pub returns-in_default-clause-no_entry : goal.returns-in_default-clause-no_entry

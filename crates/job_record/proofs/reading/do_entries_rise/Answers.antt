@@ -2,9 +2,9 @@ use Rattle.std.proofs.Common.{rules, tests}
 use Rattle.std.specs.Cmp.Lexicographic.{nat_list_cmp_total}
 use Rattle.std.proofs.lemmas.Cmp.{on_total}
 use Rattle.std.proofs.lemmas.List.Sorted.{answers_always}
-use Rattle.job_record.specs.declared.record.ToldEntry.{ToldEntry}
-use Rattle.job_record.specs.Text.{by_path}
-use Rattle.job_record.proofs.Rising.{is_less, rising_answer}
+use Rattle.local_db.specs.declared.record.ToldEntry.{ToldEntry}
+use Rattle.local_db.specs.RecordText.{by_path}
+use Rattle.change_rel.proofs.trove-parts.Rising.{is_less, rising_answer}
 use Rattle.job_record.proofs.reading.do_entries_rise.Goals as goal
 
 pub returns : goal.returns

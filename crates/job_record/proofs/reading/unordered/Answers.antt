@@ -2,8 +2,8 @@ use Rattle.std.proofs.Common.{Err, ap, sym, ◌∙◌}
 use Rattle.std.proofs.lemmas.Result.{err_from_is_err_and}
 use Rattle.local_db.specs.cny-base.declared.text.TextFault.TheVariants.{Bad}
 use Rattle.job_record.proofs.EntryItems.{last_entries}
-use Rattle.job_record.proofs.Handing.{handed_on}
 use Rattle.job_record.proofs.Unique.{read_to}
+use Rattle.change_rel.proofs.cny-dep.Faults.{handed_on}
 use Rattle.job_record.proofs.reading.unordered.Goals as goal
 
 pub returns-in_err-back-clause-bad : goal.returns-in_err-back-clause-bad

@@ -1,5 +1,5 @@
 use Rattle.local_db.specs.declared.format.Format.TheVariants.{Two}
-use Rattle.job_record.specs.Text.{FitsDelta, IsDelta, delta_bytes}
+use Rattle.local_db.specs.RecordText.{FitsDelta, IsDelta, delta_bytes}
 use Rattle.job_record.proofs.Written.{all_of, all_written, one_delta_written}
 use Rattle.job_record.proofs.writing.put_deltas.Goals as goal
 

@@ -1,6 +1,6 @@
 use Rattle.std.proofs.Common.{◌≡◌, ◌++◌, take}
 use Rattle.local_db.specs.trove-parts.Items.{items_bytes}
-use Rattle.job_record.specs.Text.{entry_text}
+use Rattle.local_db.specs.RecordText.{entry_text}
 use Rattle.job_record.proofs.writing.put_entries.Given as goal
 
 abbrev pub invariant-loop-entry : goal.invariant-loop-entry

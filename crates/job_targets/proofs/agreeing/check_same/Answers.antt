@@ -1,5 +1,5 @@
 use Rattle.std.proofs.Common.{sym, ◌∙◌}
-use Rattle.job_targets.proofs.Differences.{same_lists}
+use Rattle.content_store.proofs.Differences.{same_lists}
 use Rattle.job_targets.proofs.agreeing.check_same.Goals as goal
 
 pub returns-in-None-clause-same : goal.returns-in-None-clause-same

@@ -5,7 +5,8 @@ use Rattle.std.specs.Cmp.Lexicographic.{slice_cmp}
 use Rattle.sha1.specs.Sha1.{sha1}
 use Rattle.local_db.specs.tree-disk.Tree.{same_name}
 use Rattle.job_targets.specs.Agree.{Collides, IsCollisionOrMemory, IsOld}
-use Rattle.job_targets.proofs.Noting.{collision_map, if_err_map, new_agree, new_noted, no_bytes, old_bytes, on_ok_map, same_agree, same_noted, updated_cases}
+use Rattle.job_targets.proofs.Noting.{collision_map, new_agree, new_noted, no_bytes, old_bytes, on_ok_map, same_agree, same_noted, updated_cases}
+use Rattle.local_db.proofs.Holding.{if_err_map}
 use Rattle.job_targets.proofs.agreeing.note.Goals as goal
 
 pub returns-in_default : goal.returns-in_default

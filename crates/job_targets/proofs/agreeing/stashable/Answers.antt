@@ -1,7 +1,8 @@
 use Rattle.std.proofs.Common.{take}
 use Rattle.std.proofs.lemmas.Result.{err_from_is_err_and}
 use Rattle.job_targets.specs.Agree.{IsCollisionOrMemory, IsFirstCollision}
-use Rattle.job_targets.proofs.Noting.{collision_map, first_collision, if_err_from}
+use Rattle.job_targets.proofs.Noting.{collision_map, first_collision}
+use Rattle.change_set.proofs.cny-base.Faults.{if_err_from}
 use Rattle.job_targets.proofs.agreeing.stashable.Goals as goal
 
 pub returns-in_err-note-clause-collides : goal.returns-in_err-note-clause-collides

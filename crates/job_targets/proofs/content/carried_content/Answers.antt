@@ -1,8 +1,10 @@
 use Rattle.std.proofs.Common.{◌≡◌, ◌≢◌, List, ℕ, length, Some, sym, ap, ◌∙◌, rules, arith}
 use Rattle.std.proofs.lemmas.Fn.{always_returns_same}
 use Rattle.change_set.specs.declared.change.Carried.{Carried}
-use Rattle.job_targets.specs.Contents.{carried_bytes, of_size}
-use Rattle.job_targets.proofs.Carrying.{against, found_place, missed_place, sized, unsized}
+use Rattle.job_targets.specs.Contents.{carried_bytes}
+use Rattle.job_targets.proofs.Carrying.{found_place, missed_place, sized, unsized}
+use Rattle.change_set.proofs.Carrying.{against}
+use Rattle.change_set.specs.cny-base.Sized.{of_size}
 use Rattle.job_targets.proofs.content.carried_content.Goals as goal
 
 pub returns-then-bytes-size : goal.returns-then-bytes-size

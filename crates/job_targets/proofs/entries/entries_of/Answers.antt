@@ -1,7 +1,7 @@
 use Rattle.std.proofs.Common.{refl}
-use Rattle.local_db.specs.tree-disk.StepLaws.{tests_answer, tests_memory, tests_stop, tests_value}
-use Rattle.tree_scan.specs.Following.{tests_next}
+use Rattle.local_db.proofs.tree-disk.StepLaws.{tests_answer, tests_memory, tests_stop, tests_value}
 use Rattle.job_targets.proofs.Listed.{at_next, entries_next, small_at}
+use Rattle.tree_scan.proofs.tree-disk.Deciding.{tests_next}
 use Rattle.job_targets.proofs.entries.entries_of.Goals as goal
 
 pub planned_entry-requires-clause-small : goal.planned_entry-requires-clause-small

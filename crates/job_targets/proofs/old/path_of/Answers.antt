@@ -1,5 +1,5 @@
 use Rattle.std.proofs.Common.{ap, ◌∙◌, Err}
-use Rattle.job_targets.proofs.Paths.{content_is_path}
+use Rattle.content_store.proofs.Paths.{content_is_path}
 use Rattle.job_targets.proofs.old.path_of.Goals as goal
 
 pub unreachable-requires : goal.unreachable-requires

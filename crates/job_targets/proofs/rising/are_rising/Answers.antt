@@ -4,7 +4,7 @@ use Rattle.std.proofs.lemmas.Cmp.{on_total}
 use Rattle.std.proofs.lemmas.List.Sorted.{answers_always}
 use Rattle.conflict_plan.specs.declared.planned.Planned.{Planned}
 use Rattle.conflict_plan.specs.Plan.{planned_cmp}
-use Rattle.job_targets.proofs.Adjacent.{is_less, rising_answer}
+use Rattle.change_set.proofs.trove-parts.Rising.{is_less, rising_answer}
 use Rattle.job_targets.proofs.rising.are_rising.Goals as goal
 
 pub returns : goal.returns

@@ -1,6 +1,6 @@
 use Rattle.std.proofs.Common.{◌≡◌, ◌∙◌, ap, subst, sym}
 use Rattle.std.specs.FinMap.{get}
-use Rattle.tree_journal.specs.tree-disk.StepLaws.{tests_value}
+use Rattle.tree_journal.proofs.tree-disk.StepLaws.{tests_value}
 use Rattle.change_rel.specs.cny-base.Count.{Rose}
 use Rattle.tree_journal.specs.tree-disk.Tree.{Name}
 use Rattle.local_db.specs.Names.{database}

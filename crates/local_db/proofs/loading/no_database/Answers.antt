@@ -1,11 +1,7 @@
-use Rattle.std.proofs.Common.{[], subst, sym}
+use Rattle.std.proofs.Common.{subst, sym}
 use Rattle.change_rel.specs.trove-stream.Installed.{IsRising}
-use Rattle.std.specs.List.Sorted.{IsStrictlySortedBy}
+use Rattle.change_rel.proofs.trove-stream.Lists.{none_rise}
 use Rattle.local_db.proofs.loading.no_database.Goals as goal
-
-none_rise : IsRising []
-unfolding IsStrictlySortedBy
-none_rise = tt
 
 pub of_rising-requires : goal.of_rising-requires
 of_rising-requires c = subst IsRising (sym c.new.ensures.items) none_rise

@@ -1,21 +1,23 @@
-use Rattle.std.proofs.Common.{◌≡◌, ◌∷◌, [], ◌++◌, List, Some, map, sym, subst, arith}
+use Rattle.std.proofs.Common.{◌≡◌, ◌∷◌, [], ◌++◌, List, Some, map, All, sym, ◌∙◌, ap, subst, arith}
 use Rattle.std.specs.Borrow.{Bor}
 use Rattle.std.specs.BTreeMap.{get}
 use Rattle.std.specs.Cmp.Lexicographic.{slice_cmp}
 use Rattle.std.specs.Map.Iter.{deref_pair}
 use Rattle.std.specs.Ordering.{nat_cmp}
 use Rattle.std.proofs.lemmas.List.{map_push}
-use Rattle.std.proofs.lemmas.Map.Iter.{iter_end}
+use Rattle.std.proofs.lemmas.List.Elements.{All-nil, All-push}
+use Rattle.std.proofs.lemmas.Map.Iter.{iter_end, rest_more, rest_so_far}
 use Rattle.std.proofs.lemmas.Map.Views.{All-turn}
 use Rattle.job_targets.specs.cny-base.Count.{Rose}
 use Rattle.job_targets.specs.Old.{IsDamagedOld, IsOldStop}
-use Rattle.job_targets.specs.tree-disk.Moments.{rose_before}
+use Rattle.job_targets.proofs.tree-disk.Moments.{rose_before}
 use Rattle.job_targets.specs.tree-disk.Tree.{Name, Tree}
-use Rattle.rollback_stack.specs.declared.found.FoundMark.{FoundMark}
-use Rattle.rollback_stack.specs.Wanting.{HasWanted, IsDamagedFound}
-use Rattle.rollback_stack.proofs.Finding.{all_wanted, none_wanted, one_wanted}
+use Rattle.past_jobs.specs.declared.found.FoundMark.{FoundMark}
+use Rattle.rollback_stack.specs.Inverse.{HoldsOld}
+use Rattle.rollback_stack.specs.Wanting.{HasWanted, IsFirstDamaged}
+use Rattle.rollback_stack.proofs.Finding.{all_wanted, none_wanted, one_held, one_wanted}
 use Rattle.rollback_stack.proofs.Later.{old_stop_then, read_as, read_start, read_then}
-use Rattle.rollback_stack.proofs.NewestJob.{if_err_from, no_ok}
+use Rattle.rollback_stack.proofs.Stops.{if_err_from, no_ok}
 use Rattle.rollback_stack.proofs.back.old_nodes.Goals as goal
 
 pub loop-path-init : goal.loop-path-init
@@ -24,6 +26,7 @@ loop-path-init g c = record {
   read = λ tells. read_start g.met.D.TreeDisk.laws c.args.disk.now;
   ordered = c.new-wants.ensures.ordered;
   wanted = λ tells. none_wanted (g.D.TreeDisk.disk.reads c.args.disk.now) c.args.found.now c.new-wants.result c.new-wants.ensures.empty;
+  good = λ tells. All-nil (λ (e : Name × FoundMark). HoldsOld (g.D.TreeDisk.disk.reads c.args.disk.now) e.1.number e.1.mark);
 }
 
 pub loop-path-preserved : goal.loop-path-preserved
@@ -43,6 +46,11 @@ loop-path-preserved g c =
           (so_far.wanted tells) turn
           (subst (λ (t : Tree). HasWanted t c.in-Some.path.now c.in-Some.at.now c.loop-path.wants c.want_found.new.wants) (so_far.read tells).same.reads (c.in_ok-want_found.ensures.value tells).answer)
           (map_push deref_pair c.loop-path.yielded item);
+      good = λ tells.
+          subst (All (λ (e : Name × FoundMark). HoldsOld x e.1.number e.1.mark)) (sym (map_push deref_pair c.loop-path.yielded item))
+          (All-push (λ (e : Name × FoundMark). HoldsOld x e.1.number e.1.mark) (map deref_pair c.loop-path.yielded) (c.in-Some.path.now, c.in-Some.at.now) (so_far.good tells)
+          (one_held x c.in-Some.path.now c.in-Some.at.now c.loop-path.wants c.want_found.new.wants
+          (subst (λ (t : Tree). HasWanted t c.in-Some.path.now c.in-Some.at.now c.loop-path.wants c.want_found.new.wants) (so_far.read tells).same.reads (c.in_ok-want_found.ensures.value tells).answer)));
     }
 
 pub returns-in_err-want_found-clause-value : goal.returns-in_err-want_found-clause-value
@@ -66,11 +74,18 @@ returns-in_err-want_found-clause-stops g c =
     gives.6 gives.0 c.loop-path.yielded_by c.in-Some.is c.next.ensures.steps in
     let rose = Rose (faults c.loop-path.disk) (faults c.want_found.new.disk) in
     let later = Rose (faults c.args.disk.now) (faults c.want_found.new.disk) in
-    if_err_from (IsOldStop told (IsDamagedFound x found) later) c.from_residual.result e c.from_residual.ensures.1
-    (old_stop_then told (IsDamagedOld y f.number f.mark) (IsDamagedFound x found) rose later e
+    if_err_from (IsOldStop told (IsFirstDamaged x found) later) c.from_residual.result e c.from_residual.ensures.1
+    (old_stop_then told (IsDamagedOld y f.number f.mark) (IsFirstDamaged x found) rose later e
     (λ tells path damaged. record {
+      front = map deref_pair c.loop-path.yielded;
       place = p;
       at = f;
+      rest = c.next.new.self;
+      split = sym gives.0
+          ∙ rest_so_far deref_pair c.loop-path.yielded c.into_iter-path-iterator.result c.loop-path.path-iterator c.loop-path.yielded_by
+          ∙ ap (λ (l : List (Name × FoundMark)). map deref_pair c.loop-path.yielded ++ l)
+          (rest_more deref_pair c.loop-path.path-iterator c.next.new.self c.next.result item c.in-Some.is c.next.ensures.steps);
+      good = so_far.good tells;
       among = turn;
       damaged = subst (λ (t : Tree). IsDamagedOld t f.number f.mark path) (so_far.read tells).same.reads damaged;
     })

@@ -1,11 +1,10 @@
 use Rattle.std.proofs.Common.{◌++◌, ◌∷◌, [], List, map, sym, ◌∙◌, ap, subst, append_assoc}
-use Rattle.std.proofs.lemmas.List.{append-nil}
 use Rattle.std.proofs.lemmas.Map.Iter.{rest_all, rest_more}
 use Rattle.job_targets.specs.journal-log.WriteSet.{Rises}
 use Rattle.job_targets.specs.journal-log.declared.put.Put.{Put}
 use Rattle.job_targets.specs.journal-log.declared.put.Want.{Want}
 use Rattle.job_targets.specs.tree-disk.Tree.{Name}
-use Rattle.rollback_stack.specs.Wanting.{put_of, puts_in}
+use Rattle.rollback_stack.specs.Wanting.{put_of}
 use Rattle.rollback_stack.proofs.Mapped.{all_put, rises_from}
 use Rattle.rollback_stack.proofs.back.puts_of.Goals as goal
 

@@ -1,4 +1,4 @@
-use Rattle.job_targets.specs.tree-disk.StepLaws.{makes_stop}
+use Rattle.job_targets.proofs.tree-disk.StepLaws.{makes_stop}
 use Rattle.rollback_stack.proofs.Keeping.{dropped_makes}
 use Rattle.rollback_stack.proofs.clearing.clear_dropped.Goals as goal
 

@@ -1,11 +1,11 @@
 use Rattle.std.proofs.Common.{◌≢◌, subst, sym, refl}
-use Rattle.job_targets.specs.tree-disk.ClearLaws.{or_left, or_right}
 use Rattle.job_targets.specs.tree-disk.Tree.{Name}
 use Rattle.job_targets.specs.cny-base.Path.{root}
 use Rattle.job_targets.specs.tree-disk.Clear.{is_within, without_tree}
-use Rattle.job_targets.specs.tree-disk.StepLaws.{makes_stop, makes_then, makes_then_stop, makes_wider}
+use Rattle.job_targets.proofs.tree-disk.StepLaws.{makes_stop, makes_then, makes_then_stop, makes_wider}
 use Rattle.local_db.specs.Names.{record_file, saved}
 use Rattle.rollback_stack.proofs.Places.{record_not_root, saved_not_root}
+use Rattle.change_rel.proofs.cny-base.Bools.{or_left, or_right}
 use Rattle.rollback_stack.proofs.clearing.clear_job.Goals as goal
 
 pub clear_tree-requires : goal.clear_tree-requires

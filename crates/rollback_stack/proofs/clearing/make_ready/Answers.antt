@@ -3,7 +3,7 @@ use Rattle.job_targets.specs.cny-base.Path.{is_path, parent}
 use Rattle.job_targets.specs.cny-base.Reserved.{private_directory}
 use Rattle.job_targets.specs.tree-disk.Tree.{Name, Tree, is_dir}
 use Rattle.job_targets.specs.tree-disk.Rows.{is_dir_at}
-use Rattle.job_targets.specs.tree-disk.StepLaws.{makes_stop, makes_then, makes_then_stop, makes_wider}
+use Rattle.job_targets.proofs.tree-disk.StepLaws.{makes_stop, makes_then, makes_then_stop, makes_wider}
 use Rattle.job_targets.specs.tree-journal.Apply.{with_base}
 use Rattle.local_db.proofs.FileNames.{base_is_path}
 use Rattle.rollback_stack.specs.Saving.{without_dropped, without_job}

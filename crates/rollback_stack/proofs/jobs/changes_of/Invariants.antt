@@ -1,5 +1,5 @@
 use Rattle.std.proofs.Common.{◌≡◌}
-use Rattle.job_record.specs.Entries.{entries_of}
+use Rattle.rollback_stack.specs.JobEntries.{entries_of}
 use Rattle.rollback_stack.proofs.jobs.changes_of.Given as goal
 
 abbrev pub invariant-loop-change : goal.invariant-loop-change

@@ -1,13 +1,13 @@
-use Rattle.std.proofs.Common.{◌≡◌, ◌+◌, ◌-◌, List, sym, subst, arith}
+use Rattle.std.proofs.Common.{◌-◌, sym, subst, arith}
 use Rattle.job_targets.specs.cny-base.Count.{Rose}
 use Rattle.local_db.specs.Formats.{Fits}
 use Rattle.local_db.specs.Installed.{IsInstalled}
 use Rattle.local_db.specs.declared.format.Format.TheVariants.{Two}
-use Rattle.job_targets.specs.tree-disk.Moments.{rose_before}
+use Rattle.job_targets.proofs.tree-disk.Moments.{rose_before}
 use Rattle.job_targets.specs.tree-disk.Tree.{Tree}
-use Rattle.rollback_stack.specs.Taking.{AreTaken, HasTakenJob, IsJobsStop}
+use Rattle.rollback_stack.specs.Taking.{HasTakenJob, IsJobsStop}
 use Rattle.rollback_stack.proofs.Later.{read_as, read_start, read_then}
-use Rattle.rollback_stack.proofs.NewestJob.{if_err_from, no_ok}
+use Rattle.rollback_stack.proofs.Stops.{if_err_from, no_ok}
 use Rattle.rollback_stack.proofs.TakenBack.{take_stops}
 use Rattle.rollback_stack.proofs.TakingJobs.{none_taken, one_taken}
 use Rattle.rollback_stack.proofs.jobs.jobs_down_to.Goals as goal

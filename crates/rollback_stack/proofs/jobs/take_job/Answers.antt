@@ -1,17 +1,15 @@
-use Rattle.std.proofs.Common.{◌≡◌, List, [], ◌∷◌, ◌++◌, sym, ◌∙◌, subst}
+use Rattle.std.proofs.Common.{List, [], ◌∷◌, ◌++◌, sym, ◌∙◌, subst}
 use Rattle.std.specs.List.Sorted.{IsStrictlySortedBy}
 use Rattle.job_targets.specs.cny-base.Count.{Rose}
-use Rattle.job_record.specs.Entries.{entries_of}
-use Rattle.job_record.specs.JobReading.{HoldsRecord}
+use Rattle.rollback_stack.specs.JobEntries.{entries_of}
 use Rattle.local_db.specs.Record as state
-use Rattle.local_db.specs.declared.format.Format.TheVariants.{Two}
-use Rattle.job_targets.specs.tree-disk.Moments.{rose_before}
+use Rattle.job_targets.proofs.tree-disk.Moments.{rose_before}
 use Rattle.job_targets.specs.tree-disk.Tree.{Tree}
-use Rattle.rollback_stack.specs.Jobs.{AreFound}
-use Rattle.rollback_stack.specs.Outcome.{CanUndoNext}
-use Rattle.rollback_stack.specs.Taking.{FindsNext, IsTakeStop}
+use Rattle.past_jobs.specs.Jobs.{AreFound}
+use Rattle.past_jobs.specs.Outcome.{CanUndoNext}
+use Rattle.rollback_stack.specs.Taking.{IsTakeStop}
 use Rattle.rollback_stack.proofs.Later.{read_as, read_then}
-use Rattle.rollback_stack.proofs.NewestJob.{if_err_from, no_ok}
+use Rattle.rollback_stack.proofs.Stops.{if_err_from}
 use Rattle.rollback_stack.proofs.TakenBack.{take_read, take_refused}
 use Rattle.rollback_stack.proofs.jobs.take_job.Goals as goal
 

@@ -1,11 +1,11 @@
-use Rattle.std.proofs.Common.{◌≡◌, Some, None, sym, ◌∙◌, ap, subst}
+use Rattle.std.proofs.Common.{subst}
 use Rattle.job_targets.specs.cny-base.Count.{Rose}
-use Rattle.job_targets.specs.tree-disk.Moments.{rose_before}
+use Rattle.job_targets.proofs.tree-disk.Moments.{rose_before}
 use Rattle.job_targets.specs.tree-disk.Tree.{Tree}
 use Rattle.rollback_stack.specs.Migrated.{AreWritesOf, IsMigratedStop, IsOldDatabase}
 use Rattle.rollback_stack.proofs.Later.{read_as, read_then}
 use Rattle.rollback_stack.proofs.Migrating.{migration_is, no_database_stop, records_stop}
-use Rattle.rollback_stack.proofs.NewestJob.{if_err_from, no_ok}
+use Rattle.rollback_stack.proofs.Stops.{if_err_from}
 use Rattle.rollback_stack.proofs.migration.migrated.Goals as goal
 
 pub returns-in_err-found-clause-stops : goal.returns-in_err-found-clause-stops

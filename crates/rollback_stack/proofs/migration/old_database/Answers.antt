@@ -1,11 +1,12 @@
-use Rattle.std.proofs.Common.{◌≡◌, Some, List, ℕ, sym, ◌∙◌, ap, subst}
+use Rattle.std.proofs.Common.{Some, List, ℕ, sym, ◌∙◌, ap, subst}
 use Rattle.std.specs.FinMap.{get}
 use Rattle.job_targets.specs.cny-base.Count.{Rose}
 use Rattle.job_targets.specs.content-store.Store.{file_bytes}
-use Rattle.job_record.specs.JobReading.{IsReadStop}
+use Rattle.rollback_stack.specs.JobReading.{IsReadStop}
 use Rattle.job_targets.specs.tree-disk.Tree.{Name}
 use Rattle.rollback_stack.specs.Migrated.{IsFileStop, IsFoundFile, IsNoDatabase}
-use Rattle.rollback_stack.proofs.Migrating.{file_stop, if_err_map}
+use Rattle.rollback_stack.proofs.Migrating.{file_stop}
+use Rattle.local_db.proofs.Holding.{if_err_map}
 use Rattle.rollback_stack.proofs.migration.old_database.Goals as goal
 
 pub returns-in-Some-clause-stops : goal.returns-in-Some-clause-stops

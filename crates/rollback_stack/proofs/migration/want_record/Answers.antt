@@ -1,16 +1,14 @@
-use Rattle.std.proofs.Common.{◌≡◌, ◌∙◌, List, ℕ, refl, sym, subst}
-use Rattle.std.specs.Prelude.{IfErr, IfOk}
+use Rattle.std.proofs.Common.{◌∙◌, sym, subst}
 use Rattle.job_targets.specs.cny-base.Count.{Rose}
-use Rattle.job_record.specs.Entries.{entries_of}
-use Rattle.job_record.specs.JobReading.{IsDamagedJob, IsReadStop, IsText}
-use Rattle.rollback_stack.proofs.Holding.{holds, stop_of_text, stop_without_text}
-use Rattle.local_db.specs.Names.{record_file}
+use Rattle.rollback_stack.specs.JobEntries.{entries_of}
+use Rattle.rollback_stack.specs.JobReading.{IsDamagedJob, IsReadStop, IsText}
 use Rattle.local_db.specs.declared.format.Format.{Format}
 use Rattle.local_db.specs.declared.format.Format.TheVariants.{One, Two}
 use Rattle.job_targets.specs.tree-disk.Tree.{Name}
 use Rattle.rollback_stack.specs.Migrated.{HasFile}
 use Rattle.rollback_stack.proofs.Later.{read_as}
-use Rattle.rollback_stack.proofs.NewestJob.{if_err_from, no_ok}
+use Rattle.rollback_stack.proofs.Stops.{if_err_from}
+use Rattle.rollback_stack.proofs.HoldingRecords.{holds, stop_of_text, stop_without_text}
 use Rattle.rollback_stack.proofs.migration.want_record.Goals as goal
 
 pub encode-requires : goal.encode-requires
@@ -46,7 +44,7 @@ returns-in_err-job-clause-stops g c =
     let e = c.in_err-job.field-0.0 in
     if_err_from (IsReadStop told (IsDamagedJob One x n after) rose) c.from_residual-in_err-job.result e c.from_residual-in_err-job.ensures.1
     (stop_of_text One x n after c.records_by_lists.ensures.read c.distinct_records.ensures.unique told rose r (λ tells. (c.in_ok-found.ensures.value tells).answer) e
-    (subst (λ (f : Format). Rattle.job_record.specs.JobReading.IsCheckStop f n r after e) c.requires.format c.in_err-job.ensures.stops))
+    (subst (λ (f : Format). Rattle.rollback_stack.specs.JobReading.IsCheckStop f n r after e) c.requires.format c.in_err-job.ensures.stops))
 
 pub returns-clause-value : goal.returns-clause-value
 returns-clause-value g c tells =
@@ -59,7 +57,7 @@ returns-clause-value g c tells =
     let es = entries_of job.changes.items in
     let run = c.in_ok-found.ensures.value tells in
     let t = c.in_ok-found.ensures.text.text in
-    let is = subst (λ (f : Format). Rattle.job_record.specs.JobReading.IsJobOf f n r after before job) c.requires.format c.in_ok-job.ensures.value in
+    let is = subst (λ (f : Format). Rattle.rollback_stack.specs.JobReading.IsJobOf f n r after before job) c.requires.format c.in_ok-job.ensures.value in
     read_as run (record {
       es = es;
       bytes = c.in_ok-bytes.bytes;

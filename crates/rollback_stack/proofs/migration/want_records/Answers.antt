@@ -1,15 +1,15 @@
-use Rattle.std.proofs.Common.{◌≡◌, ℕ, ◌-◌, [], List, sym, subst, arith}
+use Rattle.std.proofs.Common.{ℕ, ◌-◌, [], sym, subst, arith}
 use Rattle.job_targets.specs.cny-base.Count.{Rose}
-use Rattle.job_record.specs.JobReading.{IsDamagedJob, IsDamagedRecord, IsReadStop}
+use Rattle.rollback_stack.specs.JobReading.{IsDamagedJob, IsDamagedRecord, IsReadStop}
 use Rattle.local_db.specs.Installed.{IsInstalled}
 use Rattle.local_db.specs.declared.format.Format.TheVariants.{One}
-use Rattle.job_targets.specs.tree-disk.Moments.{rose_before}
+use Rattle.job_targets.proofs.tree-disk.Moments.{rose_before}
 use Rattle.job_targets.specs.tree-disk.Tree.{Tree}
 use Rattle.rollback_stack.specs.Migrated.{AreRewritten, HasRewritten}
 use Rattle.rollback_stack.specs.Numbers.{job_count}
 use Rattle.rollback_stack.proofs.Later.{read_as, read_start, read_then}
 use Rattle.rollback_stack.proofs.Migrating.{read_stop_map}
-use Rattle.rollback_stack.proofs.NewestJob.{if_err_from, no_ok}
+use Rattle.rollback_stack.proofs.Stops.{if_err_from, no_ok}
 use Rattle.rollback_stack.proofs.Noting.{count_is, none_of_none}
 use Rattle.rollback_stack.proofs.Rewriting.{all_rewritten, damaged_after, least, most, none_added, none_rewritten, one_rewritten}
 use Rattle.rollback_stack.proofs.migration.want_records.Goals as goal

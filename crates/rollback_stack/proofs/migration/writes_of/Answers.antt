@@ -1,4 +1,4 @@
-use Rattle.std.proofs.Common.{◌≡◌, List, ℕ, ap, sym, ◌∙◌, subst}
+use Rattle.std.proofs.Common.{List, ℕ, subst}
 use Rattle.local_db.specs.Formats.{database_bytes}
 use Rattle.local_db.specs.declared.format.Format.TheVariants.{Two}
 use Rattle.job_targets.specs.tree-disk.Tree.{Name}

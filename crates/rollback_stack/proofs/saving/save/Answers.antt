@@ -2,7 +2,7 @@ use Rattle.rollback_stack.proofs.Preparations.{makes_stopped, prepares_stop, pre
 use Rattle.rollback_stack.proofs.Putting.{can_put, content_name, dir_name, may_still, put_stops}
 use Rattle.std.proofs.Common.{◌∙◌, ap}
 use Rattle.sha1.specs.Sha1.{sha1}
-use Rattle.job_targets.specs.tree-disk.ConfinedLaws.{confined_wider}
+use Rattle.job_targets.proofs.tree-disk.ConfinedLaws.{confined_wider}
 use Rattle.job_targets.specs.tree-disk.Rows.{is_dir_at}
 use Rattle.job_targets.specs.tree-disk.Tree.{Tree}
 use Rattle.job_targets.proofs.tree-journal.OwnFiles.{base_stands}

@@ -3,7 +3,7 @@ use Rattle.std.proofs.lemmas.List.{take_all}
 use Rattle.job_targets.specs.cny-base.Path.{is_path, parent}
 use Rattle.job_targets.specs.tree-disk.Clear.{is_within}
 use Rattle.job_targets.specs.tree-disk.Confined.{Among}
-use Rattle.job_targets.specs.tree-disk.ConfinedLaws.{confined_on, confined_start, confined_wider}
+use Rattle.job_targets.proofs.tree-disk.ConfinedLaws.{confined_on, confined_start, confined_wider}
 use Rattle.job_targets.specs.tree-disk.Rows.{is_dir_at}
 use Rattle.job_targets.specs.tree-disk.Tree.{Name}
 use Rattle.local_db.specs.Names.{saved}
@@ -11,9 +11,10 @@ use Rattle.local_db.proofs.FileNames.{saved_is_path}
 use Rattle.job_targets.specs.declared.entry.Entry.{Entry}
 use Rattle.rollback_stack.specs.Saving.{HoldsOld}
 use Rattle.rollback_stack.proofs.Keeping.{base_stays}
-use Rattle.rollback_stack.proofs.Places.{saved_parent, saved_short}
+use Rattle.rollback_stack.proofs.Places.{saved_parent}
 use Rattle.rollback_stack.proofs.Preparations.{prepares_stop}
 use Rattle.rollback_stack.proofs.Saved.{are_saved, entry_within, holds_more_in, holds_none, may_hold_in}
+use Rattle.job_targets.proofs.Paths.{saved_short}
 use Rattle.rollback_stack.proofs.saving.save_all.Goals as goal
 
 pub loop-entry-init : goal.loop-entry-init

@@ -1,16 +1,14 @@
-use Rattle.std.proofs.Common.{◌≡◌, ◌-◌, [], List, length, ap, sym, ◌∙◌, subst, arith}
+use Rattle.std.proofs.Common.{◌-◌, sym, ◌∙◌, subst, arith}
 use Rattle.job_targets.specs.cny-base.Count.{Rose}
-use Rattle.job_record.specs.Past.{AreChangedIds}
-use Rattle.job_record.specs.Entries as records
-use Rattle.job_record.specs.JobReading.{HoldsRecord, IsDamagedJob, IsDamagedRecord}
-use Rattle.rollback_stack.specs.declared.undo.Note.{Note}
+use Rattle.rollback_stack.specs.JobEntries as records
+use Rattle.rollback_stack.specs.JobReading.{HoldsRecord, IsDamagedJob}
 use Rattle.local_db.specs.declared.format.Format.TheVariants.{Two}
-use Rattle.job_targets.specs.tree-disk.Moments.{rose_before}
-use Rattle.job_targets.specs.tree-disk.Tree.{Name, Tree}
+use Rattle.job_targets.proofs.tree-disk.Moments.{rose_before}
+use Rattle.job_targets.specs.tree-disk.Tree.{Tree}
 use Rattle.rollback_stack.specs.Numbers.{job_count}
 use Rattle.rollback_stack.specs.Reading.{AreNotes, IsAllStop}
-use Rattle.rollback_stack.proofs.Later.{read_as, read_start, read_then}
-use Rattle.rollback_stack.proofs.NewestJob.{all_read, if_err_from, no_ok}
+use Rattle.rollback_stack.proofs.Later.{read_as, read_then}
+use Rattle.rollback_stack.proofs.Stops.{all_read, if_err_from, no_ok}
 use Rattle.rollback_stack.proofs.Noting.{all_noted, count_is, damaged_next, noted_as, one_noted}
 use Rattle.rollback_stack.proofs.stack.all.Goals as goal
 

@@ -1,16 +1,16 @@
-use Rattle.std.proofs.Common.{◌≡◌, ◌∙◌, List, ap, sym, subst}
+use Rattle.std.proofs.Common.{◌∙◌, List, ap, sym, subst}
 use Rattle.job_targets.specs.cny-base.Count.{Rose}
-use Rattle.rollback_stack.specs.Writes.{db_below}
+use Rattle.rollback_stack.specs.Database.{db_below}
 use Rattle.local_db.specs.declared.db.Db.{Db}
 use Rattle.local_db.specs.Formats.{Fits}
 use Rattle.local_db.specs.declared.format.Format.TheVariants.{Two}
-use Rattle.job_targets.specs.tree-disk.Moments.{rose_before}
+use Rattle.job_targets.proofs.tree-disk.Moments.{rose_before}
 use Rattle.job_targets.specs.tree-disk.Tree.{Tree}
 use Rattle.job_targets.specs.trove-stream.declared.parts.TroveParts.{TroveParts}
 use Rattle.rollback_stack.specs.Inverse.{IsBackStop}
 use Rattle.rollback_stack.specs.Wanting.{AreWanted}
 use Rattle.rollback_stack.proofs.Later.{read_as, read_then}
-use Rattle.rollback_stack.proofs.NewestJob.{if_err_from}
+use Rattle.rollback_stack.proofs.Stops.{if_err_from}
 use Rattle.rollback_stack.proofs.TakenBack.{back_to, content_stop, job_stop, no_job}
 use Rattle.rollback_stack.proofs.taking_back.inverse_to.Goals as goal
 

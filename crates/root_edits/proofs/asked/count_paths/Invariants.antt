@@ -1,5 +1,6 @@
 use Rattle.std.proofs.Common.{◌≡◌, ◌+◌, ◌-◌, ◌^◌, ◌≤◌, min, length}
-use Rattle.root_edits.specs.Verify.{asked, records}
+use Rattle.root_edits.specs.Verify.{asked}
+use Rattle.root_edits.specs.Local.{records}
 use Rattle.root_edits.proofs.asked.count_paths.Given as goal
 
 abbrev pub invariant-loop-rest : goal.invariant-loop-rest

@@ -6,8 +6,9 @@ use Rattle.root_edits.specs.Local.{all_sights}
 use Rattle.root_edits.specs.Standing.{too_large}
 use Rattle.root_edits.specs.Steps.{HaveAddedParts}
 use Rattle.root_edits.proofs.FindsLaws.{finds_answer, finds_start, finds_stop, finds_then, reads_same}
-use Rattle.root_edits.proofs.Members.{next_one, take_whole}
+use Rattle.root_edits.proofs.Members.{next_one}
 use Rattle.root_edits.proofs.Setting.{added_on, added_small, no_parts_added, one_part_added, trove_refused, trove_rest}
+use Rattle.change_rel.proofs.Members.{take_all as take_whole}
 use Rattle.root_edits.proofs.changing.add_troves.Goals as goal
 
 pub loop-place-init : goal.loop-place-init

@@ -5,10 +5,11 @@ use Rattle.update_job.specs.trove-stream.declared.parts.TroveParts.{TroveParts}
 use Rattle.manifest_troves.specs.Contents.{IsCollisionOf}
 use Rattle.root_edits.specs.Local.{IsLocal}
 use Rattle.root_edits.specs.Moved.{too_long}
-use Rattle.root_edits.specs.Steps.{IsRefusalOrMemory, IsUninstalled}
+use Rattle.root_edits.specs.Steps.{IsUninstalled}
 use Rattle.root_edits.proofs.FindsLaws.{finds_answer, finds_fault, finds_start, finds_stop}
 use Rattle.root_edits.proofs.Stopping.{collision_stop, long_stop, size_stop, uninstalled_stop}
 use Rattle.root_edits.proofs.Setting.{answered, first_large, first_long, refused_by, refused_collision, set_has_contents}
+use Rattle.cny_version.specs.cny-base.Refusals.{IsRefusalOrMemory}
 use Rattle.root_edits.proofs.changing.local.Goals as goal
 
 pub returns-in_err-troves-clause-finds : goal.returns-in_err-troves-clause-finds

@@ -7,9 +7,12 @@ use Rattle.update_job.specs.trove-parts.declared.id.TroveId.{TroveId}
 use Rattle.update_job.specs.trove-parts.Id.{IsTroveId}
 use Rattle.update_job.specs.trove-stream.declared.parts.TroveParts.{TroveParts}
 use Rattle.root_edits.specs.Moved.{local_id, local_size, too_long}
-use Rattle.root_edits.specs.Steps.{IsRefusalOrMemory, IsTooLong}
-use Rattle.root_edits.proofs.Members.{map_push, next_one}
-use Rattle.root_edits.proofs.MovedIds.{handed_on, next_fault, next_fits}
+use Rattle.root_edits.specs.Steps.{IsTooLong}
+use Rattle.root_edits.proofs.Members.{next_one}
+use Rattle.root_edits.proofs.MovedIds.{next_fault, next_fits}
+use Rattle.cny_version.specs.cny-base.Refusals.{IsRefusalOrMemory}
+use Rattle.cny_version.proofs.cny-base.Faults.{handed_on}
+use Rattle.cny_version.proofs.cny-base.Lists.{map_push}
 use Rattle.root_edits.proofs.moving.local_ids.Goals as goal
 
 pub loop-trove-preserved : goal.loop-trove-preserved

@@ -6,8 +6,8 @@ use Rattle.root_edits.specs.Moved.{local_id}
 use Rattle.root_edits.proofs.Troves.{made_is_trove}
 use Rattle.root_edits.proofs.moving.moved_trove.Goals as goal
 
-pub trove_of-requires : goal.trove_of-requires
-trove_of-requires c =
+pub from_parts-requires : goal.from_parts-requires
+from_parts-requires c =
     let t = c.args.trove.now in
     let whole : c.into_parts-id.result ≡ t = c.into_parts-id.ensures.value ∙ c.in_ok-copy.ensures in
     let id : local_id t.id ≡ c.in_ok-id.id = sym (c.in_ok-id.ensures ∙ c.requires.id) in

@@ -3,7 +3,9 @@ use Rattle.std.specs.Option.{option_copied}
 use Rattle.update_job.specs.trove-parts.declared.id.TroveId.{TroveId}
 use Rattle.update_job.specs.trove-parts.Order.{id_eq}
 use Rattle.update_job.specs.trove-stream.declared.parts.TroveParts.{TroveParts}
-use Rattle.root_edits.proofs.MovedIds.{item_at, nameless_stays, other_stays, stays_unless}
+use Rattle.root_edits.proofs.MovedIds.{nameless_stays, other_stays}
+use Rattle.change_rel.proofs.trove-stream.Places.{item_at}
+use Rattle.cny_version.proofs.cny-base.Faults.{if_none as stays_unless}
 use Rattle.root_edits.proofs.moving.place_of_id.Goals as goal
 
 pub returns-in_err-place-clause-none : goal.returns-in_err-place-clause-none

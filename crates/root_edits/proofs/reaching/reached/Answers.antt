@@ -1,7 +1,7 @@
 use Rattle.std.proofs.Common.{sym, subst}
 use Rattle.root_edits.specs.Reached.{AreReached}
 use Rattle.root_edits.proofs.Choosing.{reached_are}
-use Rattle.root_edits.proofs.Members.{contains_at}
+use Rattle.cny_version.proofs.cny-base.Lists.{contains_at}
 use Rattle.root_edits.proofs.reaching.reached.Goals as goal
 
 pub returns-clause-value : goal.returns-clause-value

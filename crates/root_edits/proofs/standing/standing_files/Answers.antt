@@ -5,8 +5,9 @@ use Rattle.tree_scan.specs.tree-disk.Tree.{Tree}
 use Rattle.root_edits.specs.Standing.{too_large_node}
 use Rattle.root_edits.specs.Steps.{within_limit, HaveSeen}
 use Rattle.root_edits.proofs.FindsLaws.{finds_answer, finds_memory, finds_start, finds_then, reads_same, tested_answer, tested_stop}
-use Rattle.root_edits.proofs.Members.{next_one, take_whole}
+use Rattle.root_edits.proofs.Members.{next_one}
 use Rattle.root_edits.proofs.Seeing.{nothing_seen, one_seen, refused_at, rest_at, within_ok}
+use Rattle.change_rel.proofs.Members.{take_all as take_whole}
 use Rattle.root_edits.proofs.standing.standing_files.Goals as goal
 
 pub loop-file-init : goal.loop-file-init

@@ -1,8 +1,9 @@
 use Rattle.std.proofs.Common.{◌≡◌, ◌-◌, ◌^◌, min, List, length, ◌∙◌, ap, subst}
 use Rattle.update_job.specs.trove-stream.declared.parts.TroveParts.{TroveParts}
-use Rattle.root_edits.specs.Verify.{asked, records, AreAdded}
+use Rattle.root_edits.specs.Verify.{asked, AreAdded}
 use Rattle.root_edits.proofs.Added.{lines_are}
 use Rattle.root_edits.proofs.Answered.{verified_by_map}
+use Rattle.root_edits.specs.Local.{records}
 use Rattle.root_edits.proofs.verifying.verify.Goals as goal
 
 pub returns-clause-mapped : goal.returns-clause-mapped

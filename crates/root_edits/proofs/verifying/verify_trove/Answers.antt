@@ -1,10 +1,11 @@
 use Rattle.std.proofs.Common.{◌≡◌, List, [], ◌∷◌, sym, ◌∙◌, subst}
 use Rattle.update_job.specs.trove-parts.declared.files.FileAt.{FileAt}
-use Rattle.root_edits.specs.Verify.{asked, records, AreAdded, LacksOne}
+use Rattle.root_edits.specs.Verify.{asked, AreAdded, LacksOne}
 use Rattle.root_edits.proofs.Added.{added_none, asked_none, asked_one}
 use Rattle.root_edits.proofs.SearchLaws.{searches_start, searches_weaker}
 use Rattle.root_edits.proofs.verifying.verify_trove.Goals as goal
 use Rattle.root_edits.proofs.verifying.verify_trove.Goals.{then-is_asked+in_ok-verify_files, else-is_asked}
+use Rattle.root_edits.specs.Local.{records}
 
 pub returns : goal.returns
 returns g c =

@@ -1,7 +1,8 @@
 use Rattle.std.proofs.Common.{◌∷◌, [], arith}
-use Rattle.root_edits.specs.Verify.{asked, records, LacksOne}
+use Rattle.root_edits.specs.Verify.{asked, LacksOne}
 use Rattle.root_edits.proofs.Added.{troves_among_next, troves_lack_next, troves_next}
 use Rattle.root_edits.proofs.SearchLaws.{searches_stop, searches_then}
+use Rattle.root_edits.specs.Local.{records}
 use Rattle.root_edits.proofs.verifying.verify_troves.Goals as goal
 
 pub loop-rest-preserved : goal.loop-rest-preserved

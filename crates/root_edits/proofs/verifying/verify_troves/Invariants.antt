@@ -2,7 +2,8 @@ use Rattle.std.proofs.Common.{List, Ok, length, Contains}
 use Rattle.update_job.specs.trove-parts.declared.files.FileAt.{FileAt}
 use Rattle.tree_scan.specs.declared.verification.Finding.{Finding}
 use Rattle.root_edits.specs.Search.{no_refusal, Searches}
-use Rattle.root_edits.specs.Verify.{asked, records, AreAdded, LacksOne}
+use Rattle.root_edits.specs.Verify.{asked, AreAdded, LacksOne}
+use Rattle.root_edits.specs.Local.{records}
 use Rattle.root_edits.proofs.verifying.verify_troves.Given as goal
 
 abbrev pub invariant-loop-rest : goal.invariant-loop-rest

@@ -4,8 +4,9 @@ use Rattle.system_core.specs.Job.{sources_of}
 use Rattle.system_core.specs.Lists.{to_list}
 use Rattle.system_core.specs.Steps.{Ends}
 use Rattle.system_core.proofs.AnswerLaws.{answer_stop}
-use Rattle.system_core.proofs.CallLaws.{no_carried}
-use Rattle.system_core.proofs.JobLaws.{cause_of, err_is}
+use Rattle.system_core.proofs.JobLaws.{cause_of}
+use Rattle.system_core.proofs.EndingAll.{err_is}
+use Rattle.update_job.proofs.change-set.Carrying.{no_carried}
 use Rattle.system_core.proofs.calls.adopt.Goals as goal
 
 pub returns-in_err-done-clause-ends : goal.returns-in_err-done-clause-ends

@@ -6,9 +6,10 @@ use Rattle.rollback_stack.specs.cny-base.Count.{Rose}
 use Rattle.system_core.specs.Job.{no_answers, sources_of}
 use Rattle.system_core.specs.Lists.{to_erased}
 use Rattle.system_core.proofs.AnswerLaws.{answer_by, answer_stop_by, list_answer}
-use Rattle.system_core.proofs.CallLaws.{ends_by, ends_stop, erased_allowed, list_stop, no_carried, own_cause, own_cause_of, own_fault_cause}
+use Rattle.system_core.proofs.CallLaws.{ends_by, ends_stop, erased_allowed, list_stop, own_cause, own_cause_of, own_fault_cause}
 use Rattle.system_core.proofs.ErasedRefusals.{erasure_stops}
 use Rattle.system_core.proofs.Held.{same_list}
+use Rattle.update_job.proofs.change-set.Carrying.{no_carried}
 use Rattle.system_core.proofs.calls.erase.Goals as goal
 
 pub returns-in_err-list-clause-ends : goal.returns-in_err-list-clause-ends

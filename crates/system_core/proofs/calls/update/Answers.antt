@@ -1,7 +1,6 @@
 use Rattle.std.proofs.Common.{List, Ok, subst}
 use Rattle.rollback_stack.specs.cny-base.Stop.{stop_of_fault}
 use Rattle.rollback_stack.specs.trove-stream.declared.parts.TroveParts.{TroveParts}
-use Rattle.job_targets.proofs.GatherLaws.{keeps_start}
 use Rattle.update_job.specs.Lists.{IsUnupdated, IsUpdated}
 use Rattle.rollback_stack.specs.cny-base.Count.{Rose}
 use Rattle.system_core.specs.Job.{sources_of}
@@ -10,6 +9,7 @@ use Rattle.system_core.proofs.AnswerLaws.{answer_by, answer_stop_by, list_answer
 use Rattle.system_core.proofs.CallLaws.{ends_by, ends_stop, fault_cause, list_stop, updated_allowed}
 use Rattle.system_core.proofs.Held.{same_list}
 use Rattle.system_core.proofs.JobLaws.{cause_of}
+use Rattle.job_targets.proofs.content-store.Sources.{keeps_start}
 use Rattle.system_core.proofs.calls.update.Goals as goal
 
 pub returns-in_err-list-clause-ends : goal.returns-in_err-list-clause-ends

@@ -1,7 +1,7 @@
 use Rattle.std.proofs.Common.{refl, codes}
-use Rattle.rollback_stack.specs.tree-disk.StepLaws.{tests_then}
+use Rattle.rollback_stack.proofs.tree-disk.StepLaws.{tests_then}
 use Rattle.system_core.specs.FixedDirs.{dir_at, fixed_dirs}
-use Rattle.system_core.specs.FixedPaths.{var_text, lib_text}
+use Rattle.system_core.proofs.FixedPaths.{lib_text, var_text}
 use Rattle.system_core.proofs.fixed_dirs.check_fixed_dirs.Goals as goal
 
 pub check_dir-requires-2 : goal.check_dir-requires-2

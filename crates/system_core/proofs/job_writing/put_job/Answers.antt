@@ -21,7 +21,7 @@ returns-in_err-pushed-clause-goes g c tells s stores from =
     let db = c.args.db.now in
     let puts = c.args.targets in
     stopped_before db.newest (dropped_below db.oldest) puts c.args.root.now c.push_puts.new.disk can.flag_clear can.synced (c.in_err-pushed.ensures.confined tells) s (after_job puts db.installed s)
-    (c.in_err-pushed.ensures.keeps Two s (next_job puts c.args.undo.now db s from) tells (λ q counted. can.synced q) stores) _ c.from_residual.result c.from_residual.ensures.1
+    (c.in_err-pushed.ensures.keeps Two s (next_job puts c.args.before.now db s from) tells (λ q counted. can.synced q) stores) _ c.from_residual.result c.from_residual.ensures.1
 
 pub returns-in_err-all-clause-goes : goal.returns-in_err-all-clause-goes
 returns-in_err-all-clause-goes g c tells s stores from =
@@ -29,13 +29,13 @@ returns-in_err-all-clause-goes g c tells s stores from =
     let db = c.args.db.now in
     let puts = c.args.targets in
     stopped_before db.newest (dropped_below db.oldest) puts c.args.root.now c.push_puts.new.disk can.flag_clear can.synced (c.in_ok-pushed.ensures.confined tells) s (after_job puts db.installed s)
-    (c.in_ok-pushed.ensures.keeps Two s (next_job puts c.args.undo.now db s from) tells (λ q counted. can.synced q) stores) _ c.from_residual-in_err-all.result c.from_residual-in_err-all.ensures.1
+    (c.in_ok-pushed.ensures.keeps Two s (next_job puts c.args.before.now db s from) tells (λ q counted. can.synced q) stores) _ c.from_residual-in_err-all.result c.from_residual-in_err-all.ensures.1
 
 pub write_all-requires : goal.write_all-requires
 write_all-requires g c = record {
   can = λ tells.
       let stand = subst (All (λ (p : Put). IsTrue (may_stand (node_of p.want)))) c.get.ensures.value c.put_ranges.ensures in
-      can_write g.met.T.TreeDisk.laws c.args.targets c.args.undo.now c.args.db.now (subst Rises c.get-items.ensures.value c.get-items.ensures.rises) c.requires.free c.requires.given c.requires.db c.requires.fits
+      can_write g.met.T.TreeDisk.laws c.args.targets c.args.before.now c.args.entries.now c.args.db.now (subst Rises c.get-items.ensures.value c.get-items.ensures.rises) c.requires.free c.requires.given c.requires.db c.requires.entries
       c.args.root.now c.push_puts.new.disk (c.requires.told tells) (c.in_ok-pushed.ensures.confined tells)
       c.in_ok-pushed.pushed c.in_ok-all.all c.args.bytes (c.in_ok-pushed.ensures.pushed tells) c.in_ok-all.ensures stand;
 }
@@ -43,21 +43,21 @@ write_all-requires g c = record {
 pub returns-clause-goes : goal.returns-clause-goes
 returns-clause-goes g c tells s stores from =
     let can = c.requires.told tells in
-    let undo = c.args.undo.now in
+    let before = c.args.before.now in
     let db = c.args.db.now in
     let puts = c.args.targets in
     let stand = subst (All (λ (p : Put). IsTrue (may_stand (node_of p.want)))) c.get.ensures.value c.put_ranges.ensures in
     let rises = subst Rises c.get-items.ensures.value c.get-items.ensures.rises in
     let confined = c.in_ok-pushed.ensures.confined tells in
-    let keeps = c.in_ok-pushed.ensures.keeps Two s (next_job puts undo db s from) tells (λ q counted. can.synced q) stores in
+    let keeps = c.in_ok-pushed.ensures.keeps Two s (next_job puts before db s from) tells (λ q counted. can.synced q) stores in
     let pushed = c.in_ok-pushed.ensures.pushed tells in
     let union = subst (λ (l : List Put). IsUnion c.in_ok-all.all puts (l ++ database_write c.args.bytes ∷ [])) pushed.puts_are c.in_ok-all.ensures in
     joined db.newest (dropped_below db.oldest) puts c.args.root.now c.push_puts.new.disk can.flag_clear can.synced confined s (after_job puts db.installed s) keeps
-    c.in_ok-all.all undo.number pushed.mode pushed.bytes c.args.bytes union c.write_all.new.root c.write_all.result c.in_ok-pushed.ensures.later c.write_all.ensures.later
+    c.in_ok-all.all db.newest pushed.mode pushed.bytes c.args.bytes union c.write_all.new.root c.write_all.result c.in_ok-pushed.ensures.later c.write_all.ensures.later
     (c.write_all.ensures.goes tells Two Two s (after_job puts db.installed s) keeps.now
-    (settled g.met.T.TreeDisk.laws puts undo db rises c.requires.free c.requires.given c.requires.db c.requires.fits c.args.root.now c.push_puts.new.disk can confined
+    (settled g.met.T.TreeDisk.laws puts before c.args.entries.now db rises c.requires.free c.requires.given c.requires.db c.requires.entries c.args.root.now c.push_puts.new.disk can confined
     c.in_ok-pushed.pushed c.in_ok-all.all c.args.bytes pushed c.in_ok-all.ensures stand s stores from c.requires.text)
-    (after_stored g.met.T.TreeDisk.laws puts undo db rises c.requires.free c.requires.given c.requires.db c.requires.fits c.args.root.now c.push_puts.new.disk can confined
+    (after_stored g.met.T.TreeDisk.laws puts before c.args.entries.now db rises c.requires.free c.requires.given c.requires.db c.requires.entries c.args.root.now c.push_puts.new.disk can confined
     c.in_ok-pushed.pushed c.in_ok-all.all c.args.bytes pushed c.in_ok-all.ensures stand s stores from c.requires.text))
 
 pub returns-clause-stops : goal.returns-clause-stops

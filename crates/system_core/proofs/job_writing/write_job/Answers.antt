@@ -1,6 +1,8 @@
 use Rattle.std.proofs.Common.{refl, sym, subst}
 use Rattle.job_targets.specs.Agree.{AllAgree}
-use Rattle.system_core.proofs.JobEnding.{can_put, fits_db, holds_after, is_database, job_from, next_is, pushed_stops, refused_job, refused_stops, stopped_answer, stopped_job, written_job}
+use Rattle.rollback_stack.specs.job-record.Changed.{AreChangedNames}
+use Rattle.rollback_stack.specs.Entries.{AreEntries}
+use Rattle.system_core.proofs.JobEnding.{can_put, holds_after, is_database, is_first, job_from, names_db, next_is, pushed_stops, refused_job, refused_stops, stopped_answer, stopped_job, written_job}
 use Rattle.system_core.proofs.job_writing.write_job.Goals as goal
 
 pub returns-in_err-job-clause-ends : goal.returns-in_err-job-clause-ends
@@ -17,21 +19,30 @@ returns-in_err-job-clause-answers g c = stopped_answer c.args.db.now c.args.db.n
 pub put_job-requires-clause-db : goal.put_job-requires-clause-db
 put_job-requires-clause-db g c =
     let job = c.in-Some.job in
-    is_database c.args.db.now c.args.list c.args.puts c.args.entries job.undo job.db job.bytes (rw c.in-Some.is at c.in_ok-job.ensures.some) (let passes = rw c.in-Some.is at c.in_ok-job.ensures.passes in passes.room) c.requires.db c.requires.list
+    is_database c.args.db.now c.args.list c.args.puts c.args.entries job.names.items job.db job.bytes (rw c.in-Some.is at c.in_ok-job.ensures.some) (let passes = rw c.in-Some.is at c.in_ok-job.ensures.passes in passes.room) c.requires.db c.requires.list
 
-pub put_job-requires-clause-fits : goal.put_job-requires-clause-fits
-put_job-requires-clause-fits g c =
+pub put_job-requires-clause-job : goal.put_job-requires-clause-job
+put_job-requires-clause-job g c =
     let job = c.in-Some.job in
-    fits_db c.args.db.now c.args.list c.args.puts c.args.entries job.undo job.db job.bytes (rw c.in-Some.is at c.in_ok-job.ensures.some) (let passes = rw c.in-Some.is at c.in_ok-job.ensures.passes in passes.room) c.requires.db c.requires.list c.requires.targets
+    is_first c.args.db.now c.args.list c.args.puts c.args.entries job.names.items job.db job.bytes (rw c.in-Some.is at c.in_ok-job.ensures.some) (let passes = rw c.in-Some.is at c.in_ok-job.ensures.passes in passes.room) c.requires.db c.requires.list
+
+pub put_job-requires-clause-names : goal.put_job-requires-clause-names
+put_job-requires-clause-names g c =
+    let job = c.in-Some.job in
+    subst (AreChangedNames c.args.db.now.installed job.db.installed) (sym c.as_slice.ensures.value)
+    (names_db c.args.db.now c.args.list c.args.puts c.args.entries job.names.items job.db job.bytes (rw c.in-Some.is at c.in_ok-job.ensures.some) (let passes = rw c.in-Some.is at c.in_ok-job.ensures.passes in passes.room) c.requires.db c.requires.list)
+
+pub put_job-requires-clause-entries : goal.put_job-requires-clause-entries
+put_job-requires-clause-entries g c = subst AreEntries (sym c.get.ensures) c.requires.targets.entries
 
 pub put_job-requires-clause-agree : goal.put_job-requires-clause-agree
-put_job-requires-clause-agree g c = subst AllAgree (sym (let made = rw c.in-Some.is at c.in_ok-job.ensures.some in made.entries)) c.requires.targets.agree
+put_job-requires-clause-agree g c = subst AllAgree (sym c.get.ensures) c.requires.targets.agree
 
 pub put_job-requires-clause-told : goal.put_job-requires-clause-told
 put_job-requires-clause-told g c tells =
     let job = c.in-Some.job in
-    can_put c.args.db.now c.args.list c.args.puts c.args.entries job.undo job.db job.bytes (rw c.in-Some.is at c.in_ok-job.ensures.some) (let passes = rw c.in-Some.is at c.in_ok-job.ensures.passes in passes.room) c.requires.db c.requires.list
-    g.met.T.TreeDisk.laws c.args.root.now (c.requires.told tells)
+    can_put c.args.db.now c.args.list c.args.puts c.args.entries job.names.items job.db job.bytes (rw c.in-Some.is at c.in_ok-job.ensures.some) (let passes = rw c.in-Some.is at c.in_ok-job.ensures.passes in passes.room) c.requires.db c.requires.list
+    g.met.T.TreeDisk.laws c.args.root.now (c.requires.told tells) c.get.result.now c.get.ensures
 
 pub returns-in_err-put_job-clause-ends : goal.returns-in_err-put_job-clause-ends
 returns-in_err-put_job-clause-ends g c tells s stores =
@@ -39,9 +50,9 @@ returns-in_err-put_job-clause-ends g c tells s stores =
     let is = (rw c.in-Some.is at c.in_ok-job.ensures.some) in
     let room = (let passes = rw c.in-Some.is at c.in_ok-job.ensures.passes in passes.room) in
     let can = c.requires.told tells in
-    let from = job_from c.args.db.now c.args.list c.args.puts c.args.entries job.undo job.db job.bytes is room c.requires.db c.requires.list
+    let from = job_from c.args.db.now c.args.list c.args.puts c.args.entries job.names.items job.db job.bytes is room c.requires.db c.requires.list
     c.distinct_databases.ensures.unique (g.T.TreeDisk.disk.reads c.args.root.now) s can.holds stores in
-    stopped_job c.args.db.now c.args.list c.args.puts c.args.entries job.undo job.db job.bytes is room c.requires.db c.requires.list g.met.T.TreeDisk.laws c.args.root.now can
+    stopped_job c.args.db.now c.args.list c.args.puts c.args.entries job.names.items job.db job.bytes is room c.requires.db c.requires.list g.met.T.TreeDisk.laws c.args.root.now can
     c.distinct_databases.ensures.unique c.put_job.new.root s stores _ _ c.from_residual-in_err-put_job.result c.from_residual-in_err-put_job.ensures.1 tells c.in_err-put_job.ensures.stops
     (c.in_err-put_job.ensures.goes tells s stores from)
 
@@ -58,9 +69,9 @@ returns-clause-ends g c tells s stores =
     let is = (rw c.in-Some.is at c.in_ok-job.ensures.some) in
     let room = (let passes = rw c.in-Some.is at c.in_ok-job.ensures.passes in passes.room) in
     let can = c.requires.told tells in
-    let from = job_from c.args.db.now c.args.list c.args.puts c.args.entries job.undo job.db job.bytes is room c.requires.db c.requires.list
+    let from = job_from c.args.db.now c.args.list c.args.puts c.args.entries job.names.items job.db job.bytes is room c.requires.db c.requires.list
     c.distinct_databases.ensures.unique (g.T.TreeDisk.disk.reads c.args.root.now) s can.holds stores in
-    written_job c.args.db.now c.args.list c.args.puts c.args.entries job.undo job.db job.bytes is room c.requires.db c.requires.list g.met.T.TreeDisk.laws c.args.root.now can
+    written_job c.args.db.now c.args.list c.args.puts c.args.entries job.names.items job.db job.bytes is room c.requires.db c.requires.list g.met.T.TreeDisk.laws c.args.root.now can
     c.distinct_databases.ensures.unique c.put_job.new.root s stores job.db.newest refl (c.in_ok-put_job.ensures.goes tells s stores from)
 
 pub returns-clause-holds : goal.returns-clause-holds
@@ -69,17 +80,17 @@ returns-clause-holds g c tells s stores =
     let is = (rw c.in-Some.is at c.in_ok-job.ensures.some) in
     let room = (let passes = rw c.in-Some.is at c.in_ok-job.ensures.passes in passes.room) in
     let can = c.requires.told tells in
-    let from = job_from c.args.db.now c.args.list c.args.puts c.args.entries job.undo job.db job.bytes is room c.requires.db c.requires.list
+    let from = job_from c.args.db.now c.args.list c.args.puts c.args.entries job.names.items job.db job.bytes is room c.requires.db c.requires.list
     c.distinct_databases.ensures.unique (g.T.TreeDisk.disk.reads c.args.root.now) s can.holds stores in
-    holds_after c.args.db.now c.args.list c.args.puts c.args.entries job.undo job.db job.bytes is room c.requires.db c.requires.list g.met.T.TreeDisk.laws c.args.root.now can
+    holds_after c.args.db.now c.args.list c.args.puts c.args.entries job.names.items job.db job.bytes is room c.requires.db c.requires.list g.met.T.TreeDisk.laws c.args.root.now can
     c.distinct_databases.ensures.unique c.put_job.new.root s stores (c.in_ok-put_job.ensures.goes tells s stores from)
 
 pub returns-clause-answers : goal.returns-clause-answers
 returns-clause-answers g c =
     let job = c.in-Some.job in
-    (next_is c.args.db.now c.args.list c.args.puts c.args.entries job.undo job.db job.bytes (rw c.in-Some.is at c.in_ok-job.ensures.some) (let passes = rw c.in-Some.is at c.in_ok-job.ensures.passes in passes.room) c.requires.db c.requires.list, (let made = rw c.in-Some.is at c.in_ok-job.ensures.some in made.db_is), (rw c.in-Some.is at c.in_ok-job.ensures.passes))
+    (next_is c.args.db.now c.args.list c.args.puts c.args.entries job.names.items job.db job.bytes (rw c.in-Some.is at c.in_ok-job.ensures.some) (let passes = rw c.in-Some.is at c.in_ok-job.ensures.passes in passes.room) c.requires.db c.requires.list, (let made = rw c.in-Some.is at c.in_ok-job.ensures.some in made.db_is), (rw c.in-Some.is at c.in_ok-job.ensures.passes))
 
 pub returns-clause-rules : goal.returns-clause-rules
 returns-clause-rules g c =
     let job = c.in-Some.job in
-    is_database c.args.db.now c.args.list c.args.puts c.args.entries job.undo job.db job.bytes (rw c.in-Some.is at c.in_ok-job.ensures.some) (let passes = rw c.in-Some.is at c.in_ok-job.ensures.passes in passes.room) c.requires.db c.requires.list
+    is_database c.args.db.now c.args.list c.args.puts c.args.entries job.names.items job.db job.bytes (rw c.in-Some.is at c.in_ok-job.ensures.some) (let passes = rw c.in-Some.is at c.in_ok-job.ensures.passes in passes.room) c.requires.db c.requires.list

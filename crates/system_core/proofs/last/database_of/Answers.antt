@@ -1,6 +1,6 @@
 use Rattle.std.proofs.Common.{◌≤◌, subst}
 use Rattle.local_db.specs.declared.format.Format.TheVariants.{Two}
-use Rattle.rollback_stack.proofs.job-record.Mapping.{all_so}
+use Rattle.rollback_stack.proofs.Mapping.{all_so}
 use Rattle.system_core.proofs.JobNumbers.{full_last, large_last}
 use Rattle.system_core.proofs.last.database_of.Goals as goal
 

@@ -1,6 +1,6 @@
 use Rattle.system_core.specs.Ready.{Readies}
 use Rattle.system_core.proofs.MadeReady.{not_opened, readies_so}
-use Rattle.system_core.proofs.Passing.{err_is}
+use Rattle.local_db.proofs.cny-base.Passing.{err_is}
 use Rattle.system_core.proofs.making_ready.ready_trees.Goals as goal
 
 pub returns-in_err-open_root : goal.returns-in_err-open_root

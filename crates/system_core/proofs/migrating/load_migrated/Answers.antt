@@ -1,6 +1,6 @@
 use Rattle.system_core.specs.Migrating.{Loads}
 use Rattle.system_core.proofs.Loaded.{loads_so, not_migrated}
-use Rattle.system_core.proofs.Passing.{err_is}
+use Rattle.local_db.proofs.cny-base.Passing.{err_is}
 use Rattle.system_core.proofs.migrating.load_migrated.Goals as goal
 
 pub returns-in_err-migrate : goal.returns-in_err-migrate

@@ -1,7 +1,8 @@
 use Rattle.std.proofs.Common.{Err, Ok}
 use Rattle.system_core.specs.Migrating.{IsMigratingStop, Migrates}
-use Rattle.system_core.proofs.Passing.{err_is}
-use Rattle.system_core.proofs.Rewritten.{err_passed, migrated_stops, migrates_read, migrates_written, may_write, on_ok, read_only, was_new, was_written, written_stop}
+use Rattle.system_core.proofs.Rewritten.{migrated_stops, migrates_read, migrates_written, may_write, on_ok, read_only, was_new, was_written, written_stop}
+use Rattle.local_db.proofs.cny-base.Passing.{err_is}
+use Rattle.rollback_stack.proofs.Stops.{if_err_from as err_passed}
 use Rattle.system_core.proofs.migrating.migrate.Goals as goal
 
 pub returns-in_err-found-clause-migrates : goal.returns-in_err-found-clause-migrates

@@ -1,7 +1,7 @@
 use Rattle.std.proofs.Common.{ℕ, Result, Err, Ok, sym, subst}
 use Rattle.rollback_stack.specs.cny-base.Count.{Rose}
 use Rattle.rollback_stack.specs.cny-base.declared.stop.Stop.{Stop}
-use Rattle.rollback_stack.proofs.NewestJob.{if_err_from}
+use Rattle.rollback_stack.proofs.Stops.{if_err_from}
 use Rattle.local_db.specs.SystemState.{newest}
 use Rattle.system_core.specs.Restoring.{Restores}
 use Rattle.system_core.specs.RestoringAll.{AreUnedited, RestoresTo}

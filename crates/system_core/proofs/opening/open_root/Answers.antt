@@ -1,9 +1,9 @@
 use Rattle.std.proofs.Common.{subst}
 use Rattle.rollback_stack.specs.cny-base.declared.stop.Stop.TheVariants as stop
 use Rattle.system_core.specs.Opening.{Opens}
-use Rattle.system_core.specs.Recovered.{RecoversAt}
+use Rattle.tree_journal.specs.Recovered.{RecoversAt}
 use Rattle.system_core.proofs.Opened.{checked_opens, opens_read, tests_stopped}
-use Rattle.system_core.proofs.Passing.{err_is}
+use Rattle.local_db.proofs.cny-base.Passing.{err_is}
 use Rattle.system_core.proofs.opening.open_root.Goals as goal
 
 pub returns-in_err-check_fixed_dirs : goal.returns-in_err-check_fixed_dirs

@@ -2,7 +2,7 @@ use Rattle.std.proofs.Common.{refl}
 use Rattle.rollback_stack.specs.cny-base.Count.{Rose}
 use Rattle.rollback_stack.specs.Inverse.{IsBackStop}
 use Rattle.rollback_stack.proofs.Later.{read_as}
-use Rattle.rollback_stack.proofs.NewestJob.{if_err_from}
+use Rattle.rollback_stack.proofs.Stops.{if_err_from}
 use Rattle.system_core.proofs.PreparedAll.{step_to_is}
 use Rattle.system_core.proofs.preparing.prepare_to.Goals as goal
 

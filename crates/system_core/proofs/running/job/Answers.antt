@@ -1,12 +1,12 @@
 use Rattle.std.proofs.Common.{sym, subst}
 use Rattle.rollback_stack.specs.cny-base.Count.{Rose}
 use Rattle.rollback_stack.specs.cny-base.declared.stop.Stop.TheVariants.{Memory}
-use Rattle.job_targets.proofs.GatherLaws.{keeps_start}
 use Rattle.update_job.specs.Changes.{AreChanges}
 use Rattle.system_core.specs.Job.{sources_of}
 use Rattle.system_core.specs.Lists.{to_list}
 use Rattle.system_core.proofs.AnswerLaws.{answer_stop, done_answer, tests_answer, write_answer}
 use Rattle.system_core.proofs.JobLaws.{can_write, cause_of, memory_cause, memory_stop, stored, tested_cause, tests_stop, write_done, write_stop, written_cause}
+use Rattle.job_targets.proofs.content-store.Sources.{keeps_start}
 use Rattle.system_core.proofs.running.job.Goals as goal
 
 pub returns-in_err-changes-clause-ends : goal.returns-in_err-changes-clause-ends
@@ -33,6 +33,9 @@ returns-in_err-made-clause-ends g c tells s stores =
 pub returns-in_err-made-clause-causes : goal.returns-in_err-made-clause-causes
 returns-in_err-made-clause-causes g c =
     cause_of g.C.Contents.contents c.args.far.now c.tested.new.far (Rose (g.T.TreeDisk.disk.faults c.args.root.now) (g.T.TreeDisk.disk.faults c.tested.new.root)) c.in_err-made.field-0.0 c.from_residual-in_err-made.result c.from_residual-in_err-made.ensures.1 (tested_cause c.in_err-made.field-0.0 c.in_err-made.ensures.gathers)
+
+pub write_job-requires-clause-changes : goal.write_job-requires-clause-changes
+write_job-requires-clause-changes g c = subst (AreChanges c.args.db.now.installed c.args.list) (sym c.get-2.ensures) c.in_ok-changes.ensures
 
 pub write_job-requires-clause-told : goal.write_job-requires-clause-told
 write_job-requires-clause-told g c tells =

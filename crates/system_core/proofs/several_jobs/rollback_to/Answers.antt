@@ -1,9 +1,9 @@
 use Rattle.std.proofs.Common.{inl, ℕ, Result, Err, refl, sym, ap, subst, arith}
 use Rattle.rollback_stack.specs.cny-base.Count.{Rose}
 use Rattle.rollback_stack.specs.cny-base.declared.stop.Stop.{Stop}
-use Rattle.rollback_stack.specs.tree-disk.Moments.{rose_before}
+use Rattle.rollback_stack.proofs.tree-disk.Moments.{rose_before}
 use Rattle.rollback_stack.proofs.Later.{read_as}
-use Rattle.rollback_stack.proofs.NewestJob.{if_err_from}
+use Rattle.rollback_stack.proofs.Stops.{if_err_from}
 use Rattle.system_core.specs.RestoringAll.{RestoresTo}
 use Rattle.system_core.specs.Rollback.{HasCause}
 use Rattle.system_core.specs.Several.{IsRefusalKindTo, RollsBackTo, StopsTo, jobs_to, paths_of_jobs, rolled_back_to}

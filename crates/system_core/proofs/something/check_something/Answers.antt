@@ -5,7 +5,7 @@ use Rattle.std.proofs.lemmas.List.Elements.{All-map, All-more}
 use Rattle.rollback_stack.specs.cny-base.declared.refusal.Fault.{Fault}
 use Rattle.rollback_stack.specs.cny-base.declared.refusal.Fault.TheVariants as fault
 use Rattle.job_targets.specs.declared.entry.Entry.{Entry}
-use Rattle.rollback_stack.specs.Undo.{entry_of}
+use Rattle.rollback_stack.specs.Entries.{entry_of}
 use Rattle.system_core.specs.JobWriting.{IsSomething}
 use Rattle.system_core.specs.Something.{HasNothing, IsNothing}
 use Rattle.system_core.proofs.Lacking.{IsSomeEntry, something_of}

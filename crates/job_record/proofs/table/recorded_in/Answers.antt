@@ -1,7 +1,0 @@
-use Rattle.job_record.proofs.Added.{answers}
-use Rattle.job_record.proofs.table.recorded_in.Goals as goal
-
-pub returns : goal.returns
-returns c =
-    answers c.args.format c.args.table.now.troves c.args.table.now.marks c.args.table.now.len c.requires c.args.path.now c.first_of.result
-    c.first_of.ensures.some c.first_of.ensures.none

@@ -1,0 +1,56 @@
+//! The paths that a job changed, by their fingerprints.
+ghost use Rattle.std.specs.Prelude.{◌≡◌};
+
+use change_rel::cny_base::Path;
+use std::marker::Model;
+use tree_scan::Mark;
+
+/// A path that a job changed, with the fingerprints of what stood there before and after it.
+#[derive(Debug, Drop)]
+pub struct Change {
+    path: Path,
+    before: Mark,
+    after: Mark,
+}
+
+impl Model for Change {
+    ghost use Rattle.local_db.specs.Record.{Entry};
+
+    ghost Value = { Entry };
+
+    ghost view = { λ a. record { path = a.path; was = a.before; now = a.after } };
+}
+
+impl Change {
+    /// The change of these fingerprints at a path. Takes no memory.
+    pub fn new(path: Path, before: Mark, after: Mark) -> Self
+        ensures { result ≡ record { path = path; was = before; now = after } }
+    {
+        Change {
+            path,
+            before,
+            after,
+        }
+    }
+
+    /// The path.
+    pub fn path(&self) -> &Path
+        ensures { result.now ≡ self.now.path }
+    {
+        &self.path
+    }
+
+    /// What stood there before the job.
+    pub fn old_mark(&self) -> &Mark
+        ensures { result.now ≡ self.now.was }
+    {
+        &self.before
+    }
+
+    /// What stood there after it.
+    pub fn new_mark(&self) -> &Mark
+        ensures { result.now ≡ self.now.now }
+    {
+        &self.after
+    }
+}

@@ -1,0 +1,77 @@
+//! What a rollback record says.
+use change_rel::cny_base::{Copies, ListOf, OutOfMemory, Path};
+use change_rel::trove_parts::TroveId;
+use change_rel::trove_stream::{RelTrove, Trove};
+use tree_scan::Mark;
+
+/// How the trove of one name is taken back.
+#[derive(Debug, Drop)]
+pub enum Delta {
+    /// The trove with this id came; none of its name was installed before.
+    Came(TroveId),
+    /// This trove was installed. After the job none of its name is, or another one of the same id.
+    Was(Trove),
+    /// It leads from the trove after the job to the one before it.
+    Turned(RelTrove),
+}
+
+/// A list of deltas.
+pub type Deltas = ListOf<Delta>;
+
+/// A fingerprint as a record tells it.
+#[derive(Debug, Drop)]
+pub enum Told {
+    /// The list of troves records it at the path.
+    Listed,
+    /// It is this one.
+    Own(Mark),
+}
+
+/// A path that a job changed, with the fingerprints before and after it.
+#[derive(Debug, Drop)]
+pub struct ToldEntry {
+    pub path: Path,
+    pub before: Told,
+    pub after: Told,
+}
+
+/// A list of entries.
+pub type ToldEntries = ListOf<ToldEntry>;
+
+/// What a rollback record says: the number of its job, a delta for each name whose trove the job changed, and an entry for each
+/// path that it changed.
+#[derive(Debug, Drop)]
+pub struct Record {
+    pub number: u32,
+    pub deltas: Deltas,
+    pub entries: ToldEntries,
+}
+
+impl Copies for Delta {
+    fn copy(&self) -> Result<Self, OutOfMemory> {
+        Ok(match self {
+            Delta::Came(id) => Delta::Came(id.copy()?),
+            Delta::Was(trove) => Delta::Was(trove.copy()?),
+            Delta::Turned(rel) => Delta::Turned(rel.copy()?),
+        })
+    }
+}
+
+impl Copies for Told {
+    fn copy(&self) -> Result<Self, OutOfMemory> {
+        Ok(match self {
+            Told::Listed => Told::Listed,
+            Told::Own(mark) => Told::Own(mark.copy()?),
+        })
+    }
+}
+
+impl Copies for ToldEntry {
+    fn copy(&self) -> Result<Self, OutOfMemory> {
+        Ok(ToldEntry {
+            path: self.path.copy()?,
+            before: self.before.copy()?,
+            after: self.after.copy()?,
+        })
+    }
+}
