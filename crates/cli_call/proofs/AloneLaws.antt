@@ -5,7 +5,7 @@ use Rattle.std.specs.FinMap.{get}
 use Rattle.system_core.specs.cny-base.declared.refusal.Refusal.{Refusal}
 use Rattle.system_core.specs.tree-disk.Tree.{Tree}
 use Rattle.system_core.specs.tree-disk.Disk.{DiskModel, IsDisk, HasRead}
-use Rattle.system_core.specs.tree-disk.Unfailed.{unfailed_weaker}
+use Rattle.system_core.proofs.tree-disk.Unfailed.{unfailed_weaker}
 use Rattle.cli_call.specs.declared.failure.Failure.{Failure}
 use Rattle.cli_call.specs.declared.failure.Failure.TheVariants as failure
 use Rattle.cli_call.specs.Alone.{PerformsAlone}

@@ -14,10 +14,10 @@ use Rattle.cli_call.specs.Stops.{root_result, repository_result}
 use Rattle.cli_call.specs.Stores.{repository_store}
 use Rattle.cli_call.proofs.RootResults.{same_failure}
 
-same_value : {X : Type 0} {a b : X} → ◌≡◌ {A = Result X Failure} (Ok a) (Ok b) → a ≡ b
+pub same_value : {X : Type 0} {a b : X} → ◌≡◌ {A = Result X Failure} (Ok a) (Ok b) → a ≡ b
 same_value h = cc h
 
-opened_root : {T : Type 0} {root_disk : DiskModel T} (root root' : T) (r : Result Db Stop) (s : Result Db Failure) (u : Db) → s ≡ root_result r → s ≡ Ok u → OpensSystem root_disk root root' r → OpensSystem root_disk root root' (Ok u)
+pub opened_root : {T : Type 0} {root_disk : DiskModel T} (root root' : T) (r : Result Db Stop) (s : Result Db Failure) (u : Db) → s ≡ root_result r → s ≡ Ok u → OpensSystem root_disk root root' r → OpensSystem root_disk root root' (Ok u)
 opened_root {root_disk = root_disk} root root' (Ok x) s u is was opens = subst (λ (d : Db). OpensSystem root_disk root root' (Ok d)) (same_value {X = Db} (sym is ∙ was)) opens
 opened_root root root' (Err st) s u is was opens = absurd (cc (is, was))
 

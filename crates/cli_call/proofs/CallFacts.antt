@@ -10,8 +10,8 @@ use Rattle.system_core.specs.tree-disk.Tree.{Tree}
 use Rattle.system_core.specs.tree-disk.Disk.{DiskModel, IsDisk}
 use Rattle.system_core.specs.tree-disk.Clear.{is_within}
 use Rattle.system_core.specs.tree-disk.Confined.{Among, Confined}
-use Rattle.system_core.specs.tree-disk.ConfinedLaws.{confined_start, confined_then, confined_wider}
-use Rattle.system_core.specs.tree-disk.Moments.{rose_before}
+use Rattle.system_core.proofs.tree-disk.ConfinedLaws.{confined_start, confined_then, confined_wider}
+use Rattle.system_core.proofs.tree-disk.Moments.{rose_before}
 use Rattle.system_core.specs.tree-disk.Steps.{no_name}
 use Rattle.system_core.specs.tree-journal.Recovery.{is_committed}
 use Rattle.repo_load.specs.Files.{repository_base}
@@ -24,16 +24,16 @@ use Rattle.system_core.specs.FixedDirs.{fixed_dirs}
 use Rattle.cli_call.specs.Line.{Moment, LineCause, RunsLine}
 use Rattle.cli_call.proofs.LineLaws.{keeps_still}
 use Rattle.cli_call.specs.Reading.{ReadsGiven}
-use Rattle.system_core.specs.Recovered.{RecoversToNone, IsKept, IsPathRefusal, RefusesLog}
+use Rattle.system_core.specs.tree-journal.Recovered.{RecoversToNone, IsKept, IsPathRefusal, RefusesLog}
 use Rattle.cli_call.specs.Report.{End, status_of}
 use Rattle.cli_call.specs.RootOpening.{IsRootKept}
 use Rattle.cli_call.specs.State.{Meaning}
 use Rattle.cli_call.specs.Stops.{root_failure, repository_failure}
 use Rattle.cli_call.specs.Store.{IsSettled}
-use Rattle.cli_call.proofs.StoreLaws.{kept_so}
 use Rattle.cli_call.specs.Stores.{root_store, repository_store}
 use Rattle.local_db.specs.declared.db.Db.{Db}
 use Rattle.cli_call.specs.WholeCall.{AreKept, RecoversToCatalogue, RestOpened, IsDamage, OnlyRead}
+use Rattle.system_core.proofs.Opened.{kept_so}
 
 -- of two causes that are known where a disk is told, the first, or the second by itself
 pub by_told : {A B : Type 0} (told : Bool) → (IsTrue told → A ⊎ B) → (IsTrue told → A) ⊎ B

@@ -10,9 +10,9 @@ use Rattle.cny_flow.specs.Flow.{SinkState}
 use Rattle.system_core.specs.cny-base.declared.stop.Stop.TheVariants as stop
 use Rattle.system_core.specs.tree-disk.Disk.{DiskModel, IsDisk}
 use Rattle.system_core.specs.tree-disk.Confined.{Among}
-use Rattle.system_core.specs.tree-disk.ConfinedLaws.{confined_start, leaves_weaker}
+use Rattle.system_core.proofs.tree-disk.ConfinedLaws.{confined_start, leaves_weaker}
 use Rattle.system_core.specs.tree-disk.Steps.{no_name}
-use Rattle.system_core.specs.tree-disk.Unfailed.{unfailed_start}
+use Rattle.system_core.proofs.tree-disk.Unfailed.{unfailed_start}
 use Rattle.cli_call.specs.declared.failure.Failure.{Failure}
 use Rattle.cli_call.specs.declared.failure.Failure.TheVariants as failure
 use Rattle.cli_call.specs.declared.opened.Opened.{Opened}

@@ -6,7 +6,8 @@ use Rattle.system_core.specs.cny-base.declared.stop.Stop.{Stop}
 use Rattle.system_core.specs.cny-base.declared.stop.Stop.TheVariants as stop
 use Rattle.system_core.specs.tree-disk.Disk.{DiskModel, IsDisk}
 use Rattle.system_core.specs.tree-disk.Confined.{LeavesOnly}
-use Rattle.system_core.specs.tree-disk.Unfailed.{UnlessFailed, unfailed_start, unfailed_weaker}
+use Rattle.system_core.specs.tree-disk.Unfailed.{UnlessFailed}
+use Rattle.system_core.proofs.tree-disk.Unfailed.{unfailed_start, unfailed_weaker}
 use Rattle.system_core.specs.tree-journal.Recovery.{is_committed, RecoversAsThen}
 use Rattle.local_db.specs.declared.db.Db.{Db}
 use Rattle.cli_call.specs.declared.failure.Failure.{Failure}
@@ -23,9 +24,10 @@ use Rattle.cli_call.proofs.RootStates.{fixed_state, root_ends, root_left}
 use Rattle.cli_call.specs.State.{State, Meaning, tree_of, OneDisk}
 use Rattle.cli_call.specs.Stops.{root_failure, repository_failure}
 use Rattle.cli_call.specs.Store.{IsStore, Recovers, OneOf, IsEntryOr, RestsAt}
-use Rattle.cli_call.proofs.StoreLaws.{none_yet, never_blocked, never_damaged, rest_reads, opened_rests, kept_recovers}
+use Rattle.cli_call.proofs.StoreLaws.{none_yet, never_damaged, rest_reads, opened_rests, kept_recovers}
 use Rattle.cli_call.specs.Stores.{root_store, repository_store}
 use Rattle.cli_call.specs.WholeCall.{Outcome, left_of, RecoversBoth, RestBoth, LivesRoot, LivesRepository, ShowsCall}
+use Rattle.system_core.proofs.Opened.{never_blocked}
 
 module _ {T P : Type 0} (root_disk : DiskModel T) (repo_disk : DiskModel P) where
   -- the state after the call, and what each disk went through

@@ -6,7 +6,7 @@ use Rattle.system_core.specs.tree-disk.Tree.{Tree}
 use Rattle.system_core.specs.tree-disk.Disk.{DiskModel, IsDisk, HasRead}
 use Rattle.system_core.specs.tree-disk.Clear.{is_within}
 use Rattle.system_core.specs.tree-disk.Confined.{Among, Confined}
-use Rattle.system_core.specs.tree-disk.ConfinedLaws.{confined_start}
+use Rattle.system_core.proofs.tree-disk.ConfinedLaws.{confined_start}
 use Rattle.system_core.specs.tree-disk.Unfailed.{UnlessFailed}
 use Rattle.repo_load.specs.Files.{repository_base}
 use Rattle.local_db.specs.Stores.{RecoversToSystem}

@@ -7,10 +7,11 @@ use Rattle.system_core.specs.tree-disk.Tree.{Tree}
 use Rattle.system_core.specs.tree-disk.Disk.{DiskModel, IsDisk, HasRead}
 use Rattle.system_core.specs.tree-disk.Clear.{is_within}
 use Rattle.system_core.specs.tree-disk.Confined.{Among, Confined}
-use Rattle.system_core.specs.tree-disk.ConfinedLaws.{confined_read, leaves_weaker}
-use Rattle.system_core.specs.tree-disk.Laws.{same_tree}
+use Rattle.system_core.proofs.tree-disk.ConfinedLaws.{confined_read, leaves_weaker}
+use Rattle.system_core.proofs.tree-disk.Laws.{same_tree}
 use Rattle.system_core.specs.tree-disk.Steps.{no_name}
-use Rattle.system_core.specs.tree-disk.Unfailed.{UnlessFailed, unfailed_confined, unfailed_weaker}
+use Rattle.system_core.specs.tree-disk.Unfailed.{UnlessFailed}
+use Rattle.system_core.proofs.tree-disk.Unfailed.{unfailed_confined, unfailed_weaker}
 use Rattle.repo_load.specs.Files.{repository_base}
 use Rattle.cli_call.specs.declared.failure.Failure.{Failure}
 use Rattle.cli_call.specs.declared.failure.Failure.TheVariants as failure

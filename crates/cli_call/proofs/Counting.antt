@@ -1,5 +1,5 @@
 -- What a repository's store keeps to.
-use Rattle.std.proofs.Common.{◌≡◌, inl, ⊎_elim, false, List, ℕ, length, Some, Option, ap, ◌∙◌, subst}
+use Rattle.std.proofs.Common.{◌≡◌, inl, ⊎_elim, false, List, ℕ, length, ap, ◌∙◌, subst}
 use Rattle.std.specs.Prelude.{IsTrue}
 use Rattle.std.specs.FinMap.{get}
 use Rattle.system_core.specs.tree-disk.Tree.{Name, Tree}
@@ -12,6 +12,7 @@ use Rattle.repo_load.specs.State.{catalogue_of, troves_of, RepositoryState}
 use Rattle.repo_load.specs.Contents.{IsDamagedContent}
 use Rattle.cli_call.specs.Store.{IsStore}
 use Rattle.cli_call.specs.Stores.{repository_store, HasDamagedContent, HasUnsoundContent}
+use Rattle.repo_load.proofs.Holding.{some_bytes as same_bytes}
 
 -- what `stored_state` and `counted_names` say
 pub record StoredState : Type 0 where
@@ -25,9 +26,6 @@ content_whole : StoredState → (x : Tree) (r : RepositoryState) (path : Name) �
 content_whole laws x r path stores bad =
     let same = laws.catalogue x r bad.catalogue stores bad.holds in
     laws.contents x r bad.name path stores (subst (λ (c : CatalogueParts). IsDamagedContent c.troves bad.name x path) same bad.damaged)
-
-same_bytes : (a b : List ℕ) (found : Option (List ℕ)) → found ≡ Some a → found ≡ Some b → a ≡ b
-same_bytes a b found one other = cc
 
 -- the content of a repository has each size that is recorded with its name
 sound_whole : StoredState → (x : Tree) (r : RepositoryState) (path : Name) → StoresRepository x r → HasUnsoundContent x path → ⊥

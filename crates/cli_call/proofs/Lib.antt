@@ -21,9 +21,10 @@ pub mod OpeningDisks
 pub mod OpeningRoot
 pub mod LoadingRepository
 pub mod BothDisks
-pub mod Passing
 pub mod Counting
 pub use Rattle.system_core.proofs.job-record
+pub use Rattle.system_core.proofs.past-jobs
 pub use Rattle.local_db.proofs as local-db
 pub use Rattle.system_core.proofs as system-core
 pub use Rattle.system_core.proofs.trove-stream
+pub use Rattle.system_core.proofs.tree-disk

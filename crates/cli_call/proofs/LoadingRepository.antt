@@ -5,13 +5,13 @@ use Rattle.system_core.specs.cny-base.declared.stop.Stop.{Stop}
 use Rattle.system_core.specs.cny-base.declared.stop.Stop.TheVariants as stop
 use Rattle.system_core.specs.tree-disk.Tree.{Tree}
 use Rattle.system_core.specs.tree-disk.Disk.{DiskModel, IsDisk, HasRead}
-use Rattle.system_core.specs.tree-disk.Moments.{rose_before}
+use Rattle.system_core.proofs.tree-disk.Moments.{rose_before}
 use Rattle.repo_index.specs.Catalogue.{CatalogueParts}
 use Rattle.repo_load.specs.Damage.{IsDamagedCommit}
 use Rattle.repo_load.specs.Files.{HoldsCatalogue}
 use Rattle.repo_load.specs.Looks.{Looks}
 use Rattle.cli_call.specs.Opening.{IsOpen, Opens, OpeningStops, no_test}
-use Rattle.system_core.specs.Recovered.{RecoversAt, IsKept}
+use Rattle.system_core.specs.tree-journal.Recovered.{RecoversAt, IsKept}
 use Rattle.cli_call.proofs.StoreLaws.{nothing_done}
 use Rattle.cli_call.specs.Stores.{repository_store}
 use Rattle.cli_call.proofs.OpeningDisks.{is_open, opens_loaded, recovered_on}

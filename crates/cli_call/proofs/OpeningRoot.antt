@@ -9,56 +9,45 @@ use Rattle.system_core.specs.cny-base.declared.stop.Stop.TheVariants as stop
 use Rattle.system_core.specs.tree-disk.Tree.{Name, Tree, AgreesOutside}
 use Rattle.system_core.specs.tree-disk.Disk.{DiskModel, HasRead}
 use Rattle.system_core.specs.tree-disk.Confined.{Among, Confined}
-use Rattle.system_core.specs.tree-disk.ConfinedLaws.{leaves_weaker}
-use Rattle.system_core.specs.tree-disk.Laws.{same_tree}
+use Rattle.system_core.proofs.tree-disk.ConfinedLaws.{leaves_weaker}
+use Rattle.system_core.proofs.tree-disk.Laws.{same_tree}
 use Rattle.system_core.specs.tree-disk.Steps.{no_name}
-use Rattle.system_core.specs.journal-log.Own.{is_own, StoresSame}
+use Rattle.system_core.specs.journal-log.Own.{StoresSame}
 use Rattle.system_core.specs.tree-journal.Recovery.{is_committed, RecoversTo, at_rest, by_log}
 use Rattle.local_db.specs.declared.db.Db.{Db}
 use Rattle.system_core.specs.rollback-stack.Migrated.{is_up_to_date}
 use Rattle.local_db.specs.declared.format.Format.TheVariants.{Two}
 use Rattle.local_db.specs.Names.{database}
 use Rattle.local_db.specs.Stores.{IsDatabase, RecoversToSystem}
-use Rattle.local_db.proofs.Places.{own_reserved}
 use Rattle.system_core.specs.FixedDirs.{fixed_dirs}
 use Rattle.system_core.specs.Migrating.{RecoversInAFormat}
 use Rattle.system_core.specs.Ready.{HasReadied, IsReadyStop, MakesReady, MeetsDamagedStore}
-use Rattle.system_core.specs.Recovered.{RecoversToNone}
+use Rattle.system_core.specs.tree-journal.Recovered.{RecoversToNone}
 use Rattle.cli_call.specs.Opening.{OpeningStops}
 use Rattle.cli_call.specs.RootOpening.{IsOfOldFormat, IsDecided, IsRootKept, IsRootOpen, OpensFrom, OpensSystem}
 use Rattle.cli_call.specs.State.{RootState}
 use Rattle.cli_call.specs.Store.{Recovers, HasDamageAtOpening}
 use Rattle.cli_call.specs.Stores.{root_store}
+use Rattle.system_core.proofs.Sameness.{not_own}
 
 -- ---- names and trees
 
-is_false : (b : Bool) → (b ≡ true → ⊥) → b ≡ false
-is_false true h = absurd (h refl)
-is_false false h = refl
-
-differ : (b : Bool) → b ≡ true → b ≡ false → ⊥
-differ b h k = cc (h, k)
-
--- what isn't reserved isn't the journal's own
-not_own : (q : Name) → is_reserved q ≡ false → is_own private_directory q ≡ false
-not_own q free = is_false (is_own private_directory q) (λ own. differ (is_reserved q) (own_reserved q own) free)
-
 -- what a root recovers to stores the same as other trees to which it recovers
-recovers_same : {base : Name} {image tree other : Tree} → RecoversTo base image tree → StoresSame base other tree → RecoversTo base image other
+pub recovers_same : {base : Name} {image tree other : Tree} → RecoversTo base image tree → StoresSame base other tree → RecoversTo base image other
 recovers_same (at_rest clear stores) same = at_rest clear (λ q out. stores q out ∙ sym (same q out))
 recovers_same (by_log set puts holds stand can stores) same = by_log set puts holds stand can (λ q out. stores q out ∙ sym (same q out))
 
-as_system : (tree : Tree) (s : RootState) → Recovers root_store tree s → RecoversToSystem tree s
+pub as_system : (tree : Tree) (s : RootState) → Recovers root_store tree s → RecoversToSystem tree s
 as_system tree s rec = (rec.tree, rec.recovers, rec.stored)
 
-of_system : (tree : Tree) (s : RootState) → RecoversToSystem tree s → Recovers root_store tree s
+pub of_system : (tree : Tree) (s : RootState) → RecoversToSystem tree s → Recovers root_store tree s
 of_system tree s rec = record { tree = rec.0; recovers = rec.1; stored = rec.2 }
 
 -- nothing was changed
-untouched_tree : {D : Type 0} {disk : DiskModel D} {old new : D} → Confined disk (Among no_name) old new → disk.reads new ≡ disk.reads old
+pub untouched_tree : {D : Type 0} {disk : DiskModel D} {old new : D} → Confined disk (Among no_name) old new → disk.reads new ≡ disk.reads old
 untouched_tree {disk = disk} {old = old} {new = new} confined = same_tree (disk.reads new) (disk.reads old) (λ p. confined.reads p (λ among. absurd cc))
 
-kept_itself : (tree : Tree) → IsRootKept tree tree
+pub kept_itself : (tree : Tree) → IsRootKept tree tree
 kept_itself tree = record {
   still = λ s rec. rec;
   stored = λ x rec. inl rec;
@@ -81,7 +70,7 @@ pub record Ready {D : Type 0} (disk : DiskModel D) (old new : D) (result : Resul
   pub later : disk.faults old ≤ disk.faults new
 
 module _ {D : Type 0} {disk : DiskModel D} (old new : D) where
-  from_ready : (result : Result Db Stop) → Ready disk old new result → IsTrue disk.tells → (s : RootState) → Recovers root_store (disk.reads old) s → OpensFrom disk s old new
+  pub from_ready : (result : Result Db Stop) → Ready disk old new result → IsTrue disk.tells → (s : RootState) → Recovers root_store (disk.reads old) s → OpensFrom disk s old new
   from_ready result ready told s rec =
       let m = ready.makes told s (as_system (disk.reads old) s rec) in
       record {
@@ -93,7 +82,7 @@ module _ {D : Type 0} {disk : DiskModel D} (old new : D) where
 
   -- ---- it is open
 
-  is_open : (db : Db) → Ready disk old new (Ok db) → IsTrue disk.tells → IsRootOpen disk old new db
+  pub is_open : (db : Db) → Ready disk old new (Ok db) → IsTrue disk.tells → IsRootOpen disk old new db
   is_open db ready told =
       let h : HasReadied disk old new db = ready.ready told in
       record {
@@ -109,13 +98,13 @@ module _ {D : Type 0} {disk : DiskModel D} (old new : D) where
   -- ---- it is kept
 
   -- where the commit flag wasn't set
-  same_or_brought : (result : Result Db Stop) → Ready disk old new result → IsTrue disk.tells → is_committed private_directory (disk.reads old) ≡ false → (b : Bool) → is_up_to_date (get (disk.reads old) database) ≡ b
+  pub same_or_brought : (result : Result Db Stop) → Ready disk old new result → IsTrue disk.tells → is_committed private_directory (disk.reads old) ≡ false → (b : Bool) → is_up_to_date (get (disk.reads old) database) ≡ b
       → (disk.reads new ≡ disk.reads old) ⊎ IsOfOldFormat (disk.reads old) (disk.reads new)
   same_or_brought result ready told off true is = inl (untouched_tree (ready.clear told off is))
   same_or_brought result ready told off false is = inr (record { old = is; outer = ready.outer told off })
 
   -- at rest it stores each tree to which it recovered, outside the private directory
-  kept_at_rest : (result : Result Db Stop) → Ready disk old new result → IsTrue disk.tells → is_committed private_directory (disk.reads new) ≡ false
+  pub kept_at_rest : (result : Result Db Stop) → Ready disk old new result → IsTrue disk.tells → is_committed private_directory (disk.reads new) ≡ false
       → ((x : Tree) → RecoversTo private_directory (disk.reads old) x → AgreesOutside is_reserved (disk.reads new) x) → IsRootKept (disk.reads old) (disk.reads new)
   kept_at_rest result ready told rests outer = record {
     still = λ s rec. (from_ready result ready told s rec).reads;
@@ -124,10 +113,10 @@ module _ {D : Type 0} {disk : DiskModel D} (old new : D) where
     same = λ off. same_or_brought result ready told off (is_up_to_date (get (disk.reads old) database)) refl;
   }
 
-  kept_untouched : Confined disk (Among no_name) old new → IsRootKept (disk.reads old) (disk.reads new)
+  pub kept_untouched : Confined disk (Among no_name) old new → IsRootKept (disk.reads old) (disk.reads new)
   kept_untouched confined = subst (IsRootKept (disk.reads old)) (sym (untouched_tree confined)) (kept_itself (disk.reads old))
 
-  is_kept : (result : Result Db Stop) → Ready disk old new result → IsTrue disk.tells → IsDecided result → IsRootKept (disk.reads old) (disk.reads new)
+  pub is_kept : (result : Result Db Stop) → Ready disk old new result → IsTrue disk.tells → IsDecided result → IsRootKept (disk.reads old) (disk.reads new)
   is_kept (Ok db) ready told decided = let h : HasReadied disk old new db = ready.ready told in kept_at_rest (Ok db) ready told h.ready.flag_clear (λ x rec. (h.readied x rec).outer)
   is_kept (Err (stop.Refused r)) ready told decided = kept_untouched (ready.stops.1 told).kept
   is_kept (Err (stop.Damaged path)) ready told decided = ⊎_elim
@@ -139,7 +128,7 @@ module _ {D : Type 0} {disk : DiskModel D} (old new : D) where
   -- ---- why it isn't opened
 
   -- of the tree that it reads then the file is damaged, and that tree stores no system
-  damaged_file : (path : Name) → Ready disk old new (Err (stop.Damaged path)) → IsTrue disk.tells → MeetsDamagedStore disk old new path → HasDamageAtOpening root_store (disk.reads new) path
+  pub damaged_file : (path : Name) → Ready disk old new (Err (stop.Damaged path)) → IsTrue disk.tells → MeetsDamagedStore disk old new path → HasDamageAtOpening root_store (disk.reads new) path
   damaged_file path ready told file =
       let now : RecoversTo private_directory (disk.reads old) (disk.reads new) = recovers_same file.recovered.1 (file.stores file.recovered.0 file.recovered.1) in
       record {
@@ -147,7 +136,7 @@ module _ {D : Type 0} {disk : DiskModel D} (old new : D) where
         damaged = (file.damaged (disk.reads new) now, λ s stored. (ready.makes told s (disk.reads new, now, stored)).ends);
       }
 
-  stops_at : (e : Stop) → Ready disk old new (Err e) → OpeningStops root_store disk fixed_dirs old new e
+  pub stops_at : (e : Stop) → Ready disk old new (Err e) → OpeningStops root_store disk fixed_dirs old new e
   stops_at stop.Failed ready = ready.stops
   stops_at stop.Memory ready = tt
   stops_at (stop.Refused r) ready = record {
@@ -161,11 +150,11 @@ module _ {D : Type 0} {disk : DiskModel D} (old new : D) where
   stops_at stop.FarFailed ready = absurd ready.stops
   stops_at (stop.FarDamaged path) ready = absurd ready.stops
 
-  opened_so : (result : Result Db Stop) → Ready disk old new result → IsTrue disk.tells → IfOk result (IsRootOpen disk old new)
+  pub opened_so : (result : Result Db Stop) → Ready disk old new result → IsTrue disk.tells → IfOk result (IsRootOpen disk old new)
   opened_so (Ok db) ready told = is_open db ready told
   opened_so (Err e) ready told = tt
 
-  stopped_so : (result : Result Db Stop) → Ready disk old new result → IfErr result (OpeningStops root_store disk fixed_dirs old new)
+  pub stopped_so : (result : Result Db Stop) → Ready disk old new result → IfErr result (OpeningStops root_store disk fixed_dirs old new)
   stopped_so (Ok db) ready = tt
   stopped_so (Err e) ready = stops_at e ready
 

@@ -13,7 +13,7 @@ use Rattle.cli_call.specs.Call.{CallState, OpensRepository}
 use Rattle.cli_call.proofs.CallFacts.{CallFacts}
 use Rattle.cli_call.proofs.CallKnown.{KnownAlone}
 use Rattle.cli_call.specs.Opening.{MeetsDamage}
-use Rattle.system_core.specs.Recovered.{IsPathRefusal, RefusesLog}
+use Rattle.system_core.specs.tree-journal.Recovered.{IsPathRefusal, RefusesLog}
 use Rattle.cli_call.specs.Report.{End, status_of, Tells, Reports}
 use Rattle.cli_call.proofs.RootStates.{CallOnRoot}
 use Rattle.cli_call.specs.State.{State, Effect, Meaning, after}

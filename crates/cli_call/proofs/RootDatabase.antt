@@ -12,11 +12,8 @@ use Rattle.local_db.specs.Formats.{database_bytes}
 use Rattle.local_db.specs.Names.{database}
 use Rattle.local_db.specs.Stores.{HoldsDatabase, HoldsStack, IsDatabase, SameDatabase, StoresIn, StoresSystem, absent, written}
 use Rattle.local_db.specs.SystemState.{AreNumbered, StackItem, SystemState, newest, oldest}
-
--- no bytes are two databases
-abbrev pub OneDatabase : Type 0
-OneDatabase = (f g : Format) (list other : List TroveParts) (low high lower higher : ℕ) → IsDatabase f list low high → IsDatabase g other lower higher
-    → database_bytes f list low high ≡ database_bytes g other lower higher → SameDatabase f g list other low high lower higher
+use Rattle.system_core.proofs.Held.{OneDatabase}
+use Rattle.repo_load.proofs.Holding.{some_bytes as same_bytes}
 
 -- the tree stores the system in format 2, and this is its database
 pub record HasDatabase (x : Tree) (db : Db) (s : SystemState) : Type 0 where
@@ -26,24 +23,21 @@ pub record HasDatabase (x : Tree) (db : Db) (s : SystemState) : Type 0 where
   pub newest : db.newest ≡ newest s.stack
 
 -- two databases of one tree
-record AreSame (list other : List TroveParts) (low high lower higher : ℕ) : Type 0 where
+pub record AreSame (list other : List TroveParts) (low high lower higher : ℕ) : Type 0 where
   lists : list ≡ other
   lows : low ≡ lower
   highs : high ≡ higher
 
-no_file : (n : Option Node) (bytes : List ℕ) → n ≡ None → file_bytes n ≡ Some bytes → ⊥
+pub no_file : (n : Option Node) (bytes : List ℕ) → n ≡ None → file_bytes n ≡ Some bytes → ⊥
 no_file n bytes none file = absurd (cc (sym (ap file_bytes none) ∙ file))
 
-same_bytes : (a b : List ℕ) (found : Option (List ℕ)) → found ≡ Some a → found ≡ Some b → a ≡ b
-same_bytes a b found one other = cc (one, other)
-
 module _ (law : OneDatabase) (x : Tree) where
-  same_written : (f g : Format) (list other : List TroveParts) (low high lower higher : ℕ) → IsDatabase f list low high → IsDatabase g other lower higher
+  pub same_written : (f g : Format) (list other : List TroveParts) (low high lower higher : ℕ) → IsDatabase f list low high → IsDatabase g other lower higher
       → file_bytes (get x database) ≡ Some (database_bytes f list low high) → file_bytes (get x database) ≡ Some (database_bytes g other lower higher) → SameDatabase f g list other low high lower higher
   same_written f g list other low high lower higher one two first second =
       law f g list other low high lower higher one two (same_bytes (database_bytes f list low high) (database_bytes g other lower higher) (file_bytes (get x database)) first second)
 
-  same_held : (list other : List TroveParts) (low high lower higher : ℕ) → HoldsDatabase Two x list low high → HoldsDatabase Two x other lower higher → AreSame list other low high lower higher
+  pub same_held : (list other : List TroveParts) (low high lower higher : ℕ) → HoldsDatabase Two x list low high → HoldsDatabase Two x other lower higher → AreSame list other low high lower higher
   same_held list other low high lower higher (absent none a b c) (absent none' a' b' c') = record { lists = a ∙ sym a'; lows = b ∙ sym b'; highs = c ∙ sym c' }
   same_held list other low high lower higher (absent none a b c) (written is file) = absurd (no_file (get x database) _ none file)
   same_held list other low high lower higher (written is file) (absent none a b c) = absurd (no_file (get x database) _ none file)
@@ -53,15 +47,15 @@ module _ (law : OneDatabase) (x : Tree) where
 
   -- ---- in format 1 only a root without a database is one of format 2 too
 
-  no_jobs : (stack : List StackItem) → AreNumbered stack → newest stack ≡ 0 → stack ≡ []
+  pub no_jobs : (stack : List StackItem) → AreNumbered stack → newest stack ≡ 0 → stack ≡ []
   no_jobs [] numbered none = refl
   no_jobs (o ∷ []) numbered none = absurd (omega (arith, numbered, none))
   no_jobs (o ∷ p ∷ olds) numbered none = let next : o.number ≡ p.number + 1 = numbered.0 in absurd (omega (arith, next, none))
 
-  not_both : (f g : Format) → f ≡ One → g ≡ Two → f ≡ g → ⊥
+  pub not_both : (f g : Format) → f ≡ One → g ≡ Two → f ≡ g → ⊥
   not_both f g one two same = absurd (cc (one, two, same))
 
-  in_two : (list : List TroveParts) (low high : ℕ) (s : SystemState) → HoldsDatabase Two x list low high → StoresIn One x s → HoldsDatabase One x s.installed (oldest s.stack) (newest s.stack) → StoresIn Two x s
+  pub in_two : (list : List TroveParts) (low high : ℕ) (s : SystemState) → HoldsDatabase Two x list low high → StoresIn One x s → HoldsDatabase One x s.installed (oldest s.stack) (newest s.stack) → StoresIn Two x s
   in_two list low high s holds one (absent none a b c) = record {
     system = one.system;
     managed = one.managed;

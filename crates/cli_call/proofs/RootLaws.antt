@@ -9,13 +9,13 @@ use Rattle.local_db.specs.Stores.{StoresSystem}
 use Rattle.local_db.proofs.Frame.{stores_still}
 use Rattle.local_db.proofs.Places.{own_doesnt_count}
 use Rattle.system_core.specs.FixedDirs.{fixed_dirs}
-use Rattle.system_core.specs.FixedDirsLaws.{same_fixed}
-use Rattle.system_core.specs.FixedPaths.{directory_path}
+use Rattle.system_core.proofs.FixedDirsLaws.{same_fixed}
 use Rattle.cli_call.specs.RootOpening.{IsRootOpen, RecoversOutside}
 use Rattle.cli_call.specs.State.{RootState, tree_of}
 use Rattle.cli_call.specs.Store.{IsStore, Recovers, RestsAt}
 use Rattle.cli_call.proofs.StoreLaws.{settled_rests}
 use Rattle.cli_call.specs.Stores.{root_store}
+use Rattle.local_db.proofs.FileNames.{base_is_path as directory_path}
 
 pub root_laws : IsStore root_store
 root_laws = record {

@@ -8,7 +8,8 @@ use Rattle.system_core.specs.cny-base.declared.stop.Stop.TheVariants as stop
 use Rattle.cny_flow.specs.Flow.{SourceState}
 use Rattle.system_core.specs.tree-disk.Disk.{DiskModel, IsDisk}
 use Rattle.system_core.specs.tree-disk.Confined.{LeavesOnly}
-use Rattle.system_core.specs.tree-disk.Unfailed.{UnlessFailed, unfailed_start, unfailed_weaker}
+use Rattle.system_core.specs.tree-disk.Unfailed.{UnlessFailed}
+use Rattle.system_core.proofs.tree-disk.Unfailed.{unfailed_start, unfailed_weaker}
 use Rattle.system_core.specs.tree-journal.Recovery.{is_committed, RecoversAsThen}
 use Rattle.local_db.specs.declared.db.Db.{Db}
 use Rattle.cli_call.specs.declared.failure.Failure.{Failure}
@@ -20,16 +21,17 @@ use Rattle.system_core.specs.FixedDirs.{fixed_dirs}
 use Rattle.cli_call.proofs.InputLaws.{some_is}
 use Rattle.cli_call.specs.Line.{Moment, RunsLine}
 use Rattle.cli_call.specs.Reading.{given, Gives, ReadsGiven}
-use Rattle.system_core.specs.Recovered.{IsKept}
+use Rattle.system_core.specs.tree-journal.Recovered.{IsKept}
 use Rattle.cli_call.specs.Report.{End, status_of}
 use Rattle.cli_call.proofs.RootLaws.{root_laws, state_dirs, opened_root_rests}
 use Rattle.cli_call.specs.RootOpening.{IsRootOpen}
 use Rattle.cli_call.specs.State.{State, Meaning, tree_of, IsNext}
 use Rattle.cli_call.specs.Stops.{root_failure, repository_failure}
 use Rattle.cli_call.specs.Store.{Recovers, OneOf, IsEntryOr, RestsAt}
-use Rattle.cli_call.proofs.StoreLaws.{never_blocked, never_damaged, rest_reads, kept_so, none_yet}
+use Rattle.cli_call.proofs.StoreLaws.{never_damaged, rest_reads, none_yet}
 use Rattle.cli_call.specs.Stores.{root_store, repository_store}
 use Rattle.cli_call.specs.WholeCall.{Outcome, left_when, left_of, LivesRoot, ShowsCall, IsOpenedOnly}
+use Rattle.system_core.proofs.Opened.{kept_so, never_blocked}
 
 module _ {T P : Type 0} (root_disk : DiskModel T) (repo_disk : DiskModel P) where
   -- The root was opened, and the repository wasn't.

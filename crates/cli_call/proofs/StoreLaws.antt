@@ -1,28 +1,22 @@
 -- What follows of a disk at rest, and of a disk that recovers to a state.
-use Rattle.std.proofs.Common.{◌≡◌, true, false, Result, refl, sym, ap, ◌∙◌, subst, inl, inr, ⊎_elim, arith}
-use Rattle.std.specs.Prelude.{IsTrue, List, All}
-use Rattle.std.proofs.lemmas.List.Elements.{All-contains}
+use Rattle.std.proofs.Common.{◌≡◌, false, Result, refl, sym, ap, ◌∙◌, subst, inl, inr, ⊎_elim, arith}
+use Rattle.std.specs.Prelude.{IsTrue}
 use Rattle.system_core.specs.cny-base.declared.refusal.Refusal.{Refusal}
 use Rattle.system_core.specs.tree-disk.Tree.{Name, Tree}
 use Rattle.system_core.specs.tree-disk.Disk.{DiskModel, IsDisk, IsImageOf, HasRead}
 use Rattle.system_core.specs.tree-disk.Confined.{IsSynced, LeavesOnly}
-use Rattle.system_core.specs.tree-disk.ConfinedLaws.{leaves_step}
+use Rattle.system_core.proofs.tree-disk.ConfinedLaws.{leaves_step}
 use Rattle.system_core.specs.tree-disk.Moments.{same_images, same_start, time_start}
-use Rattle.system_core.specs.journal-log.declared.put.Put.{Put}
 use Rattle.system_core.specs.journal-log.Own.{gate, StoresSame}
-use Rattle.system_core.specs.tree-journal.CanBePut.{CanBePut}
-use Rattle.system_core.specs.tree-journal.Recovery.{is_flag, is_committed, RecoversTo, at_rest, by_log, RecoversAsThen, IsDamagedAt, log_damaged, staged_damaged}
-use Rattle.system_core.specs.tree-journal.Staging.{has_content}
+use Rattle.system_core.specs.tree-journal.Recovery.{is_flag, is_committed, RecoversTo, at_rest, by_log, RecoversAsThen}
 use Rattle.cli_call.specs.Opening.{IsOpen, MeetsDamage}
-use Rattle.system_core.specs.Recovered.{IsKept, RefusesLog}
+use Rattle.system_core.specs.tree-journal.Recovered.{IsKept}
 use Rattle.cli_call.specs.Store.{Store, IsStore, Recovers, IsEntryOr, HasDamagedFile, HasDamageAtOpening, IsSettled, RestsAt}
+use Rattle.system_core.proofs.Opened.{never_damaged_log}
 
 -- nothing was done
 pub nothing_done : {D : Type 0} {disk : DiskModel D} → IsDisk disk → (d : D) → HasRead disk d d (Unit {0})
 nothing_done {disk = disk} laws d = record { answer = tt; same = same_start disk d; time = time_start laws d }
-
-pub kept_so : (base : Name) (tree : Tree) → IsKept base tree tree
-kept_so base tree = record { still = λ recovered r. r; same = λ clear. refl }
 
 -- what was at rest is so where it was only read
 pub read_settled : {D A : Type 0} {disk : DiskModel D} {base : Name} {old new : D} → HasRead disk old new A → is_committed base (disk.reads old) ≡ false → IsSynced disk old → IsSettled disk base new
@@ -40,24 +34,6 @@ none_yet laws base d = record {
 }
 
 -- ---- a disk that recovers to some tree has no log that can't be put, and none that is damaged
-
-pub never_blocked : {base : Name} {tree recovered : Tree} {r : Refusal} → RefusesLog base tree r → RecoversTo base tree recovered → ⊥
-never_blocked log (at_rest clear stores) = let set = log.blocked.committed in absurd (cc (set, clear))
-never_blocked {tree = tree} log (by_log set puts holds stand can stores) =
-    let same : puts ≡ log.blocked.puts = log.blocked.only puts holds in
-    let all = subst (λ (l : List Put). All (CanBePut l tree) l) same can in
-    log.blocked.blocked.cannot (All-contains (CanBePut log.blocked.puts tree) log.blocked.puts log.blocked.blocked.write all log.blocked.blocked.listed)
-
-pub never_damaged_log : {base : Name} {tree recovered : Tree} {path : Name} → IsDamagedAt base tree path → RecoversTo base tree recovered → ⊥
-never_damaged_log (log_damaged set here none) (at_rest clear stores) = absurd (cc (set, clear))
-never_damaged_log (log_damaged set here none) (by_log set' puts holds stand can stores) = none puts holds
-never_damaged_log (staged_damaged set puts holds only first) (at_rest clear stores) = absurd (cc (set, clear))
-never_damaged_log {base = base} {tree = tree} (staged_damaged set puts holds only first) (by_log set' others holds' stand can stores) =
-    let same : others ≡ puts = only others holds' in
-    let all = subst (λ (l : List Put). All (λ (p : Put). IsTrue (has_content base tree p.want)) l) same stand in
-    let stands : has_content base tree first.write.want ≡ true = All-contains (λ (p : Put). IsTrue (has_content base tree p.want)) puts first.write all first.listed in
-    let fails : has_content base tree first.write.want ≡ false = first.fails in
-    absurd (cc (stands, fails))
 
 -- what recovers to all that a disk recovers to recovers to each of its states
 pub as_state : {D X : Type 0} {store : Store X} (disk : DiskModel D) (d : D) (x : X) → Recovers store (disk.reads d) x → (image : Tree) → RecoversAsThen disk store.base d image → IsEntryOr store disk d x image

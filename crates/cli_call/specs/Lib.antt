@@ -21,6 +21,7 @@ pub use Rattle.system_core.specs.conflict-plan
 pub use Rattle.system_core.specs.content-store
 pub use Rattle.system_core.specs.file-stream
 pub use Rattle.system_core.specs.job-record
+pub use Rattle.system_core.specs.past-jobs
 pub use Rattle.system_core.specs.job-targets
 pub use Rattle.system_core.specs.journal-log
 pub use Rattle.local_db.specs as local-db

@@ -12,7 +12,7 @@ use Rattle.system_core.specs.tree-disk.Unfailed.{UnlessFailed}
 use Rattle.system_core.specs.journal-log.Own.{StoresSame}
 use Rattle.system_core.specs.tree-journal.Recovering.{IsVisibleIn}
 use Rattle.system_core.specs.tree-journal.Recovery.{is_committed, RecoversTo, RecoversAsThen}
-use Rattle.system_core.specs.Recovered.{HasDamagedLog, RecoversToNone, IsKept, IsPathRefusal, RefusesLog}
+use Rattle.system_core.specs.tree-journal.Recovered.{HasDamagedLog, RecoversToNone, IsKept, IsPathRefusal, RefusesLog}
 use Rattle.cli_call.specs.Store.{Store, HasDamageAtOpening, IsSettled}
 
 -- A disk that was opened: it rests, a crash leaves just what it reads, it stores the same as all that it recovered to, and this is

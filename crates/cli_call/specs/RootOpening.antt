@@ -21,7 +21,7 @@ use Rattle.local_db.specs.Stores.{HoldsDatabase, IsDatabase}
 use Rattle.system_core.specs.FixedDirs.{fixed_dirs}
 use Rattle.system_core.specs.Migrating.{IsBrought, RecoversInAFormat}
 use Rattle.cli_call.specs.Opening.{OpeningStops}
-use Rattle.system_core.specs.Recovered.{RecoversToNone}
+use Rattle.system_core.specs.tree-journal.Recovered.{RecoversToNone}
 use Rattle.cli_call.specs.State.{RootState, tree_of}
 use Rattle.cli_call.specs.Store.{Recovers, IsEntryOr, IsSettled}
 use Rattle.cli_call.specs.Stores.{root_store}

@@ -11,8 +11,8 @@ use Rattle.repo_load.specs.Files.{contents_dir, repository_base, HoldsCatalogue,
 use Rattle.repo_load.specs.State.{RepositoryState}
 use Rattle.repo_load.specs.Contents.{IsDamagedContent}
 use Rattle.local_db.specs.declared.db.Db.{Db}
-use Rattle.system_core.specs.job-record.JobReading.{IsDamagedRecord}
-use Rattle.system_core.specs.rollback-stack.Inverse.{IsDamagedContent as IsDamagedSaved, IsDamagedJob}
+use Rattle.system_core.specs.rollback-stack.JobReading.{IsDamagedRecord}
+use Rattle.system_core.specs.rollback-stack.Inverse.{IsDamagedJob, IsFirstDamagedContent}
 use Rattle.system_core.specs.rollback-stack.Numbers.{job_count}
 use Rattle.system_core.specs.Migrating.{IsDamagedStore}
 use Rattle.local_db.specs.declared.format.Format.TheVariants.{Two}
@@ -27,12 +27,13 @@ use Rattle.cli_call.specs.Store.{Store}
 abbrev pub StoresNone : Tree → Type 0
 StoresNone tree = (s : RootState) → StoresSystem tree s → ⊥
 
--- Behind this database a record is damaged, or a content that a job saved and that a rollback to some number would put.
+-- Behind this database a record is damaged, or a content that a job saved: the first one, of those that a rollback to some number
+-- would put.
 pub record HasDamagedJob (tree : Tree) (path : Name) : Type 0 where
   pub db : Db
   pub holds : HoldsDatabase Two tree db.installed db.oldest db.newest
   pub damaged : IsDamagedRecord Two tree (job_count db.oldest db.newest) db.newest db.installed path
-      ⊎ ((number : ℕ) × (IsDamagedJob tree db number path ⊎ IsDamagedSaved tree db number path))
+      ⊎ ((number : ℕ) × (IsDamagedJob tree db number path ⊎ IsFirstDamagedContent tree db number path))
 
 -- A root stores its system, in format 1 or in format 2. One of which a file is damaged stores none.
 abbrev pub root_store : Store RootState

@@ -26,7 +26,7 @@ use Rattle.system_core.specs.FixedDirs.{fixed_dirs}
 use Rattle.cli_call.specs.Line.{Moment}
 use Rattle.cli_call.specs.Opening.{MeetsDamage}
 use Rattle.cli_call.specs.Reading.{given, left_by, Gives, IsInput}
-use Rattle.system_core.specs.Recovered.{RecoversToNone, IsKept, IsPathRefusal, RefusesLog}
+use Rattle.system_core.specs.tree-journal.Recovered.{RecoversToNone, IsKept, IsPathRefusal, RefusesLog}
 use Rattle.cli_call.specs.Report.{End, Tells, Reports}
 use Rattle.cli_call.specs.RootOpening.{IsRootKept, RecoversOutside, RecoversToDatabase, ShowsBetween}
 use Rattle.cli_call.specs.State.{RootState, State, Effect, Meaning, tree_of, after, IsNext, OneDisk, Then}

@@ -1,5 +1,5 @@
 //! Reading the input to its end.
-ghost use Rattle.std.specs.Prelude.{◌≡◌, ◌⊎◌, ◌≤◌, ◌+◌, ◌-◌, ◌<◌, IfOk, IsErrOf, length, OnErr, OnOk, List, ℕ, ◌++◌, take};
+ghost use Rattle.std.specs.Prelude.{◌≡◌, ◌⊎◌, ◌≤◌, ◌+◌, ◌-◌, ◌<◌, IfOk, IsErrOf, length, OnErr, List, ℕ, ◌++◌};
 ghost use Rattle.std.specs.Io.KnownBytes.{Consumes, IsAtEnd};
 ghost use Rattle.system_core.specs.cny-base.Count.{Rose};
 ghost use Rattle.cny_flow.specs.Flow.{source_state};

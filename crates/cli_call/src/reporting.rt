@@ -1,5 +1,5 @@
 //! The status and the line that a call ends with.
-ghost use Rattle.std.specs.Prelude.{◌≡◌, ◌⊎◌, ◌++◌, IfOk, MatchBool, codes, string_bytes, ◌∷◌, []};
+ghost use Rattle.std.specs.Prelude.{◌≡◌, ◌⊎◌, ◌++◌, IfOk, MatchBool, string_bytes, ◌∷◌, []};
 ghost use Rattle.std.specs.Io.KnownBytes.{Appends, Keeps};
 ghost use Rattle.system_core.specs.cny-base.Count.{Rose};
 ghost use Rattle.cny_flow.specs.Flow.{sink_state};

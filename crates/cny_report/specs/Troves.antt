@@ -1,10 +1,10 @@
 -- Lists of troves as texts.
-use Rattle.std.specs.Prelude.{ℕ, Bool, List, [], ◌∷◌, ◌++◌, filter, codes}
+use Rattle.std.specs.Prelude.{ℕ, List, [], ◌∷◌, ◌++◌, filter, codes}
 use Rattle.std.specs.List.{flat_map}
-use Rattle.std.specs.Str.{bytes_eq}
 use Rattle.update_job.specs.trove-parts.declared.id.TroveId.{TroveId}
 use Rattle.update_job.specs.trove-parts.Id.{id_text_of}
 use Rattle.update_job.specs.trove-stream.declared.parts.TroveParts.{TroveParts}
+pub use Rattle.update_job.specs.trove-stream.Installed.{has_name}
 
 -- the text of an id, and a line feed
 abbrev pub id_line : TroveId → List ℕ
@@ -13,9 +13,6 @@ id_line id = id_text_of id ++ 10 ∷ []
 -- a line for each trove
 abbrev pub troves_text : List TroveParts → List ℕ
 troves_text troves = flat_map (λ t. id_line t.id) troves
-
-abbrev pub has_name : List ℕ → TroveParts → Bool
-has_name name t = bytes_eq t.id.name name
 
 -- a line for each trove of this name
 abbrev pub named_text : List ℕ → List TroveParts → List ℕ

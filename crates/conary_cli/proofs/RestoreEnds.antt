@@ -1,24 +1,20 @@
 -- What `rollback` restores, by how its call ended.
 use Rattle.std.proofs.Common.{◌≡◌, inl, inr, ⊎_elim, ℕ, false, List, ◌∷◌, ◌++◌, Option, Some, None, Result, Ok, Err, All, Contains, ◌∙◌, ap, subst}
 use Rattle.std.specs.FinMap.{get}
-use Rattle.cli_call.specs.cny-base.Reserved.{is_reserved}
 use Rattle.cli_call.specs.cny-base.declared.refusal.Refusal.{Refusal}
 use Rattle.cli_call.specs.cny-base.declared.refusal.Refusal.TheVariants.{Edited, NoJob, Parent, StackEmpty}
 use Rattle.cny_flow.specs.Flow.{SinkState}
-use Rattle.cli_call.specs.tree-disk.Tree.{Tree, AgreesOutside}
+use Rattle.cli_call.specs.tree-disk.Tree.{Tree}
 use Rattle.cli_call.specs.tree-disk.Disk.{DiskModel}
 use Rattle.cli_call.specs.local-db.SystemState.{IsStackItem, IsSystemState, StackItem, SystemState, newest}
 use Rattle.cli_call.specs.local-db.Stores.{StoresSystem}
 use Rattle.cli_call.proofs.local-db.Several.{rollbacks_system}
-use Rattle.cli_call.proofs.local-db.Writes.{nothing_in}
 use Rattle.cli_call.specs.system-core.RestoringAll.{AreRestored, AreUnedited, IsExceptionTo}
-use Rattle.cli_call.specs.system-core.Rollback.{db_of}
 use Rattle.cli_call.specs.system-core.Several.{HasJob, IsRefusalTo, jobs_below, jobs_to, rolled_back_to}
 use Rattle.cli_call.proofs.system-core.Counting.{split_at}
 use Rattle.cli_call.proofs.system-core.OneJob.{has_newest, newest_exception, newest_restored, newest_unedited}
 use Rattle.cli_call.proofs.system-core.Restored.{left_alone, put_into}
 use Rattle.cli_call.proofs.system-core.Sequence.{after_list, after_tree, after_whole}
-use Rattle.cli_call.proofs.system-core.NewestStored.{all_front, all_middle}
 use Rattle.cli_call.specs.system-core.FixedDirs.{fixed_dirs}
 use Rattle.root_commands.specs.RollingBack.{TakesBackTo, roll_back, take_back}
 use Rattle.cli_call.specs.Call.{CallState}
@@ -31,16 +27,15 @@ use Rattle.conary_cli.specs.declared.words.Command.{Command}
 use Rattle.conary_cli.specs.declared.words.Command.TheVariants as command
 use Rattle.conary_cli.specs.Commands.{is_of_root, meaning}
 use Rattle.conary_cli.specs.Restores.{RestoresBy, RestoresNewest, RestoresTo, RollbackRestores}
+use Rattle.cli_call.specs.system-core.Job.{db_of}
+use Rattle.cny_version.proofs.cny-base.Lists.{left_all as all_front, all_at as all_middle, nothing_in}
+use Rattle.cli_call.proofs.system-core.Systems.{managed_so as managed}
 
 -- ---- what a root stores, in either format
 
 is_system : (x : Tree) (s : SystemState) → StoresSystem x s → IsSystemState s
 is_system x s (inl one) = one.system
 is_system x s (inr two) = two.system
-
-managed : (x : Tree) (s : SystemState) → StoresSystem x s → AgreesOutside is_reserved x s.tree
-managed x s (inl one) = one.managed
-managed x s (inr two) = two.managed
 
 -- ---- all jobs down to a number
 

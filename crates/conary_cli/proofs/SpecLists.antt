@@ -1,7 +1,7 @@
 -- Which lists of specifications words are.
 use Rattle.std.proofs.Common.{◌≡◌, ◌≤◌, ◌<◌, ◌+◌, ◌++◌, List, [], ◌∷◌, ℕ, length, take, drop, get_or, refl, sym, ap, subst, ◌∙◌, arith}
 use Rattle.std.proofs.lemmas.List.{take_more, take-append-drop, append_assoc}
-use Rattle.repo_commands.specs.declared.given.GivenSpec.{GivenSpec}
+use Rattle.trove_spec.specs.declared.given.GivenSpec.{GivenSpec}
 use Rattle.cli_call.specs.cny-base.declared.options.Options.{Options}
 use Rattle.conary_cli.specs.declared.words.Command.{Command}
 use Rattle.conary_cli.specs.declared.words.Command.TheVariants as command

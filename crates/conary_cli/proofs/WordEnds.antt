@@ -5,7 +5,7 @@ use Rattle.cny_version.specs.Label.{LabelParts}
 use Rattle.repo_shadow.specs.declared.way.Way.{Way}
 use Rattle.trove_spec.specs.declared.spec.Spec.{Spec}
 use Rattle.trove_spec.specs.Spec.{IsSpecText}
-use Rattle.repo_commands.specs.declared.given.GivenSpec.{GivenSpec}
+use Rattle.trove_spec.specs.declared.given.GivenSpec.{GivenSpec}
 use Rattle.conary_cli.specs.declared.words.Command.{Command}
 use Rattle.conary_cli.specs.declared.words.Command.TheVariants as command
 use Rattle.conary_cli.specs.Words.{HasNone, IsOnly, is_short_word, IsGiven, IsLabelWord, AreSpecs, IsSend, IsMove}

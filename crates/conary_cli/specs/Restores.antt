@@ -8,7 +8,6 @@ use Rattle.cli_call.specs.local-db.declared.db.Db.{Db}
 use Rattle.cli_call.specs.local-db.SystemState.{StackItem}
 use Rattle.cli_call.specs.system-core.Restoring.{IsException, IsRestored, IsUnedited}
 use Rattle.cli_call.specs.system-core.RestoringAll.{AreRestored, AreUnedited, IsExceptionTo}
-use Rattle.cli_call.specs.system-core.Rollback.{db_of}
 use Rattle.cli_call.specs.system-core.Several.{HasJob, jobs_to}
 use Rattle.cli_call.specs.system-core.FixedDirs.{fixed_dirs}
 use Rattle.cli_call.specs.Call.{CallState}
@@ -18,6 +17,7 @@ use Rattle.cli_call.specs.Stores.{root_store}
 use Rattle.cli_call.specs.WholeCall.{FromStates, FromRoots, IsRefused, HasRefusedRepository}
 use Rattle.conary_cli.specs.declared.words.Command.{Command}
 use Rattle.conary_cli.specs.declared.words.Command.TheVariants as command
+use Rattle.cli_call.specs.system-core.Job.{db_of}
 
 -- where the fixed directories stand, and the status is an answer's
 abbrev pub IfAnswered : RootState → ℕ → Type 0 → Type 0

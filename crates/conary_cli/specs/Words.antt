@@ -9,7 +9,7 @@ use Rattle.cny_version.specs.Label.{LabelParts, label_text, is_label}
 use Rattle.trove_spec.specs.Spec.{IsSpecText}
 use Rattle.repo_shadow.specs.declared.way.Way.{Way}
 use Rattle.repo_shadow.specs.declared.way.Way.TheVariants as way
-use Rattle.repo_commands.specs.declared.given.GivenSpec.{GivenSpec}
+use Rattle.trove_spec.specs.declared.given.GivenSpec.{GivenSpec}
 use Rattle.cli_call.specs.cny-base.declared.refusal.Refusal.TheVariants.{NotBuilt}
 use Rattle.cli_call.specs.declared.failure.Failure.{Failure}
 use Rattle.cli_call.specs.declared.failure.Failure.TheVariants as failure

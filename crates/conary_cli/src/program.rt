@@ -1,5 +1,5 @@
 //! A whole call of the program.
-ghost use Rattle.std.specs.Prelude.{◌≡◌, ◌≤◌, string_bytes, map, IsTrue, Result};
+ghost use Rattle.std.specs.Prelude.{◌≤◌, string_bytes, map, IsTrue, Result};
 ghost use Rattle.cli_call.specs.declared.failure.Failure.{Failure};
 ghost use Rattle.conary_cli.specs.declared.words.Command.{Command};
 ghost use Rattle.cny_flow.specs.Flow.{sink_state, source_state};

@@ -11,10 +11,9 @@ ghost use Rattle.conary_cli.specs.Words.{AreGiven, AreSomething, AreWords, is_in
 use cli_call::Failure;
 use cli_call::cny_base::{ListOf, Name, Options, Refusal, Text, TextFault, read_decimal};
 use cny_version::Label;
-use repo_commands::GivenSpec;
 use repo_shadow::Way;
 use std::alloc::Global;
-use trove_spec::Spec;
+use trove_spec::{GivenSpec, Spec};
 
 // A word that is a specification has so many bytes at most.
 const WORD_LIMIT: usize = 4_096;

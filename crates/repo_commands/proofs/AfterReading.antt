@@ -7,10 +7,10 @@ use Rattle.cli_call.specs.tree-disk.Tree.{Tree}
 use Rattle.cli_call.specs.tree-disk.Disk.{DiskModel, IsDisk, HasRead}
 use Rattle.cli_call.specs.tree-disk.Clear.{is_within}
 use Rattle.cli_call.specs.tree-disk.Confined.{Among}
-use Rattle.cli_call.specs.tree-disk.ConfinedLaws.{confined_read, confined_then, leaves_then, leaves_weaker}
+use Rattle.cli_call.proofs.tree-disk.ConfinedLaws.{confined_read, confined_then, leaves_then, leaves_weaker}
 use Rattle.repo_load.specs.Files.{repository_base}
-use Rattle.cli_call.specs.tree-disk.Moments.{rose_before}
-use Rattle.cli_call.specs.tree-disk.Unfailed.{unfailed_then, unfailed_weaker}
+use Rattle.cli_call.proofs.tree-disk.Moments.{rose_before}
+use Rattle.cli_call.proofs.tree-disk.Unfailed.{unfailed_then, unfailed_weaker}
 use Rattle.cli_call.specs.declared.failure.Failure.{Failure}
 use Rattle.cli_call.specs.declared.failure.Failure.TheVariants as failure
 use Rattle.cli_call.specs.Command.{Disks, Goes, HasCause, IsShown, Performs, PerformsFrom, StandsFor}

@@ -10,7 +10,7 @@ use Rattle.cli_call.specs.tree-disk.Tree.{Name, Tree}
 use Rattle.cli_call.specs.tree-disk.Disk.{DiskModel, IsDisk, HasRead}
 use Rattle.cli_call.specs.tree-disk.Clear.{is_within}
 use Rattle.cli_call.specs.tree-disk.Confined.{Among, Confined, IsUnsynced}
-use Rattle.cli_call.specs.tree-disk.ConfinedLaws.{leaves_weaker}
+use Rattle.cli_call.proofs.tree-disk.ConfinedLaws.{leaves_weaker}
 use Rattle.cli_call.specs.tree-journal.Recovery.{is_committed}
 use Rattle.cli_call.specs.change-set.declared.change.ChangeSet.{ChangeSet}
 use Rattle.cli_call.specs.content-store.Contents.{ContentMap}

@@ -4,12 +4,12 @@ pub mod CommitEnds
 pub mod MadeVersions
 pub mod KeptContents
 pub mod CookEnds
-pub mod Recorded
 pub mod ReadingEnds
 pub mod AfterReading
-pub mod MeantTroves
 pub mod SendingEnds
 pub mod CommittedTroves
 pub mod MovingEnds
 pub use Rattle.cli_call.proofs.job-record
+pub use Rattle.cli_call.proofs.past-jobs
 pub use Rattle.cli_call.proofs.trove-stream
+pub use Rattle.cli_call.proofs.tree-disk

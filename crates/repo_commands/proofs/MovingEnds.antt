@@ -2,7 +2,6 @@
 use Rattle.std.proofs.Common.{◌≡◌, ℕ, List, [], map, Result, Ok, Err, refl, inl, inr, subst}
 use Rattle.std.specs.Prelude.{IsTrue}
 use Rattle.std.proofs.lemmas.List.Elements.{All-nil}
-use Rattle.std.specs.List.Sorted.{IsStrictlySortedBy}
 use Rattle.cli_call.specs.cny-base.declared.refusal.Fault.{Fault}
 use Rattle.cli_call.specs.cny-base.declared.refusal.Fault.TheVariants as fault
 use Rattle.cli_call.specs.cny-base.declared.refusal.Refusal.{Refusal}
@@ -13,7 +12,7 @@ use Rattle.cli_call.specs.trove-stream.declared.parts.TroveParts.{TroveParts}
 use Rattle.trove_spec.specs.declared.config.Config.{Config}
 use Rattle.cli_call.specs.change-set.declared.change.ChangeSet.{ChangeSet}
 use Rattle.cli_call.specs.change-set.declared.change.Part.TheVariants.{Whole}
-use Rattle.cli_call.specs.change-set.ChangeSet.{content_cmp, HasContents, IsContentOf}
+use Rattle.cli_call.specs.change-set.ChangeSet.{HasContents, IsContentOf}
 use Rattle.repo_load.specs.State.{troves_of}
 use Rattle.repo_shadow.specs.declared.way.Way.{Way}
 use Rattle.repo_shadow.specs.Moved.{IsMovedExpansion, IsUnmoved}
@@ -27,16 +26,13 @@ use Rattle.cli_call.specs.Failures.{failure_of_fault}
 use Rattle.cli_call.specs.State.{tree_of, Effect, State}
 use Rattle.cli_call.specs.Store.{IsStore}
 use Rattle.cli_call.specs.Stores.{repository_store}
-use Rattle.repo_commands.specs.declared.given.GivenSpec.{GivenSpec}
-use Rattle.repo_commands.specs.AndThen.{AndThen, EndsAs}
-use Rattle.repo_commands.specs.Meant.{Means}
+use Rattle.trove_spec.specs.declared.given.GivenSpec.{GivenSpec}
+use Rattle.trove_spec.specs.AndThen.{AndThen, EndsAs}
+use Rattle.trove_spec.specs.Meant.{Means}
 use Rattle.repo_commands.specs.Moving.{move, set_of, IsMoved, Moves}
 use Rattle.repo_commands.proofs.AfterReading.{performs_since}
 use Rattle.repo_commands.proofs.ReadingEnds.{CatalogueIs, config_of, fault_ends, root_read, troves_are}
-
-nothing_rises : IsStrictlySortedBy content_cmp []
-unfolding IsStrictlySortedBy
-nothing_rises = tt
+use Rattle.repository.proofs.change-set.Carrying.{no_carried as nothing_rises}
 
 -- a set without contents carries just those of its parts
 pub no_contents : (troves : List TroveParts) → HasContents (set_of troves)

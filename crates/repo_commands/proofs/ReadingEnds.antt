@@ -90,7 +90,7 @@ module _ {T P : Type 0} {root_disk : DiskModel T} {repo_disk : DiskModel P} wher
       -- ---- the configuration couldn't be read
 
       module _ (root root' : T) (repo : P) (opened : Opened) (ready : AreReady root_disk repo_disk (disks root repo opened)) where
-        abbrev Stopped : Failure → Type 0
+        abbrev pub Stopped : Failure → Type 0
         Stopped f = Performs root_disk repo_disk m input (disks root repo opened) (disks root' repo opened) (Err f)
 
         stopped : ((s : State) (refused : Refusal) → HasConfig (tree_of s.root) (Err refused) → m.IsOutcome s input (Err refused)) → (e : Stop) → ReadsConfig root_disk root root' (Err e) → IfErr (let r : Result Config Stop = Err e in root_result r) Stopped

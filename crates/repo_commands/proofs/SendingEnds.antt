@@ -12,10 +12,10 @@ use Rattle.cli_call.specs.trove-stream.declared.parts.TroveParts.{TroveParts}
 use Rattle.trove_spec.specs.declared.config.Config.{Config}
 use Rattle.cli_call.specs.change-set.declared.change.Carried.{Carried}
 use Rattle.cli_call.specs.change-set.declared.change.ChangeSet.{ChangeSet}
-use Rattle.repo_index.specs.Catalogue.{CatalogueParts}
+use Rattle.repo_index.specs.Catalogue.{AreCommitted, CatalogueParts}
 use Rattle.repo_load.specs.Files.{HoldsCatalogue, StoresRepository}
 use Rattle.repo_load.specs.State.{troves_of, RepositoryState}
-use Rattle.repository.specs.Between.{AreCommitted, HasStored, IsBetween}
+use Rattle.repository.specs.Between.{HasStored, IsBetween}
 use Rattle.repository.specs.Damage.{IsDamagedBetween}
 use Rattle.trove_spec.specs.RootConfig.{HasConfig, ReadsConfig}
 use Rattle.cli_call.specs.declared.failure.Failure.TheVariants as failure
@@ -28,12 +28,12 @@ use Rattle.cli_call.specs.State.{nothing, tree_of, Effect, State}
 use Rattle.cli_call.specs.Stops.{repository_result}
 use Rattle.cli_call.specs.Store.{HasDamagedFile, IsStore}
 use Rattle.cli_call.specs.Stores.{HasUnsoundContent, repository_store}
-use Rattle.repo_commands.specs.declared.given.GivenSpec.{GivenSpec}
-use Rattle.repo_commands.specs.AndThen.{AndThen, EndsAs}
-use Rattle.repo_commands.specs.Meant.{Expands, ExpandsFrom}
+use Rattle.trove_spec.specs.declared.given.GivenSpec.{GivenSpec}
+use Rattle.trove_spec.specs.AndThen.{AndThen, EndsAs}
+use Rattle.trove_spec.specs.Meant.{Expands, ExpandsFrom}
 use Rattle.repo_commands.specs.Sending.{changeset, IsSent, IsSentFrom, IsWritten, IsAnswered, Sends, SendsFrom}
 use Rattle.repo_commands.proofs.ReadingEnds.{CatalogueIs, config_of, fault_ends, root_read, troves_are}
-use Rattle.repo_commands.proofs.Recorded.{records_sized}
+use Rattle.repository.proofs.BetweenCarrying.{records_sized}
 
 -- the laws that are called upon
 pub record SendingLaws : Type 0 where

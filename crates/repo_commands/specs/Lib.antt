@@ -3,8 +3,6 @@ pub mod SetInput
 pub mod Commit
 pub mod ManifestInput
 pub mod Cook
-pub mod AndThen
-pub mod Meant
 pub mod Sending
 pub mod Moving
 pub use Rattle.cli_call.specs.change-set
@@ -13,6 +11,7 @@ pub use Rattle.cli_call.specs.conflict-plan
 pub use Rattle.cli_call.specs.content-store
 pub use Rattle.cli_call.specs.file-stream
 pub use Rattle.cli_call.specs.job-record
+pub use Rattle.cli_call.specs.past-jobs
 pub use Rattle.cli_call.specs.job-targets
 pub use Rattle.cli_call.specs.journal-log
 pub use Rattle.cny_manifest.specs.manifest-troves

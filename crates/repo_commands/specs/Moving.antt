@@ -13,9 +13,9 @@ use Rattle.repo_shadow.specs.Moved.{IsMovedExpansion, IsMoveRefusal}
 use Rattle.repo_commands.specs.Commit.{Commits}
 use Rattle.trove_spec.specs.RootConfig.{HasConfig}
 use Rattle.cli_call.specs.State.{tree_of, Effect, Meaning, State}
-use Rattle.repo_commands.specs.declared.given.GivenSpec.{GivenSpec}
-use Rattle.repo_commands.specs.AndThen.{AndThen}
-use Rattle.repo_commands.specs.Meant.{Means}
+use Rattle.trove_spec.specs.declared.given.GivenSpec.{GivenSpec}
+use Rattle.trove_spec.specs.AndThen.{AndThen}
+use Rattle.trove_spec.specs.Meant.{Means}
 
 -- what the root reaches, moved onto the label, or the refusal
 abbrev pub IsMoved : Way → LabelParts → List TroveParts → TroveId → Result (List TroveParts) Refusal → Type 0

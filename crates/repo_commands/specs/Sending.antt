@@ -17,9 +17,9 @@ use Rattle.repository.specs.Between.{HasStored, IsBetween}
 use Rattle.repository.specs.Damage.{IsDamagedBetween}
 use Rattle.trove_spec.specs.RootConfig.{HasConfig}
 use Rattle.cli_call.specs.State.{nothing, tree_of, Effect, Meaning, State}
-use Rattle.repo_commands.specs.declared.given.GivenSpec.{GivenSpec}
-use Rattle.repo_commands.specs.AndThen.{AndThen}
-use Rattle.repo_commands.specs.Meant.{Expands, ExpandsFrom}
+use Rattle.trove_spec.specs.declared.given.GivenSpec.{GivenSpec}
+use Rattle.trove_spec.specs.AndThen.{AndThen}
+use Rattle.trove_spec.specs.Meant.{Expands, ExpandsFrom}
 
 -- ---- the set
 

@@ -5,8 +5,6 @@
 
 mod committing;
 mod cooking;
-mod expanding;
-mod given;
 mod listing;
 mod moving;
 mod sending;
@@ -14,8 +12,6 @@ mod sending;
 pub use cli_call::{change_set, cny_base, content_store, tree_disk, trove_parts, trove_stream};
 pub use committing::{commit_input, commit_set};
 pub use cooking::cook_manifest;
-pub use expanding::meant;
-pub use given::GivenSpec;
 pub use listing::list_committed;
 pub use moving::commit_moved;
 pub use sending::send_changes;

@@ -5,8 +5,6 @@ ghost use Rattle.cli_call.specs.Command.{disks, AreReady, Performs};
 ghost use Rattle.repo_commands.specs.Moving.{move};
 
 use crate::committing::commit_set;
-use crate::expanding::meant;
-use crate::given::GivenSpec;
 use cli_call::change_set::{CarriedList, ChangeSet, Part, Parts};
 use cli_call::cny_base::{OutOfMemory, Text};
 use cli_call::tree_disk::TreeDisk;
@@ -15,7 +13,7 @@ use cny_version::Label;
 use repo_load::stored_state;
 use repo_shadow::{Way, moved, refs_found};
 use std::alloc::Global;
-use trove_spec::{Troves, read_config};
+use trove_spec::{GivenSpec, Troves, meant, read_config};
 
 // The change set that makes these troves.
 fn whole_set(alloc: Global, troves: Troves) -> Result<ChangeSet, OutOfMemory>

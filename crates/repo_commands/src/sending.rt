@@ -1,12 +1,10 @@
 //! The command that answers a change set between what specifications mean.
 ghost use Rattle.std.specs.Prelude.{List, ℕ};
 ghost use Rattle.cli_call.specs.trove-stream.Installed.{IsRising};
-ghost use Rattle.repository.specs.Between.{AreCommitted};
+ghost use Rattle.repo_index.specs.Catalogue.{AreCommitted};
 ghost use Rattle.cli_call.specs.Command.{disks, AreReady, Performs};
 ghost use Rattle.repo_commands.specs.Sending.{changeset, SendsFrom};
 
-use crate::expanding::{expansion, expansion_from};
-use crate::given::GivenSpec;
 use cli_call::change_set::encode;
 use cli_call::cny_base::{Bytes, Stop};
 use cli_call::tree_disk::TreeDisk;
@@ -16,7 +14,7 @@ use repo_index::Catalogue;
 use repo_load::stored_state;
 use repository::{between, stored_between};
 use std::alloc::Global;
-use trove_spec::read_config;
+use trove_spec::{GivenSpec, expansion, expansion_from, read_config};
 
 // The stream of the change set that leads from the old troves to the new ones.
 fn send<P: TreeDisk>(

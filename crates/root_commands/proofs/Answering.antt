@@ -9,11 +9,12 @@ use Rattle.cli_call.specs.Alone.{PerformsAlone}
 use Rattle.cli_call.proofs.Answered as answers
 use Rattle.cli_call.proofs.Answered.{result_of}
 use Rattle.cli_call.specs.Command.{Disks, AreReady, Performs}
-use Rattle.cli_call.proofs.RootDatabase.{OneDatabase, held_database}
+use Rattle.cli_call.proofs.RootDatabase.{held_database}
 use Rattle.cli_call.specs.State.{Effect, Meaning, State}
 use Rattle.cli_call.specs.Store.{IsStore, RestsAt}
 use Rattle.cli_call.specs.Stores.{root_store, repository_store}
 use Rattle.cli_call.specs.Answer.{AnswersSo}
+use Rattle.system_core.proofs.Held.{OneDatabase}
 
 module _ {T P : Type 0} {root_disk : DiskModel T} {repo_disk : DiskModel P} (law : OneDatabase) (m : Disks T P) (ready : AreReady root_disk repo_disk m) where
   -- the installed troves are those of each system that the root stores

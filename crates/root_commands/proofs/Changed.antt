@@ -1,60 +1,28 @@
 -- The changes between two lists, by the ids of the troves that differ.
-use Rattle.std.proofs.Common.{◌≡◌, ◌≢◌, ℕ, zero, suc, ⊎_elim, inl, inr, Bool, true, false, cond, true≢false, List, [], ◌∷◌, slice_get, Contains, Option, Some, None, refl, sym, ap, subst, ◌∙◌, arith}
+use Rattle.std.proofs.Common.{◌≡◌, ◌≢◌, ℕ, ⊎_elim, inl, inr, Bool, true, false, cond, true≢false, List, [], ◌∷◌, Contains, Option, Some, None, refl, sym, ap, subst, ◌∙◌}
 use Rattle.std.specs.BTreeMap.{IsOrdered, values, is_at}
 use Rattle.std.specs.Cmp.Lexicographic.{slice_cmp, nat_list_cmp_total}
-use Rattle.std.specs.List.{AllByRecursion}
-use Rattle.std.specs.List.Sorted.{IsStrictlySortedBy}
-use Rattle.std.specs.Map.{keys_of, values_of}
 use Rattle.std.specs.Ordering.{nat_cmp}
 use Rattle.std.specs.Str.{bytes_eq}
-use Rattle.std.specs.declared.cmp.Ordering.TheVariants.{Less}
 use Rattle.std.proofs.lemmas.List.Elements.{All-contains}
 use Rattle.std.proofs.lemmas.Map.Entries.{place_from_lookup, btree_map_get_place}
-use Rattle.std.proofs.lemmas.Option.{slice_get_within, same_Some, none-some}
+use Rattle.std.proofs.lemmas.Option.{same_Some, none-some}
 use Rattle.std.proofs.lemmas.Slice.Eq.{bytes_eq-Decides}
 use Rattle.repo_commands.specs.trove-parts.declared.id.TroveId.{TroveId}
 use Rattle.repo_commands.specs.trove-stream.declared.parts.TroveParts.{TroveParts}
 use Rattle.repo_commands.specs.trove-stream.Installed.{IsNameless, IsRising, trove_of}
 use Rattle.repo_commands.proofs.trove-stream.Places.{missed}
-use Rattle.repo_commands.specs.job-record.Past.{AreChangedIds, IsChanged}
-use Rattle.repo_commands.proofs.job-record.Names.{contained, is_named, is_there}
-use Rattle.rollback_stack.specs.Undo.{id_of}
-use Rattle.rollback_stack.proofs.Keyed.{contains_cases, found_is}
+use Rattle.repo_commands.specs.past-jobs.Past.{AreChangedIds, IsChanged}
+use Rattle.repo_commands.proofs.job-record.Keyed.{found_is}
 use Rattle.update_job.specs.declared.comparing.Change.{Change}
 use Rattle.update_job.specs.declared.comparing.Change.TheVariants.{Installed, Updated, Erased}
-use Rattle.update_job.specs.Changes.{name_of, by_change, AreChanges, IsChange, IsLost, IsReplaced, Noted, noted}
-use Rattle.update_job.proofs.Elements.{contains_at, nothing_in, place_in}
-use Rattle.update_job.proofs.Noting.{nameless_from}
-use Rattle.root_commands.specs.Noting.{turned}
+use Rattle.update_job.specs.Changes.{name_of, AreChanges, IsChange, IsLost, IsReplaced, Noted, noted}
+use Rattle.update_job.proofs.Noting.{nameless_from, HasNames, rises_by, value_at, value_place}
+use Rattle.root_commands.specs.Noting.{id_of, turned}
+use Rattle.local_db.proofs.trove-stream.Names.{contained, is_named, is_there}
+use Rattle.local_db.proofs.cny-base.Lists.{contains_at, nothing_in, place_in, contains_cases}
 
 -- ---- the list of a map
-
--- an entry has the name of its change as its key
-abbrev HasNames : List (List ℕ × Change) → Type 0
-HasNames es = (i : ℕ) (k : List ℕ) (c : Change) → slice_get es i ≡ Some (k, c) → name_of c ≡ k
-
-above : (name : List ℕ) (es : List (List ℕ × Change)) → AllByRecursion (λ (k : List ℕ). slice_cmp nat_cmp name k ≡ Less) (keys_of es) → HasNames es
-    → AllByRecursion (λ (c : Change). slice_cmp nat_cmp name (name_of c) ≡ Less) (values_of es)
-above name [] all named = tt
-above name (e ∷ es) all named = (ap (slice_cmp nat_cmp name) (named 0 e.0 e.1 refl) ∙ all.0, above name es all.1 (λ i k c is. named (suc i) k c is))
-
-rises_by : (es : List (List ℕ × Change)) → IsStrictlySortedBy (slice_cmp nat_cmp) (keys_of es) → HasNames es → IsStrictlySortedBy by_change (values_of es)
-unfolding IsStrictlySortedBy
-rises_by [] sorted named = tt
-rises_by (e ∷ es) sorted named = (
-  subst (λ (n : List ℕ). AllByRecursion (λ (c : Change). slice_cmp nat_cmp n (name_of c) ≡ Less) (values_of es)) (sym (named 0 e.0 e.1 refl)) (above e.0 es sorted.0 (λ i k c is. named (suc i) k c is)),
-  rises_by es sorted.1 (λ i k c is. named (suc i) k c is),
-)
-
-value_place : (es : List (List ℕ × Change)) (i : ℕ) (c : Change) → slice_get (values_of es) i ≡ Some c → (k : List ℕ) × (slice_get es i ≡ Some (k, c))
-value_place [] i c is = (let within = slice_get_within [] i c is in absurd (omega (arith, within)))
-value_place (e ∷ es) zero c is = (e.0, ap (λ (w : Change). Some (e.0, w)) (same_Some e.1 c is))
-value_place (e ∷ es) (suc i) c is = value_place es i c is
-
-value_at : (es : List (List ℕ × Change)) (i : ℕ) (k : List ℕ) (c : Change) → slice_get es i ≡ Some (k, c) → slice_get (values_of es) i ≡ Some c
-value_at [] i k c is = (let within = slice_get_within [] i (k, c) is in absurd (omega (arith, within)))
-value_at (e ∷ es) zero k c is = ap (λ (w : List ℕ × Change). Some w.1) (same_Some e (k, c) is)
-value_at (e ∷ es) (suc i) k c is = value_at es i k c is
 
 -- ---- ids of the troves that differ
 

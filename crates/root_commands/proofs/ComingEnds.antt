@@ -11,9 +11,10 @@ use Rattle.repo_commands.specs.change-set.Contents.{IfRefused}
 use Rattle.repo_commands.specs.change-set.declared.change.ChangeSet.{ChangeSet}
 use Rattle.update_job.specs.Made.{AreMade, IsFirstRefused}
 use Rattle.cli_call.specs.Command.{Disks, AreReady, StandsFor}
-use Rattle.cli_call.proofs.RootDatabase.{OneDatabase, held_database}
+use Rattle.cli_call.proofs.RootDatabase.{held_database}
 use Rattle.cli_call.specs.State.{Effect, State}
 use Rattle.root_commands.specs.Update.{UpdatesBy, UpdatesTo}
+use Rattle.system_core.proofs.Held.{OneDatabase}
 
 module _ {T P : Type 0} {root_disk : DiskModel T} {repo_disk : DiskModel P} (law : OneDatabase) (old : Disks T P) (ready : AreReady root_disk repo_disk old) (told : IsTrue root_disk.tells) (s : State) (stands : StandsFor root_disk repo_disk old s) where
   -- the list at hand is that of the system

@@ -9,7 +9,7 @@ use Rattle.repo_commands.specs.tree-disk.Tree.{Name, Tree}
 use Rattle.repo_commands.specs.tree-disk.Disk.{DiskModel, IsDisk}
 use Rattle.repo_commands.specs.tree-disk.Clear.{is_within}
 use Rattle.repo_commands.specs.tree-disk.Confined.{Among}
-use Rattle.repo_commands.specs.tree-disk.ConfinedLaws.{confined_read}
+use Rattle.repo_commands.proofs.tree-disk.ConfinedLaws.{confined_read}
 use Rattle.repo_commands.specs.tree-journal.Recovery.{is_committed}
 use Rattle.repo_commands.specs.change-set.declared.change.Carried.{Carried}
 use Rattle.repo_commands.specs.trove-stream.declared.parts.TroveParts.{TroveParts}
@@ -36,7 +36,7 @@ use Rattle.cli_call.proofs.ChangingRoot.{ChangesRoot}
 use Rattle.cli_call.specs.Command.{disks, AreReady, ChangesNothing, HasCause, Performs, StandsFor, end_of}
 use Rattle.cli_call.proofs.CommandLaws.{goes_read}
 use Rattle.cli_call.specs.Report.{status_of}
-use Rattle.cli_call.proofs.RootDatabase.{OneDatabase, one_format}
+use Rattle.cli_call.proofs.RootDatabase.{one_format}
 use Rattle.cli_call.specs.State.{Meaning, RootState, State}
 use Rattle.cli_call.specs.Stops.{root_failure, root_result}
 use Rattle.cli_call.specs.Store.{HasDamagedFile, IsSettled, IsStore}
@@ -48,6 +48,7 @@ use Rattle.root_commands.proofs.SpecifiedEnds.{ReadsAtRefusal}
 use Rattle.root_commands.proofs.JobStates as states
 use Rattle.root_commands.proofs.JobStates.{IsUndamaged}
 use Rattle.root_commands.proofs.MoreAnswers.{ends_more}
+use Rattle.system_core.proofs.Held.{OneDatabase}
 
 -- the laws of repositories that are called upon
 pub record RepositoryLaws : Type 0 where
@@ -68,20 +69,20 @@ pub record RanFar {T P : Type 0} (root_disk : DiskModel T) (repo_disk : DiskMode
 
 module _ {T P : Type 0} {root_disk : DiskModel T} {repo_disk : DiskModel P} (root_disk_laws : IsDisk root_disk) (repo_disk_laws : IsDisk repo_disk) (law : OneDatabase) (laws : RepositoryLaws) (root root' : T) (far far' : RepoContents P) (opened opened' : Opened)
     (known : far.catalogue.now ≡ opened.catalogue) (ready : AreReady root_disk repo_disk (disks root far.disk.now opened)) (options : Options) (carried : List Carried) (troves : List TroveParts) (input : List ℕ) where
-  abbrev Runs : Result Done Stop → Type 0
+  abbrev pub Runs : Result Done Stop → Type 0
   Runs r = RanFar root_disk repo_disk options carried troves root root' far far' opened'.db r
 
-  abbrev repo : P
+  abbrev pub repo : P
   repo = far.disk.now
 
-  abbrev repo' : P
+  abbrev pub repo' : P
   repo' = far'.disk.now
 
-  abbrev Performed : Result (List ℕ) Failure → Type 0
+  abbrev pub Performed : Result (List ℕ) Failure → Type 0
   Performed f = Performs root_disk repo_disk (update_to options carried troves) input (disks root repo opened) (disks root' repo' opened') f
 
   -- what is searched is the repository's
-  holds : IsTrue repo_disk.tells → HoldsCatalogue (repo_disk.reads repo) far.catalogue.now
+  pub holds : IsTrue repo_disk.tells → HoldsCatalogue (repo_disk.reads repo) far.catalogue.now
   holds told = subst (HoldsCatalogue (repo_disk.reads repo)) (sym known) (ready.repo told).catalogue
 
   -- ---- by a state that both disks store
@@ -128,7 +129,7 @@ module _ {T P : Type 0} {root_disk : DiskModel T} {repo_disk : DiskModel P} (roo
 
   -- ---- on each pair of disks
 
-  damaged_file : (path : Name) → Runs (Err (stop.FarDamaged path)) → IsTrue repo_disk.tells → HasDamagedFile repository_store (repo_disk.reads repo') path
+  pub damaged_file : (path : Name) → Runs (Err (stop.FarDamaged path)) → IsTrue repo_disk.tells → HasDamagedFile repository_store (repo_disk.reads repo') path
   damaged_file path ran told =
       let found = ran.causes told in
       let at = found.1.damaged in
@@ -143,7 +144,7 @@ module _ {T P : Type 0} {root_disk : DiskModel T} {repo_disk : DiskModel P} (roo
         }));
       }
 
-  caused : (e : Stop) → Runs (Err e) → HasCause root_disk repo_disk (disks root repo opened) (disks root' repo' opened') (Err (root_failure e))
+  pub caused : (e : Stop) → Runs (Err e) → HasCause root_disk repo_disk (disks root repo opened) (disks root' repo' opened') (Err (root_failure e))
   caused (stop.Refused why) ran = tt
   caused stop.Failed ran = ran.causes
   caused stop.Memory ran = tt
@@ -151,11 +152,11 @@ module _ {T P : Type 0} {root_disk : DiskModel T} {repo_disk : DiskModel P} (roo
   caused stop.FarFailed ran = ran.causes
   caused (stop.FarDamaged path) ran = inr (damaged_file path ran)
 
-  settles : (e : Stop) → Runs (Err e) → status_of (Err (root_failure e)) ≤ 4 → IsTrue root_disk.tells → IsSettled root_disk root_store.base root'
+  pub settles : (e : Stop) → Runs (Err e) → status_of (Err (root_failure e)) ≤ 4 → IsTrue root_disk.tells → IsSettled root_disk root_store.base root'
   settles (stop.Refused why) ran le told = read_settled (ran.refused told) (ready.root told).flag_clear (ready.root told).synced
   settles _ ran le told = absurd (omega (arith, le))
 
-  keeps : (e : Stop) → Runs (Err e) → ChangesNothing (Err (root_failure e)) → IsTrue root_disk.tells → root_disk.reads root' ≡ root_disk.reads root
+  pub keeps : (e : Stop) → Runs (Err e) → ChangesNothing (Err (root_failure e)) → IsTrue root_disk.tells → root_disk.reads root' ≡ root_disk.reads root
   keeps (stop.Refused why) ran none told = let read = ran.refused told in read.same.reads
   keeps (stop.Damaged path) ran none told = absurd ran.causes
   keeps stop.Failed ran none told = absurd none
@@ -163,12 +164,12 @@ module _ {T P : Type 0} {root_disk : DiskModel T} {repo_disk : DiskModel P} (roo
   keeps stop.FarFailed ran none told = absurd none
   keeps (stop.FarDamaged path) ran none told = let read = ran.refused told in read.same.reads
 
-  settled_done : (made : Done) → Runs (Ok made) → IsTrue root_disk.tells → IsSettled root_disk root_store.base root'
+  pub settled_done : (made : Done) → Runs (Ok made) → IsTrue root_disk.tells → IsSettled root_disk root_store.base root'
   settled_done made ran told = let rests = ran.rests told in record { flag_clear = rests.flag_clear; synced = rests.synced }
 
   -- ---- the clause
 
-  performed_by : (f : Result (List ℕ) Failure) → HasSearched repo_disk far far' → root_disk.faults root ≤ root_disk.faults root' → HasCause root_disk repo_disk (disks root repo opened) (disks root' repo' opened') f
+  pub performed_by : (f : Result (List ℕ) Failure) → HasSearched repo_disk far far' → root_disk.faults root ≤ root_disk.faults root' → HasCause root_disk repo_disk (disks root repo opened) (disks root' repo' opened') f
       → (status_of (end_of f) ≤ 4 → IsTrue root_disk.tells → IsSettled root_disk root_store.base root')
       → (ChangesNothing (end_of f) → IsTrue root_disk.tells → root_disk.reads root' ≡ root_disk.reads root)
       → (IsTrue root_disk.tells → IsTrue repo_disk.tells → (s : State) → StandsFor root_disk repo_disk (disks root repo opened) s → ChangesRoot root_disk (UpdatesTo options carried troves s) s root root' f)

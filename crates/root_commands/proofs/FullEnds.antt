@@ -23,7 +23,6 @@ use Rattle.cli_call.specs.declared.failure.Failure.TheVariants as failure
 use Rattle.cli_call.specs.declared.opened.Opened.{Opened}
 use Rattle.cli_call.specs.Command.{disks, AreReady, HasCause, Performs, StandsFor}
 use Rattle.cli_call.proofs.CommandLaws.{AnswersReading, AreRead, performs_reading}
-use Rattle.cli_call.proofs.RootDatabase.{OneDatabase}
 use Rattle.cli_call.proofs.RootLaws.{root_laws}
 use Rattle.cli_call.specs.State.{State}
 use Rattle.cli_call.specs.Stops.{root_failure, root_result}
@@ -33,6 +32,7 @@ use Rattle.cli_call.specs.Answer.{answer}
 use Rattle.root_commands.specs.Verifying.{verify_fully}
 use Rattle.root_commands.proofs.Answering.{installed_are}
 use Rattle.root_commands.proofs.VerifyEnds.{found_of_system, Searched}
+use Rattle.system_core.proofs.Held.{OneDatabase}
 
 -- the laws of repositories that are called upon
 pub record VerifyingLaws : Type 0 where
@@ -42,26 +42,26 @@ pub record VerifyingLaws : Type 0 where
 
 module _ {T P : Type 0} {root_disk : DiskModel T} {repo_disk : DiskModel P} (root_disk_laws : IsDisk root_disk) (repo_disk_laws : IsDisk repo_disk) (law : OneDatabase) (laws : VerifyingLaws) (names : List (List ℕ)) (input : List ℕ)
     (root root' : T) (far far' : RepoContents P) (opened : Opened) (known : far.catalogue.now ≡ opened.catalogue) (ready : AreReady root_disk repo_disk (disks root far.disk.now opened)) where
-  abbrev repo : P
+  abbrev pub repo : P
   repo = far.disk.now
 
-  abbrev repo' : P
+  abbrev pub repo' : P
   repo' = far'.disk.now
 
-  abbrev Run : Result Verified Stop → Type 0
+  abbrev pub Run : Result Verified Stop → Type 0
   Run r = Searched root_disk (repo_contents repo_disk) names opened.db.installed root root' far far' r
 
-  abbrev Ends : Result (List ℕ) Failure → Type 0
+  abbrev pub Ends : Result (List ℕ) Failure → Type 0
   Ends result = AnswersReading root_disk repo_disk (verify_fully names) input (disks root repo opened) result
 
-  abbrev Caused : Result (List ℕ) Failure → Type 0
+  abbrev pub Caused : Result (List ℕ) Failure → Type 0
   Caused result = HasCause root_disk repo_disk (disks root repo opened) (disks root' repo' opened) result
 
-  abbrev Performed : Result (List ℕ) Failure → Type 0
+  abbrev pub Performed : Result (List ℕ) Failure → Type 0
   Performed result = Performs root_disk repo_disk (verify_fully names) input (disks root repo opened) (disks root' repo' opened) result
 
   -- what is searched is the repository's
-  holds : IsTrue repo_disk.tells → HoldsCatalogue (repo_disk.reads repo) far.catalogue.now
+  pub holds : IsTrue repo_disk.tells → HoldsCatalogue (repo_disk.reads repo) far.catalogue.now
   holds told = subst (HoldsCatalogue (repo_disk.reads repo)) (sym known) (ready.repo told).catalogue
 
   -- ---- by a state that both disks store
@@ -81,7 +81,7 @@ module _ {T P : Type 0} {root_disk : DiskModel T} {repo_disk : DiskModel P} (roo
 
   -- ---- it stopped
 
-  damaged_file : (path : Name) → Run (Err (stop.FarDamaged path)) → IsTrue repo_disk.tells → HasDamagedFile repository_store (repo_disk.reads repo') path
+  pub damaged_file : (path : Name) → Run (Err (stop.FarDamaged path)) → IsTrue repo_disk.tells → HasDamagedFile repository_store (repo_disk.reads repo') path
   damaged_file path run told =
       let at = run.ends.damaged told in
       let read = run.keeps.searched.same told in
@@ -95,7 +95,7 @@ module _ {T P : Type 0} {root_disk : DiskModel T} {repo_disk : DiskModel P} (roo
         }));
       }
 
-  stopped_ends : (e : Stop) → Run (Err e) → Ends (Err (root_failure e)) × Caused (Err (root_failure e))
+  pub stopped_ends : (e : Stop) → Run (Err e) → Ends (Err (root_failure e)) × Caused (Err (root_failure e))
   stopped_ends (stop.Refused why) run = (λ root_told told s stands. subst (λ (l : List TroveParts). IsNotInstalled l names why) (installed_are law (disks root repo opened) ready root_told s stands.root) run.ends, tt)
   stopped_ends stop.Failed run = (tt, run.ends)
   stopped_ends stop.Memory run = (tt, tt)
@@ -105,10 +105,10 @@ module _ {T P : Type 0} {root_disk : DiskModel T} {repo_disk : DiskModel P} (roo
 
   -- ---- the clause
 
-  are_read : (r : Result Verified Stop) → Run r → AreRead root_disk repo_disk (disks root repo opened) (disks root' repo' opened)
+  pub are_read : (r : Result Verified Stop) → Run r → AreRead root_disk repo_disk (disks root repo opened) (disks root' repo' opened)
   are_read r run = record { root_later = run.later; repo_later = run.keeps.searched.later; root = run.same; repo = run.keeps.searched.same }
 
-  performed : (r : Result Verified Stop) → Run r → (f : Result (List ℕ) Failure) → Caused f → Ends f → Performed f
+  pub performed : (r : Result Verified Stop) → Run r → (f : Result (List ℕ) Failure) → Caused f → Ends f → Performed f
   performed r run f cause ends =
       performs_reading root_disk_laws repo_disk_laws root_laws laws.store (verify_fully names) input (disks root repo opened) (disks root' repo' opened) ready (are_read r run) f cause ends
 
@@ -122,10 +122,10 @@ module _ {T P : Type 0} {root_disk : DiskModel T} {repo_disk : DiskModel P} (roo
   memory_performs r run = performed r run (Err failure.Memory) tt tt
 
   -- what is found with each map that the repository holds
-  abbrev Mapped : Result Verified Stop → Type 0
+  abbrev pub Mapped : Result Verified Stop → Type 0
   Mapped r = (map : ContentMap) → IsTrue root_disk.tells → (let contents = repo_contents repo_disk in contents.holds far map) → IfOk r (λ found. found ≡ verified map (root_disk.reads root) (asked names opened.db.installed))
 
-  found_ends : (found : Verified) (text : List ℕ) → Mapped (Ok found) → AreInstalled opened.db.installed names → text ≡ verified_text found → Ends (Ok text)
+  pub found_ends : (found : Verified) (text : List ℕ) → Mapped (Ok found) → AreInstalled opened.db.installed names → text ≡ verified_text found → Ends (Ok text)
   found_ends found text mapped installed is root_told told s stands =
       let contents = s.repository.contents in (
         subst (λ (l : List TroveParts). AreInstalled l names) (installed_are law (disks root repo opened) ready root_told s stands.root) installed,

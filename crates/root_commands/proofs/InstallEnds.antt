@@ -34,9 +34,10 @@ use Rattle.cli_call.specs.State.{Effect, State}
 use Rattle.cli_call.specs.Store.{IsStore}
 use Rattle.cli_call.proofs.StoreLaws.{nothing_done}
 use Rattle.cli_call.specs.Stores.{repository_store}
-use Rattle.root_commands.proofs.VerifyEnds.{none_rose}
-use Rattle.update_job.specs.Allowed.{AreAllowed, IsAllowed, IsFirstReserved}
+use Rattle.update_job.specs.Allowed.{AreAllowed, IsFirstReserved}
 use Rattle.root_commands.specs.Install.{first_reserved, install, install_made, InstallsMade, UnlessReserved}
+use Rattle.update_job.specs.trove-stream.Forbidden.{IsAllowed}
+use Rattle.system_core.proofs.CallLaws.{no_rise as none_rose}
 
 -- ---- paths that no trove may record
 

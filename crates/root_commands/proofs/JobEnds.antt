@@ -1,5 +1,5 @@
 -- How `rblist` ends.
-use Rattle.std.proofs.Common.{◌≡◌, ℕ, zero, suc, ◌+◌, ◌-◌, ◌<◌, ◌≤◌, List, [], ◌∷◌, length, map, Result, Ok, Err, IfErr, All, refl, sym, ap, ◌∙◌, subst, inl, inr, arith}
+use Rattle.std.proofs.Common.{◌≡◌, ℕ, suc, ◌-◌, ◌<◌, List, [], ◌∷◌, length, Result, Ok, Err, IfErr, All, sym, ap, ◌∙◌, subst, inl, inr, arith}
 use Rattle.std.specs.Prelude.{IsTrue}
 use Rattle.std.proofs.lemmas.List.Elements.{All-head, All-tail}
 use Rattle.repo_commands.specs.cny-base.Count.{Rose}
@@ -9,24 +9,23 @@ use Rattle.repo_commands.specs.tree-disk.Disk.{DiskModel, HasRead, Reads}
 use Rattle.repo_commands.specs.tree-disk.Tree.{Name, Tree}
 use Rattle.repo_commands.specs.trove-stream.declared.parts.TroveParts.{TroveParts}
 use Rattle.repo_commands.specs.trove-stream.Installed.{IsRising}
-use Rattle.repo_commands.specs.job-record.Past.{AreChangedIds}
+use Rattle.repo_commands.specs.past-jobs.Past.{AreChangedIds}
 use Rattle.local_db.specs.declared.db.Db.{Db}
 use Rattle.local_db.specs.declared.format.Format.TheVariants.{Two}
 use Rattle.local_db.specs.Record as state
 use Rattle.local_db.specs.Stores.{HoldsDatabase, HoldsStack, StoresSystem}
-use Rattle.local_db.specs.SystemState.{AreNumbered, IsStackItem, StackItem, newest, oldest}
-use Rattle.repo_commands.specs.job-record.JobReading.{HoldsNoRecord, HoldsRecord, HoldsRecords, IsDamagedRecord}
+use Rattle.local_db.specs.SystemState.{IsStackItem, StackItem, newest, oldest}
+use Rattle.rollback_stack.specs.JobReading.{HoldsNoRecord, HoldsRecord, HoldsRecords, IsDamagedRecord}
 use Rattle.rollback_stack.specs.Numbers.{job_count}
 use Rattle.rollback_stack.specs.Reading.{AreNotes, IsAllStop}
 use Rattle.rollback_stack.specs.declared.undo.Note.{Note as Undone}
-use Rattle.system_core.proofs.Sequence.{AreFrom, from_newest}
-use Rattle.system_core.proofs.NewestStored.{OneRecord, job_record}
+use Rattle.system_core.proofs.NewestStored.{job_record}
 use Rattle.cny_report.specs.declared.note.Note.{Note}
 use Rattle.cli_call.specs.declared.failure.Failure.{Failure}
 use Rattle.cli_call.specs.declared.opened.Opened.{Opened}
 use Rattle.cli_call.proofs.AloneLaws.{AnswersAlone}
 use Rattle.cli_call.specs.Command.{disks, AreReady, HasCause}
-use Rattle.cli_call.proofs.RootDatabase.{OneDatabase, held_database}
+use Rattle.cli_call.proofs.RootDatabase.{held_database}
 use Rattle.cli_call.specs.State.{RootState}
 use Rattle.cli_call.specs.Stops.{root_result}
 use Rattle.cli_call.specs.Store.{HasDamagedFile}
@@ -34,33 +33,9 @@ use Rattle.cli_call.specs.Stores.{root_store}
 use Rattle.cli_call.specs.Answer.{answer}
 use Rattle.root_commands.specs.Jobs.{AreNotesOf, list_jobs}
 use Rattle.root_commands.specs.Noting.{AreNoted, AreToldBy}
-
--- ---- numbers of jobs
-
-numbers_by_length : (o : StackItem) (olds : List StackItem) → AreNumbered (o ∷ olds) → o.number ≡ oldest (o ∷ olds) + length olds
-numbers_by_length o [] numbered = omega arith
-numbers_by_length o (p ∷ olds) numbered =
-    let next = numbered.0 in
-    let rest = numbers_by_length p olds numbered.1 in
-    omega (arith, next, rest)
-
-some_oldest : (o : StackItem) (olds : List StackItem) → AreNumbered (o ∷ olds) → 1 ≤ oldest (o ∷ olds)
-some_oldest o [] numbered = numbered
-some_oldest o (p ∷ olds) numbered = some_oldest p olds numbered.1
-
-counted : (low high long : ℕ) → 1 ≤ low → high ≡ low + long → job_count low high ≡ long + 1
-counted zero high long some far = absurd (omega (arith, some))
-counted (suc below) high long some far = omega (arith, far)
-
-count_of : (stack : List StackItem) → AreNumbered stack → job_count (oldest stack) (newest stack) ≡ length stack
-count_of [] numbered = refl
-count_of (o ∷ olds) numbered =
-    let all = counted (oldest (o ∷ olds)) o.number (length olds) (some_oldest o olds numbered) (numbers_by_length o olds numbered) in
-    omega (arith, all)
-
-mapped_length : {A B : Type 0} (f : A → B) (xs : List A) → length (map f xs) ≡ length xs
-mapped_length f [] = refl
-mapped_length f (x ∷ xs) = ap suc (mapped_length f xs)
+use Rattle.system_core.proofs.Migration.{AreFrom, OneRecord, from_newest, count_of}
+use Rattle.system_core.proofs.Held.{OneDatabase}
+use Rattle.local_db.proofs.cny-base.Lists.{length-map as mapped_length}
 
 -- ---- by the records that a stack holds
 
@@ -107,7 +82,7 @@ module _ (law : OneDatabase) (one : OneRecord) (x : Tree) (db : Db) (s : RootSta
   held_count : job_count db.oldest db.newest ≡ length s.stack
   held_count = let held = held_database law x db s holds stored in (λ i. job_count (held.oldest i) (held.newest i)) ∙ count_of s.stack held.stores.system.numbered
 
-  none_damaged : (path : Name) → IsDamagedRecord Two x (job_count db.oldest db.newest) db.newest db.installed path → ⊥
+  pub none_damaged : (path : Name) → IsDamagedRecord Two x (job_count db.oldest db.newest) db.newest db.installed path → ⊥
   none_damaged path damaged =
       let held = held_database law x db s holds stored in
       whole one x s.stack (newest s.stack) s.installed damaged.good damaged.before held.stores.olds held.stores.system.olds (from_newest s.stack held.stores.system.numbered)
@@ -115,7 +90,7 @@ module _ (law : OneDatabase) (one : OneRecord) (x : Tree) (db : Db) (s : RootSta
       (subst (λ (n : ℕ). HoldsRecords Two x n s.installed damaged.good damaged.before) held.newest (subst (λ (l : List TroveParts). HoldsRecords Two x db.newest l damaged.good damaged.before) held.list damaged.holds))
       (subst (λ (n : ℕ). HoldsNoRecord Two x (n - length damaged.good) damaged.before) held.newest damaged.none)
 
-  notes_of : (jobs : List Undone) (notes : List Note) → AreNotes x (job_count db.oldest db.newest) db.newest db.installed jobs → AreNoted jobs notes → AreNotesOf s.installed s.stack notes
+  pub notes_of : (jobs : List Undone) (notes : List Note) → AreNotes x (job_count db.oldest db.newest) db.newest db.installed jobs → AreNoted jobs notes → AreNotesOf s.installed s.stack notes
   notes_of jobs notes are noted =
       let held = held_database law x db s holds stored in
       told_of one x s.stack (newest s.stack) s.installed jobs notes held.stores.olds held.stores.system.olds (from_newest s.stack held.stores.system.numbered) held.stores.system.list.rising
@@ -133,16 +108,16 @@ Stopped root_disk opened root root' r =
 
 module _ {T P : Type 0} (root_disk : DiskModel T) (repo_disk : DiskModel P) (law : OneDatabase) (one : OneRecord) (input : List ℕ) (root root' : T) (repo : P) (opened : Opened) (ready : AreReady root_disk repo_disk (disks root repo opened))
     (same : IsTrue root_disk.tells → root_disk.reads root' ≡ root_disk.reads root) where
-  abbrev Ends : Result (List ℕ) Failure → Type 0
+  abbrev pub Ends : Result (List ℕ) Failure → Type 0
   Ends result = AnswersAlone root_disk list_jobs input root result
 
-  abbrev Caused : Result (List ℕ) Failure → Type 0
+  abbrev pub Caused : Result (List ℕ) Failure → Type 0
   Caused result = HasCause root_disk repo_disk (disks root repo opened) (disks root' repo opened) result
 
-  abbrev Damage : Name → Type 0
+  abbrev pub Damage : Name → Type 0
   Damage path = IsDamagedRecord Two (root_disk.reads root) (job_count opened.db.oldest opened.db.newest) opened.db.newest opened.db.installed path
 
-  damaged_file : (path : Name) → IsTrue root_disk.tells → Damage path → HasDamagedFile root_store (root_disk.reads root') path
+  pub damaged_file : (path : Name) → IsTrue root_disk.tells → Damage path → HasDamagedFile root_store (root_disk.reads root') path
   damaged_file path told damaged =
       let holds = (ready.root told).holds in
       let here : HasDamagedFile root_store (root_disk.reads root) path = record {
@@ -151,7 +126,7 @@ module _ {T P : Type 0} (root_disk : DiskModel T) (repo_disk : DiskModel P) (law
       } in
       subst (λ (t : Tree). HasDamagedFile root_store t path) (sym (same told)) here
 
-  stopped_ends : (e : Stop) → Stopped root_disk opened root root' (Err e) → IfErr (let r : Result (List Undone) Stop = Err e in root_result r) (λ f. Ends (Err f) × Caused (Err f))
+  pub stopped_ends : (e : Stop) → Stopped root_disk opened root root' (Err e) → IfErr (let r : Result (List Undone) Stop = Err e in root_result r) (λ f. Ends (Err f) × Caused (Err f))
   stopped_ends (stop.Refused why) h = absurd h
   stopped_ends stop.Failed h = (tt, h)
   stopped_ends stop.Memory h = (tt, tt)

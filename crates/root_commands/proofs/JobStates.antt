@@ -1,24 +1,21 @@
 -- How a job changes the root, by a state whose root it stores.
-use Rattle.std.proofs.Common.{◌≡◌, ◌≤◌, ℕ, Bool, List, [], ◌∷◌, Option, Result, Ok, Err, refl, sym, ap, ◌∙◌, inl, inr, arith}
-use Rattle.std.specs.Prelude.{◌⊎◌, ◌||◌}
+use Rattle.std.proofs.Common.{◌≡◌, ◌≤◌, ℕ, List, Option, Result, Ok, Err, refl, sym, ap, ◌∙◌, inl, inr, arith}
+use Rattle.std.specs.Prelude.{◌⊎◌}
 use Rattle.std.specs.FinMap.{get}
 use Rattle.repo_commands.specs.cny-base.declared.refusal.Refusal.{Refusal}
 use Rattle.repo_commands.specs.cny-base.declared.stop.Stop.{Stop}
 use Rattle.repo_commands.specs.cny-base.declared.stop.Stop.TheVariants as stop
-use Rattle.repo_commands.specs.tree-disk.Tree.{Name, Tree, same_name}
+use Rattle.repo_commands.specs.tree-disk.Tree.{Tree}
 use Rattle.repo_commands.specs.tree-disk.Disk.{DiskModel, IsDisk, HasRead}
-use Rattle.repo_commands.specs.tree-disk.ConfinedLaws.{leaves_weaker}
-use Rattle.repo_commands.specs.tree-disk.Unfailed.{unfailed_weaker}
+use Rattle.repo_commands.proofs.tree-disk.ConfinedLaws.{leaves_weaker}
+use Rattle.repo_commands.proofs.tree-disk.Unfailed.{unfailed_weaker}
 use Rattle.repo_commands.specs.journal-log.declared.put.Put.{Put}
-use Rattle.repo_commands.specs.journal-log.Targets.{is_target}
 use Rattle.repo_commands.specs.trove-stream.declared.parts.TroveParts.{TroveParts}
 use Rattle.local_db.specs.declared.db.Db.{Db}
 use Rattle.update_job.specs.declared.comparing.Change.{Change}
 use Rattle.update_job.specs.Changes.{AreChanges}
 use Rattle.local_db.specs.declared.format.Format.TheVariants.{Two}
-use Rattle.local_db.specs.SystemState.{is_listed}
-use Rattle.local_db.specs.Steps.{after_job, old_of, paths_of}
-use Rattle.local_db.proofs.Writes.{contains_first}
+use Rattle.local_db.specs.Steps.{after_job, old_of}
 use Rattle.system_core.specs.RootWriting as writes
 use Rattle.system_core.specs.Last.{ChangesNothing, PassesLast}
 use Rattle.system_core.specs.JobWriting as settling
@@ -40,11 +37,8 @@ use Rattle.cli_call.specs.Store.{RestsAt}
 use Rattle.cli_call.proofs.StoreLaws.{settled_rests}
 use Rattle.cli_call.specs.Stores.{root_store}
 use Rattle.root_commands.specs.JobOutcome.{JobOutcome}
-
--- a name is a target where it is among the paths
-listed_target : (puts : List Put) (q : Name) → is_listed (paths_of puts) q ≡ is_target puts q
-listed_target [] q = refl
-listed_target (p ∷ puts) q = ap (λ (b : Bool). same_name q p.path || b) (listed_target puts q)
+use Rattle.local_db.proofs.cny-base.Lists.{contains_first}
+use Rattle.local_db.proofs.Systems.{listed_paths as listed_target}
 
 -- a stop at no damaged content
 abbrev pub IsUndamaged : Stop → Type 0

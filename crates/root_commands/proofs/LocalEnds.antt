@@ -24,14 +24,12 @@ use Rattle.root_edits.specs.Local.{AreLocalParts, IsLocal, IsLocalPart, IsLocalR
 use Rattle.root_edits.specs.Reached.{AreReached}
 use Rattle.root_edits.specs.Standing.{Sight, sights}
 use Rattle.local_db.specs.Installed.{IsInstalled}
-use Rattle.local_db.proofs.Writes.{contains_first, contains_rest}
-use Rattle.update_job.proofs.Elements.{contains_at}
 use Rattle.cli_call.specs.declared.failure.Failure.{Failure}
 use Rattle.cli_call.specs.declared.opened.Opened.{Opened}
 use Rattle.cli_call.proofs.AloneLaws.{AnswersAlone}
 use Rattle.cli_call.specs.Command.{disks, AreReady, HasCause}
 use Rattle.cli_call.specs.Failures.{failure_of_fault}
-use Rattle.cli_call.proofs.RootDatabase.{OneDatabase, held_database}
+use Rattle.cli_call.proofs.RootDatabase.{held_database}
 use Rattle.cli_call.proofs.RootLaws.{stored_outside}
 use Rattle.cli_call.specs.State.{State, tree_of}
 use Rattle.cli_call.specs.Stops.{root_result}
@@ -39,36 +37,38 @@ use Rattle.cli_call.specs.Store.{RestsAt}
 use Rattle.cli_call.specs.Stores.{root_store}
 use Rattle.root_commands.specs.LocalChanges.{change_locally}
 use Rattle.root_commands.proofs.Verified.{AreOuter, files_outer, records_outer}
+use Rattle.system_core.proofs.Held.{OneDatabase}
+use Rattle.local_db.proofs.cny-base.Lists.{contains_at, contains_first, contains_rest}
 
 -- ---- what is seen outside the private directory
 
-abbrev Allowed : List TroveParts → Type 0
+abbrev pub Allowed : List TroveParts → Type 0
 Allowed troves = AllByRecursion (λ (t : TroveParts). first_forbidden t.files ≡ None) troves
 
 all_allowed : (troves : List TroveParts) → ((t : TroveParts) → Contains troves t → first_forbidden t.files ≡ None) → Allowed troves
 all_allowed [] each = tt
 all_allowed (t ∷ troves) each = (each t (contains_first t troves), all_allowed troves (λ u among. each u (contains_rest t u troves among)))
 
-reached_allowed : (list : List TroveParts) (name : List ℕ) (troves : List TroveParts) → IsInstalled list → AreReached list name troves → Allowed troves
+pub reached_allowed : (list : List TroveParts) (name : List ℕ) (troves : List TroveParts) → IsInstalled list → AreReached list name troves → Allowed troves
 reached_allowed list name troves rules reached = all_allowed troves (λ t among. (
     let from = reached.from t among in
     All-contains (λ (u : TroveParts). first_forbidden u.files ≡ None) list t rules.allowed (contains_at list from.place t from.there)))
 
 module _ (t u : Tree) (same : AgreesOutside is_reserved t u) where
-  sights_same : (files : List FileAt) → AreOuter files → sights t files ≡ sights u files
+  pub sights_same : (files : List FileAt) → AreOuter files → sights t files ≡ sights u files
   sights_same [] outer = refl
   sights_same (file ∷ files) outer = let here = same file.path outer.0 in let rest = sights_same files outer.1 in λ i. record { file = file; node = here i } ∷ rest i
 
-  all_same : (troves : List TroveParts) → Allowed troves → all_sights t troves ≡ all_sights u troves
+  pub all_same : (troves : List TroveParts) → Allowed troves → all_sights t troves ≡ all_sights u troves
   all_same troves allowed = sights_same (records troves) (records_outer troves allowed)
 
-  refusal_same : (troves : List TroveParts) → Allowed troves → first_refusal t troves ≡ first_refusal u troves
+  pub refusal_same : (troves : List TroveParts) → Allowed troves → first_refusal t troves ≡ first_refusal u troves
   refusal_same troves allowed = rw (all_same troves allowed) refl
 
-  contents_same : (troves : List TroveParts) → Allowed troves → all_contents t troves ≡ all_contents u troves
+  pub contents_same : (troves : List TroveParts) → Allowed troves → all_contents t troves ≡ all_contents u troves
   contents_same troves allowed = rw (all_same troves allowed) refl
 
-  parts_same : (all troves : List TroveParts) (parts : List Part) → Allowed troves → AreLocalParts all t troves parts → AreLocalParts all u troves parts
+  pub parts_same : (all troves : List TroveParts) (parts : List Part) → Allowed troves → AreLocalParts all t troves parts → AreLocalParts all u troves parts
   parts_same all [] parts allowed are = are
   parts_same all (x ∷ troves) parts allowed are =
       (are.0, are.1, subst (λ (seen : List Sight). IsLocalPart all seen x are.0) (sights_same x.files (files_outer x.files allowed.0)) are.2, parts_same all troves are.1 allowed.1 are.3, are.4)
@@ -99,22 +99,22 @@ module _ (t u : Tree) (same : AgreesOutside is_reserved t u) where
 -- ---- the answers
 
 module _ {T P : Type 0} (root_disk : DiskModel T) (repo_disk : DiskModel P) (law : OneDatabase) (name : List ℕ) (input : List ℕ) (root root' : T) (repo : P) (opened : Opened) (ready : AreReady root_disk repo_disk (disks root repo opened)) where
-  abbrev Answered : Result (List ℕ) Failure → Type 0
+  abbrev pub Answered : Result (List ℕ) Failure → Type 0
   Answered result = AnswersAlone root_disk (change_locally name) input root result
 
-  abbrev Caused : Result (List ℕ) Failure → Type 0
+  abbrev pub Caused : Result (List ℕ) Failure → Type 0
   Caused result = HasCause root_disk repo_disk (disks root repo opened) (disks root' repo opened) result
 
   abbrev pub Found : Result ChangeSet Stop → Type 0
   Found r = Ends root_disk.tells (IsLocal opened.db.installed name (root_disk.reads root)) (IsLocalRefusal opened.db.installed name (root_disk.reads root)) r (root_disk.faults root) (root_disk.faults root')
 
-  by_system : (IsIt : List TroveParts → Tree → Type 0) → ((list : List TroveParts) (t u : Tree) → AgreesOutside is_reserved t u → IsInstalled list → IsIt list t → IsIt list u) → IsTrue root_disk.tells → (s : State) → RestsAt root_store root_disk root s.root
+  pub by_system : (IsIt : List TroveParts → Tree → Type 0) → ((list : List TroveParts) (t u : Tree) → AgreesOutside is_reserved t u → IsInstalled list → IsIt list t → IsIt list u) → IsTrue root_disk.tells → (s : State) → RestsAt root_store root_disk root s.root
       → IsIt opened.db.installed (root_disk.reads root) → IsIt s.root.installed (tree_of s.root)
   by_system IsIt moved told s rests is =
       let held = held_database law (root_disk.reads root) opened.db s.root (ready.root told).holds rests.stored in
       moved s.root.installed (root_disk.reads root) (tree_of s.root) (stored_outside (root_disk.reads root) s.root rests.stored) held.stores.system.list (subst (λ (l : List TroveParts). IsIt l (root_disk.reads root)) held.list is)
 
-  stopped_ends : (e : Stop) → Found (Err e) → IfErr (let r : Result ChangeSet Stop = Err e in root_result r) (λ f. Answered (Err f) × Caused (Err f))
+  pub stopped_ends : (e : Stop) → Found (Err e) → IfErr (let r : Result ChangeSet Stop = Err e in root_result r) (λ f. Answered (Err f) × Caused (Err f))
   stopped_ends (stop.Refused why) h = (λ told s rests. inl (by_system (λ l t. IsLocalRefusal l name t why) (λ l t u same rules is. refused_same t u same l name why rules is) told s rests (h told)), tt)
   stopped_ends stop.Failed h = (tt, h)
   stopped_ends stop.Memory h = (tt, tt)

@@ -17,7 +17,7 @@ use Rattle.repo_commands.specs.tree-disk.Tree.{Tree}
 use Rattle.repo_commands.specs.tree-disk.Disk.{DiskModel}
 use Rattle.local_db.specs.declared.db.Db.{Db}
 use Rattle.repo_commands.specs.job-targets.declared.targets.Targets.{Targets}
-use Rattle.repo_commands.specs.job-targets.Contents.{Finds, FindsBehind, carried_bytes, of_size}
+use Rattle.repo_commands.specs.job-targets.Contents.{Finds, FindsBehind, carried_bytes}
 use Rattle.repo_commands.specs.job-targets.Outcome.{AreTargets, IsFirstRefusal, IsMissing, IsUnfound}
 use Rattle.repo_commands.specs.job-targets.Targets.{ArePutsOf, IsTarget}
 use Rattle.local_db.specs.SystemState.{SystemState}
@@ -25,6 +25,7 @@ use Rattle.system_core.specs.declared.done.Done.{Done}
 use Rattle.system_core.specs.Job.{IsJobRefusal, IsTestRefusal, IsTested, PassesTests, last, sources_of, unmet, unplanned, untargeted, untested}
 use Rattle.system_core.specs.Lists.{ListStep}
 use Rattle.system_core.specs.Steps.{Ends, IsDone, IsOnTheWay, IsRefusal, no_job, no_list, reading, writing}
+use Rattle.update_job.specs.cny-base.Sized.{of_size}
 
 module _ (carried : List Carried) (options : Options) (one two : Answers) (more : (name : List ℕ) (found : Option (List ℕ)) → one name found → two name found) where
   -- ---- the writes

@@ -19,23 +19,22 @@ use Rattle.local_db.specs.declared.db.Db.{Db}
 use Rattle.repo_commands.specs.job-targets.Old.{IsDamagedOld, IsSaved, is_staged}
 use Rattle.local_db.specs.declared.format.Format.TheVariants.{Two}
 use Rattle.local_db.specs.Record as state
-use Rattle.rollback_stack.specs.Jobs.{CanUndoAll, oldest_with, undone_all}
-use Rattle.rollback_stack.specs.Marks.{CanUndo, IsEdited, IsUndoRefusal, Marks, marks_of, undone}
-use Rattle.repo_commands.specs.job-record.JobReading.{HoldsNoRecord, HoldsRecord, HoldsRecords}
+use Rattle.repo_commands.specs.past-jobs.Jobs.{CanUndoAll, oldest_with, undone_all}
+use Rattle.repo_commands.specs.past-jobs.Marks.{CanUndo, IsEdited, IsUndoRefusal, Marks, marks_of, undone}
+use Rattle.rollback_stack.specs.JobReading.{HoldsNoRecord, HoldsRecord, HoldsRecords}
 use Rattle.rollback_stack.specs.declared.undo.Note.{Note as Undone}
 use Rattle.rollback_stack.specs.declared.undo.Back.{Back}
-use Rattle.rollback_stack.specs.Inverse.{IsBackRefusal, IsDamagedContent, IsDamagedJob, IsOldWant, IsRefusedJob}
+use Rattle.rollback_stack.specs.Inverse.{IsBackRefusal, IsDamagedJob, IsOldWant, IsRefusedJob}
 use Rattle.rollback_stack.specs.Numbers.{job_count}
 use Rattle.rollback_stack.specs.Reading.{AreNotes, IsAllStop}
 use Rattle.rollback_stack.proofs.Noting.{records_push}
 use Rattle.system_core.specs.Several.{HasTakenBackTo, IsStepTo, StopsTo}
-use Rattle.system_core.proofs.NewestStored.{OneRecord, all_middle}
 use Rattle.cli_call.specs.declared.failure.Failure.{Failure}
 use Rattle.cli_call.specs.Stops.{root_failure, root_result}
-use Rattle.root_commands.specs.Records.{IsDamagedOfAll, ListsWhole, NoneIs, TakesBackWhole, last_job}
-
-same_some : {A : Type 0} (x y : A) → Some x ≡ Some y → x ≡ y
-same_some x y e = cc e
+use Rattle.root_commands.specs.Records.{IsDamagedOfAll, IsUnsavedContent, ListsWhole, NoneIs, TakesBackWhole, last_job}
+use Rattle.system_core.proofs.Migration.{OneRecord}
+use Rattle.local_db.proofs.cny-base.Lists.{all_at as all_middle}
+use Rattle.local_db.proofs.cny-base.OptionValues.{same_some}
 
 split_at : (i j : ℕ) → (i ≤ j) ⊎ (j < i)
 split_at zero j = inl (omega arith)
@@ -172,7 +171,7 @@ module _ (one : OneRecord) (x : Tree) (db : Db) (number : ℕ) (step : Back) (is
   abbrev IsOldPut : Put → Type 0
   IsOldPut p = (n : ℕ) × (oldest_with db.newest is.jobs p.path ≡ Some n) × IsOldWant x n (undone_all is.jobs (marks_of x) p.path) p.want
 
-  no_content : NoneIs (IsDamagedContent x db number)
+  no_content : NoneIs (IsUnsavedContent x db number)
   no_content path content = ⊎_elim
       (λ stays. subst (λ (m : Mark). IsDamagedOld x content.job m path) stays.wanted damaged)
       (λ wanted. written wanted.0 (All-contains IsOldPut is.nodes (record { path = content.place; want = wanted.0 }) is.nodes_are.old wanted.1))
@@ -181,8 +180,8 @@ module _ (one : OneRecord) (x : Tree) (db : Db) (number : ℕ) (step : Back) (is
       same : content.jobs ≡ is.jobs
       same =
           let mine = is.jobs_are.count in
-          let its = content.jobs_are.count in
-          same_jobs one x db.newest db.installed content.before is.before content.jobs is.jobs (omega (arith, mine, its)) content.jobs_are.holds is.jobs_are.holds
+          let its = content.count in
+          same_jobs one x db.newest db.installed content.before is.before content.jobs is.jobs (omega (arith, mine, its)) content.holds is.jobs_are.holds
 
       named : oldest_with db.newest is.jobs content.place ≡ Some content.job
       named = subst (λ (l : List (List state.Entry)). oldest_with db.newest l content.place ≡ Some content.job) same content.named

@@ -14,8 +14,7 @@ use Rattle.local_db.specs.declared.format.Format.TheVariants.{Two}
 use Rattle.local_db.specs.SystemState.{AreNumbered, StackItem, SystemState, is_listed, newest}
 use Rattle.local_db.specs.Steps.{after_rollback, after_rollbacks}
 use Rattle.local_db.specs.Stores.{StoresIn}
-use Rattle.local_db.proofs.Writes.{contains_first, contains_rest}
-use Rattle.rollback_stack.specs.Inverse.{IsDamagedContent, IsDamagedJob}
+use Rattle.rollback_stack.specs.Inverse.{IsDamagedJob, IsFirstDamagedContent}
 use Rattle.system_core.specs.Rollback.{HasCause}
 use Rattle.system_core.specs.Several.{AreTakenBack, CanTakeBackTo, EndsTo, HasTakenBackTo, IsRefusalKindTo, IsRefusalTo, RollsBackTo, StopsTo, jobs_below, jobs_to, paths_of_jobs, rolled_back_to}
 use Rattle.cny_report.specs.Jobs.{rolled_back_text}
@@ -24,7 +23,7 @@ use Rattle.cli_call.specs.declared.failure.Failure.TheVariants as failure
 use Rattle.cli_call.specs.declared.opened.Opened.{Opened}
 use Rattle.cli_call.specs.Alone.{PerformsAlone}
 use Rattle.cli_call.specs.Command.{disks, AreReady, LeavesName, Performs}
-use Rattle.cli_call.proofs.RootDatabase.{OneDatabase, held_database}
+use Rattle.cli_call.proofs.RootDatabase.{held_database}
 use Rattle.cli_call.specs.State.{RootState}
 use Rattle.cli_call.specs.Stops.{root_result}
 use Rattle.cli_call.specs.Store.{IsSettled, IsStore}
@@ -32,16 +31,12 @@ use Rattle.cli_call.specs.Stores.{repository_store, root_store}
 use Rattle.root_commands.specs.Records.{last_job}
 use Rattle.root_commands.specs.RollingBack.{meant_number, roll_back, take_back}
 use Rattle.root_commands.proofs.TakingBack.{CausesBack, EndsBack, StopsBack, TakenBack, Ways, failed_alone, failed_performs, memory_alone, memory_performs, told_alone, told_performs}
+use Rattle.system_core.proofs.Held.{OneDatabase}
+use Rattle.local_db.proofs.cny-base.Lists.{contains_first, contains_rest}
+use Rattle.local_db.proofs.Systems.{newest_rest as newest_below, numbered_rest as tail_numbered}
+use Rattle.local_db.proofs.tree-disk.Children.{or_none as or_false}
 
 -- ---- numbers of jobs
-
-newest_below : (o : StackItem) (olds : List StackItem) → AreNumbered (o ∷ olds) → newest olds < o.number
-newest_below o [] numbered = omega (arith, numbered)
-newest_below o (p ∷ olds) numbered = let next : o.number ≡ p.number + 1 = numbered.0 in omega (arith, next)
-
-tail_numbered : (o : StackItem) (olds : List StackItem) → AreNumbered (o ∷ olds) → AreNumbered olds
-tail_numbered o [] numbered = tt
-tail_numbered o (p ∷ olds) numbered = numbered.1
 
 rest_below : (os rest : List StackItem) → AreNumbered (os ++ rest) → newest rest ≤ newest (os ++ rest)
 rest_below [] rest numbered = omega arith
@@ -67,15 +62,11 @@ cause_back IsKind rose (stop.Damaged path) h = tt
 cause_back IsKind rose stop.FarFailed h = h
 cause_back IsKind rose (stop.FarDamaged path) h = h
 
-causes_all : (IsKind : Refusal → Type 0) (rose : Type 0) (r : Result ℕ Stop) → IfErr r (HasCause IsKind rose) → IfErr r (CausesBack rose)
+pub causes_all : (IsKind : Refusal → Type 0) (rose : Type 0) (r : Result ℕ Stop) → IfErr r (HasCause IsKind rose) → IfErr r (CausesBack rose)
 causes_all IsKind rose (Ok n) h = tt
 causes_all IsKind rose (Err e) h = cause_back IsKind rose e h
 
 -- ---- the jobs that are taken back
-
-or_false : (a b : Bool) → a ≡ false → b ≡ false → (a || b) ≡ false
-or_false true b h k = h
-or_false false b h k = k
 
 append_unlisted : (some more : List Name) (q : Name) → is_listed some q ≡ false → is_listed more q ≡ false → is_listed (some ++ more) q ≡ false
 append_unlisted [] more q h k = k
@@ -86,7 +77,7 @@ append_unlisted (p ∷ some) more q h k = by (same_name q p) refl h (append_unli
     by false is h rest = or_false (same_name q p) (is_listed (some ++ more) q) is (rest h k)
 
 -- none of the paths of these jobs
-unlisted_all : (os rest : List StackItem) (q : Name) → AreNumbered (os ++ rest) → ((o : StackItem) → Contains os o → newest rest < o.number → is_listed o.paths q ≡ false) → is_listed (paths_of_jobs os) q ≡ false
+pub unlisted_all : (os rest : List StackItem) (q : Name) → AreNumbered (os ++ rest) → ((o : StackItem) → Contains os o → newest rest < o.number → is_listed o.paths q ≡ false) → is_listed (paths_of_jobs os) q ≡ false
 unlisted_all [] rest q numbered each = refl
 unlisted_all (o ∷ os) rest q numbered each =
     let less = newest_below o (os ++ rest) numbered in
@@ -95,7 +86,7 @@ unlisted_all (o ∷ os) rest q numbered each =
     (unlisted_all os rest q (tail_numbered o (os ++ rest) numbered) (λ p among. each p (contains_rest o p os among)))
 
 -- the stack once they are taken back
-stack_after : (os rest : List StackItem) (s : SystemState) → s.stack ≡ os ++ rest → (after_rollbacks os rest s).stack ≡ rest
+pub stack_after : (os rest : List StackItem) (s : SystemState) → s.stack ≡ os ++ rest → (after_rollbacks os rest s).stack ≡ rest
 stack_after [] rest s is = is
 stack_after (o ∷ os) rest s is = stack_after os rest (after_rollback o (os ++ rest) s) refl
 
@@ -120,9 +111,9 @@ module _ {T : Type 0} (root_disk : DiskModel T) (root root' : T) (opened opened'
   Tells s n = AreTakenBack s (number_of s) opened'.db n
 
   abbrev pub IsDamage : Name → Type 0
-  IsDamage path = IsDamagedJob (root_disk.reads root) opened.db last path ⊎ IsDamagedContent (root_disk.reads root) opened.db last path
+  IsDamage path = IsDamagedJob (root_disk.reads root) opened.db last path ⊎ IsFirstDamagedContent (root_disk.reads root) opened.db last path
 
-  left_out : (s : RootState) → StoresIn Two (root_disk.reads root) s → CanTake s → (q : Name) → LeavesName s (back_of s) q → is_listed (paths_of s) q ≡ false
+  pub left_out : (s : RootState) → StoresIn Two (root_disk.reads root) s → CanTake s → (q : Name) → LeavesName s (back_of s) q → is_listed (paths_of s) q ≡ false
   left_out s stores can q leaves =
       let os = jobs_to (number_of s) s.stack in
       let rest = jobs_below (number_of s) s.stack in
@@ -138,21 +129,21 @@ module _ {T : Type 0} (root_disk : DiskModel T) (root root' : T) (opened opened'
     left_out = left_out;
   }
 
-  ends_all : (s : RootState) (r : Result ℕ Stop) → EndsTo s (number_of s) opened'.db r → EndsBack (Tells s) (Refuses s) r
+  pub ends_all : (s : RootState) (r : Result ℕ Stop) → EndsTo s (number_of s) opened'.db r → EndsBack (Tells s) (Refuses s) r
   ends_all s (Err stop.Failed) h = tt
   ends_all s (Err stop.Memory) h = tt
   ends_all s _ h = h
 
-  rests_all : (r : Result ℕ Stop) → IfOk r (HasTakenBackTo root_disk opened.db opened'.db last root root') → OnOk r (IsSettled root_disk root_store.base root')
+  pub rests_all : (r : Result ℕ Stop) → IfOk r (HasTakenBackTo root_disk opened.db opened'.db last root root') → OnOk r (IsSettled root_disk root_store.base root')
   rests_all (Ok n) h = record { flag_clear = h.put.flag_clear; synced = h.put.synced }
   rests_all (Err e) h = tt
 
-  stops_each : (e : Stop) → StopsTo root_disk opened.db last root root' e → StopsBack root_disk IsDamage root root' e
+  pub stops_each : (e : Stop) → StopsTo root_disk opened.db last root root' e → StopsBack root_disk IsDamage root root' e
   stops_each (stop.Refused why) h = record { answer = tt; same = h.same; time = h.time }
   stops_each (stop.Damaged path) h = h
   stops_each _ h = tt
 
-  stops_all : (r : Result ℕ Stop) → IfErr r (StopsTo root_disk opened.db last root root') → IfErr r (StopsBack root_disk IsDamage root root')
+  pub stops_all : (r : Result ℕ Stop) → IfErr r (StopsTo root_disk opened.db last root root') → IfErr r (StopsBack root_disk IsDamage root root')
   stops_all (Ok n) h = tt
   stops_all (Err e) h = stops_each e h
 
@@ -193,20 +184,20 @@ module _ {T P : Type 0} {root_disk : DiskModel T} (root_disk_laws : IsDisk root_
     (rolls : IsTrue root_disk.tells → (s : SystemState) → StoresIn Two (root_disk.reads root) s → RollsBackTo root_disk s last opened'.db root root' r)
     (done : IsTrue root_disk.tells → IfOk r (HasTakenBackTo root_disk opened.db opened'.db last root root')) (stops : IsTrue root_disk.tells → IfErr r (StopsTo root_disk opened.db last root root'))
     (causes : IfErr r (HasCause (IsRefusalKindTo opened.db last) (Rose (root_disk.faults root) (root_disk.faults root')))) (later : root_disk.faults root ≤ root_disk.faults root') (input : List ℕ) where
-  abbrev number_in : RootState → ℕ
+  abbrev pub number_in : RootState → ℕ
   number_in s = meant_number number s
 
-  newest_in : (s : RootState) → IsTrue root_disk.tells → StoresIn Two (root_disk.reads root) s → opened.db.newest ≡ newest s.stack
+  pub newest_in : (s : RootState) → IsTrue root_disk.tells → StoresIn Two (root_disk.reads root) s → opened.db.newest ≡ newest s.stack
   newest_in s told stores = (held_database law (root_disk.reads root) opened.db s (ready.root told).holds (inr stores)).newest
 
-  took : TakenBack root_disk root root' (CanTake root_disk root root' opened opened' last number_in) (back_of root_disk root root' opened opened' last number_in) (paths_of root_disk root root' opened opened' last number_in)
+  pub took : TakenBack root_disk root root' (CanTake root_disk root root' opened opened' last number_in) (back_of root_disk root root' opened opened' last number_in) (paths_of root_disk root root' opened opened' last number_in)
       (Refuses root_disk root root' opened opened' last number_in) (Tells root_disk root root' opened opened' last number_in) (IsDamage root_disk root root' opened opened' last number_in) r
   took = taken root_disk root root' opened opened' last number_in r (λ s told stores. meant_is number s opened.db last last_is (newest_in s told stores)) rolls done stops causes later
 
-  abbrev Alone : Result (List ℕ) Failure → Type 0
+  abbrev pub Alone : Result (List ℕ) Failure → Type 0
   Alone f = PerformsAlone root_disk repo_disk (roll_back number) input (disks root repo opened) (disks root' repo opened') f
 
-  abbrev Done : Result (List ℕ) Failure → Type 0
+  abbrev pub Done : Result (List ℕ) Failure → Type 0
   Done f = Performs root_disk repo_disk (roll_back number) input (disks root repo opened) (disks root' repo opened') f
 
   pub alone_failed : (f : Failure) → root_result r ≡ Err f → Alone (Err f)

@@ -14,23 +14,24 @@ use Rattle.trove_spec.specs.declared.config.Config.{Config}
 use Rattle.trove_spec.specs.Expansion.{IsExpansion, IsUnexpanded}
 use Rattle.trove_spec.specs.RootConfig.{HasConfig}
 use Rattle.repo_index.specs.Catalogue.{CatalogueParts}
-use Rattle.repo_load.specs.State.{troves_of, AreFollowing, Commit, IsAllowed}
+use Rattle.repo_load.specs.State.{troves_of, AreFollowing, Commit}
 use Rattle.repo_load.specs.Loading.{IsCatalogue}
 use Rattle.cli_call.specs.Command.{Disks, AreReady, StandsFor}
 use Rattle.cli_call.specs.State.{tree_of, Effect, State}
-use Rattle.update_job.proofs.Firsts.{split_at}
 use Rattle.system_core.specs.Lists.{AreAllowed}
-use Rattle.repo_commands.specs.declared.given.GivenSpec.{GivenSpec}
-use Rattle.repo_commands.specs.AndThen.{AndThen, EndsAs}
-use Rattle.repo_commands.specs.Meant.{Means}
+use Rattle.trove_spec.specs.declared.given.GivenSpec.{GivenSpec}
+use Rattle.trove_spec.specs.AndThen.{AndThen, EndsAs}
+use Rattle.trove_spec.specs.Meant.{Means}
 use Rattle.repo_commands.proofs.ReadingEnds.{CatalogueIs, config_of, troves_are}
 use Rattle.root_commands.specs.Update.{UpdatesTo}
 use Rattle.root_commands.specs.UpdateSpecs.{AreMeant, MeanAll, ReachAll, UpdatesFrom}
+use Rattle.update_job.specs.trove-stream.Forbidden.{IsAllowed}
+use Rattle.local_db.proofs.cny-base.Lists.{split_at}
 
 -- ---- one specification after another
 
 module _ (troves : List TroveParts) (config : Config) where
-  meant_push : (givens : List GivenSpec) (ids : List TroveId) (given : GivenSpec) (id : TroveId) → AreMeant troves config givens ids → Means troves config given (Ok id) → AreMeant troves config (givens ++ given ∷ []) (ids ++ id ∷ [])
+  pub meant_push : (givens : List GivenSpec) (ids : List TroveId) (given : GivenSpec) (id : TroveId) → AreMeant troves config givens ids → Means troves config given (Ok id) → AreMeant troves config (givens ++ given ∷ []) (ids ++ id ∷ [])
   meant_push [] [] given id are one = (one, tt)
   meant_push [] (x ∷ ids) given id are one = absurd are
   meant_push (g ∷ givens) [] given id are one = absurd are

@@ -23,7 +23,7 @@ use Rattle.cli_call.specs.Alone.{PerformsAlone}
 use Rattle.cli_call.proofs.ChangingRoot.{ChangesRoot, alone_on_root, performs_on_root}
 use Rattle.cli_call.specs.Command.{disks, AreReady, ChangesNothing as KeepsAll, HasCause, Performs, end_of}
 use Rattle.cli_call.specs.Report.{status_of}
-use Rattle.cli_call.proofs.RootDatabase.{OneDatabase, one_format}
+use Rattle.cli_call.proofs.RootDatabase.{one_format}
 use Rattle.cli_call.specs.State.{Effect, Meaning, RootState, State}
 use Rattle.cli_call.specs.Stops.{root_failure, root_result}
 use Rattle.cli_call.specs.Store.{IsSettled, IsStore, RestsAt}
@@ -33,6 +33,7 @@ use Rattle.cli_call.proofs.RootResults.{root_ok, same_failure}
 use Rattle.root_commands.specs.JobOutcome.{JobOutcome}
 use Rattle.root_commands.proofs.JobStates as states
 use Rattle.root_commands.proofs.JobStates.{IsUndamaged}
+use Rattle.system_core.proofs.Held.{OneDatabase}
 
 -- what a refusal leaves, or a stop at a damaged content, on each root
 abbrev pub ReadsAtRefusal : {D : Type 0} → DiskModel D → D → D → Stop → Type 0

@@ -8,8 +8,8 @@ use Rattle.repo_commands.specs.cny-base.declared.stop.Stop.{Stop}
 use Rattle.repo_commands.specs.cny-base.declared.stop.Stop.TheVariants as stop
 use Rattle.repo_commands.specs.tree-disk.Tree.{Name, Tree}
 use Rattle.repo_commands.specs.tree-disk.Disk.{DiskModel, IsDisk, HasRead}
-use Rattle.repo_commands.specs.tree-disk.ConfinedLaws.{leaves_weaker}
-use Rattle.repo_commands.specs.tree-disk.Unfailed.{unfailed_weaker}
+use Rattle.repo_commands.proofs.tree-disk.ConfinedLaws.{leaves_weaker}
+use Rattle.repo_commands.proofs.tree-disk.Unfailed.{unfailed_weaker}
 use Rattle.local_db.specs.declared.db.Db.{Db}
 use Rattle.local_db.specs.declared.format.Format.TheVariants.{Two}
 use Rattle.local_db.specs.SystemState.{is_listed}
@@ -23,7 +23,7 @@ use Rattle.cli_call.proofs.ChangingRoot.{ChangesRoot, alone_on_root, of_either, 
 use Rattle.cli_call.specs.Command.{disks, Answers, AreReady, ChangesNothing, HasCause, LeavesName, Performs, end_of}
 use Rattle.cli_call.proofs.CommandLaws.{goes_read, read_shown}
 use Rattle.cli_call.specs.Report.{status_of}
-use Rattle.cli_call.proofs.RootDatabase.{OneDatabase, one_format}
+use Rattle.cli_call.proofs.RootDatabase.{one_format}
 use Rattle.cli_call.proofs.RootLaws.{root_laws}
 use Rattle.cli_call.specs.State.{on_root, Effect, Meaning, RootState, State, Takes}
 use Rattle.cli_call.specs.Stops.{root_failure, root_result}
@@ -32,6 +32,7 @@ use Rattle.cli_call.proofs.StoreLaws.{read_settled, settled_rests}
 use Rattle.cli_call.specs.Stores.{root_store, repository_store, HasDamagedJob, StoresNone}
 use Rattle.cli_call.proofs.RootResults.{root_ok, same_failure}
 use Rattle.root_commands.specs.RollingBack.{IsBack}
+use Rattle.system_core.proofs.Held.{OneDatabase}
 
 -- how it ends by a system: with what is answered to it, or with a refusal
 abbrev pub EndsBack : {N : Type 0} → (N → Type 0) → (Refusal → Type 0) → Result N Stop → Type 0

@@ -3,14 +3,13 @@ use Rattle.std.proofs.Common.{◌≡◌, ℕ, ◌+◌, ◌<◌, Bool, true, fals
 use Rattle.std.specs.Option.{option_or}
 use Rattle.std.proofs.lemmas.List.{take_more}
 use Rattle.repo_commands.specs.trove-parts.declared.id.TroveId.{TroveId}
-use Rattle.rollback_stack.specs.Undo.{id_of}
 use Rattle.rollback_stack.specs.declared.undo.Note.{Note as Undone}
-use Rattle.rollback_stack.proofs.Keyed.{found_more}
+use Rattle.repo_commands.proofs.job-record.Keyed.{found_more}
 use Rattle.repo_commands.specs.tree-disk.Tree.{same_name}
 use Rattle.update_job.specs.declared.comparing.Change.{Change}
 use Rattle.update_job.specs.declared.comparing.Change.TheVariants.{Installed, Updated, Erased}
 use Rattle.cny_report.specs.declared.note.Note.{Note}
-use Rattle.root_commands.specs.Noting.{change_of, id_if, turned, AreNoted, IsNoted}
+use Rattle.root_commands.specs.Noting.{AreNoted, IsNoted, change_of, id_if, id_of, turned}
 
 -- a second id of the name makes no change
 made_once : (came : Bool) (x y : TroveId) (old : Option Change) → change_of came x (turned came (Some y) old) ≡ None

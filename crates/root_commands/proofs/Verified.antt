@@ -1,6 +1,5 @@
 -- What is found at paths outside the private directory depends on the tree outside it alone.
 use Rattle.std.proofs.Common.{◌≡◌, Bool, true, false, cond, List, [], ◌∷◌, ◌++◌, Option, Some, None, refl, ap, ◌∙◌}
-use Rattle.std.specs.Prelude.{◌||◌}
 use Rattle.std.specs.FinMap.{get}
 use Rattle.std.specs.List.{AllByRecursion, cons_option}
 use Rattle.std.specs.Option.{option_map}
@@ -18,15 +17,13 @@ use Rattle.repo_commands.specs.tree-scan.declared.mark.Mark.{Mark}
 use Rattle.repo_commands.specs.tree-scan.declared.mark.Mark.TheVariants as mark
 use Rattle.repo_commands.specs.tree-scan.declared.verification.Found.{Found}
 use Rattle.repo_commands.specs.tree-scan.Marks.{fingerprint}
-use Rattle.root_edits.specs.Verify.{asked, change_at, finding_of, findings, found_at, is_asked, records, verified}
+use Rattle.root_edits.specs.Verify.{asked, change_at, finding_of, findings, found_at, is_asked, verified}
+use Rattle.root_edits.specs.Local.{records}
+use Rattle.local_db.proofs.cny-base.Bools.{first_false}
 
 -- the files whose paths aren't reserved
 abbrev pub AreOuter : List FileAt → Type 0
 AreOuter files = AllByRecursion (λ (file : FileAt). is_reserved file.path ≡ false) files
-
-first_false : (a b : Bool) → (a || b) ≡ false → a ≡ false
-first_false true b h = absurd cc
-first_false false b h = refl
 
 pub files_outer : (files : List FileAt) → first_forbidden files ≡ None → AreOuter files
 files_outer [] none = tt

@@ -1,7 +1,6 @@
 -- How `verify` ends without contents.
-use Rattle.std.proofs.Common.{◌≡◌, ℕ, List, None, Result, Ok, Err, IfErr, refl, ap, ◌∙◌, subst, arith}
+use Rattle.std.proofs.Common.{◌≡◌, ℕ, List, None, Result, Ok, Err, IfErr, refl, ap, ◌∙◌, subst}
 use Rattle.std.specs.Prelude.{IsTrue}
-use Rattle.repo_commands.specs.cny-base.Count.{Rose}
 use Rattle.repo_commands.specs.cny-base.declared.stop.Stop.{Stop}
 use Rattle.repo_commands.specs.cny-base.declared.stop.Stop.TheVariants as stop
 use Rattle.repo_commands.specs.tree-disk.Disk.{DiskModel}
@@ -11,13 +10,13 @@ use Rattle.repo_commands.specs.content-store.declared.contents.NoContents.{NoCon
 use Rattle.repo_commands.specs.tree-scan.declared.verification.Verified.{Verified}
 use Rattle.update_job.specs.Lists.{AreInstalled, IsNotInstalled}
 use Rattle.root_edits.specs.Search.{Searches}
-use Rattle.root_edits.specs.Verify.{asked, records, verified, IsVerified, LacksOne}
+use Rattle.root_edits.specs.Verify.{asked, verified, IsVerified, LacksOne}
 use Rattle.cny_report.specs.Verified.{verified_text}
 use Rattle.cli_call.specs.declared.failure.Failure.{Failure}
 use Rattle.cli_call.specs.declared.opened.Opened.{Opened}
 use Rattle.cli_call.proofs.AloneLaws.{AnswersAlone}
 use Rattle.cli_call.specs.Command.{disks, AreReady, Disks, HasCause}
-use Rattle.cli_call.proofs.RootDatabase.{OneDatabase, held_database}
+use Rattle.cli_call.proofs.RootDatabase.{held_database}
 use Rattle.cli_call.proofs.RootLaws.{stored_outside}
 use Rattle.cli_call.specs.State.{State, tree_of}
 use Rattle.cli_call.specs.Stops.{root_result}
@@ -27,6 +26,9 @@ use Rattle.cli_call.specs.Answer.{answer}
 use Rattle.root_commands.specs.Verifying.{no_contents, verify_installed}
 use Rattle.root_commands.proofs.Answering.{installed_are}
 use Rattle.root_commands.proofs.Verified.{asked_outer, verified_same}
+use Rattle.system_core.proofs.Held.{OneDatabase}
+use Rattle.root_edits.specs.Local.{records}
+use Rattle.system_core.proofs.CallLaws.{no_rise as none_rose}
 
 -- what a verification with these contents says
 abbrev pub Searched : {T C : Type 0} → DiskModel T → ContentsModel C → List (List ℕ) → List TroveParts → T → T → C → C → Result Verified Stop → Type 0
@@ -41,18 +43,15 @@ found_of_system root_disk repo_disk law m ready told names map s rests =
     ap (λ (l : List TroveParts). verified map (root_disk.reads m.root) (asked names l)) held.list
     ∙ verified_same map (root_disk.reads m.root) (tree_of s.root) (stored_outside (root_disk.reads m.root) s.root rests.stored) (asked names s.root.installed) (asked_outer names s.root.installed held.stores.system.list)
 
-pub none_rose : Rose 0 0 → ⊥
-none_rose rose = omega (arith, rose)
-
 module _ {T P : Type 0} (root_disk : DiskModel T) (repo_disk : DiskModel P) (law : OneDatabase) (names : List (List ℕ)) (input : List ℕ) (root root' : T) (repo : P) (opened : Opened) (ready : AreReady root_disk repo_disk (disks root repo opened)) (far far' : NoContents) where
-  abbrev Ends : Result (List ℕ) Failure → Type 0
+  abbrev pub Ends : Result (List ℕ) Failure → Type 0
   Ends result = AnswersAlone root_disk (verify_installed names) input root result
 
-  abbrev Caused : Result (List ℕ) Failure → Type 0
+  abbrev pub Caused : Result (List ℕ) Failure → Type 0
   Caused result = HasCause root_disk repo_disk (disks root repo opened) (disks root' repo opened) result
 
   -- it stopped
-  stopped_ends : (e : Stop) → Searched root_disk (empty_contents {C = NoContents}) names opened.db.installed root root' far far' (Err e) → IfErr (let r : Result Verified Stop = Err e in root_result r) (λ f. Ends (Err f) × Caused (Err f))
+  pub stopped_ends : (e : Stop) → Searched root_disk (empty_contents {C = NoContents}) names opened.db.installed root root' far far' (Err e) → IfErr (let r : Result Verified Stop = Err e in root_result r) (λ f. Ends (Err f) × Caused (Err f))
   stopped_ends (stop.Refused why) run = (λ told s rests. subst (λ (l : List TroveParts). IsNotInstalled l names why) (installed_are law (disks root repo opened) ready told s rests) run.ends, tt)
   stopped_ends stop.Failed run = (tt, run.ends)
   stopped_ends stop.Memory run = (tt, tt)

@@ -1,6 +1,8 @@
 -- What is told of a job, by the ids of the troves that it changed.
 use Rattle.std.specs.Prelude.{◌≡◌, ℕ, Bool, true, false, if◌then◌else◌, List, [], ◌∷◌, Option, Some, None}
+use Rattle.std.specs.List.{find}
 use Rattle.std.specs.Option.{option_or}
+use Rattle.std.specs.Str.{bytes_eq}
 use Rattle.repo_commands.specs.trove-parts.declared.id.TroveId.{TroveId}
 use Rattle.repo_commands.specs.trove-stream.declared.parts.TroveParts.{TroveParts}
 use Rattle.repo_commands.specs.tree-disk.Tree.{same_name}
@@ -8,11 +10,14 @@ use Rattle.repo_commands.specs.trove-stream.Installed.{IsRising}
 use Rattle.update_job.specs.declared.comparing.Change.{Change}
 use Rattle.update_job.specs.declared.comparing.Change.TheVariants.{Installed, Updated, Erased}
 use Rattle.update_job.specs.Changes.{AreChanges, Noted, noted}
-use Rattle.repo_commands.specs.job-record.Past.{AreChangedIds}
-use Rattle.rollback_stack.specs.Undo.{id_of}
+use Rattle.repo_commands.specs.past-jobs.Past.{AreChangedIds}
 use Rattle.rollback_stack.specs.declared.undo.Note.{Note as Undone}
 use Rattle.cny_report.specs.declared.note.Note.{Note}
 use Rattle.cny_report.specs.Jobs.{undos_text}
+
+-- the id of the name
+abbrev pub id_of : List ℕ → List TroveId → Option TroveId
+id_of name ids = find (λ (id : TroveId). bytes_eq id.name name) ids
 
 -- An id of a trove before a job, or of one that came, makes this change of what was noted of its name, if it makes one.
 abbrev pub change_of : Bool → TroveId → Option Change → Option Change

@@ -1,8 +1,13 @@
 -- A damaged record isn't passed over by the commands that read records, also where the root stores no system.
-use Rattle.std.specs.Prelude.{◌⊎◌, ℕ, Option, None, Some, Result, Ok, Err}
-use Rattle.repo_commands.specs.job-record.JobReading.{IsDamagedRecord}
+use Rattle.std.specs.Prelude.{◌≡◌, ◌⊎◌, ℕ, ◌+◌, List, length, Option, None, Some, Result, Ok, Err}
+use Rattle.rollback_stack.specs.JobReading.{HoldsRecords, IsDamagedRecord}
 use Rattle.local_db.specs.declared.db.Db.{Db}
-use Rattle.rollback_stack.specs.Inverse.{IsDamagedContent, IsDamagedJob}
+use Rattle.local_db.specs.Record as state
+use Rattle.repo_commands.specs.job-targets.Old.{IsDamagedOld}
+use Rattle.repo_commands.specs.past-jobs.Jobs.{oldest_with, undone_all}
+use Rattle.repo_commands.specs.past-jobs.Marks.{marks_of}
+use Rattle.repo_commands.specs.trove-stream.declared.parts.TroveParts.{TroveParts}
+use Rattle.rollback_stack.specs.Inverse.{IsDamagedJob}
 use Rattle.rollback_stack.specs.Numbers.{job_count}
 use Rattle.local_db.specs.declared.format.Format.TheVariants.{Two}
 use Rattle.repo_commands.specs.tree-disk.Tree.{Name, Tree}
@@ -42,9 +47,21 @@ abbrev pub last_job : Option ℕ → Db → ℕ
 last_job None db = db.newest
 last_job (Some number) db = number
 
+-- A content that is to stand again once the jobs down to this number are taken back, whether or not they can be, isn't saved as its
+-- fingerprint tells: this is its path.
+pub record IsUnsavedContent (x : Tree) (db : Db) (number : ℕ) (path : Name) : Type 0 where
+  pub jobs : List (List state.Entry)
+  pub before : List TroveParts
+  pub count : length jobs + number ≡ db.newest + 1
+  pub holds : HoldsRecords Two x db.newest db.installed jobs before
+  pub place : Name
+  pub job : ℕ
+  pub named : oldest_with db.newest jobs place ≡ Some job
+  pub damaged : IsDamagedOld x job (undone_all jobs (marks_of x) place) path
+
 -- The record of a job that is to be taken back is damaged, once the newer ones can be taken back; or a content that is to stand again.
 abbrev pub IsDamagedBack : Option ℕ → Tree → Db → Name → Type 0
-IsDamagedBack number tree db path = IsDamagedJob tree db (last_job number db) path ⊎ IsDamagedContent tree db (last_job number db) path
+IsDamagedBack number tree db path = IsDamagedJob tree db (last_job number db) path ⊎ IsUnsavedContent tree db (last_job number db) path
 
 -- After Ok neither is, and after a refusal no record.
 abbrev pub TakesBackWhole : {A : Type 0} → Option ℕ → Tree → Db → Result A Failure → Type 0

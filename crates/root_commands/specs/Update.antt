@@ -12,7 +12,7 @@ use Rattle.system_core.specs.Job.{sources_of}
 use Rattle.system_core.specs.Lists.{to_updated}
 use Rattle.cli_call.specs.State.{Effect, Meaning, State}
 use Rattle.repo_commands.specs.SetInput.{OfChangeSet}
-use Rattle.repo_commands.specs.AndThen.{AndThen}
+use Rattle.trove_spec.specs.AndThen.{AndThen}
 use Rattle.root_commands.specs.JobOutcome.{JobOutcome}
 
 -- what a search of these contents answers

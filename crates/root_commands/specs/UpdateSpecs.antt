@@ -9,9 +9,9 @@ use Rattle.trove_spec.specs.Expansion.{IsExpansion, IsOfOneName, first_of_same_n
 use Rattle.repo_load.specs.State.{troves_of}
 use Rattle.trove_spec.specs.RootConfig.{HasConfig}
 use Rattle.cli_call.specs.State.{tree_of, Effect, Meaning, State}
-use Rattle.repo_commands.specs.declared.given.GivenSpec.{GivenSpec}
-use Rattle.repo_commands.specs.AndThen.{AndThen}
-use Rattle.repo_commands.specs.Meant.{Means}
+use Rattle.trove_spec.specs.declared.given.GivenSpec.{GivenSpec}
+use Rattle.trove_spec.specs.AndThen.{AndThen}
+use Rattle.trove_spec.specs.Meant.{Means}
 use Rattle.root_commands.specs.Update.{UpdatesTo}
 
 -- each specification means the trove of the id at its place

@@ -2,7 +2,7 @@
 ghost use Rattle.std.specs.Prelude.{IfOk, List, ℕ};
 ghost use Rattle.repo_load.specs.Loading.{IsCatalogue};
 ghost use Rattle.cli_call.specs.Command.{disks, AreReady, Performs};
-ghost use Rattle.repo_commands.specs.AndThen.{EndsAs};
+ghost use Rattle.trove_spec.specs.AndThen.{EndsAs};
 ghost use Rattle.system_core.specs.Lists.{AreAllowed};
 ghost use Rattle.root_commands.specs.UpdateSpecs as spec;
 ghost use Rattle.root_commands.specs.UpdateSpecs.{MeanAll, ReachAll};
@@ -12,11 +12,10 @@ use cli_call::{Failure, Opened, on_root, store_laws};
 use repo_commands::cny_base::{Fault, ListOf, Options, Text};
 use repo_commands::tree_disk::TreeDisk;
 use repo_commands::trove_parts::TroveId;
-use repo_commands::{GivenSpec, meant};
 use repo_index::Catalogue;
 use repo_load::stored_state;
 use std::alloc::Global;
-use trove_spec::{Config, Troves, expand, read_config};
+use trove_spec::{Config, GivenSpec, Troves, expand, meant, read_config};
 
 type TroveIds = ListOf<TroveId>;
 

@@ -1,6 +1,6 @@
 use Rattle.cli_call.specs.Call.{OpensBoth}
 use Rattle.cli_call.proofs.BothDisks.{root_stopped, repository_stopped, both_opened}
-use Rattle.cli_call.proofs.Passing.{err_is}
+use Rattle.local_db.proofs.cny-base.Passing.{err_is}
 use Rattle.cli_call.proofs.opening.open_disks.Goals as goal
 
 pub returns-in_err-db : goal.returns-in_err-db

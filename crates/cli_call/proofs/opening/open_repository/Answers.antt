@@ -1,12 +1,12 @@
 use Rattle.std.proofs.Common.{subst, refl, arith}
 use Rattle.repo_load.specs.Files.{HoldsCatalogue}
 use Rattle.cli_call.specs.Opening.{no_test, Opens}
-use Rattle.system_core.specs.Recovered.{RecoversAt}
+use Rattle.system_core.specs.tree-journal.Recovered.{RecoversAt}
 use Rattle.cli_call.specs.Stores.{repository_store}
 use Rattle.cli_call.proofs.OpeningDisks.{opens_stopped}
 use Rattle.cli_call.proofs.LoadingRepository.{loaded_opens}
 use Rattle.cli_call.proofs.StoreLaws.{nothing_done}
-use Rattle.cli_call.proofs.Passing.{err_is}
+use Rattle.local_db.proofs.cny-base.Passing.{err_is}
 use Rattle.cli_call.proofs.opening.open_repository.Goals as goal
 
 pub returns-in_err-recover_disk-clause-opens : goal.returns-in_err-recover_disk-clause-opens

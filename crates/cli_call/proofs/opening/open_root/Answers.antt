@@ -1,7 +1,7 @@
 use Rattle.std.proofs.Common.{subst}
 use Rattle.cli_call.specs.RootOpening.{OpensSystem}
 use Rattle.cli_call.proofs.OpeningRoot.{Ready, opens_ready}
-use Rattle.cli_call.proofs.Passing.{err_is}
+use Rattle.local_db.proofs.cny-base.Passing.{err_is}
 use Rattle.cli_call.proofs.opening.open_root.Goals as goal
 
 pub returns-in_err-db : goal.returns-in_err-db

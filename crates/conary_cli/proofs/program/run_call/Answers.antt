@@ -3,7 +3,7 @@ use Rattle.cli_call.specs.Call.{call_state, RunsCall}
 use Rattle.cli_call.proofs.CallLaws.{opened_ready}
 use Rattle.conary_cli.specs.Commands.{meaning, is_of_root}
 use Rattle.conary_cli.specs.Records.{EndsOpened}
-use Rattle.cli_call.proofs.Passing.{err_is}
+use Rattle.cny_version.proofs.cny-base.Passing.{err_is}
 use Rattle.conary_cli.proofs.program.run_call.Goals as goal
 
 pub returns-in_err-opened-clause-runs : goal.returns-in_err-opened-clause-runs

@@ -3,9 +3,9 @@ use Rattle.cli_call.specs.Call.{RunsOpen}
 use Rattle.cli_call.specs.Line.{moment}
 use Rattle.conary_cli.specs.Commands.{meaning, is_of_root}
 use Rattle.conary_cli.specs.Records.{EndsWhole}
-use Rattle.cli_call.proofs.Passing.{err_is}
 use Rattle.conary_cli.proofs.Calls.{not_read, was_read}
 use Rattle.conary_cli.proofs.RecordEnds.{unread_whole}
+use Rattle.cny_version.proofs.cny-base.Passing.{err_is}
 use Rattle.conary_cli.proofs.program.run_open.Goals as goal
 
 pub returns-in_err-bytes-clause-runs : goal.returns-in_err-bytes-clause-runs

@@ -3,7 +3,7 @@ use Rattle.std.specs.Prelude.{string_bytes}
 use Rattle.cli_call.specs.Call.{call_state}
 use Rattle.conary_cli.specs.Commands.{RunsSome, RunsWords}
 use Rattle.conary_cli.proofs.Calls.{no_words, some_unread}
-use Rattle.cli_call.proofs.Passing.{err_is}
+use Rattle.cny_version.proofs.cny-base.Passing.{err_is}
 use Rattle.conary_cli.proofs.program.run_words.Goals as goal
 
 pub returns-in_err-command-clause-each : goal.returns-in_err-command-clause-each

@@ -3,8 +3,8 @@ use Rattle.cli_call.specs.Alone.{PerformsAlone}
 use Rattle.cli_call.specs.Command.{disks, Performs}
 use Rattle.cli_call.specs.Failures.{failure_of_fault}
 use Rattle.conary_cli.specs.ShowChangeSet as spec
-use Rattle.cli_call.proofs.Passing.{err_is}
 use Rattle.conary_cli.proofs.ShowEnds.{memory_out, memory_out_alone, shows, shows_alone, shows_none, shows_none_alone}
+use Rattle.cny_version.proofs.cny-base.Passing.{err_is}
 use Rattle.conary_cli.proofs.show.show_change_set.Goals as goal
 
 pub returns-in_err-change-clause-performs : goal.returns-in_err-change-clause-performs

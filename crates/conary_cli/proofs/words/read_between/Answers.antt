@@ -1,8 +1,8 @@
 use Rattle.std.proofs.Common.{[], ◌∷◌}
 use Rattle.conary_cli.specs.Words.{IsGiven, IsSend, ReadsOnly}
-use Rattle.cli_call.proofs.Passing.{err_is}
 use Rattle.conary_cli.proofs.Reading.{passed_on}
 use Rattle.conary_cli.proofs.WordEnds.{between_only, from_part, to_part}
+use Rattle.cny_version.proofs.cny-base.Passing.{err_is}
 use Rattle.conary_cli.proofs.words.read_between.Goals as goal
 
 pub returns-in_err-from : goal.returns-in_err-from

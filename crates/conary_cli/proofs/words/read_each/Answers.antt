@@ -4,7 +4,7 @@ use Rattle.cli_call.specs.cny-base.declared.text.TextFault.TheVariants.{Bad}
 use Rattle.std.proofs.lemmas.List.Folds.{list_all_at, list_all-map}
 use Rattle.std.proofs.lemmas.Result.{err_from_is_err_and}
 use Rattle.cli_call.specs.cny-base.Name.{is_name}
-use Rattle.conary_cli.proofs.Reading.{handed_on}
+use Rattle.cny_manifest.proofs.cny-dep.Faults.{handed_on}
 use Rattle.conary_cli.proofs.words.read_each.Goals as goal
 
 pub returns-in_err-read-clause-bad : goal.returns-in_err-read-clause-bad

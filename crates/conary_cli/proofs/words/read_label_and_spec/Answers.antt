@@ -1,8 +1,8 @@
 use Rattle.std.proofs.Common.{[], ◌∷◌}
 use Rattle.conary_cli.specs.Words.{IsGiven, IsLabelWord, IsMove, ReadsOnly}
-use Rattle.cli_call.proofs.Passing.{err_is}
 use Rattle.conary_cli.proofs.Reading.{passed_on}
 use Rattle.conary_cli.proofs.WordEnds.{label_part, move_only, spec_part}
+use Rattle.cny_version.proofs.cny-base.Passing.{err_is}
 use Rattle.conary_cli.proofs.words.read_label_and_spec.Goals as goal
 
 pub returns-in_err-label : goal.returns-in_err-label

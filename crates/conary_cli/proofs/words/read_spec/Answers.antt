@@ -1,9 +1,9 @@
 use Rattle.std.proofs.Common.{sym, ◌∙◌}
 use Rattle.trove_spec.specs.Spec.{IsSpecText}
 use Rattle.conary_cli.specs.Words.{IsGiven, ReadsOnly}
-use Rattle.cli_call.proofs.Passing.{err_is}
 use Rattle.conary_cli.proofs.Reading.{passed_on}
 use Rattle.conary_cli.proofs.WordEnds.{given_only, given_part, no_given}
+use Rattle.cny_version.proofs.cny-base.Passing.{err_is}
 use Rattle.conary_cli.proofs.words.read_spec.Goals as goal
 
 pub returns-then-not-is_short : goal.returns-then-not-is_short

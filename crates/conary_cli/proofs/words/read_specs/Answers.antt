@@ -2,9 +2,9 @@ use Rattle.std.proofs.Common.{◌≡◌, ◌≤◌, [], Err, ◌<◌, ◌+◌, L
 use Rattle.std.specs.Prelude.{string_bytes}
 use Rattle.std.proofs.lemmas.List.{get_or-map, length-map, take_all}
 use Rattle.conary_cli.specs.Words.{AreGiven, IsGiven, IsOnly, ReadsOnly}
-use Rattle.cli_call.proofs.Passing.{err_is}
 use Rattle.conary_cli.proofs.Reading.{passed_on}
 use Rattle.conary_cli.proofs.SpecLists.{none_only, one_more, part_of}
+use Rattle.cny_version.proofs.cny-base.Passing.{err_is}
 use Rattle.conary_cli.proofs.words.read_specs.Goals as goal
 
 pub loop-word-init : goal.loop-word-init

@@ -2,9 +2,9 @@ use Rattle.std.proofs.Common.{◌≡◌, ◌≤◌, length, map, arith}
 use Rattle.std.proofs.lemmas.Grind.{common_steps}
 use Rattle.std.specs.Prelude.{string_bytes}
 use Rattle.conary_cli.specs.Words.{AreGiven, IsUpdateWith, ReadsOnly}
-use Rattle.cli_call.proofs.Passing.{err_is}
 use Rattle.conary_cli.proofs.Reading.{passed_on}
 use Rattle.conary_cli.proofs.SpecLists.{no_update_of_many, no_update_of_none, specs_part, update_only}
+use Rattle.cny_version.proofs.cny-base.Passing.{err_is}
 use Rattle.conary_cli.proofs.words.read_updates.Goals as goal
 
 pub returns-then-is_empty : goal.returns-then-is_empty

@@ -3,8 +3,8 @@ use Rattle.cli_call.specs.Command.{disks, Performs}
 use Rattle.cli_call.proofs.CommandLaws.{performs_more}
 use Rattle.cli_call.specs.Failures.{failure_of_fault}
 use Rattle.repo_commands.specs.Commit.{commit, commit_of}
-use Rattle.cli_call.proofs.Passing.{err_is}
 use Rattle.repo_commands.proofs.SetFaults.{no_set}
+use Rattle.cny_version.proofs.cny-base.Passing.{err_is}
 use Rattle.repo_commands.proofs.committing.commit_input.Goals as goal
 
 pub returns-in_err-set : goal.returns-in_err-set

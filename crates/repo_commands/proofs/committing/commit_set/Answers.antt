@@ -4,7 +4,7 @@ use Rattle.cli_call.specs.Command.{disks, Performs}
 use Rattle.cny_report.specs.Troves.{committed_text}
 use Rattle.repo_commands.specs.Commit.{commit_of}
 use Rattle.repo_commands.proofs.CommitEnds.{CommitLaws, Committing, commit_failed, commit_made, commit_told, commit_untold}
-use Rattle.cli_call.proofs.Passing.{err_is}
+use Rattle.cny_version.proofs.cny-base.Passing.{err_is}
 use Rattle.repo_commands.proofs.committing.commit_set.Goals as goal
 
 pub returns-in_err-ids : goal.returns-in_err-ids

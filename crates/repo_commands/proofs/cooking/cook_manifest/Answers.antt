@@ -3,7 +3,7 @@ use Rattle.cli_call.specs.Failures.{failure_of_fault}
 use Rattle.repo_commands.specs.Cook.{cook}
 use Rattle.repo_commands.proofs.CookEnds.{cooked, no_set, not_read}
 use Rattle.repo_commands.proofs.MadeVersions.{made_have_one}
-use Rattle.cli_call.proofs.Passing.{err_is}
+use Rattle.cny_version.proofs.cny-base.Passing.{err_is}
 use Rattle.repo_commands.proofs.cooking.cook_manifest.Goals as goal
 
 pub returns-in_err-made : goal.returns-in_err-made

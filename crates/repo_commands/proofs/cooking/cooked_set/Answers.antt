@@ -7,7 +7,7 @@ use Rattle.cli_call.specs.cny-base.declared.refusal.Fault.{Fault}
 use Rattle.repo_index.specs.Steps.{IsErrOrMemory}
 use Rattle.repo_commands.specs.Cook.{cooked_set, cooked_troves, set_of_result}
 use Rattle.repo_commands.proofs.KeptContents.{cooked_contents, set_refused}
-use Rattle.cli_call.proofs.Passing.{err_is}
+use Rattle.cny_version.proofs.cny-base.Passing.{err_is}
 use Rattle.repo_commands.proofs.cooking.cooked_set.Goals as goal
 
 pub returns-in_err-troves-clause-fault : goal.returns-in_err-troves-clause-fault

@@ -3,7 +3,7 @@ use Rattle.cli_call.specs.Command.{disks, Performs}
 use Rattle.cli_call.specs.Failures.{failure_of_fault}
 use Rattle.repo_commands.specs.Listing as spec
 use Rattle.repo_commands.proofs.ListingEnds.{lists_performed}
-use Rattle.cli_call.proofs.Passing.{err_is}
+use Rattle.cny_version.proofs.cny-base.Passing.{err_is}
 use Rattle.repo_commands.proofs.listing.list_committed.Goals as goal
 
 pub returns-in_err-list : goal.returns-in_err-list

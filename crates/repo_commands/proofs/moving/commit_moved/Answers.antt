@@ -6,9 +6,9 @@ use Rattle.cli_call.specs.Failures.{failure_of_fault}
 use Rattle.repo_commands.specs.Commit.{commit_of}
 use Rattle.repo_commands.specs.Moving.{move}
 use Rattle.repo_commands.proofs.CommittedTroves.{refer_within}
-use Rattle.cli_call.proofs.Passing.{err_is}
 use Rattle.repo_commands.proofs.ReadingEnds.{config_made, config_stopped, ready_on}
 use Rattle.repo_commands.proofs.MovingEnds.{meant_fails, memory_ends, moved_ends, moved_fails, no_contents, refused_config, set_is, unmoved}
+use Rattle.cny_version.proofs.cny-base.Passing.{err_is}
 use Rattle.repo_commands.proofs.moving.commit_moved.Goals as goal
 
 pub returns-in_err-config : goal.returns-in_err-config

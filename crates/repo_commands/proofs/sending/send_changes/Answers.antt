@@ -1,13 +1,13 @@
 use Rattle.std.proofs.Common.{List, sym, subst, ◌∙◌}
 use Rattle.cli_call.specs.trove-stream.Installed.{IsRising}
 use Rattle.cli_call.specs.trove-stream.declared.parts.TroveParts.{TroveParts}
-use Rattle.repository.specs.Between.{AreCommitted}
+use Rattle.repo_index.specs.Catalogue.{AreCommitted}
 use Rattle.cli_call.specs.Command.{disks, Performs}
 use Rattle.cli_call.specs.Failures.{failure_of_fault}
 use Rattle.repo_commands.specs.Sending.{changeset, SendsFrom}
-use Rattle.cli_call.proofs.Passing.{err_is}
 use Rattle.repo_commands.proofs.ReadingEnds.{config_made, config_stopped}
 use Rattle.repo_commands.proofs.SendingEnds.{fresh_fails, old_fails, refused_config, sent_ends, SendingLaws}
+use Rattle.cny_version.proofs.cny-base.Passing.{err_is}
 use Rattle.repo_commands.proofs.sending.send_changes.Goals as goal
 
 pub returns-in_err-config : goal.returns-in_err-config

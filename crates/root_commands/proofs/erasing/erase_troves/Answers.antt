@@ -8,7 +8,7 @@ use Rattle.system_core.specs.Job.{no_answers, sources_of}
 use Rattle.system_core.specs.Lists.{to_erased}
 use Rattle.root_commands.specs.Erase as spec
 use Rattle.root_commands.proofs.SpecifiedEnds.{Ran, failed_alone, failed_performs, memory_alone, memory_performs, reads_refused, told_alone, told_performs}
-use Rattle.cli_call.proofs.Passing.{err_is}
+use Rattle.local_db.proofs.cny-base.Passing.{err_is}
 use Rattle.root_commands.proofs.erasing.erase_troves.Goals as goal
 
 pub returns-in_err-done-clause-performs : goal.returns-in_err-done-clause-performs

@@ -10,7 +10,7 @@ use Rattle.system_core.specs.Lists.{to_updated}
 use Rattle.root_commands.specs.Install as spec
 use Rattle.root_commands.proofs.InstallEnds.{named_contents, own_causes}
 use Rattle.root_commands.proofs.SpecifiedEnds.{Ran, failed_alone, failed_performs, memory_alone, memory_performs, reads_refused, told_alone, told_performs}
-use Rattle.cli_call.proofs.Passing.{err_is}
+use Rattle.local_db.proofs.cny-base.Passing.{err_is}
 use Rattle.root_commands.proofs.installing.install_made.Goals as goal
 
 pub returns-in_err-done-clause-performs : goal.returns-in_err-done-clause-performs

@@ -6,7 +6,7 @@ use Rattle.cli_call.proofs.CommandLaws.{performs_more}
 use Rattle.cli_call.specs.Failures.{failure_of_fault}
 use Rattle.root_commands.specs.Install.{install, install_made}
 use Rattle.root_commands.proofs.InstallEnds.{allowed_none, fault_alone, fault_performs, installs_more, reserved_refuses, unread_refuses}
-use Rattle.cli_call.proofs.Passing.{err_is}
+use Rattle.local_db.proofs.cny-base.Passing.{err_is}
 use Rattle.root_commands.proofs.installing.install_manifest.Goals as goal
 
 pub returns-in_err-made-clause-performs : goal.returns-in_err-made-clause-performs

@@ -12,9 +12,9 @@ use Rattle.root_commands.specs.Jobs as spec
 use Rattle.root_commands.specs.Noting.{AreToldBy}
 use Rattle.root_commands.specs.Records.{ListsWhole}
 use Rattle.root_commands.proofs.JobEnds.{failed_ends, found_ends, read_of}
-use Rattle.cli_call.proofs.Passing.{err_is}
 use Rattle.cli_call.proofs.RootResults.{root_ok}
 use Rattle.root_commands.proofs.RecordEnds.{list_failed, told_whole}
+use Rattle.local_db.proofs.cny-base.Passing.{err_is}
 use Rattle.root_commands.proofs.jobs.list_jobs.Goals as goal
 
 pub returns-in_err-jobs-clause-performs : goal.returns-in_err-jobs-clause-performs

@@ -4,7 +4,7 @@ use Rattle.cli_call.specs.Command.{disks, Performs}
 use Rattle.cli_call.specs.Failures.{failure_of_fault}
 use Rattle.root_commands.specs.Listing as spec
 use Rattle.root_commands.proofs.Answering.{answered, answered_alone}
-use Rattle.cli_call.proofs.Passing.{err_is}
+use Rattle.local_db.proofs.cny-base.Passing.{err_is}
 use Rattle.root_commands.proofs.listing.list_installed.Goals as goal
 
 pub returns-in_err-list-clause-performs : goal.returns-in_err-list-clause-performs

@@ -5,7 +5,7 @@ use Rattle.cli_call.specs.Failures.{failure_of_fault}
 use Rattle.cli_call.proofs.ReadingRoot.{read_alone, read_performed}
 use Rattle.root_commands.specs.LocalChanges as spec
 use Rattle.root_commands.proofs.LocalEnds.{contents_held, failed_ends, large_caused, large_ends, written_ends}
-use Rattle.cli_call.proofs.Passing.{err_is}
+use Rattle.local_db.proofs.cny-base.Passing.{err_is}
 use Rattle.root_commands.proofs.local.change_locally.Goals as goal
 
 pub encode-requires : goal.encode-requires

@@ -3,9 +3,8 @@ use Rattle.std.specs.BTreeMap.{is_at}
 use Rattle.std.specs.Cmp.Lexicographic.{slice_cmp}
 use Rattle.std.specs.Map.{lookup}
 use Rattle.std.specs.Ordering.{nat_cmp}
-use Rattle.rollback_stack.specs.Undo.{id_of}
 use Rattle.update_job.specs.Changes.{AreChanges, noted}
-use Rattle.root_commands.specs.Noting.{turned}
+use Rattle.root_commands.specs.Noting.{id_of, turned}
 use Rattle.root_commands.proofs.Changed.{changes_between}
 use Rattle.root_commands.proofs.noting.changes_of.Goals as goal
 

@@ -5,9 +5,9 @@ use Rattle.cli_call.specs.declared.failure.Failure.TheVariants as failure
 use Rattle.cli_call.specs.declared.opened.Opened.{Opened}
 use Rattle.root_commands.specs.Records.{TakesBackWhole}
 use Rattle.root_commands.specs.RollingBack as spec
-use Rattle.cli_call.proofs.Passing.{err_is}
 use Rattle.root_commands.proofs.RecordEnds.{back_done, back_failed}
 use Rattle.root_commands.proofs.RollEnds.{alone_failed, alone_memory, alone_told, performs_failed, performs_memory, performs_told}
+use Rattle.local_db.proofs.cny-base.Passing.{err_is}
 use Rattle.root_commands.proofs.rolling_back.roll_back.Goals as goal
 
 pub returns-in_err-count-clause-performs : goal.returns-in_err-count-clause-performs

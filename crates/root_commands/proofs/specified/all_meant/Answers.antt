@@ -1,9 +1,9 @@
 use Rattle.std.proofs.Common.{List, ◌+◌, arith, subst, sym, take}
 use Rattle.repo_commands.specs.trove-parts.declared.id.TroveId.{TroveId}
-use Rattle.repo_commands.specs.AndThen.{EndsAs}
+use Rattle.trove_spec.specs.AndThen.{EndsAs}
 use Rattle.root_commands.specs.UpdateSpecs.{AreMeant, MeanAll}
-use Rattle.cli_call.proofs.Passing.{err_is}
 use Rattle.root_commands.proofs.SpecEnds.{first_unmeant, meant_more}
+use Rattle.local_db.proofs.cny-base.Passing.{err_is}
 use Rattle.root_commands.proofs.specified.all_meant.Goals as goal
 
 pub returns-in_err-meant : goal.returns-in_err-meant

@@ -1,7 +1,7 @@
-use Rattle.repo_commands.specs.AndThen.{EndsAs}
+use Rattle.trove_spec.specs.AndThen.{EndsAs}
 use Rattle.root_commands.specs.UpdateSpecs.{ReachAll}
-use Rattle.cli_call.proofs.Passing.{err_is}
 use Rattle.root_commands.proofs.SpecEnds.{reached_allowed, unreached}
+use Rattle.local_db.proofs.cny-base.Passing.{err_is}
 use Rattle.root_commands.proofs.specified.all_reached.Goals as goal
 
 pub returns-in_err-troves-clause-ends : goal.returns-in_err-troves-clause-ends

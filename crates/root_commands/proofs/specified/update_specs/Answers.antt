@@ -2,14 +2,14 @@ use Rattle.std.proofs.Common.{[], List, Err, sym, subst, ◌∙◌, inr, refl}
 use Rattle.repo_commands.specs.trove-parts.declared.id.TroveId.{TroveId}
 use Rattle.cli_call.specs.Command.{disks, Performs}
 use Rattle.cli_call.specs.Failures.{failure_of_fault}
-use Rattle.repo_commands.specs.AndThen.{EndsAs}
+use Rattle.trove_spec.specs.AndThen.{EndsAs}
 use Rattle.repo_commands.proofs.AfterReading.{performs_since}
 use Rattle.repo_commands.proofs.ReadingEnds.{config_made, config_stopped, fault_ends, ready_on, root_read}
-use Rattle.system_core.proofs.CallLaws.{no_carried}
 use Rattle.root_commands.specs.Update as update
 use Rattle.root_commands.specs.UpdateSpecs as spec
-use Rattle.cli_call.proofs.Passing.{err_is}
 use Rattle.root_commands.proofs.SpecEnds.{all_updated, none_meant, none_reached, refused_as}
+use Rattle.local_db.proofs.cny-base.Passing.{err_is}
+use Rattle.update_job.proofs.change-set.Carrying.{no_carried}
 use Rattle.root_commands.proofs.specified.update_specs.Goals as goal
 
 pub returns-in_err-config : goal.returns-in_err-config

@@ -6,7 +6,7 @@ use Rattle.repo_commands.proofs.AfterReading.{performs_since}
 use Rattle.repo_commands.proofs.ReadingEnds.{fault_ends}
 use Rattle.root_commands.specs.Update as spec
 use Rattle.root_commands.proofs.ComingEnds.{set_made, set_refused}
-use Rattle.cli_call.proofs.Passing.{err_is}
+use Rattle.local_db.proofs.cny-base.Passing.{err_is}
 use Rattle.root_commands.proofs.updating.update_by.Goals as goal
 
 pub returns-in_err-troves : goal.returns-in_err-troves

@@ -4,7 +4,7 @@ use Rattle.cli_call.proofs.CommandLaws.{performs_more}
 use Rattle.cli_call.specs.Failures.{failure_of_fault}
 use Rattle.repo_commands.proofs.SetFaults.{no_set}
 use Rattle.root_commands.specs.Update as spec
-use Rattle.cli_call.proofs.Passing.{err_is}
+use Rattle.local_db.proofs.cny-base.Passing.{err_is}
 use Rattle.root_commands.proofs.updating.update_input.Goals as goal
 
 pub returns-in_err-set : goal.returns-in_err-set

@@ -9,7 +9,7 @@ use Rattle.system_core.specs.Lists.{to_updated}
 use Rattle.root_commands.specs.Update as spec
 use Rattle.root_commands.proofs.FarJobs.{RanFar, RepositoryLaws, failed_performs, memory_performs, performed_at, ready_at, told_performs}
 use Rattle.root_commands.proofs.SpecifiedEnds.{reads_refused}
-use Rattle.cli_call.proofs.Passing.{err_is}
+use Rattle.local_db.proofs.cny-base.Passing.{err_is}
 use Rattle.root_commands.proofs.updating.update_to.Goals as goal
 
 pub returns-in_err-done : goal.returns-in_err-done

@@ -3,7 +3,7 @@ use Rattle.cli_call.specs.Command.{disks, Performs}
 use Rattle.cli_call.specs.declared.failure.Failure.TheVariants as failure
 use Rattle.root_commands.specs.Verifying as spec
 use Rattle.root_commands.proofs.FullEnds.{failed_performs, memory_performs, performed_at, ready_at, told_performs, VerifyingLaws}
-use Rattle.cli_call.proofs.Passing.{err_is}
+use Rattle.local_db.proofs.cny-base.Passing.{err_is}
 use Rattle.root_commands.proofs.verifying.verify_fully.Goals as goal
 
 pub returns-in_err-found : goal.returns-in_err-found

@@ -7,10 +7,10 @@ use Rattle.cli_call.specs.Alone.{PerformsAlone}
 use Rattle.cli_call.specs.Command.{disks, Performs}
 use Rattle.cli_call.specs.declared.failure.Failure.TheVariants as failure
 use Rattle.root_commands.specs.Verifying as spec
-use Rattle.cli_call.proofs.Passing.{err_is}
 use Rattle.cli_call.proofs.ReadingRoot.{read_alone, read_performed}
 use Rattle.cli_call.proofs.RootResults.{root_ok}
 use Rattle.root_commands.proofs.VerifyEnds.{failed_ends, found_ends}
+use Rattle.local_db.proofs.cny-base.Passing.{err_is}
 use Rattle.root_commands.proofs.verifying.verify_installed.Goals as goal
 
 pub returns-in_err-found-clause-performs : goal.returns-in_err-found-clause-performs
