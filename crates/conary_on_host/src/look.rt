@@ -1,19 +1,12 @@
 //! A look past the program at the directory `root`: its names, its nodes outside `var`, and the bytes of the file.
+use crate::told::Told;
 use std::fs::{self, Metadata};
 use std::io;
 use std::os::unix::fs::PermissionsExt;
+use tree_disk::cny_base::Mode;
 
-// Adds a word and a space behind it.
-fn add_word(text: &mut Vec<u8>, word: &str) -> io::Result<()> {
-    text.extend_from_slice(word.as_bytes())?;
-    Ok(text.push(b' ')?)
-}
-
-// Adds what a line ends with, and the line's end.
-fn end_line(text: &mut Vec<u8>, rest: &[u8]) -> io::Result<()> {
-    text.extend_from_slice(rest)?;
-    Ok(text.push(b'\n')?)
-}
+// The bits of a mode that say who may do what.
+const PERMISSION_BITS: u32 = 0o7777;
 
 // The names in a directory, in the order of their bytes.
 fn names_in(rt: &HostRuntime, dir: &str) -> io::Result<Vec<String>> {
@@ -26,54 +19,63 @@ fn names_in(rt: &HostRuntime, dir: &str) -> io::Result<Vec<String>> {
     Ok(names)
 }
 
-fn add_names(rt: &HostRuntime, text: &mut Vec<u8>, dir: &str) -> io::Result<()> {
-    let names = names_in(rt, dir)?;
+// A line: a path, and what is said of it.
+fn tell_line(told: &mut Told, path: &str, said: &str) {
+    told.text(path);
+    told.text(" ");
+    told.text(said);
+    told.text("\n");
+}
+
+fn tell_names(rt: &HostRuntime, told: &mut Told, dir: &str) {
+    let Ok(names) = names_in(rt, dir) else {
+        return told.fail();
+    };
     for name in &names {
-        add_word(text, dir)?;
-        end_line(text, name.as_bytes())?;
+        tell_line(told, dir, name.as_str());
     }
-    Ok(())
 }
 
 fn kind_of(metadata: &Metadata) -> &'static str {
     if metadata.is_dir() {
-        "directory"
+        "directory "
     } else if metadata.is_file() {
-        "file"
+        "file "
     } else {
-        "other"
+        "other "
     }
 }
 
-// Adds the last four octal digits of a mode, and the line's end.
-fn add_mode(text: &mut Vec<u8>, mode: u32) -> io::Result<()> {
-    for place in [512u32, 64, 8, 1] {
-        let digit = (mode / place % 8) as u8;
-        text.push(b'0' + digit)?;
+fn tell_mode(told: &mut Told, bits: u32) {
+    match Mode::new((bits & PERMISSION_BITS) as u16) {
+        Some(mode) => told.mode(mode),
+        None => told.fail(),
     }
-    Ok(text.push(b'\n')?)
 }
 
-fn add_node(rt: &HostRuntime, text: &mut Vec<u8>, path: &str) -> io::Result<()> {
-    let metadata = fs::symlink_metadata(rt, path)?;
-    add_word(text, path)?;
-    add_word(text, kind_of(&metadata))?;
-    add_mode(text, metadata.permissions().mode())
+fn tell_node(rt: &HostRuntime, told: &mut Told, path: &str) {
+    let Ok(metadata) = fs::symlink_metadata(rt, path) else {
+        return told.fail();
+    };
+    told.text(path);
+    told.text(" ");
+    told.text(kind_of(&metadata));
+    tell_mode(told, metadata.permissions().mode());
+    told.text("\n");
 }
 
-fn add_bytes(rt: &HostRuntime, text: &mut Vec<u8>, path: &str) -> io::Result<()> {
-    let bytes = fs::read(rt, path)?;
-    add_word(text, path)?;
-    end_line(text, bytes.as_slice())
+fn tell_bytes(rt: &HostRuntime, told: &mut Told, path: &str) {
+    match fs::read_to_string(rt, path) {
+        Ok(text) => tell_line(told, path, text.as_str()),
+        Err(_) => told.fail(),
+    }
 }
 
-/// What stands in the directory `root` outside `var`.
-pub fn look(rt: &HostRuntime) -> io::Result<Vec<u8>> {
-    let mut text = Vec::new(rt.alloc());
-    add_names(rt, &mut text, "root")?;
-    add_names(rt, &mut text, "root/etc")?;
-    add_node(rt, &mut text, "root/etc")?;
-    add_node(rt, &mut text, "root/etc/foo")?;
-    add_bytes(rt, &mut text, "root/etc/foo")?;
-    Ok(text)
+/// Tells what stands in the directory `root` outside `var`.
+pub(crate) fn look(rt: &HostRuntime, told: &mut Told) {
+    tell_names(rt, told, "root");
+    tell_names(rt, told, "root/etc");
+    tell_node(rt, told, "root/etc");
+    tell_node(rt, told, "root/etc/foo");
+    tell_bytes(rt, told, "root/etc/foo");
 }

@@ -1,18 +1,24 @@
-//! The program over directories of the host, and then a look past it at the directory `root`. Behind that the commands of the file
-//! `commands` run over files that record each call and let each call fail once.
+//! The program over directories of the host, and then a look past it at the directory `root`. Behind that the lines of the file `calls`
+//! are made of directories as disks, and the commands of the file `commands` run over files that record each call and let each call
+//! fail once.
 //!
-//! It ends with the program's status, and its stored run installs a component. Of each command it tells the calls and the waits for
-//! the disk, the names that a sync left out, and what the next command found behind each failed call.
+//! It ends with the program's status, and its stored run installs a component. Of each line it tells what the call answers. Of each
+//! command it tells the calls and the waits for the disk, the names that a sync left out, and what the next command found behind each
+//! failed call.
 #![tactic(auto)]
 
+mod calls;
 mod look;
 mod record;
 mod recorded;
 mod standing;
+mod told;
 mod trials;
 mod watched;
 
+use crate::calls::tell_calls;
 use crate::look::look;
+use crate::told::Told;
 use crate::trials::{Command, try_command};
 use conary_cli::start;
 use std::fs;
@@ -38,11 +44,17 @@ fn command_of(rt: &HostRuntime, line: &str) -> io::Result<Command> {
     Ok(Command { words, input })
 }
 
+fn show(rt: &HostRuntime, told: &Told) -> io::Result<()> {
+    let text = told.end()?;
+    rt.stdout().write_all(text.as_bytes())
+}
+
 fn try_line(rt: &HostRuntime, line: &str) -> io::Result<()> {
-    let mut text = String::from_str(rt.alloc(), line)?;
+    let mut told = Told::new(rt.alloc());
+    told.text(line);
     let command = command_of(rt, line)?;
-    try_command(rt, &command, &mut text)?;
-    rt.stdout().write_all(text.as_str().as_bytes())
+    try_command(rt, &command, &mut told)?;
+    show(rt, &told)
 }
 
 fn try_lines(rt: &HostRuntime) -> io::Result<()> {
@@ -55,15 +67,17 @@ fn try_lines(rt: &HostRuntime) -> io::Result<()> {
     Ok(())
 }
 
-fn show(rt: &HostRuntime) -> io::Result<()> {
-    let text = look(rt)?;
-    rt.stdout().write_all(text.as_slice())?;
+fn show_all(rt: &HostRuntime) -> io::Result<()> {
+    let mut told = Told::new(rt.alloc());
+    look(rt, &mut told);
+    tell_calls(rt, &mut told);
+    show(rt, &told)?;
     try_lines(rt)
 }
 
 fn main(rt: HostRuntime) -> ExitCode {
     let status = start(&rt);
-    match show(&rt) {
+    match show_all(&rt) {
         Ok(()) => ExitCode::from(status),
         Err(_) => ExitCode::FAILURE,
     }

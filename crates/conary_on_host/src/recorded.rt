@@ -1,4 +1,4 @@
-//! Files of the host that record each call, and let one fail. Waits for the disk are recorded alone.
+//! Files of the host that record each call, and let one fail. Waits for the disk are recorded alone, where they aren't asked for.
 use crate::record::Record;
 use std::alloc::Allocator;
 use std::cell::Cell;
@@ -6,50 +6,64 @@ use std::fs::{File, Files, Metadata, OpenFile, OpenOptions, Permissions};
 use std::io::{self, Error, ErrorKind, Read, Seek, SeekFrom, Write};
 use std::os::unix::fs::MetadataExt;
 use std::path::PathBuf;
+use tree_disk::cny_base::parent_of;
 
 /// The host's files, with a record of what is asked of them.
 #[derive(Drop)]
-pub struct Recorded<'a> {
+pub(crate) struct Recorded<'a> {
     rt: &'a HostRuntime,
     record: &'a Record,
+    // Whether waits for the disk are made.
+    waits: bool,
 }
 
 /// An open file of them.
-#[derive(Drop)]
-pub struct RecordedFile<'a> {
+pub(crate) struct RecordedFile<'a> {
     file: File,
     node: u64,
     place: String,
     record: &'a Record,
+    // Whether waits for the disk are made.
+    waits: bool,
     // Whether it was made by this handle and nothing was written yet.
     is_new: Cell<bool>,
-    // Whether its first byte, a zero, is still to be written: a file that is cut to nothing at once is never written, since the host
-    // would begin to write it out, which takes a hundred times as long as all else here.
+    // Whether its first byte, a zero, is still to be written: where no waits are made, a file that is cut to nothing at once is never
+    // written, since the host would begin to write it out, which takes a hundred times as long as all else here.
     holds_zero: Cell<bool>,
 }
 
-// The directory in which the last name of a place stands.
-fn parent_of(place: &str) -> &str {
-    match place.rsplit_once('/') {
-        Some((parent, _)) => parent,
-        None => ".",
+// Written by hand, so that to let a value go is a single call wherever a function ends early.
+impl Drop for RecordedFile<'_> {
+    fn drop(self) {
+        let RecordedFile {
+            file: _file,
+            node: _node,
+            place: _place,
+            record: _record,
+            waits: _waits,
+            is_new: _is_new,
+            holds_zero: _holds_zero,
+        } = self;
     }
 }
 
 impl<'a> Recorded<'a> {
-    pub fn new(rt: &'a HostRuntime, record: &'a Record) -> Self {
-        Recorded { rt, record }
+    /// The files that keep this record; `waits` says whether they make the waits for the disk too.
+    pub(crate) fn new(rt: &'a HostRuntime, record: &'a Record, waits: bool) -> Self {
+        Recorded { rt, record, waits }
     }
 
-    // The node at a place was changed.
-    fn mark(&self, place: &str) -> io::Result<()> {
-        let node = self.rt.symlink_metadata(place)?.ino();
-        self.record.mark(node, place)
+    // The directory or the file at a place was changed. A link there is followed: it may be the name of the whole directory.
+    fn mark(&self, place: &str) {
+        match self.rt.metadata(place) {
+            Ok(metadata) => self.record.mark(metadata.ino(), place),
+            Err(_) => self.record.lack(),
+        }
     }
 
     // A name was made or taken away.
-    fn mark_name(&self, place: &str) -> io::Result<()> {
-        self.mark(parent_of(place))
+    fn mark_name(&self, place: &str) {
+        self.mark(parent_of(place));
     }
 
     // The node at a place, where one stands.
@@ -61,11 +75,11 @@ impl<'a> Recorded<'a> {
     }
 
     // A node that stood at a place stands there no more.
-    fn end_removal(&self, node: Option<u64>, place: &str) -> io::Result<()> {
+    fn end_removal(&self, node: Option<u64>, place: &str) {
         if let Some(node) = node {
-            self.record.drop_node(node)?;
+            self.record.drop_node(node);
         }
-        self.mark_name(place)
+        self.mark_name(place);
     }
 }
 
@@ -79,14 +93,15 @@ impl<'a> Files for Recorded<'a> {
         let file = self.rt.open_file(how, path)?;
         let node = file.metadata()?.ino();
         if how.asks_create() || how.asks_create_new() {
-            self.record.mark(node, path)?;
-            self.mark_name(path)?;
+            self.record.mark(node, path);
+            self.mark_name(path);
         }
         Ok(RecordedFile {
             file,
             node,
             place: String::from_str(self.rt.alloc(), path)?,
             record: self.record,
+            waits: self.waits,
             is_new: Cell::new(how.asks_create_new()),
             holds_zero: Cell::new(false),
         })
@@ -115,36 +130,41 @@ impl<'a> Files for Recorded<'a> {
         self.record.count()?;
         let replaced = self.node_at(to);
         self.rt.rename(from, to)?;
-        self.mark_name(from)?;
-        self.end_removal(replaced, to)
+        self.mark_name(from);
+        self.end_removal(replaced, to);
+        Ok(())
     }
 
     fn remove_file(&self, path: &str) -> io::Result<()> {
         self.record.count()?;
         let node = self.node_at(path);
         self.rt.remove_file(path)?;
-        self.end_removal(node, path)
+        self.end_removal(node, path);
+        Ok(())
     }
 
     fn create_dir(&self, path: &str) -> io::Result<()> {
         self.record.count()?;
         self.rt.create_dir(path)?;
-        self.mark(path)?;
-        self.mark_name(path)
+        self.mark(path);
+        self.mark_name(path);
+        Ok(())
     }
 
     fn create_dir_with_mode(&self, path: &str, mode: u32) -> io::Result<()> {
         self.record.count()?;
         self.rt.create_dir_with_mode(path, mode)?;
-        self.mark(path)?;
-        self.mark_name(path)
+        self.mark(path);
+        self.mark_name(path);
+        Ok(())
     }
 
     fn remove_dir(&self, path: &str) -> io::Result<()> {
         self.record.count()?;
         let node = self.node_at(path);
         self.rt.remove_dir(path)?;
-        self.end_removal(node, path)
+        self.end_removal(node, path);
+        Ok(())
     }
 
     fn remove_dir_all<B: Allocator>(&self, _alloc: B, _path: &str) -> io::Result<()> {
@@ -159,19 +179,21 @@ impl<'a> Files for Recorded<'a> {
     fn set_permissions(&self, path: &str, perm: Permissions) -> io::Result<()> {
         self.record.count()?;
         self.rt.set_permissions(path, perm)?;
-        self.mark(path)
+        self.mark(path);
+        Ok(())
     }
 
     fn symlink(&self, original: &str, link: &str) -> io::Result<()> {
         self.record.count()?;
         self.rt.symlink(original, link)?;
-        self.mark_name(link)
+        self.mark_name(link);
+        Ok(())
     }
 }
 
 impl RecordedFile<'_> {
-    fn mark(&self) -> io::Result<()> {
-        self.record.mark(self.node, self.place.as_str())
+    fn mark(&self) {
+        self.record.mark(self.node, self.place.as_str());
     }
 
     // Writes the byte that was held back, if there is one: a longer file has zeros behind its end.
@@ -187,7 +209,7 @@ impl RecordedFile<'_> {
     fn holds_back(&self, buf: &[u8]) -> bool {
         let is_first = self.is_new.get();
         self.is_new.set(false);
-        let holds = is_first && matches!(buf, [0]);
+        let holds = is_first && !self.waits && matches!(buf, [0]);
         self.holds_zero.set(holds);
         holds
     }
@@ -203,7 +225,7 @@ impl Read for RecordedFile<'_> {
 impl Write for RecordedFile<'_> {
     // Of a write that fails one half is there.
     fn write(&mut self, buf: &[u8]) -> io::Result<usize> {
-        self.mark()?;
+        self.mark();
         if let Err(error) = self.record.count() {
             let half = buf.len() / 2;
             self.file.write(&buf[..half])?;
@@ -241,7 +263,7 @@ impl OpenFile for RecordedFile<'_> {
             self.put_held()?;
             return counted;
         }
-        self.mark()?;
+        self.mark();
         if size == 0 && self.holds_zero.get() {
             self.holds_zero.set(false);
             return Ok(());
@@ -251,7 +273,11 @@ impl OpenFile for RecordedFile<'_> {
     }
 
     fn sync_all(&self) -> io::Result<()> {
-        self.record.count_wait(self.node)
+        self.record.count_wait(self.node)?;
+        if self.waits {
+            self.file.sync_all()?;
+        }
+        Ok(())
     }
 
     // It may keep less than all, so it counts as none that keeps anything.
@@ -261,7 +287,7 @@ impl OpenFile for RecordedFile<'_> {
 
     fn set_permissions(&self, perm: Permissions) -> io::Result<()> {
         self.record.count()?;
-        self.mark()?;
+        self.mark();
         self.file.set_permissions(perm)
     }
 }

@@ -8,7 +8,7 @@ use std::os::unix::fs::{PermissionsExt, symlink};
 const PERMISSION_BITS: u32 = 0o7777;
 
 /// The kind, the mode, and the bytes or the target of what stands at each path below a directory.
-pub type Standing = BTreeMap<String, Vec<u8>>;
+pub(crate) type Standing = BTreeMap<String, Vec<u8>>;
 
 // A name below a directory.
 fn join(rt: &HostRuntime, dir: &str, name: &str) -> io::Result<String> {
@@ -76,7 +76,7 @@ fn node_at(rt: &HostRuntime, place: &str) -> io::Result<Vec<u8>> {
 }
 
 /// What stands below a directory.
-pub fn standing(rt: &HostRuntime, dir: &str) -> io::Result<Standing> {
+pub(crate) fn standing(rt: &HostRuntime, dir: &str) -> io::Result<Standing> {
     let mut found = BTreeMap::new(rt.alloc());
     for path in paths_below(rt, dir)? {
         let place = place_of(rt, dir, path.as_str())?;
@@ -101,7 +101,7 @@ fn copy_node(rt: &HostRuntime, from: &str, to: &str) -> io::Result<()> {
 }
 
 /// Copies a directory with all below it to another name, in place of what stands there.
-pub fn copy_all(rt: &HostRuntime, from: &str, to: &str) -> io::Result<()> {
+pub(crate) fn copy_all(rt: &HostRuntime, from: &str, to: &str) -> io::Result<()> {
     if fs::exists(rt, to)? {
         fs::remove_dir_all(rt, to)?;
     }
@@ -136,7 +136,7 @@ fn private_name(path: &str) -> Option<&str> {
 
 /// Whether a path, here without its first slash, is one that is only cleared and written anew: a staged file, the work name, or
 /// a content that may be left.
-pub fn is_cleared(path: &str) -> bool {
+pub(crate) fn is_cleared(path: &str) -> bool {
     let name = match name_in(path, "root/var/lib/conarydb") {
         Some(name) => name,
         None => name_in(path, "repo/conaryrepo").unwrap_or(""),
@@ -144,13 +144,13 @@ pub fn is_cleared(path: &str) -> bool {
     matches!(name, "w" | "p" | "c") || name.starts_with("s.")
 }
 
-/// Whether a path is a private directory, or one of the journal's own names in it, or below it.
-pub fn is_own(path: &str) -> bool {
+// Whether a path is a private directory, or one of the journal's own names in it, or below it.
+fn is_own(path: &str) -> bool {
     matches!(private_name(path), Some("" | "gate" | "log" | "w" | "p"))
 }
 
-/// Whether a path may be left by a job or a commit that never came to be: a content that was saved or brought, or its directory.
-pub fn may_be_left(path: &str) -> bool {
+// Whether a path may be left by a job or a commit that never came to be: a content that was saved or brought, or its directory.
+fn may_be_left(path: &str) -> bool {
     match private_name(path) {
         Some(name) => name == "c" || name.starts_with("s."),
         None => false,
@@ -191,7 +191,7 @@ fn holds_all(found: &Standing, wanted: &Standing) -> bool {
 }
 
 /// Whether what was found is what is wanted, and beside it only what may be left.
-pub fn agrees(found: &Standing, wanted: &Standing) -> bool {
+pub(crate) fn agrees(found: &Standing, wanted: &Standing) -> bool {
     for path in found.keys() {
         let path = path.as_str();
         if !is_own(path) && !may_be_left(path) && wanted.get(path).is_none() {

@@ -2,10 +2,10 @@
 use crate::record::Record;
 use crate::recorded::Recorded;
 use crate::standing::{Standing, agrees, copy_all, standing};
+use crate::told::Told;
 use crate::watched::Watched;
 use cny_flow::{MemorySink, MemorySource};
 use conary_cli::run;
-use std::fmt::Write;
 use std::fs;
 use std::io::{self, Error, ErrorKind};
 use tree_disk::TreeDisk;
@@ -26,10 +26,19 @@ const WORK: &str = "work";
 const TORN: &str = "torn";
 
 /// A command and what it reads.
-#[derive(Drop)]
-pub struct Command {
-    pub words: Vec<String>,
-    pub input: Vec<u8>,
+pub(crate) struct Command {
+    pub(crate) words: Vec<String>,
+    pub(crate) input: Vec<u8>,
+}
+
+// Written by hand, as for all that follow, so that to let a value go is a single call wherever a function ends early.
+impl Drop for Command {
+    fn drop(self) {
+        let Command {
+            words: _words,
+            input: _input,
+        } = self;
+    }
 }
 
 /// Which of the two disks fails.
@@ -37,6 +46,21 @@ pub struct Command {
 enum Side {
     Root,
     Repository,
+}
+
+/// What stood before a command and behind it.
+struct States {
+    before: Standing,
+    after: Standing,
+}
+
+impl Drop for States {
+    fn drop(self) {
+        let States {
+            before: _before,
+            after: _after,
+        } = self;
+    }
 }
 
 /// How often the next command found the state before, the state after, and any other.
@@ -51,13 +75,6 @@ struct Counts {
     forgotten: u64,
 }
 
-/// What stood before a command and behind it.
-#[derive(Drop)]
-struct States {
-    before: Standing,
-    after: Standing,
-}
-
 impl Counts {
     fn new() -> Self {
         Counts {
@@ -68,13 +85,54 @@ impl Counts {
             forgotten: 0,
         }
     }
+
+    fn count_other(&mut self) {
+        self.other = self.other.saturating_add(1);
+    }
+
+    // Counts what the next command found, which ended with this status, and says whether that is the state before.
+    fn count_found(&mut self, status: u8, found: &Standing, states: &States) -> bool {
+        let is_before = agrees(found, &states.before);
+        if status != 0 {
+            self.count_other();
+        } else if agrees(found, &states.after) {
+            self.after = self.after.saturating_add(1);
+        } else if is_before {
+            self.before = self.before.saturating_add(1);
+        } else {
+            self.count_other();
+        }
+        is_before
+    }
+
+    fn tell(&self, told: &mut Told) {
+        told.text("; behind a failed call ");
+        told.number(self.before);
+        told.text(" before, ");
+        told.number(self.after);
+        told.text(" after, ");
+        told.number(self.other);
+        told.text(" other; ");
+        told.number(self.unkept);
+        told.text(" not kept, ");
+        told.number(self.forgotten);
+        told.text(" syncs forgotten\n");
+    }
 }
 
 /// The records of both disks, of which one may fail at a call.
-#[derive(Drop)]
 struct Pair {
     root: Record,
     repo: Record,
+}
+
+impl Drop for Pair {
+    fn drop(self) {
+        let Pair {
+            root: _root,
+            repo: _repo,
+        } = self;
+    }
 }
 
 impl Pair {
@@ -89,16 +147,27 @@ impl Pair {
         }
     }
 
+    // No call fails.
+    fn sound(rt: &HostRuntime) -> Self {
+        Pair::new(rt, Side::Root, 0)
+    }
+
     // Over what an earlier run left unkept, and with no call that fails.
-    fn behind(rt: &HostRuntime, earlier: &Pair) -> io::Result<Self> {
-        let next = Pair::new(rt, Side::Root, 0);
-        next.root.inherit(&earlier.root)?;
-        next.repo.inherit(&earlier.repo)?;
-        Ok(next)
+    fn behind(rt: &HostRuntime, earlier: &Pair) -> Self {
+        let next = Pair::sound(rt);
+        next.root.inherit(&earlier.root);
+        next.repo.inherit(&earlier.repo);
+        next
     }
 
     fn has_failed(&self) -> bool {
         self.root.has_failed() || self.repo.has_failed()
+    }
+
+    // How many names aren't kept on which a further run relies.
+    fn relied_on(&self) -> io::Result<u64> {
+        let of_root = self.root.relied_on()?;
+        Ok(of_root.saturating_add(self.repo.relied_on()?))
     }
 }
 
@@ -151,8 +220,8 @@ fn run_over(
     records: &Pair,
 ) -> io::Result<(u8, u64)> {
     let (root_files, repo_files) = (
-        Recorded::new(rt, &records.root),
-        Recorded::new(rt, &records.repo),
+        Recorded::new(rt, &records.root, false),
+        Recorded::new(rt, &records.repo, false),
     );
     let root_name = name_of(rt, dir, "/root")?;
     let repo_name = name_of(rt, dir, "/repo")?;
@@ -173,9 +242,16 @@ fn next_command(rt: &HostRuntime) -> io::Result<Command> {
     })
 }
 
+// Makes the next command, and answers its status.
+fn run_next(rt: &HostRuntime, records: &Pair) -> io::Result<u8> {
+    let command = next_command(rt)?;
+    let (status, _) = run_over(rt, WORK, &command, records)?;
+    Ok(status)
+}
+
 // Whether the command, made again behind one that left the state before, leads to the state after.
 fn leads_on(rt: &HostRuntime, command: &Command, after: &Standing) -> io::Result<bool> {
-    run_over(rt, WORK, command, &Pair::new(rt, Side::Root, 0))?;
+    run_over(rt, WORK, command, &Pair::sound(rt))?;
     Ok(agrees(&standing(rt, WORK)?, after))
 }
 
@@ -186,22 +262,11 @@ fn count_next(
     states: &States,
     counts: &mut Counts,
 ) -> io::Result<bool> {
-    let records = Pair::behind(rt, failed)?;
-    let (status, _) = run_over(rt, WORK, &next_command(rt)?, &records)?;
-    counts.unkept = counts.unkept.saturating_add(records.root.relied_on()?);
-    counts.unkept = counts.unkept.saturating_add(records.repo.relied_on()?);
+    let records = Pair::behind(rt, failed);
+    let status = run_next(rt, &records)?;
+    counts.unkept = counts.unkept.saturating_add(records.relied_on()?);
     let found = standing(rt, WORK)?;
-    let is_before = agrees(&found, &states.before);
-    if status != 0 {
-        counts.other = counts.other.saturating_add(1);
-    } else if agrees(&found, &states.after) {
-        counts.after = counts.after.saturating_add(1);
-    } else if is_before {
-        counts.before = counts.before.saturating_add(1);
-    } else {
-        counts.other = counts.other.saturating_add(1);
-    }
-    Ok(is_before)
+    Ok(counts.count_found(status, &found, states))
 }
 
 fn flag_is_set(rt: &HostRuntime, side: Side) -> io::Result<bool> {
@@ -212,6 +277,23 @@ fn flag_is_set(rt: &HostRuntime, side: Side) -> io::Result<bool> {
     fs::exists(rt, flag)
 }
 
+// Makes the recovery of what a run left torn, whose call of this number fails, and says whether there is such a call.
+fn try_recovery(
+    rt: &HostRuntime,
+    side: Side,
+    call: u64,
+    states: &States,
+    counts: &mut Counts,
+) -> io::Result<bool> {
+    copy_all(rt, TORN, WORK)?;
+    let records = Pair::new(rt, side, call);
+    run_next(rt, &records)?;
+    if records.has_failed() {
+        count_next(rt, &records, states, counts)?;
+    }
+    Ok(records.has_failed())
+}
+
 // Fails each call of the recovery of what a run left torn.
 fn try_recoveries(
     rt: &HostRuntime,
@@ -220,13 +302,9 @@ fn try_recoveries(
     counts: &mut Counts,
 ) -> io::Result<()> {
     for call in 1..MOST_CALLS {
-        copy_all(rt, TORN, WORK)?;
-        let records = Pair::new(rt, side, call);
-        run_over(rt, WORK, &next_command(rt)?, &records)?;
-        if !records.has_failed() {
+        if !try_recovery(rt, side, call, states, counts)? {
             break;
         }
-        count_next(rt, &records, states, counts)?;
     }
     Ok(())
 }
@@ -246,7 +324,7 @@ fn try_thoroughly(
         copy_all(rt, WORK, TORN)?;
     }
     if count_next(rt, failed, states, counts)? && !leads_on(rt, command, &states.after)? {
-        counts.other = counts.other.saturating_add(1);
+        counts.count_other();
     }
     if is_torn {
         try_recoveries(rt, side, states, counts)?;
@@ -284,7 +362,7 @@ fn try_calls(
     command: &Command,
     side: Side,
     states: &States,
-    text: &mut String,
+    told: &mut Told,
 ) -> io::Result<()> {
     let mut counts = Counts::new();
     for call in 1..MOST_CALLS {
@@ -292,47 +370,53 @@ fn try_calls(
             break;
         }
     }
-    write!(
-        text,
-        "; behind a failed call {} before, {} after, {} other",
-        counts.before, counts.after, counts.other
-    )?;
-    write!(
-        text,
-        "; {} not kept, {} syncs forgotten\n",
-        counts.unkept, counts.forgotten
-    )?;
+    counts.tell(told);
     Ok(())
 }
 
 // Tells what a run asked of one disk.
-fn tell(text: &mut String, name: &str, record: &Record) -> io::Result<()> {
-    let uncovered = record.uncovered()?;
-    write!(
-        text,
-        "  {}: {} calls, {} waits, left out by a sync:{}",
-        name,
-        record.calls(),
-        record.waits(),
-        uncovered
-    )?;
-    Ok(())
+fn tell(told: &mut Told, name: &str, record: &Record) {
+    told.text("  ");
+    told.text(name);
+    told.text(": ");
+    told.number(record.calls());
+    told.text(" calls, ");
+    told.number(record.waits());
+    told.text(" waits, left out by a sync:");
+    record.tell_uncovered(told);
+}
+
+// What stands in the directory `now`, and in the copy where the command was made.
+fn states_of(rt: &HostRuntime) -> io::Result<States> {
+    let before = standing(rt, NOW)?;
+    let after = standing(rt, WORK)?;
+    Ok(States { before, after })
+}
+
+// Tells what a run of the command that ended well asked of both disks, and what is found where one of its calls fails.
+fn try_sides(
+    rt: &HostRuntime,
+    command: &Command,
+    records: &Pair,
+    told: &mut Told,
+) -> io::Result<()> {
+    let states = states_of(rt)?;
+    tell(told, "root", &records.root);
+    try_calls(rt, command, Side::Root, &states, told)?;
+    tell(told, "repository", &records.repo);
+    try_calls(rt, command, Side::Repository, &states, told)
 }
 
 /// Makes a command over what stands in the directory `now`, where it stays done, and tells what it asked of the host's files, and what
 /// the next command finds where one of its calls failed.
-pub fn try_command(rt: &HostRuntime, command: &Command, text: &mut String) -> io::Result<()> {
+pub(crate) fn try_command(rt: &HostRuntime, command: &Command, told: &mut Told) -> io::Result<()> {
     copy_all(rt, NOW, WORK)?;
-    let before = standing(rt, NOW)?;
-    let records = Pair::new(rt, Side::Root, 0);
+    let records = Pair::sound(rt);
     let (status, _) = run_over(rt, WORK, command, &records)?;
-    let after = standing(rt, WORK)?;
-    let states = States { before, after };
-    write!(text, ": {}\n", status)?;
-    tell(text, "root", &records.root)?;
-    try_calls(rt, command, Side::Root, &states, text)?;
-    tell(text, "repository", &records.repo)?;
-    try_calls(rt, command, Side::Repository, &states, text)?;
-    run_over(rt, NOW, command, &Pair::new(rt, Side::Root, 0))?;
+    told.text(": ");
+    told.number(u64::from(status));
+    told.text("\n");
+    try_sides(rt, command, &records, told)?;
+    run_over(rt, NOW, command, &Pair::sound(rt))?;
     Ok(())
 }

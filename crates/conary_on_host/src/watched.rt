@@ -9,19 +9,38 @@ use tree_disk::{DiskStop, Look, TreeDisk};
 use tree_host::HostTree;
 
 /// The directory, and the record of what is asked of its files.
-#[derive(Drop)]
-pub struct Watched<'a> {
+pub(crate) struct Watched<'a> {
     tree: HostTree<'a, Recorded<'a>>,
     record: &'a Record,
 }
 
+// Written by hand, so that to let a value go is a single call wherever a function ends early.
+impl Drop for Watched<'_> {
+    fn drop(self) {
+        let Watched {
+            tree: _tree,
+            record: _record,
+        } = self;
+    }
+}
+
 impl<'a> Watched<'a> {
     /// The directory of this name, over files that keep this record.
-    pub fn new(alloc: Global, files: &'a Recorded<'a>, record: &'a Record, dir: Text) -> Self {
+    pub(crate) fn new(
+        alloc: Global,
+        files: &'a Recorded<'a>,
+        record: &'a Record,
+        dir: Text,
+    ) -> Self {
         Watched {
             tree: HostTree::new(alloc, files, dir),
             record,
         }
+    }
+
+    /// How many waits for the disk there were.
+    pub(crate) fn waits(&self) -> u64 {
+        self.record.waits()
     }
 }
 

@@ -1,13 +1,12 @@
 // The changing calls of a directory of the host. Whatever the host's own mask of modes is, what is made has the mode that is asked for.
 use crate::host::{Host, mode_of};
 use crate::known::Standing;
-use crate::names::above;
 use crate::stop::HostStop;
 use std::alloc::Global;
 use std::fs::{self, DirBuilder, Files, Metadata, OpenFile, OpenOptions, Permissions};
 use std::io::{self, ErrorKind, Write};
 use std::os::unix::fs::{DirBuilderExt, OpenOptionsExt, PermissionsExt};
-use tree_disk::cny_base::{Mode, Path, Target};
+use tree_disk::cny_base::{Mode, Path, Target, parent_of};
 
 // The bit of a mode that the host leaves out without a word where the process isn't in the group of the file.
 const SET_GROUP: u16 = 0o2000;
@@ -63,10 +62,7 @@ impl<R: Files> Host<'_, R> {
         }
         self.begin(alloc, path)?;
         self.known.forget(alloc, path)?;
-        if let Some(dir) = above(path) {
-            self.waiting.add(alloc, dir)?;
-        }
-        Ok(())
+        Ok(self.waiting.add(alloc, parent_of(path))?)
     }
 
     // Nothing stands at the path from now on.
@@ -83,7 +79,7 @@ impl<R: Files> Host<'_, R> {
 
     // Gives a new file its mode, where its directory isn't known to give each file just that for which it is made.
     fn set_first_mode(&mut self, path: &str, file: &R::File) -> Result<(), HostStop> {
-        let dir = above(path).unwrap_or("/");
+        let dir = parent_of(path);
         if self.known.keeps_modes(dir) {
             return Ok(());
         }

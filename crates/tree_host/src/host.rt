@@ -1,6 +1,5 @@
 // What stands in a directory of the host. Each path is reached name by name, and none through a link but the directory itself.
 use crate::known::{Known, Standing};
-use crate::names::{above, above_at};
 use crate::open_files::OpenFiles;
 use crate::stop::HostStop;
 use crate::waiting::Waiting;
@@ -9,7 +8,16 @@ use std::fs::{self, Files, Metadata};
 use std::io::{Error, ErrorKind};
 use std::os::unix::fs::{MetadataExt, PermissionsExt};
 use tree_disk::Look;
-use tree_disk::cny_base::{Mode, OutOfMemory, Path, Target, Text};
+use tree_disk::cny_base::{Mode, OutOfMemory, Path, Target, Text, parent_of};
+
+// The path above another that ends where that has a slash at this place.
+fn above_at(path: &str, at: usize) -> Option<&str> {
+    let (head, rest) = path.split_at_checked(at)?;
+    if rest.len() < 2 || !rest.starts_with('/') {
+        return None;
+    }
+    Some(if head.is_empty() { "/" } else { head })
+}
 
 // The bits of a mode that say who may do what.
 const PERMISSION_BITS: u32 = 0o7777;
@@ -165,16 +173,24 @@ impl<'a, R: Files> Host<'a, R> {
 
     /// Whether all names above a path are directories. They are looked at only as far as it isn't known of the last.
     pub(crate) fn is_below_dirs(&mut self, alloc: Global, path: &str) -> Result<bool, HostStop> {
-        match above(path) {
-            Some(dir) if !self.known.is_dir(dir) => self.is_way_open(alloc, path),
-            _ => Ok(true),
+        if self.known.is_dir(parent_of(path)) {
+            return Ok(true);
         }
+        self.is_way_open(alloc, path)
     }
 
     // What was seen at the path by the last look, where nothing has changed since.
     fn last_seen(&self, path: &str) -> Option<Seen> {
         match &self.last {
             Some(last) if last.path.as_str() == path => Some(last.seen),
+            _ => None,
+        }
+    }
+
+    /// How many bytes the file at the path has, where the last look was at it and nothing has changed since.
+    pub(crate) fn size_seen(&self, path: &str) -> Option<u64> {
+        match self.last_seen(path) {
+            Some(Seen::File { size, .. }) => Some(size),
             _ => None,
         }
     }
@@ -273,10 +289,10 @@ impl<'a, R: Files> Host<'a, R> {
 
     /// A sync waits for each directory above a path for which none has waited yet: an earlier process may have made it.
     pub(crate) fn note_above(&mut self, alloc: Global, path: &str) -> Result<(), OutOfMemory> {
-        match above(path) {
-            Some(dir) if !self.is_noted(dir) => self.note_way(alloc, path),
-            _ => Ok(()),
+        if self.is_noted(parent_of(path)) {
+            return Ok(());
         }
+        self.note_way(alloc, path)
     }
 
     // From `/` down, as far as there may be directories.

@@ -70,10 +70,7 @@ impl Known {
 
     /// What stands at a path, where it is known.
     pub(crate) fn get(&self, path: &str) -> Option<Standing> {
-        match self.names.get(path) {
-            Some(standing) => *standing,
-            None => None,
-        }
+        *self.names.get(path)?
     }
 
     pub(crate) fn is_nothing(&self, path: &str) -> bool {
@@ -86,10 +83,7 @@ impl Known {
 
     /// Whether it is known that no directory stands there.
     pub(crate) fn is_no_dir(&self, path: &str) -> bool {
-        match self.get(path) {
-            Some(standing) => !standing.is_dir(),
-            None => false,
-        }
+        self.get(path).is_some() && !self.is_dir(path)
     }
 
     /// Whether a directory stands there that was synced.

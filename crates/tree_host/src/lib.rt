@@ -9,12 +9,9 @@ mod host;
 mod known;
 mod listing;
 mod lock;
-mod names;
 mod open_files;
 mod reading;
 mod stop;
-#[cfg(test)]
-mod tests;
 mod tree;
 mod waiting;
 

@@ -1,6 +1,5 @@
 // The names in a directory of the host.
-ghost use Rattle.std.specs.Prelude.{IfOk, IsTrue, All};
-ghost use Rattle.tree_disk.specs.cny-base.Path.{is_path, join};
+ghost use Rattle.std.specs.Prelude.{IfOk};
 ghost use Rattle.tree_disk.specs.Disk.{NamesOf};
 
 use crate::host::Host;

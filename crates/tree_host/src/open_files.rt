@@ -2,11 +2,13 @@
 ghost use Rattle.std.specs.Prelude.{◌≤◌, length, IfOk};
 
 use crate::stop::HostStop;
-use std::alloc::Global;
+use std::alloc::{AllocError, Global};
 use std::io::{ErrorKind, Read, Seek, SeekFrom};
 
-// How many bytes one read of the host asks for.
-const PIECE: usize = 1_048_576;
+// How many bytes one read of the host asks for: at least, and at most.
+const LEAST: u64 = 4_096;
+
+const MOST: u64 = 1_048_576;
 
 // The file that is written.
 #[derive(Drop)]
@@ -85,29 +87,33 @@ impl<F: Drop> OpenFiles<F> {
         }
     }
 
-    pub(crate) fn set_reader(&mut self, path: String, file: F) {
+    /// This file is read from now on. So many bytes of it are wanted: as many as it has or, where that isn't known, as are asked for
+    /// first. The piece becomes as long, within its bounds, where it is shorter.
+    pub(crate) fn set_reader(
+        &mut self,
+        path: String,
+        file: F,
+        wanted: u64,
+    ) -> Result<(), AllocError> {
+        let room = wanted.max(LEAST).min(MOST) as usize;
+        if self.piece.len() < room {
+            self.piece.resize(room, 0)?;
+        }
         self.reader = Some(Reader {
             path,
             file,
             start: 0,
             count: 0,
         });
+        Ok(())
     }
 }
 
 impl<F: Read + Seek + Drop> OpenFiles<F> {
     /// Fills the buffer from a place in the file that is read on, as far as the file goes.
-    pub(crate) fn read_at(
-        &mut self,
-        alloc: Global,
-        at: u64,
-        buf: &mut [u8],
-    ) -> Result<usize, HostStop>
+    pub(crate) fn read_at(&mut self, at: u64, buf: &mut [u8]) -> Result<usize, HostStop>
         ensures most { IfOk result (λ count. count ≤ length buf.old) }
     {
-        if self.piece.is_empty() {
-            self.piece = vec![in alloc; 0u8; PIECE]?;
-        }
         match &mut self.reader {
             Some(reader) => reader.fill(&mut self.piece, at, buf),
             None => Err(HostStop::Failed),

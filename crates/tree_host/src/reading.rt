@@ -20,20 +20,21 @@ impl<R: Files> Host<'_, R> {
         ensures most { IfOk result (λ count. count ≤ length buf.old) }
     {
         if !self.open.reads(path.text()) {
-            self.open_to_read(alloc, path.text())?;
+            self.open_to_read(alloc, path.text(), buf.len() as u64)?;
         }
         // No file has a byte there, and the host would take such a place for one before the file.
         if i64::try_from(at).is_err() {
             return Ok(0);
         }
-        let answer = self.open.read_at(alloc, at, buf);
+        let answer = self.open.read_at(at, buf);
         if answer.is_err() {
             self.open.close_reader();
         }
         answer
     }
 
-    fn open_to_read(&mut self, alloc: Global, path: &str) -> Result<(), HostStop> {
+    // Opens a file of which so many bytes are asked for first.
+    fn open_to_read(&mut self, alloc: Global, path: &str, asked: u64) -> Result<(), HostStop> {
         let name = String::from_str(alloc, path)?;
         let place = self.place(alloc, path)?;
         let standing = self.standing(alloc, path)?;
@@ -42,9 +43,9 @@ impl<R: Files> Host<'_, R> {
         }
         self.note_seen(alloc, path, standing)?;
         self.open.close_reader();
+        let wanted = self.size_seen(path).unwrap_or(asked);
         let file = fs::open(self.rt, place.as_str())?;
-        self.open.set_reader(name, file);
-        Ok(())
+        Ok(self.open.set_reader(name, file, wanted)?)
     }
 
     /// Waits until all is kept that was changed, and what an earlier process may have left unsynced: of a file its bytes and its

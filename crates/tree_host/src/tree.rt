@@ -26,7 +26,7 @@ use tree_disk::{DiskStop, Look, TreeDisk};
 /// waited for it yet. After a sync in which the host failed to keep something no later one ends well.
 #[derive(Drop)]
 pub struct HostTree<'a, R: Files> {
-    pub(crate) host: Host<'a, R>,
+    host: Host<'a, R>,
     faults: u64,
     // It holds the lock on the directory, if there is one.
     lock: Option<R::File>,

@@ -70,11 +70,3 @@ impl Waiting {
         self.paths = paths;
     }
 }
-
-#[cfg(test)]
-impl Waiting {
-    /// How many names the next sync waits for.
-    pub(crate) fn count(&self) -> usize {
-        self.paths.len()
-    }
-}
