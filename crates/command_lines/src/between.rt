@@ -1,6 +1,6 @@
 //! The change set between troves of a catalogue.
 ghost use Rattle.std.specs.Prelude.{Contains, IfOk};
-ghost use Rattle.repository.specs.Between.{AreCommitted};
+ghost use Rattle.repo_index.specs.Catalogue.{AreCommitted};
 ghost use Rattle.repository.specs.change-set.ChangeSet.{HasContents};
 
 use crate::reading::on_repository;

@@ -7,6 +7,7 @@ mod databases;
 mod failing;
 mod jobs;
 mod migration;
+mod newest_job;
 mod records;
 mod roots;
 mod saved;
@@ -18,7 +19,7 @@ use crate::migration::{migrate, migrated_puts, within};
 use crate::records::{record_told, rewritten};
 use crate::roots::{cut_off, failing, run, seen};
 use crate::saved::{can_save, old};
-use crate::stack::{all_jobs, back_to, inverse_job, newest_job, push_job};
+use crate::stack::{all_jobs, back_to, push_job};
 use crate::undoing::undo_all;
 use line_words::{Answer, Calls, Line, answer_all};
 use std::io;
@@ -45,9 +46,7 @@ fn small_call(line: &mut Line, answer: &mut Answer) {
 // The calls on the stack of a root.
 fn stack_call(line: &mut Line, answer: &mut Answer) {
     match line.name() {
-        "newest" => newest_job(line, answer),
         "all" => all_jobs(line, answer),
-        "inverse" => inverse_job(line, answer),
         "back" => back_to(line, answer),
         "push" => push_job(line, answer),
         "migrated" => migrated_puts(line, answer),

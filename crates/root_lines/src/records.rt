@@ -1,7 +1,7 @@
 //! Calls on the bytes of rollback records.
-use job_record::{Delta, Record, Told, ToldEntry, decode, encode};
+use job_record::{decode, encode};
 use line_words::{Answer, Line, Stop};
-use local_db::Format;
+use local_db::{Delta, Format, Record, Told, ToldEntry};
 use std::alloc::Global;
 use system_core::cny_base::{Bytes, Copies};
 

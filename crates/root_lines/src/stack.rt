@@ -1,10 +1,9 @@
 //! Calls on the stack of jobs of a root. Of each the call of the disk of the number FAILS fails; none for 0.
-use job_targets::{Entry, stashable};
+use crate::newest_job::newest_job;
+use job_targets::stashable;
 use line_words::{Answer, Line, Quiet};
-use rollback_stack::{
-    Back, Note, Notes, TroveIds, Undo, all, inverse, inverse_to, newest, push_puts,
-};
-use root_words::{database_of, push_db, push_puts_text, push_troves, push_want};
+use rollback_stack::{Back, Note, Notes, TroveIds, all, inverse_to, push_puts};
+use root_words::{database_of, push_db, push_puts_text};
 use std::alloc::Global;
 use system_core::cny_base::{Fault, Stop};
 use system_core::journal_log::Puts;
@@ -14,28 +13,6 @@ fn push_ids(answer: &mut Answer, ids: &TroveIds) {
         answer.text(" ");
         answer.id(id);
     }
-}
-
-fn push_entries(answer: &mut Answer, entries: &[Entry]) {
-    for entry in entries {
-        answer.text("; ");
-        push_want(answer, &entry.was);
-        answer.text(" ");
-        answer.text(entry.path.text());
-        answer.text("|");
-        answer.mark(&entry.mark);
-    }
-}
-
-fn push_undo(answer: &mut Answer, undo: &Undo) {
-    answer.text("undo ");
-    answer.number(u64::from(undo.number));
-    answer.field("back");
-    push_troves(answer, undo.back.get());
-    answer.field("after");
-    push_ids(answer, &undo.after);
-    answer.field("entries");
-    push_entries(answer, undo.entries.get());
 }
 
 fn push_note(answer: &mut Answer, note: &Note) {
@@ -61,23 +38,6 @@ fn push_back(answer: &mut Answer, back: &Back) {
     push_db(answer, &back.db);
 }
 
-fn newest_of(alloc: Global, disk: &mut Quiet) -> Result<Undo, Stop> {
-    let db = database_of(alloc, disk)?;
-    newest(alloc, disk, &db)
-}
-
-/// `newest FAILS TREE`: how the newest job of the root is taken back.
-pub fn newest_job(line: &mut Line, answer: &mut Answer) {
-    let fails = line.number(0);
-    let Some(mut disk) = line.disk(1, fails) else {
-        return;
-    };
-    match newest_of(answer.alloc(), &mut disk) {
-        Ok(undo) => push_undo(answer, &undo),
-        Err(end) => answer.stopped(&end),
-    }
-}
-
 fn notes_of(alloc: Global, disk: &mut Quiet) -> Result<Notes, Stop> {
     let db = database_of(alloc, disk)?;
     all(alloc, disk, &db)
@@ -92,27 +52,6 @@ pub fn all_jobs(line: &mut Line, answer: &mut Answer) {
     match notes_of(answer.alloc(), &mut disk) {
         Ok(notes) => push_notes(answer, notes.get()),
         Err(end) => answer.stopped(&end),
-    }
-}
-
-fn inverse_of(alloc: Global, root: &mut Quiet, disk: &mut Quiet) -> Result<Back, Stop> {
-    let db = database_of(alloc, root)?;
-    let undo = newest(alloc, root, &db)?;
-    inverse(alloc, disk, &undo, &db)
-}
-
-fn inverse_on(root: &mut Quiet, disk: &mut Quiet, answer: &mut Answer) {
-    match inverse_of(answer.alloc(), root, disk) {
-        Ok(back) => push_back(answer, &back),
-        Err(end) => answer.stopped(&end),
-    }
-}
-
-/// `inverse FAILS TREE NOW`: the writes that take the newest job of the root back, once its tree is the other one.
-pub fn inverse_job(line: &mut Line, answer: &mut Answer) {
-    let fails = line.number(0);
-    if let (Some(mut root), Some(mut disk)) = (line.disk(1, 0), line.disk(2, fails)) {
-        inverse_on(&mut root, &mut disk, answer);
     }
 }
 
@@ -136,9 +75,10 @@ pub fn back_to(line: &mut Line, answer: &mut Answer) {
 // What comes before the write set of the newest job of the root, on the disk.
 fn pushed_to(alloc: Global, root: &mut Quiet, disk: &mut Quiet) -> Result<Puts, Stop> {
     let db = database_of(alloc, root)?;
-    let undo = newest(alloc, root, &db)?;
-    match stashable(alloc, undo.entries.get()) {
-        Ok(()) => push_puts(alloc, disk, &undo, &db),
+    let job = newest_job(alloc, root, &db)?;
+    let entries = job.entries.get();
+    match stashable(alloc, entries) {
+        Ok(()) => push_puts(alloc, disk, &job.before, job.names.as_slice(), entries, &db),
         Err(Fault::Refused(why)) => Err(Stop::Refused(why)),
         Err(Fault::Memory) => Err(Stop::Memory),
     }

@@ -1,7 +1,9 @@
 //! Jobs that are taken back one after the other, on the fingerprints of a tree.
 use line_words::tree_memory::MemoryTree;
 use line_words::{Answer, Line};
-use rollback_stack::{Change, FoundMarks, are_rising, changes_of, check_undo, take_back};
+use local_db::Change;
+use past_jobs::{FoundMarks, are_rising, check_undo, take_back};
+use rollback_stack::changes_of;
 use root_words::entries_of;
 use std::collections::BTreeMap;
 

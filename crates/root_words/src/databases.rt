@@ -49,8 +49,8 @@ pub fn readied(disk: &mut Quiet, answer: &mut Answer) -> Option<Db>
     }
 }
 
-/// Appends the ids of troves, a space before each.
-pub fn push_troves(answer: &mut Answer, troves: &[Trove]) {
+// Appends the ids of troves, a space before each.
+fn push_troves(answer: &mut Answer, troves: &[Trove]) {
     for trove in troves {
         answer.text(" ");
         answer.id(trove.id());

@@ -8,6 +8,6 @@ mod entries;
 mod troves;
 
 pub use carried::{are_in_order, carried_of};
-pub use databases::{PRIVATE, database_of, push_db, push_troves, readied};
+pub use databases::{PRIVATE, database_of, push_db, readied};
 pub use entries::{entries_of, push_puts_text, push_want};
 pub use troves::{are_allowed, list_of, troves_of};

@@ -1,6 +1,5 @@
 //! Calls of what leads from a trove to another, and of what comes with a change set. Where an argument is no stream of its kind,
 //! or two troves are no such pair, the answer is `unreadable`.
-ghost use Rattle.std.specs.Prelude.{◌≡◌, ◌≢◌};
 
 use crate::again::{behind, push_shown};
 use change_rel::{apply, relative, to_send};

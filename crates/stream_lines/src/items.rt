@@ -1,5 +1,5 @@
 //! Calls on items.
-ghost use Rattle.std.specs.Prelude.{◌≤◌, length, IsTrue};
+ghost use Rattle.std.specs.Prelude.{IsTrue};
 ghost use Rattle.cny_stream.specs.Item.{FitsOpen};
 
 use crate::again::{behind, push_shown};

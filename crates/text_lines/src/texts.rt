@@ -1,5 +1,4 @@
 //! Calls on names, paths, targets, modes, numbers and fields of streams.
-ghost use Rattle.std.specs.Prelude.{◌≤◌, length};
 ghost use Rattle.update_job.specs.cny-base.StrField.{FitsStr};
 
 use cny_report::cny_base::{

@@ -1,5 +1,5 @@
 //! Calls on labels, counts and versions.
-ghost use Rattle.std.specs.Prelude.{◌≡◌, IfSome, IsTrue};
+ghost use Rattle.std.specs.Prelude.{IfSome, IsTrue};
 ghost use Rattle.cny_version.specs.Revision.{is_revision};
 
 use cny_report::cny_base::{Copies, Fault, VERSION_LIMIT};

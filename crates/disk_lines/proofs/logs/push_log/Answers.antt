@@ -1,4 +1,4 @@
-use Rattle.tree_journal.specs.journal-log.NumberLaws.{numbered_no_bytes}
+use Rattle.tree_journal.proofs.journal-log.NumberLaws.{numbered_no_bytes}
 use Rattle.disk_lines.proofs.logs.push_log.Goals as goal
 
 pub encode_log-requires : goal.encode_log-requires

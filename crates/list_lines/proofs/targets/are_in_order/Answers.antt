@@ -4,7 +4,7 @@ use Rattle.std.proofs.lemmas.Cmp.{on_total}
 use Rattle.std.proofs.lemmas.List.Sorted.{answers_always}
 use Rattle.job_targets.specs.change-set.declared.change.Carried.{Carried}
 use Rattle.job_targets.specs.change-set.ChangeSet.{content_cmp}
-use Rattle.list_lines.proofs.Adjacent.{is_less, rising_answer}
+use Rattle.update_job.proofs.trove-parts.Rising.{is_less, rising_answer}
 use Rattle.list_lines.proofs.targets.are_in_order.Goals as goal
 
 pub returns : goal.returns

@@ -4,7 +4,7 @@ use Rattle.std.proofs.lemmas.Cmp.{on_total}
 use Rattle.std.proofs.lemmas.List.Sorted.{answers_always}
 use Rattle.system_core.specs.change-set.declared.change.Carried.{Carried}
 use Rattle.system_core.specs.change-set.ChangeSet.{content_cmp}
-use Rattle.root_words.proofs.Adjacent.{is_less, rising_answer}
+use Rattle.local_db.proofs.trove-parts.Rising.{is_less, rising_answer}
 use Rattle.root_words.proofs.carried.are_in_order.Goals as goal
 
 pub returns : goal.returns

@@ -1,12 +1,9 @@
-use Rattle.std.proofs.Common.{[], All, sym, subst}
+use Rattle.std.proofs.Common.{All, sym, subst}
 use Rattle.std.specs.List.Sorted.{IsStrictlySortedBy}
 use Rattle.std.proofs.lemmas.List.Elements.{All-nil}
 use Rattle.cny_report.specs.change-set.ChangeSet.{IsContentOf, content_cmp}
+use Rattle.update_job.proofs.change-set.Carrying.{no_carried as none_rise}
 use Rattle.stream_lines.proofs.sets.joined_bytes.Goals as goal
-
-none_rise : IsStrictlySortedBy content_cmp []
-unfolding IsStrictlySortedBy
-none_rise = tt
 
 -- a set without contents
 pub encode-requires : goal.encode-requires

@@ -1,0 +1,85 @@
+//! The newest job of a root, by its record and the contents that it saved.
+ghost use Rattle.std.specs.Prelude.{◌≡◌, ◌≤◌, false, All, IfOk, OnOk};
+ghost use Rattle.rollback_stack.specs.JobEntries as records;
+ghost use Rattle.job_targets.specs.Old.{is_staged};
+ghost use Rattle.job_targets.specs.declared.entry.Entry as declared;
+ghost use Rattle.local_db.specs.Stores.{IsDatabase};
+ghost use Rattle.local_db.specs.declared.format.Format.TheVariants.{Two};
+ghost use Rattle.job_record.specs.Changed.{AreChangedNames};
+ghost use Rattle.rollback_stack.specs.Entries as spec;
+ghost use Rattle.rollback_stack.specs.Entries.{AreEntries};
+
+use job_targets::{Entries, Entry, old_node};
+use line_words::Quiet;
+use local_db::{Db, Format};
+use past_jobs::PastList;
+use rollback_stack::{Change, Job, read_job};
+use std::alloc::Global;
+use system_core::changed_names;
+use system_core::cny_base::{Name, Refusal, Stop};
+use system_core::trove_stream::Installed;
+use update_job::changed;
+
+/// What is pushed of a job: the list before it, the names whose trove it changed, and its entries.
+#[derive(Drop)]
+pub struct NewestJob {
+    pub before: Installed,
+    pub names: Vec<Name>,
+    pub entries: Entries,
+}
+
+// The entry of a change, with what was saved of it.
+fn entry_of(alloc: Global, disk: &mut Quiet, number: u32, change: Change) -> Result<Entry, Stop>
+    ensures entry { IfOk result (λ entry. spec.entry_of entry ≡ records.entry_of change) }
+    ensures given { IfOk result (λ entry. is_staged entry.was ≡ false) }
+{
+    let was = old_node(alloc, disk, number, &change.before)?;
+    let Change { path, after, .. } = change;
+    Ok(Entry {
+        path,
+        was,
+        mark: after,
+    })
+}
+
+// The entries of the changes, each with what was saved of it.
+fn entries_of(
+    alloc: Global,
+    disk: &mut Quiet,
+    number: u32,
+    changes: Vec<Change>,
+) -> Result<Vec<Entry>, Stop>
+    ensures entries { IfOk result (λ entries. spec.entries_of entries.items ≡ records.entries_of changes.items) }
+    ensures given { IfOk result (λ entries. All (λ (e : declared.Entry). is_staged e.was ≡ false) entries.items) }
+{
+    let mut entries = Vec::new(alloc);
+    for change in changes {
+        entries.push(entry_of(alloc, disk, number, change)?)?;
+    }
+    Ok(entries)
+}
+
+/// The newest job, by its record.
+pub fn newest_job(alloc: Global, root: &mut Quiet, db: &Db) -> Result<NewestJob, Stop>
+    requires { IsDatabase Two db.now.installed db.now.oldest db.now.newest }
+    ensures number { OnOk result (1 ≤ db.now.newest) }
+    ensures names { IfOk result (λ job. AreChangedNames job.before db.now.installed job.names.items) }
+    ensures entries { IfOk result (λ job. AreEntries job.entries) }
+{
+    if db.newest == 0 {
+        return Err(Stop::Refused(Refusal::StackEmpty));
+    }
+    let mut list = PastList::of(alloc, Format::Two, &db.installed)?;
+    let job = read_job(alloc, root, Format::Two, &mut list, db.newest)?;
+    let Job { changes, .. } = job;
+    let entries = entries_of(alloc, root, db.newest, changes)?;
+    let entries = Entries::new(entries);
+    let before = list.into_installed()?;
+    let changes = changed(alloc, &before, &db.installed)?;
+    let names = changed_names(alloc, &before, &db.installed, changes.get())?;
+    Ok(NewestJob {
+        before,
+        names,
+        entries,
+    })
+}
