@@ -9,7 +9,7 @@ import itertools
 from tools.cases.states import (
     BASE, BY_HAND_2, DATABASE, ETC, FIXED, FOO, FOO_2, ONE, RECORD_BY_HAND, TWO, V2, answered, line, stashable_line, tree_text, trove,
 )  # fmt: skip
-from tools.lines.words import bytes_word, node_word, placed, standing, tree_word
+from tools.lines.words import bytes_word, placed, standing, tree_word
 from tools.model import stacks
 from tools.model.records import (
     CAME, LISTED, NOTHING, TURNED, WAS, Db, Record, content_path, database_bytes, mark_of, read_record, record_bytes, record_path, saved_path,
@@ -37,11 +37,6 @@ def puts_text(puts):
 
 def back_text(puts, db):
     return f"{puts_text(puts)}\t{ids_text(f'db {db.oldest} {db.newest}', db.troves)}"
-
-
-def undo_text(job, nodes):
-    entries = "".join(f"; {placed(path, node)}|{node_word(now)}" for (path, _, now), node in zip(job.changes, nodes))
-    return f"undo {job.number}\t{ids_text('back', job.before, job.after)}\t{ids_text('after', job.after, job.before)}\tentries{entries}"
 
 
 def note_text(job):
@@ -73,23 +68,20 @@ def push_line(root, troves, targets, fails=0):
     return line("push", fails, tree_word(root.nodes()), tree_word(after.nodes())), answer
 
 
-# What reads a root: its newest job, all jobs, what takes those down to a number back, and what takes the newest one back on another root.
+# What reads a root: all jobs, and what takes those down to a number back.
 READERS = {
-    "newest": lambda nodes, db: undo_text(*stacks.newest(nodes, db)),
     "all": lambda nodes, db: "\t".join(["notes", *map(note_text, stacks.jobs_of(nodes, db))]),
     "back": lambda nodes, db, number: back_text(*stacks.inverse_to(nodes, db, number)),
-    "inverse": lambda nodes, db, now: back_text(*stacks.inverse(nodes_of(now), *stacks.newest(nodes, db), db)),
 }
 
 
 def read_line(call, root, *more, fails=0):
-    words = [tree_word(one.nodes()) if isinstance(one, Root) else one for one in (root, *more)]
-    return called(call, fails, words, lambda: READERS[call](nodes_of(root), db_of(root), *more))
+    return called(call, fails, [tree_word(root.nodes()), *more], lambda: READERS[call](nodes_of(root), db_of(root), *more))
 
 
-def read_lines(root, number, fails=0):
-    read = [read_line(call, root, fails=fails) for call in ("newest", "all")]
-    return read + ([read_line("back", root, number)] if number else [])
+def newest_line(root):
+    """What takes the newest job back; the stack is empty where the root has none."""
+    return read_line("back", root, root.numbers()[1])
 
 
 def migrated_line(nodes, fails=0):
@@ -155,10 +147,8 @@ def push_lines():
     for numbers in ((1, 4_095), (1, 4_096), (2, 4_097), (3, 4_098), (2, 5), (3, 5), (4, 4)):
         yield push_line(Root().edits(*names.items()).numbered(*numbers), [FOO], INSTALL)
     yield push_line(Root(), [FOO], INSTALL, fails=1)
-    for root in EMPTY_ROOTS + HISTORIES:
-        yield from read_lines(root, None)
-    for root, fails in itertools.product((INSTALLED, RESTORING), (1, 2, 3)):
-        yield from read_lines(root, None, fails)
+    yield from (read_line("all", root) for root in EMPTY_ROOTS + HISTORIES)
+    yield from (read_line("all", root, fails=fails) for root in (INSTALLED, RESTORING) for fails in (1, 2, 3))
 
 
 def edits(root):
@@ -175,14 +165,13 @@ def edits(root):
             yield from (root.edit(path + last, one) for last, one in ((b"/foreign", file(b"f")), (b"/a", DIR), (b"-other", file(b"f"))))
 
 
-def inverse_lines():
+def back_lines():
     for root in HISTORIES:
         low, high = root.numbers()
         for now in edits(root):
-            yield read_line("inverse", root, now)
             yield from (read_line("back", now, number) for number in range(low, high + 1))
-        yield from (read_line("back", root, low, fails=fails) for fails in range(1, 7))
-        yield read_line("inverse", root, root, fails=1)
+        yield from (read_line("back", root, number, fails=fails) for number in sorted({low, high}) for fails in range(1, 7))
+    yield from map(newest_line, EMPTY_ROOTS)
     yield from (read_line("back", root, number) for root in EMPTY_ROOTS for number in (1, 4_294_967_295))
     yield from (read_line("back", ERASED, number) for number in (0, 4, 9, 4_294_967_295))
     dropped = ERASED._replace(jobs=ERASED.jobs[1:]).with_database()
@@ -246,19 +235,33 @@ def damaged_records():
 def damage_lines():
     root, link_1 = RESTORING, ("link", b"r.1")
     for text in damaged_records():
-        yield from read_lines(root.edit(record_path(2), file(text)), 1)
+        damaged = root.edit(record_path(2), file(text))
+        yield from [newest_line(damaged), read_line("all", damaged), read_line("back", damaged, 1)]
+    # What stands is what the record tells of a path after the job: the writes are by what it tells of it before.
+    good = read_record(root.own[record_path(2)][2], 2)
+    files = itertools.product((LISTED, NOTHING, mark_of(ABX), DIR), (None, file(b"abc"), ("link", b"x")))
+    others = [(path, NOTHING, DIR) for path in (b"/new", b"/var/lib/conarydb-other")]
+    for path, was, node in [*((b"/etc/foo", *two) for two in files), *others]:
+        text = record_bytes(good._replace(entries=[(path, was, mark_of(node))]), 2)
+        yield newest_line(root.edit(record_path(2), file(text)).edit(path, node))
     for node in (None, DIR, link_1):
-        yield read_line("newest", root.edit(record_path(2), node))
+        yield newest_line(root.edit(record_path(2), node))
         yield read_line("all", root.edit(record_path(1), node))
-        yield read_line("newest", root.edit(record_path(1), node))
+        yield newest_line(root.edit(record_path(1), node))
     for node in (None, DIR, ("link", b"x"), file(b""), file(b"abY"), file(b"abXX"), file(b"abX", 0o777)):
-        yield from read_lines(root.edit(SAVED, node), 2)
-    yield read_line("newest", root.edit(SAVED).edit(saved_path(2)))
+        yield from [read_line("all", root.edit(SAVED, node)), newest_line(root.edit(SAVED, node))]
+    yield newest_line(root.edit(SAVED).edit(saved_path(2)))
     # The first content that is damaged, in path order.
     two = Root().edit(b"/a", file(b"1")).edit(b"/b", file(b"2"))
     gone = two.job([EMPTY_FILE], {b"/a": None, b"/b": file(b"3"), b"/nil": file(b"")})
     first, second = (content_path(1, sha(data)) for data in (b"1", b"2"))
-    yield from (read_line("newest", one) for one in (gone, gone.edit(second), gone.edit(first).edit(second)))
+    yield from map(newest_line, (gone, gone.edit(second), gone.edit(first).edit(second)))
+    # So it is also where the first path is that of the newer of two jobs, and where it is that of the older one.
+    for older, newer in ((b"/b", b"/a"), (b"/a", b"/b")):
+        both = two.job([EMPTY_FILE], {older: file(b"3"), b"/nil": file(b"")}).job([EMPTY_FILE], {newer: file(b"4")})
+        yield read_line("back", both, 1)
+        contents = [content_path(number, sha(two.outer[path][2])) for number, path in ((1, older), (2, newer))]
+        yield from (read_line("back", one, 1) for one in (*map(both.edit, contents), both.edit(contents[0]).edit(contents[1])))
     # An older record is read against what the newer one gives back.
     yield from (read_line("all", ERASED.edit(record_path(number), file(b"damaged"))) for number in (1, 2, 3))
     yield read_line("all", ERASED.edit(record_path(3), ERASED.own[record_path(2)]).edit(record_path(2), ERASED.own[record_path(3)]))
@@ -349,7 +352,7 @@ def lines():
     assert stacks.in_format_1(RESTORING.nodes()) == OLD_EDITED
     assert stacks.migrated(OLD) == {DATABASE: file(BY_HAND_2), record_path(1): file(RECORD_BY_HAND)}
     assert stacks.migrated(OLD_EDITED)[record_path(2)] == file(RECORD_2_BY_HAND) == RESTORING.own[record_path(2)]
-    return itertools.chain(push_lines(), inverse_lines(), damage_lines(), migration_lines(), next_lines(), stashable_lines())
+    return itertools.chain(push_lines(), back_lines(), damage_lines(), migration_lines(), next_lines(), stashable_lines())
 
 
 def large_root(troves, jobs, changed, files):

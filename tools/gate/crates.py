@@ -26,6 +26,12 @@ def edits_outside(crate="*"):
     return sorted(pathlib.Path("edits").glob(f"{crate}/*.edit"))
 
 
+def program_of(edit):
+    """The program whose answers alone show an edit, which no clause refuses: that of its line `by: PROGRAM`, if it has one."""
+    lines = edit.read_text(encoding="utf-8").splitlines()
+    return next((line.removeprefix("by: ").strip() for line in lines if line.startswith("by: ")), None)
+
+
 def crate_of(edit):
     """The crate that an edit changes."""
     return edit.parts[1]

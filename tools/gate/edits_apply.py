@@ -4,7 +4,7 @@
 An edit is a wrong body of the crate CRATE, `crates/CRATE/must-fail/NAME.edit` or `edits/CRATE/NAME.edit`. Its crate has to stand in
 `crates.txt`, each file that it changes below the `src/` of that crate, and each old text once in its file, as the changes before it
 left that. Each new text is another one. No two edits of a crate have one name. For each edit of the gate edits_shown.txt names a program
-that shows it (edits_show.py), and for no other.
+that shows it (edits_show.py), and for no other; one outside may name its own by a line `by: PROGRAM`.
 
 For each that fails a line says why; the last two lines are the counts. It ends with status 1 where one fails, or where the gate has
 more edits or more crates with edits than it may. Usage, at the top of the repository: tools/gate/edits_apply.py
@@ -13,7 +13,7 @@ import pathlib
 import re
 import sys
 
-from crates import SHOWN, changes_of, crate_of, edits_inside, edits_outside, name_of, named, shown_by
+from crates import SHOWN, changes_of, crate_of, edits_inside, edits_outside, name_of, named, program_of, shown_by
 
 # How many edits the gate may try, and of how many crates.
 EDITS, CRATES = 80, 22
@@ -56,6 +56,10 @@ def strays(edits):
         yield from (path for path in sorted(pathlib.Path().glob(pattern)) if path.is_file() and path.suffix != ".md" and path not in edits)
 
 
+def is_program(name):
+    return pathlib.Path("crates", name, "stdout").is_file()
+
+
 def unshown(inside):
     """What is wrong with edits_shown.txt, where these edits stand in the gate."""
     shown, names = shown_by(), {name_of(edit) for edit in inside}
@@ -64,7 +68,7 @@ def unshown(inside):
     for name, (program, _) in shown.items():
         if name not in names:
             yield f"{SHOWN.name}: {name} is no edit of the gate"
-        elif not pathlib.Path("crates", program, "stdout").is_file():
+        elif not is_program(program):
             yield f"{SHOWN.name}: {program} is no program with wanted answers"
 
 
@@ -78,6 +82,7 @@ def main():
     faults += [f"{edit}: an edit of the gate has its name" for edit in outside if (crate_of(edit), edit.name) in names]
     faults += [f"{path}: it is no edit of a crate" for path in strays(found)]
     faults += unshown(inside)
+    faults += [f"{edit}: it is by no program with wanted answers" for edit in outside if program_of(edit) and not is_program(program_of(edit))]
     of_gate, of_others = ({crate_of(edit) for edit in edits} for edits in (inside, outside))
     if len(inside) > EDITS:
         faults.append(f"the gate may have {EDITS} edits")

@@ -10,6 +10,8 @@ It copies the crates as they stand in the work tree, puts the edits of `edits/CR
     BAD CRATE/EDIT: the edit doesn't apply, or what it makes can't be compiled or read
     UNTRIED CRATE/EDIT: nothing is known of it
 
+An edit with a line `by: PROGRAM` isn't tried: no clause refuses it, and `tools/gate/edits_show.py` says whether that program shows it.
+
 The last line is the counts. It ends with status 1 unless each is refused by a clause.
 """
 import os
@@ -21,7 +23,7 @@ import subprocess
 import sys
 import tempfile
 
-from crates import edits_outside, named
+from crates import edits_outside, named, program_of
 
 # A line of `rt must-fail` on an edit, and how what it says there begins.
 SAID = re.compile(r"(?:rt: )?must-fail ([^\s/]+)/(\S+)\.edit: (.*)")
@@ -40,10 +42,15 @@ def copy_to(room):
     subprocess.run(["git", "init", "-q"], cwd=room, check=True)
 
 
+def for_clauses(crate):
+    """The edits of the crate outside the gate that a clause has to refuse."""
+    return [edit for edit in edits_outside(crate) if not program_of(edit)]
+
+
 def put_edits(room, crate):
     folder = room / "crates" / crate / "must-fail"
     folder.mkdir()
-    for edit in edits_outside(crate):
+    for edit in for_clauses(crate):
         shutil.copy2(edit, folder / edit.name)
 
 
@@ -74,7 +81,7 @@ def tried(room, crate):
     lines = lines_of(room, crate)
     said = {match[2]: match[3] for match in map(SAID.match, lines) if match and match[1] == crate}
     last = next((line for line in reversed(lines) if line.strip()), "rt said nothing")
-    for edit in edits_outside(crate):
+    for edit in for_clauses(crate):
         words = said.get(edit.stem)
         yield edit.stem, verdict_of(words) if words else "UNTRIED", words or last
 
@@ -84,7 +91,7 @@ def interrupted(number, frame):
 
 
 def main():
-    known = [crate for crate in named() if edits_outside(crate)]
+    known = [crate for crate in named() if for_clauses(crate)]
     wanted = sys.argv[1:] or known
     lacking = [crate for crate in wanted if crate not in known]
     if lacking:

@@ -65,13 +65,15 @@ def cited():
 def imports(path):
     """Line and name of each import that no word of the file says."""
     said = "\n".join(stripped(path))
-    words = set(WORD.findall(said))
     for number, line in enumerate(text_of(path).split("\n"), 1):
         some = re.match(r"use \S+?\.\{([^}]*)\}$", line)
         whole = re.match(r"use (\S+?)(?: as (\S+))?$", line)
         for name in [it.split(" as ")[-1].strip() for it in some[1].split(",")] if some else []:
             parts = [it for it in name.split("◌") if it]
-            if not (all(it in said for it in parts) if "◌" in name else name in words or re.search(rf"(?<![\w'-]){re.escape(name)}(?![\w'-])", said)):
+            # as a field, or as the label of a field or an argument, a name isn't this one
+            word = re.escape(name)
+            used = rf"(?<![\w'.-])(?<!\{{)(?<!\{{ )(?<!; ){word}(?![\w'-])|(?<![\w'.-]){word}(?! = )(?![\w'-])"
+            if not (all(it in said for it in parts) if "◌" in name else re.search(used, said)):
                 yield number, name
         if whole and not some and not re.search(rf"(?<![\w'-]){re.escape(whole[2] or whole[1].split('.')[-1])}\.", said):
             yield number, whole[2] or whole[1].split(".")[-1]

@@ -87,14 +87,6 @@ def old_node(nodes, number, mark):
 # ---- jobs taken back
 
 
-def newest(nodes, db):
-    """The newest job, and what stood at its paths."""
-    if db.newest == 0:
-        raise Refused(b"stack empty")
-    job = read_job(nodes, 2, db.newest, db.troves)
-    return job, [old_node(nodes, db.newest, was) for _, was, _ in job.changes]
-
-
 def marks_of(nodes):
     return {path: mark_of(node) for path, node in nodes.items()}
 
@@ -116,13 +108,6 @@ def undone(marks, changes):
 
 def db_below(db, troves, number):
     return Db(troves, db.oldest, number - 1) if db.oldest < number else Db(troves, 0, 0)
-
-
-def inverse(nodes, job, olds, db):
-    """The writes that take back the newest job, and the database after them."""
-    undone(marks_of(nodes), job.changes)
-    puts = {path: node for (path, _, _), node in zip(job.changes, olds)}
-    return {**puts, record_path(job.number): None}, db_below(db, job.before, job.number)
 
 
 def inverse_to(nodes, db, number):
