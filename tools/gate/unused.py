@@ -1,5 +1,6 @@
 #!/usr/bin/env python3
-"""Lists what the files of `specs/` and `proofs/` bring in or declare, and nothing uses: names of `use` lines, and declarations.
+"""Lists what the files of `specs/` and `proofs/` bring in or declare, and nothing uses: names of `use` lines, and declarations; and
+the names of `ghost use` lines of `src/`.
 
 A name is used where a word of its file says it, elsewhere than where it is declared; a declaration also where another file names it
 in a `use` line, by the module's name, or in the `using` of a tactic. Fields, constructors, answers and invariants are left out. What is
@@ -15,7 +16,7 @@ import re
 import sys
 
 WORD = re.compile(r"[^\s(){}\[\],;.λ`]+")
-USE = re.compile(r"^(?:pub |ghost )*use Rattle\.([\w.'-]+?)(?:\.\{([^}]*)\})?(?: as (\S+?))?;?$", re.M)
+USE = re.compile(r"^ *(?:pub |ghost )*use Rattle\.([\w.'-]+?)(?:\.\{([^}]*)\})?(?: as (\S+?))?;?$", re.M)
 HEAD = re.compile(r"( *)(?:abbrev |pub |unfoldable )*(?:(?:record|data) (?=\S+ [:({])|(?=\S+ : ))([^\s(){}:]+) ")
 
 
@@ -43,7 +44,8 @@ def file_of(words):
 
 def stripped(path):
     """The lines of a file without comments and imports."""
-    return ["" if it.strip().startswith("--") or re.match(r"(pub )?use ", it) else it.partition(" -- ")[0] for it in text_of(path).split("\n")]
+    comment, cut = ("//", "\n") if path.endswith(".rt") else ("--", " -- ")
+    return ["" if it.strip().startswith(comment) or re.match(r" *(pub |ghost )*use ", it) else it.partition(cut)[0] for it in text_of(path).split("\n")]
 
 
 def cited():
@@ -66,6 +68,9 @@ def imports(path):
     """Line and name of each import that no word of the file says."""
     said = "\n".join(stripped(path))
     for number, line in enumerate(text_of(path).split("\n"), 1):
+        if path.endswith(".rt"):
+            ghost = re.match(r" *ghost (use .*);$", line)
+            line = ghost[1] if ghost else ""
         some = re.match(r"use \S+?\.\{([^}]*)\}$", line)
         whole = re.match(r"use (\S+?)(?: as (\S+))?$", line)
         for name in [it.split(" as ")[-1].strip() for it in some[1].split(",")] if some else []:
@@ -100,8 +105,8 @@ def main(crates):
     taken = cited()
     counts = [0, 0]
     for crate in crates or sorted(os.listdir("crates")):
-        for path in sorted(glob.glob(f"crates/{crate}/specs/**/*.antt", recursive=True) + glob.glob(f"crates/{crate}/proofs/**/*.antt", recursive=True)):
-            made = os.path.basename(path) in ("Answers.antt", "Invariants.antt")
+        for path in sorted(it for end in ("specs/**/*.antt", "proofs/**/*.antt", "src/**/*.rt") for it in glob.glob(f"crates/{crate}/{end}", recursive=True)):
+            made = os.path.basename(path) in ("Answers.antt", "Invariants.antt") or path.endswith(".rt")
             for kind, found in enumerate([list(imports(path)), [] if made or path.endswith("Lib.antt") else list(declarations(path, taken[path]))]):
                 counts[kind] += len(found)
                 for number, name in found:
