@@ -6,8 +6,7 @@ use Rattle.std.specs.List.{list_all, list_any}
 use Rattle.std.specs.Str.{bytes_eq}
 use Rattle.std.specs.FinMap.{get}
 use Rattle.std.proofs.lemmas.List.Folds.{list_all-append}
-use Rattle.hex.specs.Hex.{encode_lower, lower_digits}
-use Rattle.hex.proofs.HexLemmas.{length-encode_with}
+use Rattle.hex.specs.Hex.{encode_lower}
 use Rattle.repo_index.specs.cny-base.Below.{is_below}
 use Rattle.repo_index.proofs.cny-base.Below.{below_rest}
 use Rattle.repo_index.specs.file-stream.declared.record.FileRec.{FileRec}
@@ -20,6 +19,7 @@ use Rattle.journal_log.specs.tree-disk.Clear.{is_within}
 use Rattle.journal_log.proofs.tree-disk.ClearLaws.{or_cases}
 use Rattle.journal_log.specs.Own.{gate, is_own}
 use Rattle.content_store.specs.Store.{content_path, file_bytes, IsContentName}
+use Rattle.content_store.proofs.Digits.{digits_long}
 use Rattle.content_store.proofs.Paths.{same_content_path}
 use Rattle.repo_index.specs.Catalogue.{CatalogueParts, has_content, is_content, is_file_of, names_content}
 use Rattle.repo_load.specs.Counts.{Counts, IsCommitName, IsContentOfState, IsPreparedName}
@@ -27,7 +27,7 @@ use Rattle.repo_load.specs.Files.{commit_file, contents_dir, repository_base, Ho
 use Rattle.repo_load.proofs.Holding.{first_stays}
 use Rattle.repo_load.specs.State.{catalogue_of, records_content, trove_records, Commit, IsRepository, RepositoryState, troves_of}
 use Rattle.repo_load.proofs.Digests.{digest_is_name}
-use Rattle.repo_load.proofs.FileNames.{commit_differs, twice}
+use Rattle.repo_load.proofs.FileNames.{commit_differs}
 use Rattle.journal_log.proofs.cny-base.FileNames.{is_low}
 use Rattle.journal_log.proofs.tree-disk.Names.{within_rest}
 use Rattle.journal_log.proofs.FileNames.{digits_low as decimal_low}
@@ -126,16 +126,13 @@ is_named r name bytes is holds = recorded_is_named name (length bytes) (troves_o
 pub is_name : (r : RepositoryState) (name bytes : List ℕ) → IsRepository r → r.contents name ≡ Some bytes → IsContentName name
 is_name r name bytes is holds = subst IsContentName (is.named name bytes holds).0 (digest_is_name bytes)
 
-digits_long : (name : List ℕ) → IsContentName name → length (encode_lower name) ≡ 40
-digits_long name is = length-encode_with lower_digits name ∙ twice (length name) is.long
-
 -- contents of two names stand apart
 pub content_apart : (a b : List ℕ) → IsContentName a → IsContentName b → is_within (content_path contents_dir a) (content_path contents_dir b) ≡ true → a ≡ b
 content_apart a b a_is b_is h = ⊎_elim
     (λ same. sym (same_content_path contents_dir b a b_is.bytes a_is.bytes (same_means (content_path contents_dir b) (content_path contents_dir a) same)))
     (λ low. let r = below_rest (content_path contents_dir a) (content_path contents_dir b) low in
     let longer : encode_lower b ≡ encode_lower a ++ 47 ∷ r.0 = ap (drop 14) r.1 in
-    absurd (omega (arith, ap length longer, length-append (encode_lower a) (47 ∷ r.0), digits_long a a_is, digits_long b b_is)))
+    absurd (omega (arith, ap length longer, length-append (encode_lower a) (47 ∷ r.0), digits_long a a_is.long, digits_long b b_is.long)))
     (or_cases (same_name (content_path contents_dir b) (content_path contents_dir a)) (is_below (content_path contents_dir a) (content_path contents_dir b)) h)
 
 dir_is_short : (q : Name) → q ≡ contents_dir → get_or q 13 0 ≡ 47 → ⊥

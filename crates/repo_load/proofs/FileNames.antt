@@ -1,14 +1,12 @@
 -- The names of the files are paths, and differ.
-use Rattle.std.proofs.Common.{◌≡◌, ⊎_elim, ℕ, zero, suc, ◌*◌, ◌/◌, ◌<◌, ◌≤◌, ◌^◌, ◌%◌, Bool, true, false, ◌&&◌, ◌||◌, List, [], ◌∷◌, length, get_or, drop, slice_index, refl, ◌∙◌, ap, arith, length-append, lit<}
+use Rattle.std.proofs.Common.{◌≡◌, ⊎_elim, ℕ, ◌<◌, ◌^◌, true, false, ◌||◌, List, [], ◌∷◌, length, get_or, drop, refl, ◌∙◌, ap, arith, length-append, lit<}
 use Rattle.std.specs.Prelude.{codes}
 use Rattle.std.specs.Cmp.{first_so, second_so}
-use Rattle.std.specs.Cmp.Derive.{both_true}
 use Rattle.std.specs.Fmt.{decimal}
 use Rattle.std.specs.List.{list_all}
-use Rattle.std.proofs.lemmas.Bool.{cases_Bool, cases_lt}
+use Rattle.std.proofs.lemmas.Bool.{cases_Bool}
 use Rattle.std.proofs.lemmas.Fmt.{decimal_injective, length-decimal-le}
-use Rattle.hex.specs.Hex.{encode_lower, encode_with, lower_digits, IsBytes}
-use Rattle.hex.proofs.HexLemmas.{length-encode_with}
+use Rattle.hex.specs.Hex.{IsBytes}
 use Rattle.repo_index.proofs.cny-base.Parent.{join_is_path}
 use Rattle.repo_index.specs.cny-base.Path.{are_parts, has_slash, is_dots, is_path}
 use Rattle.journal_log.specs.tree-disk.Tree.{Name, same_name}
@@ -18,9 +16,7 @@ use Rattle.repo_load.specs.Files.{repository_base, commit_file, contents_dir}
 use Rattle.journal_log.proofs.cny-base.FileNames.{is_low, low_no_slash, parts}
 use Rattle.journal_log.proofs.cny-base.Counts.{fits as at_most}
 use Rattle.journal_log.proofs.FileNames.{digits_low as decimal_low}
-use Rattle.content_store.proofs.Digits.{not_dots as long_no_dots}
-
--- ---- one part of a path
+use Rattle.content_store.proofs.Paths.{content_is_path as stands_at_path}
 
 -- ---- paths
 
@@ -44,42 +40,8 @@ commit_is_path n fits =
     join_is_path repository_base last base_is_path (parts last (decimal_low n fits) (no_dots (decimal n)) (omega arith) (omega (arith, long)))
     (at_most (length (commit_file n)) (omega (arith, long, length-append repository_base (47 ∷ last))))
 
--- ---- the digits of a content's name
-
-all_low : List ℕ → ℕ → Bool
-all_low t zero = true
-all_low t (suc n) = is_low (slice_index t n) && all_low t n
-
-low_at : (t : List ℕ) (n k : ℕ) → all_low t n ≡ true → k < n → is_low (slice_index t k) ≡ true
-unfolding all_low
-low_at t zero k all lt = absurd (omega arith)
-low_at t (suc n) k all lt = ⊎_elim
-    (λ (below : k < n). low_at t n k (second_so (is_low (slice_index t n)) (all_low t n) all) below)
-    (λ (top : n ≤ k). let is : k ≡ n = omega arith in ap (λ (i : ℕ). is_low (slice_index t i)) is ∙ first_so (is_low (slice_index t n)) (all_low t n) all)
-    (cases_lt k n)
-
-digit_low : (d : ℕ) → d < 16 → is_low (slice_index lower_digits d) ≡ true
-unfolding all_low
-digit_low d lt = low_at lower_digits 16 d refl lt
-
-hex_low : (xs : List ℕ) → IsBytes xs → list_all is_low (encode_lower xs) ≡ true
-unfolding encode_with
-hex_low [] fits = refl
-hex_low (b ∷ rest) fits =
-    let small : b < 256 = fits 0 in
-    let high : b / 16 < 16 = omega arith in
-    let low : b % 16 < 16 = omega arith in
-    both_true (digit_low (b / 16) high) (both_true (digit_low (b % 16) low) (hex_low rest (λ i. fits (suc i))))
-
-pub twice : (n : ℕ) → n ≡ 20 → 2 * n ≡ 40
-twice n is = omega arith
-
 pub content_is_path : (name : List ℕ) → length name ≡ 20 → IsBytes name → is_path (content_path contents_dir name) ≡ true
-content_is_path name long fits =
-    let digits : length (encode_lower name) ≡ 40 = length-encode_with lower_digits name ∙ twice (length name) long in
-    join_is_path contents_dir (encode_lower name) contents_is_path
-    (parts (encode_lower name) (hex_low name fits) (long_no_dots (encode_lower name) (omega (arith, digits))) (omega (arith, digits)) (omega (arith, digits)))
-    (at_most (length (content_path contents_dir name)) (omega (arith, digits, length-append contents_dir (47 ∷ encode_lower name))))
+content_is_path name long fits = stands_at_path contents_dir name contents_is_path (omega arith) long fits
 
 -- ---- names that differ
 

@@ -1,5 +1,5 @@
 -- Versions and ids as they are moved.
-use Rattle.std.proofs.Common.{◌≡◌, ◌↔◌, ◌<◌, inl, inr, false, length, Result, Ok, Err, refl, sym, ap, ◌∙◌, true≢false}
+use Rattle.std.proofs.Common.{◌≡◌, ◌↔◌, ◌<◌, inl, inr, false, length, Result, Ok, Err, refl, sym, ap, subst, ◌∙◌, true≢false}
 use Rattle.std.specs.Prelude.{IsErrOf, OnOk, IfErr}
 use Rattle.std.proofs.lemmas.Bool.{lt-ltb, le-ltb, cases_lt}
 use Rattle.repo_index.specs.cny-base.declared.limits.TheConstants.{VERSION_LIMIT}
@@ -48,3 +48,12 @@ pub long_if_refused : (v : WholeVersion) (r : Result WholeVersion Fault) → (Is
 long_if_refused v (Ok made) refused is = tt
 long_if_refused v (Err (Refused reason)) refused is = (is, lt-ltb VERSION_LIMIT (length (version_text v)) (refused.0 (ap (λ (r : Refusal). Err (Refused r)) is)))
 long_if_refused v (Err Memory) refused is = tt
+
+-- the same of a version that moves on a way
+module _ {way own : Way} (is : way ≡ own) (label : LabelParts) (v : WholeVersion) (r : Result WholeVersion Fault)
+    (refused : IsErrOf r (Refused (too_large_version (moved_version own label v))) ↔ (VERSION_LIMIT < length (version_text (moved_version own label v)))) where
+  pub fits_on_way : OnOk r (is_long_version (moved_version way label v) ≡ false)
+  fits_on_way = subst (λ (w : Way). OnOk r (is_long_version (moved_version w label v) ≡ false)) (sym is) (fits_if_made (moved_version own label v) r refused)
+
+  pub long_on_way : IfErr r (TooLargeOrMemory what.Version (length (version_text (moved_version own label v)))) → IfErr r (IsTooLongOrMemory (moved_version way label v))
+  long_on_way fault = subst (λ (w : Way). IfErr r (IsTooLongOrMemory (moved_version w label v))) (sym is) (long_if_refused (moved_version own label v) r refused fault)

@@ -1,24 +1,22 @@
 -- A carried content that a binary search finds by its name.
-use Rattle.std.proofs.Common.{◌≡◌, ℕ, zero, suc, ◌<◌, Bool, true, false, ◌&&◌, ◌||◌, List, [], ◌∷◌, length, get_or, Ordering, ⊎_elim, inl, inr, refl, sym, ◌∙◌, ap, subst, arith, add-one}
+use Rattle.std.proofs.Common.{◌≡◌, ℕ, zero, suc, ◌<◌, Bool, true, false, ◌&&◌, ◌||◌, List, [], ◌∷◌, length, get_or, ⊎_elim, refl, sym, ◌∙◌, ap, subst, arith}
 use Rattle.std.specs.Prelude.{◌==◌, nat_eq}
 use Rattle.std.proofs.lemmas.Bool.Decides.{nat_tests}
 use Rattle.std.specs.List.{list_any, HoldsAt}
-use Rattle.std.specs.List.Sorted.{IsStrictlySortedBy, IsSortedBy, IsNonDecreasingBy, IsPartitionPoint}
-use Rattle.std.specs.Cmp.Lexicographic.{slice_cmp, nat_list_cmp_total}
-use Rattle.std.specs.Ordering.{nat_cmp, is_eq, is_lt, ordering_index, ordering_reverse}
+use Rattle.std.specs.List.Sorted.{IsStrictlySortedBy, IsNonDecreasingBy, IsPartitionPoint}
+use Rattle.std.specs.Ordering.{is_eq, ordering_index}
 use Rattle.std.specs.declared.cmp.Ordering.TheVariants.{Less, Equal, Greater}
 use Rattle.std.specs.Str.{bytes_eq}
-use Rattle.std.proofs.lemmas.Bool.{cases_Bool, cases_lt}
-use Rattle.std.proofs.lemmas.Cmp.{tied_itself}
-use Rattle.std.proofs.lemmas.List.Sorted.{searchable_from_sorted}
-use Rattle.std.proofs.lemmas.Map.Keys.{Less-from_sorted}
+use Rattle.std.proofs.lemmas.Bool.{cases_Bool}
 use Rattle.repo_load.specs.tree-disk.Laws.{same_means}
 use Rattle.change_set.specs.declared.change.Carried.{Carried}
 use Rattle.change_set.specs.ChangeSet.{content_cmp}
+use Rattle.repository.specs.Between.{name_of}
 use Rattle.repository.specs.Tests.{is_carried}
 use Rattle.repository.proofs.Sources.{none_behind}
 use Rattle.change_set.proofs.Carrying.{against, rec_at}
 use Rattle.change_rel.proofs.cny-base.ByteLists.{equal_bytes, same_bytes}
+use Rattle.change_rel.proofs.cny-base.Keyed.{nowhere}
 use Rattle.tree_journal.proofs.tree-disk.Order.{not_before}
 use Rattle.tree_journal.proofs.tree-disk.Nodes.{left_true as and_first}
 use Rattle.change_rel.proofs.cny-base.Lists.{one_passes as any_found}
@@ -55,23 +53,10 @@ module _ (cs : List Carried) (name : List ℕ) (size : ℕ) (rises : IsStrictlyS
   found_size place e within is holds =
       one_size name size cs place e rises within is (same_means e.name name (ap is_eq (subst (λ (d : Carried). against name d ≡ Equal) (sym is) (holds e))))
 
-  turned : (a b : Ordering) → a ≡ ordering_reverse b → b ≡ Less → is_lt a ≡ false
-  turned a b e f = ap is_lt (e ∙ ap ordering_reverse f)
-
-  in_order : IsSortedBy (λ a b. is_lt (slice_cmp nat_cmp a.name b.name)) cs
-  in_order = λ k d low high.
-      rw add-one (turned _ _ (nat_list_cmp_total.antisymm (get_or cs (suc k) d).name (get_or cs k d).name) (Less-from_sorted content_cmp cs k (suc k) d rises (omega arith) (omega arith)))
-
   never : (place : ℕ) → (IsNonDecreasingBy (λ y. ordering_index (against name y)) cs → IsPartitionPoint (λ y. against name y ≡ Less) (λ y. against name y ≡ Greater) cs place) → list_any (is_carried name size) cs ≡ true → ⊥
   never place search' some =
       let h = any_found (is_carried name size) cs some in
-      let point = search' (searchable_from_sorted nat_list_cmp_total (λ (content : Carried). content.name) cs name in_order) in
-      let equal : against name h.0 ≡ Equal = ap (λ (p : List ℕ). slice_cmp nat_cmp p name) (same_bytes h.0.name name (and_first (bytes_eq h.0.name name) (length h.0.bytes == size) h.2)) ∙ tied_itself nat_list_cmp_total name in
-      let at : against name (get_or cs h.1.0 h.0) ≡ Equal = ap (against name) h.1.2 ∙ equal in
-      elim (cases_lt h.1.0 place) [
-        | inl before ↦ cc (at, point.0 h.1.0 h.0 (omega arith) before)
-        | inr behind ↦ cc (at, point.1 h.1.0 h.0 behind h.1.1)
-      ]
+      nowhere name_of cs name rises place search' h.0 h.1 (same_bytes h.0.name name (and_first (bytes_eq h.0.name name) (length h.0.bytes == size) h.2))
 
   pub missed_size : (place : ℕ) → (IsNonDecreasingBy (λ y. ordering_index (against name y)) cs → IsPartitionPoint (λ y. against name y ≡ Less) (λ y. against name y ≡ Greater) cs place) → false ≡ list_any (is_carried name size) cs
   missed_size place search' = sym (⊎_elim (λ some. absurd (never place search' some)) (λ none. none) (cases_Bool (list_any (is_carried name size) cs)))

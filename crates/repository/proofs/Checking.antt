@@ -1,6 +1,7 @@
 -- How tests that read a disk follow one another.
 use Rattle.std.proofs.Common.{◌≡◌, ◌≢◌, ℕ, ◌+◌, ◌<◌, ◌≤◌, Bool, true, false, IsTrue, List, [], ◌∷◌, ◌++◌, length, drop, get_or, Contains, Option, Some, None, Result, Ok, Err, IsErrAnd, refl, sym, ◌∙◌, ap, subst, arith}
 use Rattle.std.specs.Prelude.{◌==◌}
+use Rattle.std.specs.Option.{option_or}
 use Rattle.std.proofs.lemmas.List.Elements.{Contains-get_or}
 use Rattle.repo_load.specs.cny-base.declared.refusal.Fault.{Fault}
 use Rattle.repo_load.specs.cny-base.declared.refusal.Fault.TheVariants as fault
@@ -17,7 +18,7 @@ use Rattle.change_set.specs.declared.change.Part.{Part}
 use Rattle.repo_load.specs.content-store.Contents.{ContentMap}
 use Rattle.repo_index.specs.Catalogue.{CatalogueParts}
 use Rattle.repo_load.specs.trove-stream.declared.parts.TroveParts.{TroveParts}
-use Rattle.repository.specs.Tests.{collides, collision, later_refusal, missing_content, missing_ref, or_then, refs_of, too_many}
+use Rattle.repository.specs.Tests.{collides, collision, later_refusal, missing_content, missing_ref, refs_of, too_many}
 use Rattle.repository.specs.Parts.{AreMade}
 use Rattle.repository.specs.Verdict.{CheckEnds, Checks, IsVerdict}
 use Rattle.change_rel.specs.trove-stream.FilesOf.{files_of}
@@ -95,7 +96,7 @@ module _ {D : Type 0} {disk : DiskModel D} (laws : IsDisk disk) where
 
 -- ---- collisions, one after another
 
-pub collision_on : (held : ContentMap) (cs : List Carried) (i : ℕ) (c : Carried) → i < length cs → c ≡ get_or cs i c → collision held (drop i cs) ≡ or_then (collides (held c.name) c) (collision held (drop (i + 1) cs))
+pub collision_on : (held : ContentMap) (cs : List Carried) (i : ℕ) (c : Carried) → i < length cs → c ≡ get_or cs i c → collision held (drop i cs) ≡ option_or (collides (held c.name) c) (collision held (drop (i + 1) cs))
 collision_on held cs i c lt is = ap (collision held) (front_at i cs c lt is)
 
 pub collision_end : (held : ContentMap) (cs : List Carried) (i : ℕ) → length cs ≤ i → collision held (drop i cs) ≡ None
@@ -107,16 +108,22 @@ listed_at cs i c lt is = subst (Contains cs) (sym is) (Contains-get_or cs i c lt
 -- ---- all tests
 
 pub later_is : (c : CatalogueParts) (held : ContentMap) (contents : List Carried) (troves : List TroveParts) → troves ≢ []
-    → later_refusal c held contents troves ≡ or_then (missing_ref (c.troves ++ troves) (refs_of troves)) (or_then (missing_content c.troves contents (files_of troves)) (or_then (collision held contents) (too_many c.commits)))
+    → later_refusal c held contents troves ≡ option_or (missing_ref (c.troves ++ troves) (refs_of troves)) (option_or (missing_content c.troves contents (files_of troves)) (option_or (collision held contents) (too_many c.commits)))
 later_is c held contents [] full = absurd (full refl)
 later_is c held contents (t ∷ troves) full = refl
 
-pub empty_list : (troves : List TroveParts) (b : Bool) → b ≡ (length troves == 0) → b ≡ true → troves ≡ []
-empty_list [] b is yes' = refl
-empty_list (t ∷ troves) b is yes' = let none = no_length (length (t ∷ troves)) (sym is ∙ yes') in absurd (omega (arith, none))
+-- what a test of the length of an equal list says
+pub empty_list : {given troves : List TroveParts} {b : Bool} → given ≡ troves → b ≡ (length given == 0) → b ≡ true → troves ≡ []
+empty_list {troves = troves} same is yes' = by troves (ap (λ (l : List TroveParts). length l == 0) (sym same) ∙ sym is ∙ yes')
+  where
+    by : (l : List TroveParts) → (length l == 0) ≡ true → l ≡ []
+    by [] none = refl
+    by (t ∷ l) none = let zero' = no_length (length (t ∷ l)) none in absurd (omega (arith, zero'))
 
-pub full_list : (troves : List TroveParts) (b : Bool) → b ≡ (length troves == 0) → b ≡ false → troves ≢ []
-full_list troves b is no' empty = absurd (cc (is, no', empty))
+pub full_list : {given troves : List TroveParts} {b : Bool} → given ≡ troves → b ≡ (length given == 0) → b ≡ false → troves ≢ []
+full_list {troves = troves} {b = b} same is no' empty =
+    let long : b ≡ (length troves == 0) = is ∙ ap (λ (l : List TroveParts). length l == 0) same in
+    absurd (cc (long, no', empty))
 
 pub none_tested : (c : CatalogueParts) (held : ContentMap) (contents : List Carried) (troves : List TroveParts) → troves ≡ [] → later_refusal c held contents troves ≡ None
 none_tested c held contents [] is = refl

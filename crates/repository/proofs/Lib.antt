@@ -25,5 +25,5 @@ mod Told
 mod Gathered
 mod Fitting
 pub mod BetweenCarrying
-mod SetLaws
+pub mod SetLaws
 pub use Rattle.change_set.proofs as change-set

@@ -1,5 +1,6 @@
--- Tests of lists, and refusals one after another.
+-- Tests of lists, and failures one after another.
 use Rattle.std.proofs.Common.{◌≡◌, Bool, true, false, cond, ◌||◌, List, [], ◌∷◌, ◌++◌, Option, Some, None, is_some, Result, Ok, Err, IsErrAnd, refl, sym, ◌∙◌, ap, subst}
+use Rattle.std.specs.Option.{option_or}
 use Rattle.repo_load.specs.cny-base.declared.refusal.Refusal.{Refusal}
 use Rattle.repo_load.specs.trove-parts.declared.id.TroveId.{TroveId}
 use Rattle.repo_load.specs.trove-stream.declared.parts.TroveParts.{TroveParts}
@@ -7,7 +8,6 @@ use Rattle.repo_index.specs.Catalogue.{found, has_id}
 use Rattle.repo_load.specs.cny-base.declared.refusal.Fault.{Fault}
 use Rattle.repo_load.specs.cny-base.declared.refusal.Fault.TheVariants as fault
 use Rattle.change_set.specs.Contents.{IfRefused}
-use Rattle.repository.specs.Tests.{or_then}
 use Rattle.repository.specs.Verdict.{IsVerdict}
 
 -- ---- what is found
@@ -21,15 +21,24 @@ some_append id (t ∷ a) b = by (has_id id t) (some_append id a b)
     by true rest = refl
     by false rest = rest
 
--- ---- refusals
+-- ---- tests one after another, by why they fail
 
-pub then_none : (a b : Option Refusal) → or_then a b ≡ None → (a ≡ None) × (b ≡ None)
+pub then_none : {Why : Type 0} (a b : Option Why) → option_or a b ≡ None → (a ≡ None) × (b ≡ None)
 then_none None b h = (refl, h)
-then_none (Some r) b h = absurd (cc h)
+then_none (Some why) b h = absurd (cc h)
 
-pub then_append : (a b c : Option Refusal) → or_then a (or_then b c) ≡ or_then (or_then a b) c
+pub then_append : {Why : Type 0} (a b c : Option Why) → option_or a (option_or b c) ≡ option_or (option_or a b) c
 then_append None b c = refl
-then_append (Some r) b c = refl
+then_append (Some why) b c = refl
+
+-- the first failure is that of both
+pub then_first : {Why : Type 0} (a b : Option Why) (why : Why) → a ≡ Some why → option_or a b ≡ Some why
+then_first None b why is = absurd (cc is)
+then_first (Some other) b why is = is
+
+pub then_second : {Why : Type 0} (a b : Option Why) → a ≡ None → option_or a b ≡ b
+then_second None b is = refl
+then_second (Some why) b is = absurd (cc is)
 
 -- ---- verdicts
 
@@ -46,12 +55,3 @@ verdict_stop test goal e (Err s) verdict is so = subst (λ x. IsVerdict {X = Uni
     by : (e : Fault) → IsVerdict {X = Unit {0}} test (Err e) → IsVerdict {X = Unit {0}} goal (Err e)
     by (fault.Refused refusal) verdict = so refusal verdict
     by fault.Memory verdict = tt
-
--- the first refusal is that of both
-pub then_first : (a b : Option Refusal) (refusal : Refusal) → a ≡ Some refusal → or_then a b ≡ Some refusal
-then_first None b refusal is = absurd (cc is)
-then_first (Some r) b refusal is = is
-
-pub then_second : (a b : Option Refusal) → a ≡ None → or_then a b ≡ b
-then_second None b is = refl
-then_second (Some r) b is = absurd (cc is)

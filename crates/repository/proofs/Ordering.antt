@@ -1,5 +1,6 @@
 -- The first test that stops a commit, found test by test.
 use Rattle.std.proofs.Common.{◌≡◌, ◌≢◌, inl, inr, ℕ, ◌+◌, ◌<◌, ◌≤◌, Bool, true, false, cond, IsTrue, List, [], ◌∷◌, ◌++◌, length, drop, get_or, Option, Some, None, Result, Ok, Err, IfErr, IsErrAnd, refl, sym, ◌∙◌, ap, subst}
+use Rattle.std.specs.Option.{option_or}
 use Rattle.repo_load.specs.cny-base.declared.refusal.Fault.{Fault}
 use Rattle.repo_load.specs.cny-base.declared.refusal.Fault.TheVariants as fault
 use Rattle.repo_load.specs.cny-base.declared.refusal.Refusal.{Refusal}
@@ -20,7 +21,7 @@ use Rattle.repo_load.proofs.CountedNames.{recorded_is_named}
 use Rattle.repo_load.specs.Contents.{FindsContent, IsDamagedContent}
 use Rattle.repo_load.specs.Looks.{Ends, Looks}
 use Rattle.repository.specs.Outcome.{committed_contents}
-use Rattle.repository.specs.Order.{kept_stop, later_stop, or_stop, refusing, source_stop, sources_stop, IsFirstStop, StopsAs}
+use Rattle.repository.specs.Order.{kept_stop, later_stop, refusing, source_stop, sources_stop, IsFirstStop, StopsAs}
 use Rattle.repository.specs.Parts.{AreMade, IsFirstRefused}
 use Rattle.repository.specs.Tests.{collides, collision_at, missing_content, missing_ref, refs_of, too_many}
 use Rattle.repository.specs.Preparing.{StopsBefore, Writes}
@@ -28,17 +29,10 @@ use Rattle.repository.specs.Verdict.{IsVerdict}
 use Rattle.repository.proofs.Held.{kept_at, none_damaged, none_named}
 use Rattle.change_rel.specs.trove-stream.FilesOf.{files_of}
 use Rattle.change_rel.proofs.Members.{drop_all as drop_none}
+use Rattle.change_rel.proofs.cny-base.Faults.{passed_on}
 use Rattle.change_rel.proofs.trove-stream.Merging.{front_at}
 
 -- ---- one after another
-
-pub stop_first : (a b : Option Stop) (e : Stop) → a ≡ Some e → or_stop a b ≡ Some e
-stop_first None b e is = absurd (cc is)
-stop_first (Some s) b e is = is
-
-pub stop_second : (a b : Option Stop) → a ≡ None → or_stop a b ≡ b
-stop_second None b is = refl
-stop_second (Some s) b is = absurd (cc is)
 
 -- a stop passed on by `?`, of one test of several
 pub as_stop : (a b : Option Stop) (e : Stop) (r : Result (Unit {0}) Stop) → ((s : Stop) → a ≡ Some s → b ≡ Some s) → IsErrAnd r (λ s. s ≡ e) → StopsAs {X = Unit {0}} a (Err e) → StopsAs b r
@@ -107,7 +101,7 @@ read_stop {disk = disk} {P = P} {old = old} {new = new} troves content e tells l
 -- ---- contents, one after another
 
 pub sources_on : (troves : List TroveParts) (x : Tree) (cs : List Carried) (i : ℕ) (c : Carried) → i < length cs → c ≡ get_or cs i c
-    → sources_stop troves x (drop i cs) ≡ or_stop (source_stop troves x c) (sources_stop troves x (drop (i + 1) cs))
+    → sources_stop troves x (drop i cs) ≡ option_or (source_stop troves x c) (sources_stop troves x (drop (i + 1) cs))
 sources_on troves x cs i c lt is = ap (sources_stop troves x) (front_at i cs c lt is)
 
 pub sources_end : (troves : List TroveParts) (x : Tree) (cs : List Carried) (i : ℕ) → length cs ≤ i → sources_stop troves x (drop i cs) ≡ None
@@ -117,7 +111,7 @@ sources_end troves x cs i le = ap (sources_stop troves x) (drop_none i cs le)
 
 pub later_stop_is : (c : CatalogueParts) (x : Tree) (contents : List Carried) (troves : List TroveParts) → troves ≢ []
     → later_stop c x contents troves
-    ≡ or_stop (refusing (missing_ref (c.troves ++ troves) (refs_of troves))) (or_stop (refusing (missing_content c.troves contents (files_of troves))) (or_stop (sources_stop c.troves x contents) (refusing (too_many c.commits))))
+    ≡ option_or (refusing (missing_ref (c.troves ++ troves) (refs_of troves))) (option_or (refusing (missing_content c.troves contents (files_of troves))) (option_or (sources_stop c.troves x contents) (refusing (too_many c.commits))))
 later_stop_is c x contents [] full = absurd (full refl)
 later_stop_is c x contents (t ∷ troves) full = refl
 
@@ -138,12 +132,16 @@ later_first c x change troves e (Ok k) made stops is = tt
 later_first c x change troves e (Err s) made stops is = subst (IsFirstStop c x change) (sym is) (by e stops)
   where
     by : (e : Stop) → StopsAs {X = Unit {0}} (later_stop c x change.contents troves) (Err e) → IsFirstStop c x change e
-    by (Refused refusal) stops = inr (record { troves = troves; made = made; stops = stops })
-    by (Damaged path) stops = record { troves = troves; made = made; stops = stops }
+    by (Refused refusal) stops = inr (record { troves = troves; made = made; fails = stops })
+    by (Damaged path) stops = record { troves = troves; made = made; fails = stops }
     by Failed stops = tt
     by Memory stops = tt
     by FarFailed stops = tt
     by (FarDamaged path) stops = tt
+
+-- memory ran out
+pub memory_first : {X : Type 0} (c : CatalogueParts) (x : Tree) (change : ChangeSet) (r : Result X Stop) → IsErrAnd r (λ s. s ≡ Memory) → IfErr r (IsFirstStop c x change)
+memory_first c x change r is = passed_on (IsFirstStop c x change) Memory r tt is
 
 -- a write is never refused, and meets no damaged file
 pub write_first : {D X : Type 0} {disk : DiskModel D} {k : CatalogueParts} {contents : List Carried} {troves : List TroveParts} {old new : D} (c : CatalogueParts) (x : Tree) (change : ChangeSet) (e : Stop) (r : Result X Stop) → IsTrue disk.tells

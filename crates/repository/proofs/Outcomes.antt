@@ -25,7 +25,7 @@ use Rattle.repo_load.proofs.Following.{troves_push}
 use Rattle.repo_load.proofs.HeldCatalogues.{rules_after}
 use Rattle.repo_load.specs.Loading.{IsCatalogue}
 use Rattle.repo_load.proofs.CountedNames.{counted_state, prepared_state}
-use Rattle.repository.specs.Outcome.{committed_contents, AreSound, AtEveryMoment, CanBeRead, EndsSo, HasMoments, IsAtRest, IsDone, IsSettled, MayJoin, StopsSo, TestsChange}
+use Rattle.repository.specs.Outcome.{committed_contents, AreSound, AtEveryMoment, CanBeRead, EndsSo, IsAtRest, IsDone, IsSettled, MayJoin, StopsSo, TestsChange}
 use Rattle.repository.specs.Preparing.{IsWritten, RecoversSo, StopsBefore, Writes}
 use Rattle.repository.specs.Steps.{after_commit, catalogue_after, ids_of, IsStep, RecoversToEither}
 use Rattle.repository.specs.Tests.{Passes}
@@ -91,8 +91,8 @@ module _ {D : Type 0} {disk : DiskModel D} (laws : IsDisk disk) where
     still_before c r next old rests h settled (disk.reads new) (λ q out. ap (λ (t : Tree). get t q) read.same.reads),
   )
 
-  pub read_moments : {Answer : Type 0} (c : CatalogueParts) (r : RepositoryState) (change : ChangeSet) (old new : D) → IsAtRest disk c old → HasRead disk old new Answer → StoresRepository (disk.reads old) r → IsSettled disk old r → HasMoments disk change old new r
-  read_moments c r change old new rests read h settled =
+  pub read_moments : {Answer : Type 0} {c : CatalogueParts} {old new : D} (change : ChangeSet) (r : RepositoryState) → IsAtRest disk c old → HasRead disk old new Answer → AtEveryMoment disk change old new r
+  read_moments {c = c} {old = old} {new = new} change r rests read h settled =
       let kept = kept_moments c r r old new rests read h settled in record { next = r; is = inl refl; images = kept.0; reads = kept.1 }
 
   -- the writes
@@ -183,9 +183,9 @@ module _ {D : Type 0} {disk : DiskModel D} (laws : IsDisk disk) (change : Change
       }
 
   -- both runs, one after the other
-  pub both_moments : (one : OneCatalogue) (r : RepositoryState) {old mid new : D} (added : CatalogueParts) {result : Result (Unit {0}) Stop} → IsTrue disk.tells → HasContents change → IsAtRest disk c old → TestsChange disk change c old mid (Ok added) → added.troves ≢ []
+  pub both_moments : (one : OneCatalogue) (r : RepositoryState) {old mid new : D} {added : CatalogueParts} {result : Result (Unit {0}) Stop} → IsTrue disk.tells → HasContents change → IsAtRest disk c old → TestsChange disk change c old mid (Ok added) → added.troves ≢ []
       → Writes disk c change.contents added.troves mid new result → AtEveryMoment disk change old new r
-  both_moments one r {old = old} {mid = mid} {new = new} added tells has rests tests full writes h settled =
+  both_moments one r {old = old} {mid = mid} {new = new} {added = added} tells has rests tests full writes h settled =
       let read = tests.same tells in
       let made = after_commit added.troves change.contents r in
       let first = kept_moments laws c r made old mid rests read h settled in
@@ -213,7 +213,8 @@ rules_kept c c' troves is follows made =
       is = made ∙ ap (catalogue_with troves) is.is ∙ (λ i. record { commits = sym long i; troves = sym (troves_push commits troves) i });
     }
 
-pub writes_as : {D : Type 0} {disk : DiskModel D} (c : CatalogueParts) (contents given : List Carried) (troves those : List TroveParts) (old new : D) (r : Result (Unit {0}) Stop) → given ≡ contents → those ≡ troves → Writes disk c given those old new r
+-- said of equal contents and troves
+pub writes_as : {D : Type 0} {disk : DiskModel D} {c : CatalogueParts} {contents given : List Carried} {troves those : List TroveParts} {old new : D} {r : Result (Unit {0}) Stop} → given ≡ contents → those ≡ troves → Writes disk c given those old new r
     → Writes disk c contents troves old new r
-writes_as {disk = disk} c contents given troves those old new r one two writes =
+writes_as {disk = disk} {c = c} {given = given} {troves = troves} {old = old} {new = new} {r = r} one two writes =
     subst (λ (l : List Carried). Writes disk c l troves old new r) one (subst (λ (l : List TroveParts). Writes disk c given l old new r) two writes)

@@ -1,6 +1,7 @@
 -- The first reference that is missing.
 use Rattle.std.proofs.Common.{◌≡◌, ℕ, ◌+◌, ◌<◌, ◌≤◌, Bool, true, false, cond, ◌||◌, List, [], ◌∷◌, ◌++◌, length, drop, get_or, All, Some, None, is_some, refl, sym, ◌∙◌, ap}
 use Rattle.std.specs.Prelude.{IsSome}
+use Rattle.std.specs.Option.{option_or}
 use Rattle.std.proofs.lemmas.List.Elements.{All-nil, All-cons}
 use Rattle.repo_load.specs.cny-base.declared.refusal.Refusal.TheVariants.{MissingRef}
 use Rattle.repo_load.specs.trove-parts.declared.id.TroveId.{TroveId}
@@ -8,17 +9,17 @@ use Rattle.repo_load.specs.trove-parts.Id.{id_text_of}
 use Rattle.repo_load.specs.trove-stream.declared.parts.TroveParts.{TroveParts}
 use Rattle.repo_index.specs.Catalogue.{found}
 use Rattle.repo_load.specs.State.{HasRefs}
-use Rattle.repository.specs.Tests.{missing_ref, or_then, refs_of}
+use Rattle.repository.specs.Tests.{missing_ref, refs_of}
 use Rattle.repository.proofs.Lists.{some_append, then_none}
 use Rattle.change_rel.proofs.Members.{drop_all as drop_none}
 use Rattle.change_rel.proofs.trove-stream.Merging.{front_at}
 
-pub missing_append : (all : List TroveParts) (a b : List TroveId) → missing_ref all (a ++ b) ≡ or_then (missing_ref all a) (missing_ref all b)
+pub missing_append : (all : List TroveParts) (a b : List TroveId) → missing_ref all (a ++ b) ≡ option_or (missing_ref all a) (missing_ref all b)
 missing_append all [] b = refl
 missing_append all (id ∷ a) b = by (is_some (found id all)) (missing_append all a b)
   where
-    by : (p : Bool) → missing_ref all (a ++ b) ≡ or_then (missing_ref all a) (missing_ref all b)
-        → cond p (missing_ref all (a ++ b)) (Some (MissingRef (id_text_of id))) ≡ or_then (cond p (missing_ref all a) (Some (MissingRef (id_text_of id)))) (missing_ref all b)
+    by : (p : Bool) → missing_ref all (a ++ b) ≡ option_or (missing_ref all a) (missing_ref all b)
+        → cond p (missing_ref all (a ++ b)) (Some (MissingRef (id_text_of id))) ≡ option_or (cond p (missing_ref all a) (Some (MissingRef (id_text_of id)))) (missing_ref all b)
     by true rest = rest
     by false rest = refl
 
@@ -51,7 +52,7 @@ pub ids_end : (all : List TroveParts) (ids : List TroveId) (i : ℕ) → length 
 ids_end all ids i le = ap (missing_ref all) (drop_none i ids le)
 
 pub refs_on : (all troves : List TroveParts) (i : ℕ) (t : TroveParts) → i < length troves → t ≡ get_or troves i t
-    → missing_ref all (refs_of (drop i troves)) ≡ or_then (missing_ref all t.refs) (missing_ref all (refs_of (drop (i + 1) troves)))
+    → missing_ref all (refs_of (drop i troves)) ≡ option_or (missing_ref all t.refs) (missing_ref all (refs_of (drop (i + 1) troves)))
 refs_on all troves i t lt is = ap (λ (l : List TroveParts). missing_ref all (refs_of l)) (front_at i troves t lt is) ∙ missing_append all t.refs (refs_of (drop (i + 1) troves))
 
 pub refs_end : (all troves : List TroveParts) (i : ℕ) → length troves ≤ i → missing_ref all (refs_of (drop i troves)) ≡ None

@@ -19,7 +19,7 @@ use Rattle.repo_load.specs.content-store.Store.{stored}
 use Rattle.repo_load.specs.State.{troves_of, RepositoryState}
 use Rattle.repo_load.specs.Files.{contents_dir, StoresRepository}
 use Rattle.repo_index.specs.Catalogue.{AreCommitted}
-use Rattle.repository.specs.Between.{name_of, old_of, AreContents, AreParts, AreStored, HasStored, IsBetween, IsPartOf, RecordsContent, Sends}
+use Rattle.repository.specs.Between.{name_of, old_of, AreContents, AreParts, HasStored, IsBetween, IsPartOf, RecordsContent, Sends}
 use Rattle.repository.specs.Damage.{IsDamagedBetween}
 use Rattle.repository.proofs.BetweenCarrying.{records_sized, sends_records}
 use Rattle.change_rel.proofs.cny-base.Lists.{all_from, contains_map, nothing_in, from_map as mapped}
@@ -50,7 +50,8 @@ all_sent fresh name = (
 
 -- ---- one set
 
-abbrev OneRelative : Type 0
+-- one relative trove at most leads from a trove to another
+abbrev pub OneRelative : Type 0
 OneRelative = (old fresh : TroveParts) (a b : RelParts) → Leads a old fresh → Leads b old fresh → a ≡ b
 
 other_ids : (rel : RelParts) (old fresh : TroveParts) → Leads rel old fresh → old.id ≡ fresh.id → ⊥
@@ -66,7 +67,7 @@ one_part one (Some old) fresh (Some (Relative a)) (Some (Relative b)) is other =
 one_part one (Some old) fresh (Some (Relative rel)) (Some (Whole u)) is other = absurd other
 one_part one (Some old) fresh (Some (Whole u)) q is other = absurd is
 
-one_parts : OneRelative → (old fresh : List TroveParts) (a b : List Part) → AreParts old fresh a → AreParts old fresh b → a ≡ b
+pub one_parts : OneRelative → (old fresh : List TroveParts) (a b : List Part) → AreParts old fresh a → AreParts old fresh b → a ≡ b
 one_parts one old [] a b are other = are ∙ sym other
 one_parts one old (t ∷ fresh) a b are other =
     let first = one_part one (old_of old t) t are.0 other.0 are.2 other.2 in
@@ -76,23 +77,29 @@ one_parts one old (t ∷ fresh) a b are other =
 content_total : IsTotalOrder content_cmp
 content_total = on_total (λ (c : Carried). c.name) nat_list_cmp_total
 
+-- each content is that of its name in this map
+abbrev pub AreHeld : (List ℕ → Option (List ℕ)) → List Carried → Type 0
+AreHeld held contents = All (λ (c : Carried). held c.name ≡ Some c.bytes) contents
+
 -- a content of the one set is one of the other
-in_other : (x : Tree) (old fresh : List TroveParts) (a b : List Carried) → AreContents old fresh a → AreContents old fresh b → AreStored x a → AreStored x b → (c : Carried) → Contains a c → Contains b c
-in_other x old fresh a b are other stands stands' c among =
+in_other : (held : List ℕ → Option (List ℕ)) (old fresh : List TroveParts) (a b : List Carried) → AreContents old fresh a → AreContents old fresh b → AreHeld held a → AreHeld held b → (c : Carried) → Contains a c → Contains b c
+in_other held old fresh a b are other stands stands' c among =
     let found = mapped name_of b c.name ((other.each c.name).1 ((are.each c.name).0 (contains_map name_of a c among))) in
     let d : Carried = found.0 in
-    let own : stored x contents_dir c.name ≡ Some c.bytes = All-contains (λ (e : Carried). stored x contents_dir e.name ≡ Some e.bytes) a c stands among in
-    let its : stored x contents_dir d.name ≡ Some d.bytes = All-contains (λ (e : Carried). stored x contents_dir e.name ≡ Some e.bytes) b d stands' found.1 in
-    let bytes : d.bytes ≡ c.bytes = same_bytes d.bytes c.bytes (stored x contents_dir c.name) (ap (stored x contents_dir) (sym found.2) ∙ its) own in
+    let own : held c.name ≡ Some c.bytes = All-contains (λ (e : Carried). held e.name ≡ Some e.bytes) a c stands among in
+    let its : held d.name ≡ Some d.bytes = All-contains (λ (e : Carried). held e.name ≡ Some e.bytes) b d stands' found.1 in
+    let bytes : d.bytes ≡ c.bytes = same_bytes d.bytes c.bytes (held c.name) (ap held (sym found.2) ∙ its) own in
     let same : d ≡ c = λ i. record { name = found.2 i; bytes = bytes i } in
     subst (Contains b) same found.1
+
+pub one_contents : (held : List ℕ → Option (List ℕ)) (old fresh : List TroveParts) (a b : List Carried) → AreContents old fresh a → AreContents old fresh b → AreHeld held a → AreHeld held b → a ≡ b
+one_contents held old fresh a b are other stands stands' =
+    same_members content_cmp content_total a b are.rising other.rising (in_other held old fresh a b are other stands stands') (in_other held old fresh b a other are stands' stands)
 
 pub one_between : OneRelative → (x : Tree) (old fresh : List TroveParts) (a b : ChangeSet) → IsBetween old fresh a → IsBetween old fresh b → HasStored x a → HasStored x b → a ≡ b
 one_between one x old fresh a b is other stands stands' =
     let parts = one_parts one old fresh a.parts b.parts is.parts other.parts in
-    let contents = same_members content_cmp content_total a.contents b.contents is.contents.rising other.contents.rising
-    (in_other x old fresh a.contents b.contents is.contents other.contents stands stands')
-    (in_other x old fresh b.contents a.contents other.contents is.contents stands' stands) in
+    let contents = one_contents (stored x contents_dir) old fresh a.contents b.contents is.contents other.contents stands stands' in
     λ i. record { parts = parts i; contents = contents i }
 
 -- ---- a tree that stores a repository

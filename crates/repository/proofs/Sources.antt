@@ -5,6 +5,7 @@ use Rattle.std.specs.List.{find, list_any, AllByRecursion}
 use Rattle.std.specs.List.Sorted.{IsStrictlySortedBy}
 use Rattle.std.specs.declared.cmp.Ordering.TheVariants.{Less}
 use Rattle.std.specs.Str.{bytes_eq}
+use Rattle.std.specs.Option.{option_or}
 use Rattle.std.proofs.lemmas.List.Elements.{All-cons, All-head, All-nil, All-tail}
 use Rattle.repo_load.specs.cny-base.declared.refusal.Refusal.TheVariants.{MissingContent}
 use Rattle.repo_load.specs.file-stream.declared.record.FileRec.{FileRec}
@@ -19,7 +20,7 @@ use Rattle.repo_load.specs.content-store.Difference.{first_difference}
 use Rattle.repo_load.proofs.content-store.Differences.{same_lists}
 use Rattle.repo_load.specs.State.{records_content, trove_records}
 use Rattle.repository.specs.Steps.{bytes_of, carried}
-use Rattle.repository.specs.Tests.{collides, collision, collision_at, has_source, is_carried, lacks_content, missing_content, or_then}
+use Rattle.repository.specs.Tests.{collides, collision, collision_at, has_source, is_carried, lacks_content, missing_content}
 use Rattle.repository.proofs.Lists.{then_append, then_none}
 use Rattle.tree_journal.proofs.tree-disk.Order.{not_before}
 use Rattle.change_rel.proofs.cny-base.ByteLists.{same_bytes}
@@ -76,10 +77,10 @@ found_has P name bytes (c ∷ cs) all h = by (has_name name c) refl h (found_has
 -- ---- missing contents
 
 pub missing_append : (committed : List TroveParts) (contents : List Carried) (a b : List FileAt)
-    → missing_content committed contents (a ++ b) ≡ or_then (missing_content committed contents a) (missing_content committed contents b)
+    → missing_content committed contents (a ++ b) ≡ option_or (missing_content committed contents a) (missing_content committed contents b)
 missing_append committed contents [] b = refl
 missing_append committed contents (file ∷ a) b =
-    ap (or_then (lacks_content committed contents file.rec)) (missing_append committed contents a b)
+    ap (option_or (lacks_content committed contents file.rec)) (missing_append committed contents a b)
     ∙ then_append (lacks_content committed contents file.rec) (missing_content committed contents a) (missing_content committed contents b)
 
 module _ (committed : List TroveParts) (contents : List Carried) (name : List ℕ) (size : ℕ) where
@@ -136,14 +137,14 @@ same_content (Some bytes) kept c is none =
 -- ---- one file after another
 
 pub source_on : (committed : List TroveParts) (contents : List Carried) (files : List FileAt) (i : ℕ) (file : FileAt) → i < length files → file ≡ get_or files i file
-    → missing_content committed contents (drop i files) ≡ or_then (lacks_content committed contents file.rec) (missing_content committed contents (drop (i + 1) files))
+    → missing_content committed contents (drop i files) ≡ option_or (lacks_content committed contents file.rec) (missing_content committed contents (drop (i + 1) files))
 source_on committed contents files i file lt is = ap (missing_content committed contents) (front_at i files file lt is)
 
 pub source_end : (committed : List TroveParts) (contents : List Carried) (files : List FileAt) (i : ℕ) → length files ≤ i → missing_content committed contents (drop i files) ≡ None
 source_end committed contents files i le = ap (missing_content committed contents) (drop_none i files le)
 
 pub sources_on : (committed : List TroveParts) (contents : List Carried) (troves : List TroveParts) (i : ℕ) (t : TroveParts) → i < length troves → t ≡ get_or troves i t
-    → missing_content committed contents (files_of (drop i troves)) ≡ or_then (missing_content committed contents t.files) (missing_content committed contents (files_of (drop (i + 1) troves)))
+    → missing_content committed contents (files_of (drop i troves)) ≡ option_or (missing_content committed contents t.files) (missing_content committed contents (files_of (drop (i + 1) troves)))
 sources_on committed contents troves i t lt is =
     ap (λ (l : List TroveParts). missing_content committed contents (files_of l)) (front_at i troves t lt is) ∙ missing_append committed contents t.files (files_of (drop (i + 1) troves))
 

@@ -2,6 +2,7 @@
 use Rattle.std.proofs.Common.{◌≡◌, ◌≢◌, ◌⊎◌, inl, inr, ⊎_elim, ℕ, ◌+◌, ◌≤◌, Bool, true, false, cond, ◌||◌, List, [], ◌∷◌, ◌++◌, length, All, Option, Some, None, refl, sym, ◌∙◌, ap, subst, arith}
 use Rattle.std.specs.Prelude.{nat_lt}
 use Rattle.std.specs.List.{list_any}
+use Rattle.std.specs.Option.{option_or}
 use Rattle.std.proofs.lemmas.Bool.Decides.{nat_tests}
 use Rattle.std.proofs.lemmas.List.Folds.{list_any-append}
 use Rattle.repo_load.specs.cny-base.declared.limits.TheConstants.{COMMITS_LIMIT}
@@ -22,7 +23,7 @@ use Rattle.repo_load.specs.Steps.{with_commit, MayFollow}
 use Rattle.repo_load.proofs.HeldCatalogues.{rules_after}
 use Rattle.repository.specs.Parts.{AreMade}
 use Rattle.repository.specs.Steps.{after_commit, carried, or_carried, with_contents, IsStep}
-use Rattle.repository.specs.Tests.{collides, collision, is_carried, later_refusal, missing_content, missing_ref, or_then, refs_of, too_many, Passes}
+use Rattle.repository.specs.Tests.{collides, collision, is_carried, later_refusal, missing_content, missing_ref, refs_of, too_many, Passes}
 use Rattle.repository.proofs.Lists.{then_none}
 use Rattle.repository.proofs.Making.{made_troves_are, parts_record}
 use Rattle.repository.proofs.References.{refs_found}
@@ -43,8 +44,8 @@ pub passed_all : (c : CatalogueParts) (held : ContentMap) (contents : List Carri
 passed_all c held contents [] full none = absurd (full refl)
 passed_all c held contents (t ∷ troves) full none =
     let all : List TroveParts = t ∷ troves in
-    let rest = then_none (missing_ref (c.troves ++ all) (refs_of all)) (or_then (missing_content c.troves contents (files_of all)) (or_then (collision held contents) (too_many c.commits))) none in
-    let more = then_none (missing_content c.troves contents (files_of all)) (or_then (collision held contents) (too_many c.commits)) rest.1 in
+    let rest = then_none (missing_ref (c.troves ++ all) (refs_of all)) (option_or (missing_content c.troves contents (files_of all)) (option_or (collision held contents) (too_many c.commits))) none in
+    let more = then_none (missing_content c.troves contents (files_of all)) (option_or (collision held contents) (too_many c.commits)) rest.1 in
     let last = then_none (collision held contents) (too_many c.commits) more.1 in
     record { refs = rest.0; sources = more.0; no_collisions = last.0; few = last.1 }
 

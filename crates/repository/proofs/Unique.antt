@@ -31,7 +31,7 @@ module _ (one : LeadsToOne) (committed : List TroveParts) where
   makes_once (Whole trove) a b x y = x ∙ sym y
   makes_once (Relative rel) a b x y = led_once rel a b x y
 
-  make_once : (parts : List Part) (a b : List TroveParts) → MakeTroves committed parts a → MakeTroves committed parts b → a ≡ b
+  pub make_once : (parts : List Part) (a b : List TroveParts) → MakeTroves committed parts a → MakeTroves committed parts b → a ≡ b
   make_once [] [] [] x y = refl
   make_once [] [] (u ∷ b) x y = absurd y
   make_once [] (t ∷ a) b x y = absurd x

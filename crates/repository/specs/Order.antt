@@ -1,5 +1,6 @@
 -- The first test of a commit that stops it, where files of committed contents may be damaged.
 use Rattle.std.specs.Prelude.{◌≡◌, ◌⊎◌, if◌then◌else◌, List, [], ◌∷◌, ◌++◌, Option, Some, None, Result, Ok, Err, ℕ}
+use Rattle.std.specs.Option.{option_or}
 use Rattle.repo_load.specs.cny-base.declared.refusal.Refusal.{Refusal}
 use Rattle.repo_load.specs.cny-base.declared.stop.Stop.{Stop}
 use Rattle.repo_load.specs.cny-base.declared.stop.Stop.TheVariants.{Refused, Memory, Failed, Damaged, FarFailed, FarDamaged}
@@ -11,19 +12,14 @@ use Rattle.repo_load.specs.content-store.Store.{content_path}
 use Rattle.repo_index.specs.Catalogue.{CatalogueParts, has_content}
 use Rattle.repo_load.specs.Files.{contents_dir}
 use Rattle.repository.specs.Outcome.{committed_contents}
-use Rattle.repository.specs.Parts.{AreMade, IsFirstRefused}
-use Rattle.repository.specs.Tests.{collides, missing_content, missing_ref, refs_of, too_many}
+use Rattle.repository.specs.Parts.{IsFirstRefused}
+use Rattle.repository.specs.Tests.{collides, missing_content, missing_ref, refs_of, too_many, FailsLater}
 use Rattle.change_rel.specs.trove-stream.FilesOf.{files_of}
 
 -- a refusal, as why a call stops
 abbrev pub refusing : Option Refusal → Option Stop
 refusing None = None
 refusing (Some refusal) = Some (Refused refusal)
-
--- this stop, and where there is none the other
-abbrev pub or_stop : Option Stop → Option Stop → Option Stop
-or_stop None next = next
-or_stop (Some stop) next = Some stop
 
 -- Of a content whose name troves record: its file is damaged where no recorded bytes stand there, and else what is carried may
 -- differ from them.
@@ -38,16 +34,16 @@ source_stop troves tree content = if has_content content.name troves then kept_s
 -- the first one that does
 abbrev pub sources_stop : List TroveParts → Tree → List Carried → Option Stop
 sources_stop troves tree [] = None
-sources_stop troves tree (content ∷ contents) = or_stop (source_stop troves tree content) (sources_stop troves tree contents)
+sources_stop troves tree (content ∷ contents) = option_or (source_stop troves tree content) (sources_stop troves tree contents)
 
 -- The first of these tests that stops a commit of some troves: of references, of contents that are missing, of committed
 -- contents that are damaged or differ, and of the number of commits. With no troves nothing is tested.
 abbrev pub later_stop : CatalogueParts → Tree → List Carried → List TroveParts → Option Stop
 later_stop c tree contents [] = None
 later_stop c tree contents (trove ∷ troves) =
-    or_stop (refusing (missing_ref (c.troves ++ trove ∷ troves) (refs_of (trove ∷ troves))))
-    (or_stop (refusing (missing_content c.troves contents (files_of (trove ∷ troves))))
-    (or_stop (sources_stop c.troves tree contents) (refusing (too_many c.commits))))
+    option_or (refusing (missing_ref (c.troves ++ trove ∷ troves) (refs_of (trove ∷ troves))))
+    (option_or (refusing (missing_content c.troves contents (files_of (trove ∷ troves))))
+    (option_or (sources_stop c.troves tree contents) (refusing (too_many c.commits))))
 
 -- the answer of tests: none of them stops; or this one does; or a fault, or want of memory
 abbrev pub StopsAs : {X : Type 0} → Option Stop → Result X Stop → Type 0
@@ -59,11 +55,9 @@ StopsAs stop (Err Memory) = Unit {0}
 StopsAs stop (Err FarFailed) = Unit {0}
 StopsAs stop (Err (FarDamaged path)) = Unit {0}
 
--- the parts make troves, and this is what the first of the later tests that fails stops with
-pub record IsLaterStop (c : CatalogueParts) (tree : Tree) (change : ChangeSet) (stop : Stop) : Type 0 where
-  pub troves : List TroveParts
-  pub made : AreMade c.troves change.parts troves
-  pub stops : later_stop c tree change.contents troves ≡ Some stop
+-- what the first of the later tests that fails stops with
+abbrev pub IsLaterStop : CatalogueParts → Tree → ChangeSet → Stop → Type 0
+IsLaterStop c tree change stop = FailsLater (later_stop c tree change.contents) c change stop
 
 -- A refusal, or a damaged file, is that of the first test that fails: of the parts, or of the later ones.
 abbrev pub IsFirstStop : CatalogueParts → Tree → ChangeSet → Stop → Type 0

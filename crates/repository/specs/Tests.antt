@@ -1,6 +1,7 @@
 -- The tests of a commit behind those of its parts, and the first one that fails.
 use Rattle.std.specs.Prelude.{◌≡◌, ◌⊎◌, ℕ, Bool, ◌&&◌, ◌||◌, ◌==◌, nat_lt, if◌then◌else◌, List, [], ◌∷◌, ◌++◌, length, flat_map, Option, Some, None, is_some}
 use Rattle.std.specs.List.{list_any}
+use Rattle.std.specs.Option.{option_or}
 use Rattle.std.specs.Str.{bytes_eq}
 use Rattle.repo_load.specs.cny-base.declared.limits.TheConstants.{COMMITS_LIMIT}
 use Rattle.repo_load.specs.cny-base.declared.refusal.Refusal.{Refusal}
@@ -20,11 +21,6 @@ use Rattle.repo_index.specs.Catalogue.{CatalogueParts, found}
 use Rattle.repo_load.specs.State.{records_content}
 use Rattle.repository.specs.Parts.{AreMade, IsFirstRefused}
 pub use Rattle.change_rel.specs.trove-stream.FilesOf.{files_of}
-
--- this refusal, and where there is none the other
-abbrev pub or_then : Option Refusal → Option Refusal → Option Refusal
-or_then None next = next
-or_then (Some refusal) next = Some refusal
 
 -- ---- references
 
@@ -55,7 +51,7 @@ lacks_content committed contents (Link target) = None
 -- the first such record
 abbrev pub missing_content : List TroveParts → List Carried → List FileAt → Option Refusal
 missing_content committed contents [] = None
-missing_content committed contents (file ∷ files) = or_then (lacks_content committed contents file.rec) (missing_content committed contents files)
+missing_content committed contents (file ∷ files) = option_or (lacks_content committed contents file.rec) (missing_content committed contents files)
 
 abbrev pub collision_at : List ℕ → Option ℕ → Option Refusal
 collision_at name None = None
@@ -69,7 +65,7 @@ collides (Some bytes) content = collision_at content.name (first_difference byte
 -- the first one
 abbrev pub collision : ContentMap → List Carried → Option Refusal
 collision held [] = None
-collision held (content ∷ contents) = or_then (collides (held content.name) content) (collision held contents)
+collision held (content ∷ contents) = option_or (collides (held content.name) content) (collision held contents)
 
 -- ---- all tests
 
@@ -82,20 +78,24 @@ too_many commits = if nat_lt commits COMMITS_LIMIT then None else Some (TooLarge
 abbrev pub later_refusal : CatalogueParts → ContentMap → List Carried → List TroveParts → Option Refusal
 later_refusal c held contents [] = None
 later_refusal c held contents (trove ∷ troves) =
-    or_then (missing_ref (c.troves ++ trove ∷ troves) (refs_of (trove ∷ troves)))
-    (or_then (missing_content c.troves contents (files_of (trove ∷ troves)))
-    (or_then (collision held contents) (too_many c.commits)))
+    option_or (missing_ref (c.troves ++ trove ∷ troves) (refs_of (trove ∷ troves)))
+    (option_or (missing_content c.troves contents (files_of (trove ∷ troves)))
+    (option_or (collision held contents) (too_many c.commits)))
 
 -- The change set makes these troves of a catalogue and its contents, and no test fails.
 pub record Passes (c : CatalogueParts) (held : ContentMap) (change : ChangeSet) (troves : List TroveParts) : Type 0 where
   pub made : AreMade c.troves change.parts troves
   pub passed : later_refusal c held change.contents troves ≡ None
 
--- the parts make troves, and this is the first of the later tests that fails
-pub record IsLaterRefused (c : CatalogueParts) (held : ContentMap) (change : ChangeSet) (refusal : Refusal) : Type 0 where
+-- the parts make troves, and this is why a test of them fails
+pub record FailsLater {Why : Type 0} (test : List TroveParts → Option Why) (c : CatalogueParts) (change : ChangeSet) (why : Why) : Type 0 where
   pub troves : List TroveParts
   pub made : AreMade c.troves change.parts troves
-  pub fails : later_refusal c held change.contents troves ≡ Some refusal
+  pub fails : test troves ≡ Some why
+
+-- the first of the later tests that fails
+abbrev pub IsLaterRefused : CatalogueParts → ContentMap → ChangeSet → Refusal → Type 0
+IsLaterRefused c held change refusal = FailsLater (later_refusal c held change.contents) c change refusal
 
 -- The first test of a commit that fails: part by part those of its base, its id and its paths, and then the others.
 abbrev pub IsRefused : CatalogueParts → ContentMap → ChangeSet → Refusal → Type 0

@@ -9,7 +9,7 @@ use Rattle.repository.specs.Order.{source_stop, sources_stop}
 use Rattle.repository.specs.Tests.{collides, collision}
 use Rattle.repository.proofs.Checking.{checks_as, checks_start, checks_stop, checks_then, collision_end, collision_on, listed_at}
 use Rattle.repository.proofs.Lists.{then_first, then_second}
-use Rattle.repository.proofs.Ordering.{as_stop, sources_end, sources_on, stop_first, stop_second}
+use Rattle.repository.proofs.Ordering.{as_stop, sources_end, sources_on}
 use Rattle.repository.proofs.colliding.check_collisions.Goals as goal
 
 pub loop-carried-init : goal.loop-carried-init
@@ -41,7 +41,7 @@ loop-carried-preserved g c =
           let troves = c.args.committed.now.troves in
           let x = g.D.TreeDisk.disk.reads c.args.disk.now in
           sym (sources_on troves x c.args.contents.now i one (omega arith) c.carried-item.is
-          ∙ stop_second (source_stop troves x one) (sources_stop troves x (drop (i + 1) c.args.contents.now))
+          ∙ then_second (source_stop troves x one) (sources_stop troves x (drop (i + 1) c.args.contents.now))
           (ap (λ (tree : Tree). source_stop troves tree one) (sym (c.loop-carried.invariant.checks.same tells).same.reads) ∙ c.in_ok-check_content.ensures.first tells))
           ∙ c.loop-carried.invariant.left tells;
       sound = λ tells.
@@ -69,7 +69,7 @@ returns-in_err-check_content-clause-first g c tells =
     let i = c.loop-carried.carried-index in
     as_stop (source_stop troves (g.D.TreeDisk.disk.reads c.loop-carried.disk) one) (sources_stop troves x c.args.contents.now) _ c.from_residual.result
     (λ s is. sym (c.loop-carried.invariant.left tells) ∙ sources_on troves x c.args.contents.now i one (omega arith) c.carried-item.is
-    ∙ stop_first (source_stop troves x one) (sources_stop troves x (drop (i + 1) c.args.contents.now)) s
+    ∙ then_first (source_stop troves x one) (sources_stop troves x (drop (i + 1) c.args.contents.now)) s
     (ap (λ (tree : Tree). source_stop troves tree one) (sym (c.loop-carried.invariant.checks.same tells).same.reads) ∙ is))
     c.from_residual.ensures.1 (c.in_err-check_content.ensures.first tells)
 

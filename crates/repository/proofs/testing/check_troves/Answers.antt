@@ -4,8 +4,8 @@ use Rattle.repository.specs.Outcome.{committed_contents, AreSound}
 use Rattle.repository.specs.Order.{later_stop, refusing, sources_stop}
 use Rattle.repository.specs.Tests.{missing_content, missing_ref, refs_of, too_many}
 use Rattle.repository.proofs.Checking.{checks_fault, checks_start, later_is}
-use Rattle.repository.proofs.Lists.{then_first}
-use Rattle.repository.proofs.Ordering.{as_stop, fault_stop, later_stop_is, stop_first, stop_second}
+use Rattle.repository.proofs.Lists.{then_first, then_second}
+use Rattle.repository.proofs.Ordering.{as_stop, fault_stop, later_stop_is}
 use Rattle.change_rel.specs.trove-stream.FilesOf.{files_of}
 use Rattle.repository.proofs.testing.check_troves.Goals as goal
 
@@ -31,7 +31,7 @@ returns-in_err-check_refs-clause-first g c tells =
     let x = g.D.TreeDisk.disk.reads c.args.disk.now in
     let refs = missing_ref (k.troves ++ troves) (refs_of troves) in
     fault_stop refs (later_stop k x contents troves) _ c.from_residual.result
-    (λ s is. later_stop_is k x contents troves c.requires.full ∙ stop_first (refusing refs) _ s is)
+    (λ s is. later_stop_is k x contents troves c.requires.full ∙ then_first (refusing refs) _ s is)
     c.from_residual.ensures.1 c.in_err-check_refs.ensures
 
 pub returns-in_err-check_contents-clause-first : goal.returns-in_err-check_contents-clause-first
@@ -43,8 +43,8 @@ returns-in_err-check_contents-clause-first g c tells =
     let sources = missing_content k.troves contents (files_of troves) in
     let same : missing_content k.troves c.get-contents.result.now (files_of c.troves.result.now) ≡ sources = λ i. missing_content k.troves (c.get-contents.ensures i) (files_of (c.troves.ensures.value i)) in
     fault_stop (missing_content k.troves c.get-contents.result.now (files_of c.troves.result.now)) (later_stop k x contents troves) _ c.from_residual-in_err-check_contents.result
-    (λ s is. later_stop_is k x contents troves c.requires.full ∙ stop_second (refusing (missing_ref (k.troves ++ troves) (refs_of troves))) _ (ap refusing c.in_ok-check_refs.ensures)
-    ∙ stop_first (refusing sources) _ s (ap refusing (sym same) ∙ is))
+    (λ s is. later_stop_is k x contents troves c.requires.full ∙ then_second (refusing (missing_ref (k.troves ++ troves) (refs_of troves))) _ (ap refusing c.in_ok-check_refs.ensures)
+    ∙ then_first (refusing sources) _ s (ap refusing (sym same) ∙ is))
     c.from_residual-in_err-check_contents.ensures.1 c.in_err-check_contents.ensures
 
 pub returns-in_err-check_collisions-clause-first : goal.returns-in_err-check_collisions-clause-first
@@ -56,9 +56,9 @@ returns-in_err-check_collisions-clause-first g c tells =
     let sources = missing_content k.troves contents (files_of troves) in
     let same : missing_content k.troves c.get-contents.result.now (files_of c.troves.result.now) ≡ sources = λ i. missing_content k.troves (c.get-contents.ensures i) (files_of (c.troves.ensures.value i)) in
     as_stop (sources_stop k.troves x c.get-contents.result.now) (later_stop k x contents troves) _ c.from_residual-in_err-check_collisions.result
-    (λ s is. later_stop_is k x contents troves c.requires.full ∙ stop_second (refusing (missing_ref (k.troves ++ troves) (refs_of troves))) _ (ap refusing c.in_ok-check_refs.ensures)
-    ∙ stop_second (refusing sources) _ (ap refusing (sym same ∙ c.in_ok-check_contents.ensures))
-    ∙ stop_first (sources_stop k.troves x contents) _ s (ap (sources_stop k.troves x) (sym c.get-contents.ensures) ∙ is))
+    (λ s is. later_stop_is k x contents troves c.requires.full ∙ then_second (refusing (missing_ref (k.troves ++ troves) (refs_of troves))) _ (ap refusing c.in_ok-check_refs.ensures)
+    ∙ then_second (refusing sources) _ (ap refusing (sym same ∙ c.in_ok-check_contents.ensures))
+    ∙ then_first (sources_stop k.troves x contents) _ s (ap (sources_stop k.troves x) (sym c.get-contents.ensures) ∙ is))
     c.from_residual-in_err-check_collisions.ensures.1 (c.in_err-check_collisions.ensures.first tells)
 
 pub returns-in_err-check_count-clause-first : goal.returns-in_err-check_count-clause-first
@@ -70,9 +70,9 @@ returns-in_err-check_count-clause-first g c tells =
     let sources = missing_content k.troves contents (files_of troves) in
     let same : missing_content k.troves c.get-contents.result.now (files_of c.troves.result.now) ≡ sources = λ i. missing_content k.troves (c.get-contents.ensures i) (files_of (c.troves.ensures.value i)) in
     fault_stop (too_many k.commits) (later_stop k x contents troves) _ c.from_residual-in_err-check_count.result
-    (λ s is. later_stop_is k x contents troves c.requires.full ∙ stop_second (refusing (missing_ref (k.troves ++ troves) (refs_of troves))) _ (ap refusing c.in_ok-check_refs.ensures)
-    ∙ stop_second (refusing sources) _ (ap refusing (sym same ∙ c.in_ok-check_contents.ensures))
-    ∙ stop_second (sources_stop k.troves x contents) _ (ap (sources_stop k.troves x) (sym c.get-contents.ensures) ∙ c.in_ok-check_collisions.ensures.first tells) ∙ is)
+    (λ s is. later_stop_is k x contents troves c.requires.full ∙ then_second (refusing (missing_ref (k.troves ++ troves) (refs_of troves))) _ (ap refusing c.in_ok-check_refs.ensures)
+    ∙ then_second (refusing sources) _ (ap refusing (sym same ∙ c.in_ok-check_contents.ensures))
+    ∙ then_second (sources_stop k.troves x contents) _ (ap (sources_stop k.troves x) (sym c.get-contents.ensures) ∙ c.in_ok-check_collisions.ensures.first tells) ∙ is)
     c.from_residual-in_err-check_count.ensures.1 c.in_err-check_count.ensures
 
 pub returns-clause-first : goal.returns-clause-first
@@ -83,7 +83,7 @@ returns-clause-first g c tells =
     let x = g.D.TreeDisk.disk.reads c.args.disk.now in
     let sources = missing_content k.troves contents (files_of troves) in
     let same : missing_content k.troves c.get-contents.result.now (files_of c.troves.result.now) ≡ sources = λ i. missing_content k.troves (c.get-contents.ensures i) (files_of (c.troves.ensures.value i)) in
-    later_stop_is k x contents troves c.requires.full ∙ stop_second (refusing (missing_ref (k.troves ++ troves) (refs_of troves))) _ (ap refusing c.in_ok-check_refs.ensures)
-    ∙ stop_second (refusing sources) _ (ap refusing (sym same ∙ c.in_ok-check_contents.ensures))
-    ∙ stop_second (sources_stop k.troves x contents) _ (ap (sources_stop k.troves x) (sym c.get-contents.ensures) ∙ c.in_ok-check_collisions.ensures.first tells)
+    later_stop_is k x contents troves c.requires.full ∙ then_second (refusing (missing_ref (k.troves ++ troves) (refs_of troves))) _ (ap refusing c.in_ok-check_refs.ensures)
+    ∙ then_second (refusing sources) _ (ap refusing (sym same ∙ c.in_ok-check_contents.ensures))
+    ∙ then_second (sources_stop k.troves x contents) _ (ap (sources_stop k.troves x) (sym c.get-contents.ensures) ∙ c.in_ok-check_collisions.ensures.first tells)
     ∙ ap refusing c.in_ok-check_count.ensures

@@ -1,6 +1,4 @@
-use Rattle.std.proofs.Common.{List, length, ap, ◌∙◌, arith}
-use Rattle.std.specs.Prelude.{◌==◌}
-use Rattle.repo_load.specs.trove-stream.declared.parts.TroveParts.{TroveParts}
+use Rattle.std.proofs.Common.{arith}
 use Rattle.repo_load.specs.tree-disk.Moments.{same_start, time_start}
 use Rattle.repository.specs.Outcome.{committed_contents}
 use Rattle.repository.proofs.Checking.{empty_list, full_list, made_of, none_tested}
@@ -9,7 +7,7 @@ use Rattle.repository.proofs.testing.tested.Goals as goal
 
 pub returns-then-is_empty-clause-tested : goal.returns-then-is_empty-clause-tested
 returns-then-is_empty-clause-tested g c =
-    let empty = empty_list c.in_ok-added.added.troves c.is_empty.result (c.is_empty.ensures ∙ ap (λ (l : List TroveParts). length l == 0) c.troves.ensures.value) c.if-is_empty.true in record {
+    let empty = empty_list c.troves.ensures.value c.is_empty.ensures c.if-is_empty.true in record {
       later = omega arith;
       same = λ tells. record { answer = tt; same = same_start g.D.TreeDisk.disk c.args.disk.now; time = time_start g.met.D.TreeDisk.laws c.args.disk.now };
       ends = λ tells. record {
@@ -20,11 +18,11 @@ returns-then-is_empty-clause-tested g c =
 
 pub returns-then-is_empty-clause-joins : goal.returns-then-is_empty-clause-joins
 returns-then-is_empty-clause-joins g c =
-    let empty = empty_list c.in_ok-added.added.troves c.is_empty.result (c.is_empty.ensures ∙ ap (λ (l : List TroveParts). length l == 0) c.troves.ensures.value) c.if-is_empty.true in
+    let empty = empty_list c.troves.ensures.value c.is_empty.ensures c.if-is_empty.true in
     record { made = made_of c.args.committed.now.troves c.args.change.now.parts c.get.result.now c.in_ok-added.added.troves c.get.ensures c.in_ok-added.ensures.made; refs = λ full. absurd (full empty); few = λ full. absurd (full empty) }
 
 pub check_troves-requires-clause-full : goal.check_troves-requires-clause-full
-check_troves-requires-clause-full g c = full_list c.in_ok-added.added.troves c.is_empty.result (c.is_empty.ensures ∙ ap (λ (l : List TroveParts). length l == 0) c.troves.ensures.value) c.if-is_empty.false
+check_troves-requires-clause-full g c = full_list c.troves.ensures.value c.is_empty.ensures c.if-is_empty.false
 
 pub returns-clause-tested : goal.returns-clause-tested
 returns-clause-tested g c =
@@ -36,7 +34,7 @@ returns-clause-joins g c = record { made = made_of c.args.committed.now.troves c
 
 pub returns-then-is_empty-clause-sound : goal.returns-then-is_empty-clause-sound
 returns-then-is_empty-clause-sound g c tells full =
-    absurd (full (empty_list c.in_ok-added.added.troves c.is_empty.result (c.is_empty.ensures ∙ ap (λ (l : List TroveParts). length l == 0) c.troves.ensures.value) c.if-is_empty.true))
+    absurd (full (empty_list c.troves.ensures.value c.is_empty.ensures c.if-is_empty.true))
 
 pub returns-clause-sound : goal.returns-clause-sound
 returns-clause-sound g c tells full = c.in_ok-check_troves.ensures.sound tells
