@@ -1,50 +1,72 @@
--- The second clause of a command that works on the root alone, where it only reads it.
-use Rattle.std.proofs.Common.{◌≡◌, ℕ, List, Result, Ok, Err, refl, ap, inl}
+-- The clause of a command that works on one disk alone, where it only reads it.
+use Rattle.std.proofs.Common.{◌≡◌, ℕ, Bool, List, Result, Ok, Err, refl, ap, inl, arith}
 use Rattle.std.specs.Prelude.{IsTrue}
 use Rattle.std.specs.FinMap.{get}
 use Rattle.system_core.specs.cny-base.declared.refusal.Refusal.{Refusal}
+use Rattle.system_core.specs.tree-disk.Clear.{is_within}
+use Rattle.system_core.specs.tree-disk.Confined.{Among}
 use Rattle.system_core.specs.tree-disk.Tree.{Tree}
 use Rattle.system_core.specs.tree-disk.Disk.{DiskModel, IsDisk, HasRead}
+use Rattle.system_core.proofs.tree-disk.ConfinedLaws.{confined_read}
 use Rattle.system_core.proofs.tree-disk.Unfailed.{unfailed_weaker}
 use Rattle.cli_call.specs.declared.failure.Failure.{Failure}
 use Rattle.cli_call.specs.declared.failure.Failure.TheVariants as failure
-use Rattle.cli_call.specs.Alone.{PerformsAlone}
-use Rattle.cli_call.specs.Command.{Disks, Answers, end_of}
+use Rattle.repo_load.specs.Files.{repository_base}
+use Rattle.cli_call.specs.Alone.{ActsOnRepository, AnswersByTree, HasTree, PerformsAlone}
+use Rattle.cli_call.specs.Command.{AreReady, Disks, Answers, HasCause, end_of}
 use Rattle.cli_call.proofs.CommandLaws.{answers_more, goes_read, read_shown, shown_more}
 use Rattle.cli_call.specs.State.{State, nothing, Effect, Meaning}
 use Rattle.cli_call.specs.Store.{IsStore, RestsAt}
-use Rattle.cli_call.specs.Stores.{root_store}
+use Rattle.cli_call.specs.Stores.{root_store, repository_store}
+use Rattle.cli_call.proofs.StoreLaws.{nothing_done}
+
+-- what it answers from each state of which this is so, where the root is told
+abbrev pub AnswersWhere : Bool → (State → Type 0) → Meaning → List ℕ → Result (List ℕ) Failure → Type 0
+AnswersWhere tells Is m input (Ok text) = IsTrue tells → (s : State) → Is s → m.IsOutcome s input (Ok (record { change = nothing; out = text }))
+AnswersWhere tells Is m input (Err (failure.Refused r)) = IsTrue tells → (s : State) → Is s → m.IsOutcome s input (Err r)
+AnswersWhere tells Is m input (Err failure.RootFault) = Unit {0}
+AnswersWhere tells Is m input (Err failure.Memory) = Unit {0}
+AnswersWhere tells Is m input (Err (failure.Damaged path)) = IsTrue tells → (s : State) → Is s → ⊥
+AnswersWhere tells Is m input _ = ⊥
+
+pub where_weaker : {tells : Bool} {One Two : State → Type 0} (m : Meaning) (input : List ℕ) → (IsTrue tells → (s : State) → Two s → One s) → (result : Result (List ℕ) Failure) → AnswersWhere tells One m input result → AnswersWhere tells Two m input result
+where_weaker m input more (Ok text) h = λ told s is. h told s (more told s is)
+where_weaker m input more (Err (failure.Refused r)) h = λ told s is. h told s (more told s is)
+where_weaker m input more (Err failure.RootFault) h = tt
+where_weaker m input more (Err failure.Memory) h = tt
+where_weaker m input more (Err (failure.Damaged path)) h = λ told s is. h told s (more told s is)
+where_weaker m input more _ h = absurd h
+
+pub where_answers : {tells : Bool} (Is : State → Type 0) (m : Meaning) (input : List ℕ) (s : State) → IsTrue tells → Is s → (result : Result (List ℕ) Failure) → AnswersWhere tells Is m input result → Answers (m.IsOutcome s input) s s result
+where_answers Is m input s told is (Ok text) h = record { effect = record { change = nothing; out = text }; is = h told s is; leads = refl; bytes = refl }
+where_answers Is m input s told is (Err (failure.Refused r)) h = (h told s is, refl)
+where_answers Is m input s told is (Err failure.RootFault) h = inl refl
+where_answers Is m input s told is (Err failure.Memory) h = inl refl
+where_answers Is m input s told is (Err (failure.Damaged path)) h = absurd (h told s is)
+where_answers Is m input s told is _ h = absurd h
 
 -- what it answers from a state whose root the root's disk stores, whatever repository the state has
 abbrev pub AnswersAlone : {T : Type 0} → DiskModel T → Meaning → List ℕ → T → Result (List ℕ) Failure → Type 0
-AnswersAlone root_disk m input root (Ok text) = IsTrue root_disk.tells → (s : State) → RestsAt root_store root_disk root s.root → m.IsOutcome s input (Ok (record { change = nothing; out = text }))
-AnswersAlone root_disk m input root (Err (failure.Refused r)) = IsTrue root_disk.tells → (s : State) → RestsAt root_store root_disk root s.root → m.IsOutcome s input (Err r)
-AnswersAlone root_disk m input root (Err failure.RootFault) = Unit {0}
-AnswersAlone root_disk m input root (Err failure.Memory) = Unit {0}
-AnswersAlone root_disk m input root (Err (failure.Damaged path)) = IsTrue root_disk.tells → (s : State) → RestsAt root_store root_disk root s.root → ⊥
-AnswersAlone root_disk m input root _ = ⊥
+AnswersAlone root_disk m input root result = AnswersWhere root_disk.tells (λ s. RestsAt root_store root_disk root s.root) m input result
 
 module _ {T P : Type 0} {root_disk : DiskModel T} (repo_disk : DiskModel P) (root_laws : IsDisk root_disk) (root_store_laws : IsStore root_store) (m : Meaning) (input : List ℕ) (old new : Disks T P) where
-  answers_alone : (s : State) → IsTrue root_disk.tells → RestsAt root_store root_disk old.root s.root → (result : Result (List ℕ) Failure) → AnswersAlone root_disk m input old.root result → Answers (m.IsOutcome s input) s s result
-  answers_alone s told rests (Ok text) h = record { effect = record { change = nothing; out = text }; is = h told s rests; leads = refl; bytes = refl }
-  answers_alone s told rests (Err (failure.Refused r)) h = (h told s rests, refl)
-  answers_alone s told rests (Err failure.RootFault) h = inl refl
-  answers_alone s told rests (Err failure.Memory) h = inl refl
-  answers_alone s told rests (Err (failure.Damaged path)) h = absurd (h told s rests)
-  answers_alone s told rests _ h = absurd h
-
   pub alone_reading : (result : Result (List ℕ) Failure) → new.repo ≡ old.repo → (IsTrue root_disk.tells → HasRead root_disk old.root new.root (Unit {0})) → AnswersAlone root_disk m input old.root result → PerformsAlone root_disk repo_disk m input old new result
   alone_reading result same read answers = record {
     repo = same;
     told = λ told s rests. record {
       next = s;
-      answers = answers_alone s told rests result answers;
+      answers = where_answers (λ t. RestsAt root_store root_disk old.root t.root) m input s told rests result answers;
       stays = refl;
       root = goes_read root_store_laws root_laws old.root new.root s.root (end_of result) (read told) rests;
       outside = λ q out left. ap (λ (t : Tree). get t q) (read told).same.reads;
       seen = unfailed_weaker (λ t is. inl is) (read_shown root_laws (read told));
     };
   }
+
+-- what it answers by the root's tree and its installed list alone
+pub tree_reading : {T P : Type 0} {root_disk : DiskModel T} (repo_disk : DiskModel P) (m : Meaning) (input : List ℕ) (old new : Disks T P) (result : Result (List ℕ) Failure) → new.repo ≡ old.repo → (IsTrue root_disk.tells → HasRead root_disk old.root new.root (Unit {0}))
+    → AnswersWhere root_disk.tells (HasTree root_disk old.root old.opened) m input result → AnswersByTree root_disk repo_disk m input old new result
+tree_reading {root_disk = root_disk} repo_disk m input old new result same read answers = record { root = read; repo = same; answers = λ told s has. where_answers (HasTree root_disk old.root old.opened) m input s told has result answers }
 
 -- a meaning that has all outcomes of another was performed too
 pub alone_more : {T P : Type 0} {root_disk : DiskModel T} {repo_disk : DiskModel P} (one two : Meaning) (from input : List ℕ) → ((s : State) (outcome : Result Effect Refusal) → one.IsOutcome s from outcome → two.IsOutcome s input outcome)
@@ -60,3 +82,41 @@ alone_more {root_disk = root_disk} one two from input more old new result done =
     seen = unfailed_weaker (shown_more (more s) s (root_disk.reads old.root)) d.seen;
   };
 }
+
+-- ---- the repository alone
+
+-- what it answers from a state whose repository the repository's disk stores, whatever root the state has
+abbrev pub AnswersApart : {P : Type 0} → DiskModel P → Meaning → List ℕ → P → Result (List ℕ) Failure → Type 0
+AnswersApart repo_disk m input repo (Ok text) = IsTrue repo_disk.tells → (s : State) → RestsAt repository_store repo_disk repo s.repository → m.IsOutcome s input (Ok (record { change = nothing; out = text }))
+AnswersApart repo_disk m input repo (Err (failure.Refused r)) = IsTrue repo_disk.tells → (s : State) → RestsAt repository_store repo_disk repo s.repository → m.IsOutcome s input (Err r)
+AnswersApart repo_disk m input repo (Err failure.Memory) = Unit {0}
+AnswersApart repo_disk m input repo _ = ⊥
+
+module _ {T P : Type 0} {root_disk : DiskModel T} {repo_disk : DiskModel P} (repo_laws : IsDisk repo_disk) (store_laws : IsStore repository_store) (m : Meaning) (input : List ℕ) (at : Disks T P) (ready : AreReady root_disk repo_disk at) where
+  answers_apart : (s : State) → IsTrue repo_disk.tells → RestsAt repository_store repo_disk at.repo s.repository → (result : Result (List ℕ) Failure) → AnswersApart repo_disk m input at.repo result → Answers (m.IsOutcome s input) s s result
+  answers_apart s told rests (Ok text) h = record { effect = record { change = nothing; out = text }; is = h told s rests; leads = refl; bytes = refl }
+  answers_apart s told rests (Err (failure.Refused r)) h = (h told s rests, refl)
+  answers_apart s told rests (Err failure.Memory) h = inl refl
+  answers_apart s told rests _ h = absurd h
+
+  cause_apart : (result : Result (List ℕ) Failure) → AnswersApart repo_disk m input at.repo result → HasCause root_disk repo_disk at at result
+  cause_apart (Ok text) h = tt
+  cause_apart (Err (failure.Refused r)) h = tt
+  cause_apart (Err failure.Memory) h = tt
+  cause_apart _ h = absurd h
+
+  -- it answers from what was opened, and reads nothing more
+  pub answered_apart : (result : Result (List ℕ) Failure) → AnswersApart repo_disk m input at.repo result → ActsOnRepository root_disk repo_disk m input at at result
+  answered_apart result h = record {
+    root = refl;
+    later = omega arith;
+    cause = cause_apart result h;
+    rest = λ le told. (ready.repo told).settled;
+    same = λ none told. refl;
+    within = λ told. confined_read repo_laws (Among (is_within repository_base)) (nothing_done repo_laws at.repo);
+    told = λ told s rests. record {
+      next = s.repository;
+      answers = answers_apart s told rests result h;
+      goes = goes_read store_laws repo_laws at.repo at.repo s.repository (end_of result) (nothing_done repo_laws at.repo) rests;
+    };
+  }

@@ -1,19 +1,20 @@
 -- How a command ends that answers from what was opened, and reads nothing more.
-use Rattle.std.proofs.Common.{◌≡◌, ℕ, List, Result, Ok, Err, refl}
+use Rattle.std.proofs.Common.{◌≡◌, ℕ, List, Result, Ok, Err, refl, ap, ◌∙◌, inl}
 use Rattle.std.specs.Prelude.{IsTrue}
 use Rattle.system_core.specs.cny-base.declared.refusal.Fault.{Fault}
 use Rattle.system_core.specs.cny-base.declared.refusal.Fault.TheVariants as fault
 use Rattle.system_core.specs.cny-base.declared.refusal.Refusal.{Refusal}
 use Rattle.system_core.specs.tree-disk.Disk.{DiskModel, IsDisk}
 use Rattle.cli_call.specs.declared.failure.Failure.{Failure}
-use Rattle.cli_call.specs.Alone.{PerformsAlone}
+use Rattle.cli_call.specs.declared.failure.Failure.TheVariants as failure
+use Rattle.cli_call.specs.Alone.{ActsOnRepository, AnswersByLists, HasLists, PerformsAlone}
 use Rattle.cli_call.specs.Answer.{AnswersSo}
 use Rattle.cli_call.specs.Command.{Disks, AreReady, HasCause, Performs, StandsFor}
 use Rattle.cli_call.specs.Failures.{failure_of_fault}
-use Rattle.cli_call.specs.State.{Effect, Meaning, State}
+use Rattle.cli_call.specs.State.{nothing, Effect, Meaning, State}
 use Rattle.cli_call.specs.Store.{IsStore, RestsAt}
 use Rattle.cli_call.specs.Stores.{root_store, repository_store}
-use Rattle.cli_call.proofs.AloneLaws.{AnswersAlone, alone_reading}
+use Rattle.cli_call.proofs.AloneLaws.{AnswersAlone, AnswersApart, alone_reading, answered_apart}
 use Rattle.cli_call.proofs.CommandLaws.{AnswersReading, none_read, performs_reading}
 use Rattle.cli_call.proofs.RootLaws.{root_laws}
 use Rattle.cli_call.proofs.StoreLaws.{nothing_done}
@@ -50,3 +51,34 @@ module _ {T P : Type 0} {root_disk : DiskModel T} (repo_disk : DiskModel P) (roo
 
   pub answered_alone : (r : Result (List ℕ) Fault) → AnswersSo outcome r → PerformsAlone root_disk repo_disk meaning input m m (result_of r)
   answered_alone r is = alone_reading repo_disk root_disk_laws root_laws meaning input m m (result_of r) refl (λ told. nothing_done root_disk_laws m.root) (answers_alone r is)
+
+-- by what it is on each state that the repository stores, whatever the root's disk tells or stores
+module _ {T P : Type 0} {root_disk : DiskModel T} {repo_disk : DiskModel P} (repo_disk_laws : IsDisk repo_disk) (store_laws : IsStore repository_store) (meaning : Meaning) (input : List ℕ) (m : Disks T P) (ready : AreReady root_disk repo_disk m)
+    (outcome : Result Effect Refusal) (means : IsTrue repo_disk.tells → (s : State) → RestsAt repository_store repo_disk m.repo s.repository → (o : Result Effect Refusal) → outcome ≡ o → meaning.IsOutcome s input o) where
+  answers_apart : (r : Result (List ℕ) Fault) → AnswersSo outcome r → AnswersApart repo_disk meaning input m.repo (result_of r)
+  answers_apart (Ok text) is = λ told s rests. means told s rests _ is
+  answers_apart (Err (fault.Refused why)) is = λ told s rests. means told s rests _ is
+  answers_apart (Err fault.Memory) is = tt
+
+  pub acted : (r : Result (List ℕ) Fault) → AnswersSo outcome r → ActsOnRepository root_disk repo_disk meaning input m m (result_of r)
+  acted r is = answered_apart repo_disk_laws store_laws meaning input m ready (result_of r) (answers_apart r is)
+
+-- an outcome that is a refusal, or memory ran out
+pub fault_acted : {T P : Type 0} {root_disk : DiskModel T} {repo_disk : DiskModel P} → IsDisk repo_disk → IsStore repository_store → (meaning : Meaning) (input : List ℕ) (m : Disks T P) → AreReady root_disk repo_disk m → (f : Fault)
+    → ((r : Refusal) → f ≡ fault.Refused r → IsTrue repo_disk.tells → (s : State) → RestsAt repository_store repo_disk m.repo s.repository → meaning.IsOutcome s input (Err r)) → ActsOnRepository root_disk repo_disk meaning input m m (Err (failure_of_fault f))
+fault_acted repo_disk_laws store_laws meaning input m ready (fault.Refused r) refuses = answered_apart repo_disk_laws store_laws meaning input m ready (Err (failure.Refused r)) (λ told s rests. refuses r refl told s rests)
+fault_acted repo_disk_laws store_laws meaning input m ready fault.Memory refuses = answered_apart repo_disk_laws store_laws meaning input m ready (Err failure.Memory) tt
+
+-- by what it is on each state that has the lists which were read when the disks were opened
+module _ {T P : Type 0} {root_disk : DiskModel T} {repo_disk : DiskModel P} (meaning : Meaning) (input : List ℕ) (m : Disks T P) where
+  pub fault_listed : (f : Fault) → ((r : Refusal) → f ≡ fault.Refused r → (s : State) → HasLists m.opened s → meaning.IsOutcome s input (Err r)) → AnswersByLists root_disk repo_disk meaning input m m (Err (failure_of_fault f))
+  fault_listed (fault.Refused r) refuses = record { root = refl; repo = refl; answers = λ s has. (refuses r refl s has, refl) }
+  fault_listed fault.Memory refuses = record { root = refl; repo = refl; answers = λ s has. inl refl }
+
+  pub text_listed : (text : List ℕ) → ((s : State) → HasLists m.opened s → meaning.IsOutcome s input (Ok (record { change = nothing; out = text }))) → AnswersByLists root_disk repo_disk meaning input m m (Ok text)
+  text_listed text is = record { root = refl; repo = refl; answers = λ s has. record { effect = record { change = nothing; out = text }; is = is s has; leads = refl; bytes = refl } }
+
+  pub by_lists : (outcome : Result Effect Refusal) → ((s : State) → HasLists m.opened s → (o : Result Effect Refusal) → outcome ≡ o → meaning.IsOutcome s input o) → (r : Result (List ℕ) Fault) → AnswersSo outcome r → AnswersByLists root_disk repo_disk meaning input m m (result_of r)
+  by_lists outcome means (Ok text) is = text_listed text (λ s has. means s has _ is)
+  by_lists outcome means (Err (fault.Refused why)) is = fault_listed (fault.Refused why) (λ r same s has. let one : why ≡ r = cc same in means s has _ (is ∙ ap Err one))
+  by_lists outcome means (Err fault.Memory) is = fault_listed fault.Memory (λ r same s has. absurd (cc same))

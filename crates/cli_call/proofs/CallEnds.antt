@@ -1,13 +1,10 @@
 -- How a call ends on a state, from how its command's function and the reading of its input ended.
-use Rattle.std.proofs.Common.{◌≡◌, ◌≤◌, ℕ, Bool, List, Option, Some, Result, Ok, Err, IfSome, refl, sym, ap, ◌∙◌, subst, inl, inr, ⊎_elim, arith}
-use Rattle.std.specs.Io.KnownBytes.{Appends}
+use Rattle.std.proofs.Common.{◌≡◌, ◌≤◌, ℕ, Bool, List, Option, Some, Result, Ok, Err, IfSome, refl, sym, ap, ◌∙◌, subst, inl, inr, arith}
 use Rattle.system_core.specs.cny-base.declared.refusal.Refusal.{Refusal}
 use Rattle.system_core.specs.cny-base.declared.stop.Stop.{Stop}
-use Rattle.system_core.specs.cny-base.declared.stop.Stop.TheVariants as stop
-use Rattle.cny_flow.specs.Flow.{SourceState, SinkState, AppendsPart}
+use Rattle.cny_flow.specs.Flow.{SourceState, SinkState}
 use Rattle.system_core.specs.tree-disk.Tree.{Tree}
 use Rattle.cli_call.specs.declared.failure.Failure.{Failure}
-use Rattle.cli_call.specs.declared.failure.Failure.TheVariants as failure
 use Rattle.cli_call.specs.Command.{IsShown}
 use Rattle.system_core.specs.FixedDirs.{fixed_dirs}
 use Rattle.cli_call.proofs.InputLaws.{left_err, left_ok, some_so}
@@ -15,26 +12,12 @@ use Rattle.cli_call.specs.Line.{Ends}
 use Rattle.cli_call.proofs.LineLaws.{takes_so}
 use Rattle.cli_call.specs.Reading.{given, left_by, Gives, ReadsGiven}
 use Rattle.cli_call.specs.Report.{End, status_of}
-use Rattle.cli_call.specs.State.{State, Effect, Meaning, tree_of, Takes, IsNext, Then}
+use Rattle.cli_call.specs.State.{State, Effect, Meaning, tree_of, IsNext, Then}
 use Rattle.cli_call.specs.Stops.{root_failure, repository_failure}
-use Rattle.cli_call.specs.WholeCall.{Outcome, left_when, left_of}
-
--- the ends after which an effect stands
-abbrev pub HasEffect : End → Type 0
-HasEffect (Ok x) = Unit {0}
-HasEffect (Err failure.OutputFault) = Unit {0}
-HasEffect _ = ⊥
-
--- how a call ended, by its outcomes on a state and an input: the state after it, and what was written
-abbrev pub CallEnds : (Result Effect Refusal → Type 0) → State → State → SinkState → SinkState → End → Type 0
-CallEnds IsOutcome s next before now (Ok x) = Takes IsOutcome s next (λ bytes. Appends before.written now.written bytes)
-CallEnds IsOutcome s next before now (Err (failure.Refused r)) = IsOutcome (Err r) × (next ≡ s)
-CallEnds IsOutcome s next before now (Err failure.InputFault) = next ≡ s
-CallEnds IsOutcome s next before now (Err failure.OutputFault) = Takes IsOutcome s next (λ bytes. AppendsPart before.written now.written bytes)
-CallEnds IsOutcome s next before now (Err failure.RootFault) = IsNext IsOutcome s next
-CallEnds IsOutcome s next before now (Err failure.RepositoryFault) = IsNext IsOutcome s next
-CallEnds IsOutcome s next before now (Err failure.Memory) = IsNext IsOutcome s next
-CallEnds IsOutcome s next before now _ = ⊥
+use Rattle.cli_call.specs.WholeCall.{Outcome, left_when, left_of, CallEnds, HasEffect, OwnOutcome}
+use Rattle.cli_call.proofs.CommandLaws.{next_more, shown_more, takes_more}
+use Rattle.system_core.specs.cny-base.declared.stop.Stop.TheVariants as stop
+use Rattle.cli_call.specs.declared.failure.Failure.TheVariants as failure
 
 -- a status up to 4 comes then
 pub small : (end : End) → HasEffect end → status_of end ≤ 4
@@ -83,6 +66,16 @@ not_given m s input r fixed is =
     subst (λ (d : Result (Unit {0}) Refusal). Then d (λ _. Then (given m.takes_input input) (m.IsOutcome s)) (Err r)) (sym fixed)
     (subst (λ (g : Result (List ℕ) Refusal). Then g (m.IsOutcome s) (Err r)) (sym is) refl)
 
+-- where each outcome of the one meaning is one of the other
+ends_more : {One Two : Result Effect Refusal → Type 0} → ((o : Result Effect Refusal) → One o → Two o) → (before now : SinkState) (s next : State) (end : End) → Ends One s next before now end → CallEnds Two s next before now end
+ends_more more before now s next (Ok x) h = takes_more more h
+ends_more more before now s next (Err (failure.Refused r)) h = (more (Err r) h.0, h.1)
+ends_more more before now s next (Err failure.OutputFault) h = takes_more more h
+ends_more more before now s next (Err failure.RootFault) h = next_more more h.0
+ends_more more before now s next (Err failure.RepositoryFault) h = next_more more h.0
+ends_more more before now s next (Err failure.Memory) h = next_more more h.0
+ends_more more before now s next _ h = absurd h
+
 -- ---- where the fixed directories stand
 
 module _ (m : Meaning) (s : State) (input : List ℕ) (fixed : fixed_dirs (tree_of s.root) ≡ Ok tt) where
@@ -100,23 +93,23 @@ module _ (m : Meaning) (s : State) (input : List ℕ) (fixed : fixed_dirs (tree_
     to_outcome : (o : Result Effect Refusal) → m.IsOutcome s bytes o → Outcome m s input o
     to_outcome o h = outcome_of m s input bytes o fixed gives h
 
-    takes_outcome : {P Q : List ℕ → Type 0} {next : State} → ((b : List ℕ) → P b → Q b) → Takes (m.IsOutcome s bytes) s next P → Takes (Outcome m s input) s next Q
-    takes_outcome f t = record { effect = t.effect; is = to_outcome (Ok t.effect) t.is; leads = t.leads; bytes = f t.effect.out t.bytes }
-
-    next_outcome : {next : State} → IsNext (m.IsOutcome s bytes) s next → IsNext (Outcome m s input) s next
-    next_outcome h = ⊎_elim (λ same. inl same) (λ t. inr (takes_outcome (λ b x. x) t)) h
-
     pub run_ends : (before now : SinkState) (next : State) (end : End) → Ends (m.IsOutcome s bytes) s next before now end → CallEnds (Outcome m s input) s next before now end
-    run_ends before now next (Ok x) h = takes_outcome (λ b y. y) h
-    run_ends before now next (Err (failure.Refused r)) h = (to_outcome (Err r) h.0, h.1)
-    run_ends before now next (Err failure.OutputFault) h = takes_outcome (λ b y. y) h
-    run_ends before now next (Err failure.RootFault) h = next_outcome h.0
-    run_ends before now next (Err failure.RepositoryFault) h = next_outcome h.0
-    run_ends before now next (Err failure.Memory) h = next_outcome h.0
-    run_ends before now next _ h = absurd h
+    run_ends before now next end h = ends_more to_outcome before now s next end h
 
     pub shown_so : {tree : Tree} (t : Tree) → IsShown (m.IsOutcome s bytes) s tree t → IsShown (Outcome m s input) s tree t
-    shown_so t h = ⊎_elim (λ same. inl same) (λ e. inr (e.0, to_outcome (Ok e.0) e.1, e.2)) h
+    shown_so {tree} t h = shown_more to_outcome s tree t h
+
+-- ---- where the repository alone is told, and its disk was opened
+
+module _ (m : Meaning) (s : State) (input : List ℕ) where
+  pub own_unread : {before now : SourceState} (out out' : SinkState) (e : Failure) → ReadsGiven m.takes_input before now (Err e) → Gives m.takes_input input (Err e) → CallEnds (OwnOutcome m s input) s s out out' (Err e)
+  own_unread out out' (failure.Refused r) reads gives = (subst (λ (g : Result (List ℕ) Refusal). Then g (m.IsOutcome s) (Err r)) (sym gives) refl, refl)
+  own_unread out out' failure.InputFault reads gives = refl
+  own_unread out out' failure.Memory reads gives = inl refl
+  own_unread out out' _ reads gives = absurd reads.cause
+
+  pub own_ends : (bytes : List ℕ) → given m.takes_input input ≡ Ok bytes → (before now : SinkState) (next : State) (end : End) → Ends (m.IsOutcome s bytes) s next before now end → CallEnds (OwnOutcome m s input) s next before now end
+  own_ends bytes gives before now next end h = ends_more (λ o is. subst (λ (g : Result (List ℕ) Refusal). Then g (m.IsOutcome s) o) (sym gives) is) before now s next end h
 
 -- ---- what is left of the input
 

@@ -1,11 +1,8 @@
 -- What is known of a call by how it ended, whatever the disks store.
 use Rattle.std.proofs.Common.{◌≡◌, ◌≤◌, ℕ, Bool, true, false, List, Result, Ok, Err, refl, sym, ap, ◌∙◌, subst, inl, inr, ⊎_elim, arith}
 use Rattle.std.specs.Prelude.{◌⊎◌, IsTrue}
-use Rattle.std.specs.Io.KnownBytes.{Keeps}
-use Rattle.system_core.specs.cny-base.Count.{Rose}
 use Rattle.system_core.specs.cny-base.declared.refusal.Refusal.{Refusal}
 use Rattle.system_core.specs.cny-base.declared.stop.Stop.{Stop}
-use Rattle.system_core.specs.cny-base.declared.stop.Stop.TheVariants as stop
 use Rattle.system_core.specs.tree-disk.Tree.{Tree}
 use Rattle.system_core.specs.tree-disk.Disk.{DiskModel, IsDisk}
 use Rattle.system_core.specs.tree-disk.Clear.{is_within}
@@ -16,7 +13,6 @@ use Rattle.system_core.specs.tree-disk.Steps.{no_name}
 use Rattle.system_core.specs.tree-journal.Recovery.{is_committed}
 use Rattle.repo_load.specs.Files.{repository_base}
 use Rattle.cli_call.specs.declared.failure.Failure.{Failure}
-use Rattle.cli_call.specs.declared.failure.Failure.TheVariants as failure
 use Rattle.cli_call.specs.declared.opened.Opened.{Opened}
 use Rattle.cli_call.specs.Call.{CallState, OpensRoot, OpensRepository, AreOpened, StopsReading, RunsWith, NotOpened, RunsCall}
 use Rattle.cli_call.specs.Command.{disks, ChangesNothing}
@@ -24,16 +20,18 @@ use Rattle.system_core.specs.FixedDirs.{fixed_dirs}
 use Rattle.cli_call.specs.Line.{Moment, LineCause, RunsLine}
 use Rattle.cli_call.proofs.LineLaws.{keeps_still}
 use Rattle.cli_call.specs.Reading.{ReadsGiven}
-use Rattle.system_core.specs.tree-journal.Recovered.{RecoversToNone, IsKept, IsPathRefusal, RefusesLog}
+use Rattle.system_core.specs.tree-journal.Recovered.{RecoversToNone, IsKept}
 use Rattle.cli_call.specs.Report.{End, status_of}
 use Rattle.cli_call.specs.RootOpening.{IsRootKept}
-use Rattle.cli_call.specs.State.{Meaning}
+use Rattle.cli_call.specs.State.{Meaning, Scope}
 use Rattle.cli_call.specs.Stops.{root_failure, repository_failure}
 use Rattle.cli_call.specs.Store.{IsSettled}
 use Rattle.cli_call.specs.Stores.{root_store, repository_store}
 use Rattle.local_db.specs.declared.db.Db.{Db}
-use Rattle.cli_call.specs.WholeCall.{AreKept, RecoversToCatalogue, RestOpened, IsDamage, OnlyRead}
+use Rattle.cli_call.specs.WholeCall.{RecoversToCatalogue, RestOpened, OnlyRead, CallCause, CallFacts, SettlesSo}
 use Rattle.system_core.proofs.Opened.{kept_so}
+use Rattle.system_core.specs.cny-base.declared.stop.Stop.TheVariants as stop
+use Rattle.cli_call.specs.declared.failure.Failure.TheVariants as failure
 
 -- of two causes that are known where a disk is told, the first, or the second by itself
 pub by_told : {A B : Type 0} (told : Bool) → (IsTrue told → A ⊎ B) → (IsTrue told → A) ⊎ B
@@ -42,46 +40,6 @@ by_told false h = inl (λ is. absurd (cc is))
 
 never_fixed : {r : Refusal} {d : Result (Unit {0}) Refusal} → d ≡ Ok tt → d ≡ Err r → ⊥
 never_fixed a b = cc (a, b)
-
-module _ {T P : Type 0} (root_disk : DiskModel T) (repo_disk : DiskModel P) where
-  -- why a call ended so, and what was written
-  abbrev pub CallCause : CallState T P → CallState T P → End → Type 0
-  CallCause before now (Ok x) = Unit {0}
-  CallCause before now (Err (failure.Refused r)) = Keeps before.out.written now.out.written
-  CallCause before now (Err failure.InputFault) = Rose before.input.faults now.input.faults × Keeps before.out.written now.out.written
-  CallCause before now (Err failure.OutputFault) = Rose before.out.faults now.out.faults
-  CallCause before now (Err failure.RootFault) = Rose (root_disk.faults before.root) (root_disk.faults now.root) × Keeps before.out.written now.out.written
-  CallCause before now (Err failure.RepositoryFault) = Rose (repo_disk.faults before.repo) (repo_disk.faults now.repo) × Keeps before.out.written now.out.written
-  CallCause before now (Err failure.Memory) = Keeps before.out.written now.out.written
-  CallCause before now (Err (failure.Damaged path)) = IsDamage root_disk repo_disk before now path × Keeps before.out.written now.out.written
-  CallCause before now (Err failure.Usage) = ⊥
-
-  -- opening was refused, for the log of a disk, or for a fixed directory
-  pub record RefusedLog (before now : CallState T P) (end : End) : Type 0 where
-    pub refusal : Refusal
-    pub is : end ≡ Err (failure.Refused refusal)
-    pub of_path : IsPathRefusal refusal
-    pub log : (IsTrue root_disk.tells → RefusesLog root_store.base (root_disk.reads before.root) refusal)
-        ⊎ (IsTrue repo_disk.tells → RefusesLog repository_store.base (repo_disk.reads before.repo) refusal)
-    pub unread : now.input ≡ before.input
-
-  pub record RefusedDir (before now : CallState T P) (end : End) : Type 0 where
-    pub refusal : Refusal
-    pub is : end ≡ Err (failure.Refused refusal)
-    pub missing : fixed_dirs (root_disk.reads before.root) ≡ Err refusal
-    pub unread : now.input ≡ before.input
-
-  abbrev pub SettlesSo : CallState T P → CallState T P → End → Type 0
-  SettlesSo before now end = RestOpened root_disk repo_disk before now ⊎ RefusedLog before now end ⊎ RefusedDir before now end
-
-  pub record CallFacts (before now : CallState T P) (end : End) : Type 0 where
-    pub cause : CallCause before now end
-    pub kept : ChangesNothing end → AreKept root_disk repo_disk before now
-    pub settles : status_of end ≤ 4 → SettlesSo before now end
-    pub root_untouched : IsTrue root_disk.tells → RecoversToNone root_store.base (root_disk.reads before.root) → Confined root_disk (Among no_name) before.root now.root
-    pub repo_untouched : IsTrue repo_disk.tells → RecoversToNone repository_store.base (repo_disk.reads before.repo) → Confined repo_disk (Among no_name) before.repo now.repo
-    pub repo_within : IsTrue repo_disk.tells → is_committed repository_store.base (repo_disk.reads before.repo) ≡ false → Confined repo_disk (Among (is_within repository_base)) before.repo now.repo
-    pub missing : IsTrue root_disk.tells → (r : Refusal) → fixed_dirs (root_disk.reads before.root) ≡ Err r → OnlyRead root_disk repo_disk before now
 
 module _ {T P : Type 0} {root_disk : DiskModel T} {repo_disk : DiskModel P} (root_laws : IsDisk root_disk) (repo_laws : IsDisk repo_disk) (before now : CallState T P) where
   -- ---- the root wasn't opened
@@ -247,8 +205,8 @@ module _ {T P : Type 0} {root_disk : DiskModel T} {repo_disk : DiskModel P} (roo
     run_cause (Err failure.InputFault) h = absurd h
     run_cause _ h = h
 
-    run_facts : (of_root : Bool) (m : Meaning) (bytes : List ℕ) (end : End) → RunsLine root_disk repo_disk of_root m bytes mid last end → CallFacts root_disk repo_disk before now end
-    run_facts of_root m bytes end runs = record {
+    run_facts : (scope : Scope) (m : Meaning) (bytes : List ℕ) (end : End) → RunsLine root_disk repo_disk scope m bytes mid last end → CallFacts root_disk repo_disk before now end
+    run_facts scope m bytes end runs = record {
       cause = run_cause end runs.cause;
       kept = λ none. record { root = λ told. kept_root ((runs.same none).root told) told; repo = λ told. kept_repo ((runs.same none).repo told) told };
       settles = λ le. inl (record { fixed = λ told. (opens.opens_root.opened told).fixed; root = (runs.rest le).root; repo = (runs.rest le).repo; database = λ told. (opened.db, (opens.opens_root.opened told).database); loaded = loaded_repo });
@@ -258,14 +216,14 @@ module _ {T P : Type 0} {root_disk : DiskModel T} {repo_disk : DiskModel P} (roo
       missing = open_missing;
     }
 
-    pub open_facts : (of_root : Bool) (m : Meaning) (end : End) → StopsReading root_disk repo_disk m before.input now.input mid last end ⊎ RunsWith root_disk repo_disk of_root m before.input now.input mid last end → CallFacts root_disk repo_disk before now end
-    open_facts of_root m end how = ⊎_elim
+    pub open_facts : (scope : Scope) (m : Meaning) (end : End) → StopsReading root_disk repo_disk m before.input now.input mid last end ⊎ RunsWith root_disk repo_disk scope m before.input now.input mid last end → CallFacts root_disk repo_disk before now end
+    open_facts scope m end how = ⊎_elim
         (λ stops. subst (λ (x : End). CallFacts root_disk repo_disk before now x) (sym stops.is) (unread_facts m stops.failure stops.reads stops.same))
-        (λ runs. run_facts of_root m runs.bytes end runs.runs)
+        (λ runs. run_facts scope m runs.bytes end runs.runs)
         how
 
-  pub call_facts : (of_root : Bool) (m : Meaning) (end : End) → RunsCall root_disk repo_disk of_root m before now end → CallFacts root_disk repo_disk before now end
-  call_facts of_root m end how = ⊎_elim
+  pub call_facts : (scope : Scope) (m : Meaning) (end : End) → RunsCall root_disk repo_disk scope m before now end → CallFacts root_disk repo_disk before now end
+  call_facts scope m end how = ⊎_elim
       (λ stops. not_opened end stops)
-      (λ goes. open_facts goes.root goes.repo goes.opened goes.opened' goes.opens of_root m end goes.runs)
+      (λ goes. open_facts goes.root goes.repo goes.opened goes.opened' goes.opens scope m end goes.runs)
       how

@@ -1,52 +1,37 @@
 -- What is known of a call from a state to which both disks recover.
-use Rattle.std.proofs.Common.{◌≡◌, ◌≤◌, ℕ, Bool, false, List, Ok, Err, IfSome, Some, refl, sym, ap, ◌∙◌, subst, inl, inr, ⊎_elim, arith}
+use Rattle.std.proofs.Common.{◌≡◌, ◌≤◌, ℕ, List, Ok, Err, refl, sym, ap, ◌∙◌, subst, inl, inr, ⊎_elim, arith}
 use Rattle.std.specs.Prelude.{IsTrue}
 use Rattle.std.specs.FinMap.{get}
 use Rattle.system_core.specs.cny-base.declared.stop.Stop.{Stop}
-use Rattle.system_core.specs.cny-base.declared.stop.Stop.TheVariants as stop
 use Rattle.system_core.specs.tree-disk.Disk.{DiskModel, IsDisk}
 use Rattle.system_core.specs.tree-disk.Confined.{LeavesOnly}
 use Rattle.system_core.specs.tree-disk.Unfailed.{UnlessFailed}
 use Rattle.system_core.proofs.tree-disk.Unfailed.{unfailed_start, unfailed_weaker}
-use Rattle.system_core.specs.tree-journal.Recovery.{is_committed, RecoversAsThen}
+use Rattle.system_core.specs.tree-journal.Recovery.{RecoversAsThen}
 use Rattle.local_db.specs.declared.db.Db.{Db}
 use Rattle.cli_call.specs.declared.failure.Failure.{Failure}
 use Rattle.cli_call.specs.declared.opened.Opened.{Opened}
 use Rattle.cli_call.specs.Call.{CallState, OpensRoot, OpensRepository, AreOpened, NotOpened}
-use Rattle.cli_call.proofs.CallEnds.{HasEffect, CallEnds, small, no_root_effect, no_repo_effect, no_unread_effect, outcome_of, read_left, run_ends, shown_so, unread_ends, unread_left}
-use Rattle.cli_call.specs.Command.{disks, KeepsOthers, IsShown}
+use Rattle.cli_call.specs.WholeCall.{CallEnds, Outcome, RecoversBoth, CallFrom}
+use Rattle.cli_call.proofs.CallEnds.{small, no_root_effect, no_repo_effect, no_unread_effect, outcome_of, read_left, run_ends, shown_so, unread_ends, unread_left}
+use Rattle.cli_call.specs.Command.{disks, IsShown}
 use Rattle.system_core.specs.FixedDirs.{fixed_dirs}
 use Rattle.cli_call.specs.Line.{Moment, RunsLine}
 use Rattle.cli_call.specs.Reading.{given, Gives, ReadsGiven}
 use Rattle.cli_call.specs.Report.{End, status_of}
 use Rattle.cli_call.proofs.RootLaws.{root_laws, opened_root_rests}
 use Rattle.cli_call.proofs.RootStates.{fixed_state, root_ends, root_left}
-use Rattle.cli_call.specs.State.{State, Meaning, tree_of, OneDisk}
+use Rattle.cli_call.specs.State.{State, Meaning, tree_of, Scope}
 use Rattle.cli_call.specs.Stops.{root_failure, repository_failure}
-use Rattle.cli_call.specs.Store.{IsStore, Recovers, OneOf, IsEntryOr, RestsAt}
+use Rattle.cli_call.specs.Store.{IsStore, Recovers, IsEntryOr, RestsAt}
 use Rattle.cli_call.proofs.StoreLaws.{none_yet, never_damaged, rest_reads, opened_rests, kept_recovers}
 use Rattle.cli_call.specs.Stores.{root_store, repository_store}
-use Rattle.cli_call.specs.WholeCall.{Outcome, left_of, RecoversBoth, RestBoth, LivesRoot, LivesRepository, ShowsCall}
 use Rattle.system_core.proofs.Opened.{never_blocked}
-
-module _ {T P : Type 0} (root_disk : DiskModel T) (repo_disk : DiskModel P) where
-  -- the state after the call, and what each disk went through
-  pub record CallFrom (m : Meaning) (input : List ℕ) (s : State) (before now : CallState T P) (end : End) : Type 0 where
-    pub next : State
-    pub ends : CallEnds (Outcome m s input) s next before.out now.out end
-    pub apart : OneDisk s next
-    pub root : LivesRoot root_disk s.root next.root before.root now.root
-    pub repo : LivesRepository repo_disk s.repository next.repository before.repo now.repo
-    pub rests : HasEffect end → RestBoth root_disk repo_disk now next
-    pub root_reads : OneOf root_store s.root next.root (root_disk.reads now.root)
-    pub repo_reads : OneOf repository_store s.repository next.repository (repo_disk.reads now.repo)
-    pub outside : is_committed root_store.base (root_disk.reads before.root) ≡ false → KeepsOthers (Outcome m s input) s (root_disk.reads before.root) (root_disk.reads now.root)
-    pub seen : ShowsCall root_disk repo_disk (Outcome m s input) s before.root now.root
-    pub left : status_of end ≤ 2 → IfSome before.input.left (λ input. now.input.left ≡ Some (left_of m s input))
+use Rattle.system_core.specs.cny-base.declared.stop.Stop.TheVariants as stop
 
 -- ---- from a state
 
-module _ {T P : Type 0} {root_disk : DiskModel T} {repo_disk : DiskModel P} (root_disk_laws : IsDisk root_disk) (repo_disk_laws : IsDisk repo_disk) (repo_laws : IsStore repository_store) (of_root : Bool) (m : Meaning) (before now : CallState T P)
+module _ {T P : Type 0} {root_disk : DiskModel T} {repo_disk : DiskModel P} (root_disk_laws : IsDisk root_disk) (repo_disk_laws : IsDisk repo_disk) (repo_laws : IsStore repository_store) (scope : Scope) (m : Meaning) (before now : CallState T P)
     (input : List ℕ) (root_told : IsTrue root_disk.tells) (repo_told : IsTrue repo_disk.tells) (s : State) (recovers : RecoversBoth root_disk repo_disk before s) where
   -- ---- the root wasn't opened
 
@@ -166,7 +151,7 @@ module _ {T P : Type 0} {root_disk : DiskModel T} {repo_disk : DiskModel P} (roo
     -- the command was performed
 
     module _ (bytes : List ℕ) (reads : ReadsGiven m.takes_input before.input now.input (Ok bytes)) (gives : given m.takes_input input ≡ Ok bytes) where
-      pub from_run : (end : End) → RunsLine root_disk repo_disk of_root m bytes mid_ last_ end → CallFrom root_disk repo_disk m input s before now end
+      pub from_run : (end : End) → RunsLine root_disk repo_disk scope m bytes mid_ last_ end → CallFrom root_disk repo_disk m input s before now end
       from_run end runs =
           let f = runs.told root_told repo_told s (record { root = root_rests; repo = repo_rests }) in
           record {

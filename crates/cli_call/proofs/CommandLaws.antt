@@ -6,7 +6,7 @@ use Rattle.system_core.specs.cny-base.declared.refusal.Refusal.{Refusal}
 use Rattle.system_core.specs.tree-disk.Tree.{Tree}
 use Rattle.system_core.specs.tree-disk.Disk.{DiskModel, IsDisk, HasRead}
 use Rattle.system_core.specs.tree-disk.Clear.{is_within}
-use Rattle.system_core.specs.tree-disk.Confined.{Among, Confined}
+use Rattle.system_core.specs.tree-disk.Confined.{Among}
 use Rattle.system_core.proofs.tree-disk.ConfinedLaws.{confined_read, leaves_weaker}
 use Rattle.system_core.proofs.tree-disk.Laws.{same_tree}
 use Rattle.system_core.specs.tree-disk.Steps.{no_name}
@@ -15,11 +15,11 @@ use Rattle.system_core.proofs.tree-disk.Unfailed.{unfailed_confined, unfailed_we
 use Rattle.repo_load.specs.Files.{repository_base}
 use Rattle.cli_call.specs.declared.failure.Failure.{Failure}
 use Rattle.cli_call.specs.declared.failure.Failure.TheVariants as failure
-use Rattle.cli_call.specs.Command.{Disks, AreReady, ChangesNothing, Rest, ReadsSame, StandsFor, HasCause, Goes, Answers, IsShown, Performs, PerformsFrom, end_of}
-use Rattle.cli_call.specs.Report.{End, status_of}
-use Rattle.repo_load.specs.State.{RepositoryState}
+use Rattle.cli_call.specs.Alone.{ActsOnRepository}
+use Rattle.cli_call.specs.Command.{Disks, AreReady, Rest, ReadsSame, StandsFor, HasCause, Goes, Answers, IsShown, Performs, PerformsFrom, end_of}
+use Rattle.cli_call.specs.Report.{End}
 use Rattle.cli_call.specs.State.{State, nothing, Effect, IsNext, Meaning, Takes}
-use Rattle.cli_call.specs.Store.{Store, IsSettled, IsStore, RestsAt}
+use Rattle.cli_call.specs.Store.{Store, IsStore, RestsAt}
 use Rattle.cli_call.specs.Stores.{root_store, repository_store}
 use Rattle.cli_call.proofs.StoreLaws.{nothing_done, read_settled, rest_lives, rest_read_on, rest_reads}
 
@@ -103,32 +103,23 @@ module _ {T P : Type 0} {root_disk : DiskModel T} {repo_disk : DiskModel P} (roo
 
 -- ---- a command that changes the repository alone
 
--- The root's disk was left alone. What the other went through from a repository that it stored, and what was answered.
-pub record ChangesRepository {P : Type 0} (repo_disk : DiskModel P) (IsOutcome : Result Effect Refusal → Type 0) (s : State) (old new : P) (result : Result (List ℕ) Failure) : Type 0 where
-  pub next : RepositoryState
-  pub answers : Answers IsOutcome s (record { root = s.root; repository = next }) result
-  pub goes : Goes repository_store repo_disk s.repository next old new (end_of result)
-
 module _ {T P : Type 0} {root_disk : DiskModel T} {repo_disk : DiskModel P} (root_laws : IsDisk root_disk) (root_store_laws : IsStore root_store) where
-  pub performs_on_repository : (m : Meaning) (input : List ℕ) (old new : Disks T P) (result : Result (List ℕ) Failure) → AreReady root_disk repo_disk old → new.root ≡ old.root → repo_disk.faults old.repo ≤ repo_disk.faults new.repo → (IsTrue repo_disk.tells → Confined repo_disk (Among (is_within repository_base)) old.repo new.repo)
-      → HasCause root_disk repo_disk old new result → (status_of (end_of result) ≤ 4 → IsTrue repo_disk.tells → IsSettled repo_disk repository_store.base new.repo)
-      → (ChangesNothing (end_of result) → IsTrue repo_disk.tells → repo_disk.reads new.repo ≡ repo_disk.reads old.repo)
-      → (IsTrue repo_disk.tells → (s : State) → StandsFor root_disk repo_disk old s → ChangesRepository repo_disk (m.IsOutcome s input) s old.repo new.repo result)
-      → Performs root_disk repo_disk m input old new result
-  performs_on_repository m input old new result ready same later within cause settles keeps changes =
-      let read = subst (λ (d : T). HasRead root_disk old.root d (Unit {0})) (sym same) (nothing_done root_laws old.root) in
+  -- it was performed as any command is
+  pub acts_performed : (m : Meaning) (input : List ℕ) (old new : Disks T P) (result : Result (List ℕ) Failure) → AreReady root_disk repo_disk old → ActsOnRepository root_disk repo_disk m input old new result → Performs root_disk repo_disk m input old new result
+  acts_performed m input old new result ready acts =
+      let read = subst (λ (d : T). HasRead root_disk old.root d (Unit {0})) (sym acts.root) (nothing_done root_laws old.root) in
       record {
-        root_later = omega (arith, ap root_disk.faults same);
-        repo_later = later;
-        cause = cause;
+        root_later = omega (arith, ap root_disk.faults acts.root);
+        repo_later = acts.later;
+        cause = acts.cause;
         rest = λ le. record {
           root = λ told. read_settled read (ready.root told).flag_clear (ready.root told).synced;
-          repo = settles le;
+          repo = acts.rest le;
         };
-        same = λ none. record { root = λ told. read.same.reads; repo = keeps none };
-        within = within;
+        same = λ none. record { root = λ told. read.same.reads; repo = acts.same none };
+        within = acts.within;
         told = λ root repo s stands.
-            let changed = changes repo s stands in
+            let changed = acts.told repo s stands.repo in
             record {
               next = record { root = s.root; repository = changed.next };
               answers = changed.answers;
@@ -143,10 +134,10 @@ module _ {T P : Type 0} {root_disk : DiskModel T} {repo_disk : DiskModel P} (roo
 -- ---- a meaning that has all outcomes of another
 
 module _ {One Two : Result Effect Refusal → Type 0} (more : (outcome : Result Effect Refusal) → One outcome → Two outcome) where
-  takes_more : {s next : State} {HasBytes : List ℕ → Type 0} → Takes One s next HasBytes → Takes Two s next HasBytes
+  pub takes_more : {s next : State} {HasBytes : List ℕ → Type 0} → Takes One s next HasBytes → Takes Two s next HasBytes
   takes_more takes = record { effect = takes.effect; is = more (Ok takes.effect) takes.is; leads = takes.leads; bytes = takes.bytes }
 
-  next_more : {s next : State} → IsNext One s next → IsNext Two s next
+  pub next_more : {s next : State} → IsNext One s next → IsNext Two s next
   next_more (inl same) = inl same
   next_more (inr takes) = inr (takes_more takes)
 
@@ -184,4 +175,22 @@ performs_more one two from input more old new result done = record {
   same = done.same;
   within = done.within;
   told = λ root repo s stands. performs_from_more (more s) s old new result (done.told root repo s stands);
+}
+
+-- the same of the repository alone, where it stores a state
+pub acts_more : {T P : Type 0} {root_disk : DiskModel T} {repo_disk : DiskModel P} (one two : Meaning) (from input : List ℕ) (old new : Disks T P) (result : Result (List ℕ) Failure)
+    → (IsTrue repo_disk.tells → (s : State) → RestsAt repository_store repo_disk old.repo s.repository → (outcome : Result Effect Refusal) → one.IsOutcome s from outcome → two.IsOutcome s input outcome)
+    → ActsOnRepository root_disk repo_disk one from old new result → ActsOnRepository root_disk repo_disk two input old new result
+acts_more one two from input old new result more acts = record {
+  root = acts.root;
+  later = acts.later;
+  cause = acts.cause;
+  rest = acts.rest;
+  same = acts.same;
+  within = acts.within;
+  told = λ told s rests. let done = acts.told told s rests in record {
+    next = done.next;
+    answers = answers_more (more told s rests) s (record { root = s.root; repository = done.next }) result done.answers;
+    goes = done.goes;
+  };
 }

@@ -13,8 +13,10 @@ pub mod CallFacts
 pub mod CallEnds
 pub mod RootStates
 pub mod CallStates
+pub mod RepositoryStates
 pub mod CallKnown
 pub mod RootCallLaws
+pub mod CallByStatus
 pub mod CallLaws
 pub mod InputBytes
 pub mod OpeningDisks

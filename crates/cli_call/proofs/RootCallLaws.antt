@@ -3,24 +3,22 @@ use Rattle.std.proofs.Common.{◌≡◌, ◌≤◌, ℕ, List, Result, Ok, Err, 
 use Rattle.std.specs.Prelude.{◌⊎◌, IsTrue}
 use Rattle.system_core.specs.cny-base.declared.refusal.Refusal.{Refusal}
 use Rattle.system_core.specs.cny-base.declared.stop.Stop.{Stop}
-use Rattle.system_core.specs.cny-base.declared.stop.Stop.TheVariants as stop
 use Rattle.cny_flow.specs.Flow.{SinkState, AppendsPart}
 use Rattle.system_core.specs.tree-disk.Tree.{Name}
 use Rattle.system_core.specs.tree-disk.Disk.{DiskModel}
 use Rattle.cli_call.specs.declared.failure.Failure.{Failure}
-use Rattle.cli_call.specs.declared.failure.Failure.TheVariants as failure
 use Rattle.cli_call.specs.Call.{CallState, OpensRepository}
-use Rattle.cli_call.proofs.CallFacts.{CallFacts}
-use Rattle.cli_call.proofs.CallKnown.{KnownAlone}
+use Rattle.cli_call.specs.WholeCall.{CallFacts, CallOnRoot, Outcome, IsOnRoot}
 use Rattle.cli_call.specs.Opening.{MeetsDamage}
 use Rattle.system_core.specs.tree-journal.Recovered.{IsPathRefusal, RefusesLog}
 use Rattle.cli_call.specs.Report.{End, status_of, Tells, Reports}
-use Rattle.cli_call.proofs.RootStates.{CallOnRoot}
 use Rattle.cli_call.specs.State.{State, Effect, Meaning, after}
 use Rattle.cli_call.specs.Stops.{repository_failure}
 use Rattle.cli_call.specs.Store.{RestsAt}
 use Rattle.cli_call.specs.Stores.{root_store, repository_store}
-use Rattle.cli_call.specs.WholeCall.{Outcome, IsRefused, StandsAfter, IsAnsweredOnRoot, HasRefusedRepository, HasDamagedRepository, IsRootCall}
+use Rattle.cli_call.specs.ByStatus.{IsRefused, StandsAfter, IsAnsweredOnRoot, HasRefusedRepository, HasDamagedRepository, IsRootCall}
+use Rattle.system_core.specs.cny-base.declared.stop.Stop.TheVariants as stop
+use Rattle.cli_call.specs.declared.failure.Failure.TheVariants as failure
 
 -- ---- ends and statuses
 
@@ -153,7 +151,7 @@ module _ {T P : Type 0} (root_disk : DiskModel T) (repo_disk : DiskModel P) (m :
 
   -- ---- the whole
 
-  pub root_call : (end : End) → CallFacts root_disk repo_disk before now end → KnownAlone root_disk repo_disk m input before now end → Reports end err err' status → IsRootCall root_disk repo_disk m input before now err err' status
+  pub root_call : (end : End) → CallFacts root_disk repo_disk before now end → IsOnRoot root_disk repo_disk m input before now end → Reports end err err' status → IsRootCall root_disk repo_disk m input before now err err' status
   root_call end facts known reports = record {
     answers = λ le told s recovers. answered_on_root end facts reports le s (known.from told s recovers);
     lives = λ told s recovers. let f = known.from told s recovers in record { next = f.next; is_next = f.is_next; stays = f.stays; root = f.root; reads = f.reads; outside = f.outside };

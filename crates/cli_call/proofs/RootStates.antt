@@ -1,22 +1,22 @@
 -- What is known of a call from a state whose root the root recovers to, whatever the repository's disk tells or stores.
-use Rattle.std.proofs.Common.{◌≡◌, ◌≤◌, ℕ, Bool, true, false, List, Some, Result, Ok, Err, IfSome, refl, sym, ap, ◌∙◌, subst, inl, inr, ⊎_elim, arith}
+use Rattle.std.proofs.Common.{◌≡◌, ◌≤◌, ℕ, true, List, Some, Result, Ok, Err, IfSome, refl, sym, ap, ◌∙◌, subst, inl, inr, ⊎_elim, arith}
 use Rattle.std.specs.Prelude.{◌⊎◌, IsTrue}
 use Rattle.std.specs.FinMap.{get}
 use Rattle.system_core.specs.cny-base.declared.refusal.Refusal.{Refusal}
 use Rattle.system_core.specs.cny-base.declared.stop.Stop.{Stop}
-use Rattle.system_core.specs.cny-base.declared.stop.Stop.TheVariants as stop
 use Rattle.cny_flow.specs.Flow.{SourceState}
 use Rattle.system_core.specs.tree-disk.Disk.{DiskModel, IsDisk}
 use Rattle.system_core.specs.tree-disk.Confined.{LeavesOnly}
 use Rattle.system_core.specs.tree-disk.Unfailed.{UnlessFailed}
 use Rattle.system_core.proofs.tree-disk.Unfailed.{unfailed_start, unfailed_weaker}
-use Rattle.system_core.specs.tree-journal.Recovery.{is_committed, RecoversAsThen}
+use Rattle.system_core.specs.tree-journal.Recovery.{RecoversAsThen}
 use Rattle.local_db.specs.declared.db.Db.{Db}
 use Rattle.cli_call.specs.declared.failure.Failure.{Failure}
 use Rattle.cli_call.specs.declared.opened.Opened.{Opened}
 use Rattle.cli_call.specs.Call.{CallState, OpensRoot, OpensRepository, AreOpened, NotOpened}
-use Rattle.cli_call.proofs.CallEnds.{HasEffect, CallEnds, small, next_any, no_root_effect, no_repo_effect, no_unread_effect, outcome_of, dir_missing, run_ends, shown_so, unread_ends}
-use Rattle.cli_call.specs.Command.{disks, KeepsOthers, IsShown}
+use Rattle.cli_call.specs.WholeCall.{CallEnds, Outcome, left_when, left_of, IsOpenedOnly, CallOnRoot}
+use Rattle.cli_call.proofs.CallEnds.{small, next_any, no_root_effect, no_repo_effect, no_unread_effect, outcome_of, dir_missing, run_ends, shown_so, unread_ends}
+use Rattle.cli_call.specs.Command.{disks, IsShown}
 use Rattle.system_core.specs.FixedDirs.{fixed_dirs}
 use Rattle.cli_call.proofs.InputLaws.{some_is}
 use Rattle.cli_call.specs.Line.{Moment, RunsLine}
@@ -25,33 +25,13 @@ use Rattle.system_core.specs.tree-journal.Recovered.{IsKept}
 use Rattle.cli_call.specs.Report.{End, status_of}
 use Rattle.cli_call.proofs.RootLaws.{root_laws, state_dirs, opened_root_rests}
 use Rattle.cli_call.specs.RootOpening.{IsRootOpen}
-use Rattle.cli_call.specs.State.{State, Meaning, tree_of, IsNext}
+use Rattle.cli_call.specs.State.{State, Meaning, tree_of, Scope}
 use Rattle.cli_call.specs.Stops.{root_failure, repository_failure}
-use Rattle.cli_call.specs.Store.{Recovers, OneOf, IsEntryOr, RestsAt}
+use Rattle.cli_call.specs.Store.{Recovers, IsEntryOr, RestsAt}
 use Rattle.cli_call.proofs.StoreLaws.{never_damaged, rest_reads, none_yet}
 use Rattle.cli_call.specs.Stores.{root_store, repository_store}
-use Rattle.cli_call.specs.WholeCall.{Outcome, left_when, left_of, LivesRoot, ShowsCall, IsOpenedOnly}
 use Rattle.system_core.proofs.Opened.{kept_so, never_blocked}
-
-module _ {T P : Type 0} (root_disk : DiskModel T) (repo_disk : DiskModel P) where
-  -- The root was opened, and the repository wasn't.
-  pub record StopsForRepository (before now : CallState T P) (end : End) : Type 0 where
-    pub stop : Stop
-    pub is : end ≡ Err (repository_failure stop)
-    pub opens : OpensRepository root_disk repo_disk before.repo now.repo (Err stop)
-    pub unread : now.input ≡ before.input
-
-  -- the state after the call, and what the root went through
-  pub record CallOnRoot (m : Meaning) (input : List ℕ) (s : State) (before now : CallState T P) (end : End) : Type 0 where
-    pub next : State
-    pub ends : StopsForRepository before now end ⊎ CallEnds (Outcome m s input) s next before.out now.out end
-    pub is_next : IsNext (Outcome m s input) s next
-    pub stays : next.repository ≡ s.repository
-    pub root : LivesRoot root_disk s.root next.root before.root now.root
-    pub rests : HasEffect end → RestsAt root_store root_disk now.root next.root
-    pub reads : OneOf root_store s.root next.root (root_disk.reads now.root)
-    pub outside : is_committed root_store.base (root_disk.reads before.root) ≡ false → KeepsOthers (Outcome m s input) s (root_disk.reads before.root) (root_disk.reads now.root)
-    pub seen : ShowsCall root_disk repo_disk (Outcome m s input) s before.root now.root
+use Rattle.system_core.specs.cny-base.declared.stop.Stop.TheVariants as stop
 
 -- ---- the fixed directories of the state
 
@@ -87,7 +67,7 @@ module _ {T P : Type 0} {root_disk : DiskModel T} (repo_disk : DiskModel P) (roo
 
 -- ---- from a state
 
-module _ {T P : Type 0} {root_disk : DiskModel T} {repo_disk : DiskModel P} (root_disk_laws : IsDisk root_disk) (of_root : Bool) (m : Meaning) (before now : CallState T P)
+module _ {T P : Type 0} {root_disk : DiskModel T} {repo_disk : DiskModel P} (root_disk_laws : IsDisk root_disk) (scope : Scope) (m : Meaning) (before now : CallState T P)
     (input : List ℕ) (root_told : IsTrue root_disk.tells) (s : State) (recovers : Recovers root_store (root_disk.reads before.root) s.root) where
   -- the root was opened at most
   root_stopped : (e : Stop) → OpensRoot root_disk repo_disk before.root now.root (Err e) → CallOnRoot root_disk repo_disk m input s before now (Err (root_failure e))
@@ -175,7 +155,7 @@ module _ {T P : Type 0} {root_disk : DiskModel T} {repo_disk : DiskModel P} (roo
         }
 
     -- the command was performed
-    pub root_run : (bytes : List ℕ) → ReadsGiven m.takes_input before.input now.input (Ok bytes) → given m.takes_input input ≡ Ok bytes → of_root ≡ true → (end : End) → RunsLine root_disk repo_disk of_root m bytes from_ to_ end → CallOnRoot root_disk repo_disk m input s before now end
+    pub root_run : (bytes : List ℕ) → ReadsGiven m.takes_input before.input now.input (Ok bytes) → given m.takes_input input ≡ Ok bytes → scope.of_root ≡ true → (end : End) → RunsLine root_disk repo_disk scope m bytes from_ to_ end → CallOnRoot root_disk repo_disk m input s before now end
     root_run bytes reads gives is end runs =
         let f = (runs.alone is).told root_told s root_rests in
         let ended : CallEnds (Outcome m s input) s f.next before.out now.out end = run_ends m s input fixed bytes gives before.out now.out f.next end f.ends in

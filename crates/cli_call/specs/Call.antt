@@ -1,5 +1,5 @@
 -- A command's whole call: the disks are opened, its input is read, it is performed, and what it answers is written.
-use Rattle.std.specs.Prelude.{◌≡◌, ◌⊎◌, ℕ, Bool, List, Result, Ok, Err}
+use Rattle.std.specs.Prelude.{◌≡◌, ◌⊎◌, ℕ, List, Result, Ok, Err}
 use Rattle.system_core.specs.cny-base.declared.stop.Stop.{Stop}
 use Rattle.cny_flow.specs.Flow.{SourceModel, SourceState, source_state, SinkModel, SinkState, sink_state}
 use Rattle.system_core.specs.tree-disk.Disk.{DiskModel}
@@ -14,7 +14,7 @@ use Rattle.cli_call.specs.Opening.{Opens, no_test}
 use Rattle.cli_call.specs.Reading.{ReadsGiven}
 use Rattle.cli_call.specs.Report.{End}
 use Rattle.cli_call.specs.RootOpening.{OpensSystem}
-use Rattle.cli_call.specs.State.{Meaning}
+use Rattle.cli_call.specs.State.{Meaning, Scope}
 use Rattle.cli_call.specs.Stops.{root_failure, repository_failure}
 use Rattle.cli_call.specs.Stores.{repository_store}
 use Rattle.local_db.specs.declared.db.Db.{Db}
@@ -77,13 +77,13 @@ module _ {T P : Type 0} (root_disk : DiskModel T) (repo_disk : DiskModel P) wher
     pub reads : ReadsGiven m.takes_input input input' (Err failure)
     pub same : new ≡ old
 
-  pub record RunsWith (of_root : Bool) (m : Meaning) (input input' : SourceState) (old new : Moment T P) (end : End) : Type 0 where
+  pub record RunsWith (scope : Scope) (m : Meaning) (input input' : SourceState) (old new : Moment T P) (end : End) : Type 0 where
     pub bytes : List ℕ
     pub reads : ReadsGiven m.takes_input input input' (Ok bytes)
-    pub runs : RunsLine root_disk repo_disk of_root m bytes old new end
+    pub runs : RunsLine root_disk repo_disk scope m bytes old new end
 
-  abbrev pub RunsOpen : Bool → Meaning → SourceState → SourceState → Moment T P → Moment T P → End → Type 0
-  RunsOpen of_root m input input' old new end = StopsReading m input input' old new end ⊎ RunsWith of_root m input input' old new end
+  abbrev pub RunsOpen : Scope → Meaning → SourceState → SourceState → Moment T P → Moment T P → End → Type 0
+  RunsOpen scope m input input' old new end = StopsReading m input input' old new end ⊎ RunsWith scope m input input' old new end
 
   -- ---- the whole call
 
@@ -98,14 +98,14 @@ module _ {T P : Type 0} (root_disk : DiskModel T) (repo_disk : DiskModel P) wher
   abbrev pub after_opening : CallState T P → T → P → Opened → Moment T P
   after_opening before root repo opened = record { at = disks root repo opened; out = before.out }
 
-  pub record GoesOn (of_root : Bool) (m : Meaning) (before now : CallState T P) (end : End) : Type 0 where
+  pub record GoesOn (scope : Scope) (m : Meaning) (before now : CallState T P) (end : End) : Type 0 where
     pub root : T
     pub repo : P
     pub opened : Opened
     pub opened' : Opened
     pub opens : AreOpened before.root root before.repo repo opened
-    pub runs : RunsOpen of_root m before.input now.input (after_opening before root repo opened) (record { at = disks now.root now.repo opened'; out = now.out }) end
+    pub runs : RunsOpen scope m before.input now.input (after_opening before root repo opened) (record { at = disks now.root now.repo opened'; out = now.out }) end
 
-  -- (by a command that may work on the root alone)
-  abbrev pub RunsCall : Bool → Meaning → CallState T P → CallState T P → End → Type 0
-  RunsCall of_root m before now end = NotOpened before now end ⊎ GoesOn of_root m before now end
+  -- (by a command that works on so much)
+  abbrev pub RunsCall : Scope → Meaning → CallState T P → CallState T P → End → Type 0
+  RunsCall scope m before now end = NotOpened before now end ⊎ GoesOn scope m before now end

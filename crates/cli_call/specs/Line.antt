@@ -1,20 +1,22 @@
 -- A command over two disks that are open, with what it writes.
-use Rattle.std.specs.Prelude.{◌≡◌, ℕ, ◌≤◌, Bool, true, IsTrue, List, Result, Ok, Err}
+use Rattle.std.specs.Prelude.{◌≡◌, ℕ, ◌≤◌, true, IsTrue, List, Result, Ok, Err}
 use Rattle.std.specs.Io.KnownBytes.{Appends, Keeps}
 use Rattle.system_core.specs.cny-base.Count.{Rose}
 use Rattle.system_core.specs.cny-base.declared.refusal.Refusal.{Refusal}
 use Rattle.cny_flow.specs.Flow.{SinkModel, SinkState, sink_state, AppendsPart}
 use Rattle.system_core.specs.tree-disk.Clear.{is_within}
 use Rattle.system_core.specs.tree-disk.Confined.{Among, Confined}
-use Rattle.system_core.specs.tree-disk.Disk.{DiskModel}
+use Rattle.system_core.specs.tree-disk.Disk.{DiskModel, HasRead}
 use Rattle.repo_load.specs.Files.{repository_base}
+use Rattle.repo_load.specs.State.{RepositoryState}
 use Rattle.system_core.specs.tree-disk.Unfailed.{UnlessFailed}
 use Rattle.cli_call.specs.declared.failure.Failure.{Failure}
 use Rattle.cli_call.specs.declared.failure.Failure.TheVariants as failure
 use Rattle.cli_call.specs.declared.opened.Opened.{Opened}
+use Rattle.cli_call.specs.Alone.{HasLists, HasTree}
 use Rattle.cli_call.specs.Command.{Disks, disks, Goes, KeepsOthers, IsShown, StandsFor, Rest, ReadsSame, HasDamage, ChangesNothing}
 use Rattle.cli_call.specs.Report.{End, status_of}
-use Rattle.cli_call.specs.State.{State, Effect, Meaning, Takes, IsNext, OneDisk}
+use Rattle.cli_call.specs.State.{Scope, State, Effect, Meaning, Takes, IsNext, OneDisk}
 use Rattle.cli_call.specs.Store.{RestsAt}
 use Rattle.cli_call.specs.Stores.{root_store, repository_store}
 
@@ -90,9 +92,31 @@ module _ {T P : Type 0} (root_disk : DiskModel T) (repo_disk : DiskModel P) wher
     pub repo : new.at.repo ≡ old.at.repo
     pub told : IsTrue root_disk.tells → (s : State) → RestsAt root_store root_disk old.at.root s.root → LineOnRoot (m.IsOutcome s input) s old new end
 
-  -- A command of this meaning, which may work on the root alone, was performed with this input, what it answered was written, and it
+  -- The same of the repository alone, from a state whose repository its disk stores, whatever root the state has.
+  pub record LineOnRepository (IsOutcome : Result Effect Refusal → Type 0) (s : State) (old new : Moment T P) (end : End) : Type 0 where
+    pub next : RepositoryState
+    pub ends : Ends IsOutcome s (record { root = s.root; repository = next }) old.out new.out end
+    pub repo : Goes repository_store repo_disk s.repository next old.at.repo new.at.repo end
+
+  pub record LineApart (m : Meaning) (input : List ℕ) (old new : Moment T P) (end : End) : Type 0 where
+    pub root : new.at.root ≡ old.at.root
+    pub told : IsTrue repo_disk.tells → (s : State) → RestsAt repository_store repo_disk old.at.repo s.repository → LineOnRepository (m.IsOutcome s input) s old new end
+
+  -- By the lists alone that were read when the disks were opened.
+  pub record LineByLists (m : Meaning) (input : List ℕ) (old new : Moment T P) (end : End) : Type 0 where
+    pub root : new.at.root ≡ old.at.root
+    pub repo : new.at.repo ≡ old.at.repo
+    pub ends : (s : State) → HasLists old.at.opened s → Ends (m.IsOutcome s input) s s old.out new.out end
+
+  -- By the root's tree and its installed list alone.
+  pub record LineByTree (m : Meaning) (input : List ℕ) (old new : Moment T P) (end : End) : Type 0 where
+    pub root : IsTrue root_disk.tells → HasRead root_disk old.at.root new.at.root (Unit {0})
+    pub repo : new.at.repo ≡ old.at.repo
+    pub ends : IsTrue root_disk.tells → (s : State) → HasTree root_disk old.at.root old.at.opened s → Ends (m.IsOutcome s input) s s old.out new.out end
+
+  -- A command of this meaning, which works on so much, was performed with this input, what it answered was written, and it
   -- ended so.
-  pub record RunsLine (of_root : Bool) (m : Meaning) (input : List ℕ) (old new : Moment T P) (end : End) : Type 0 where
+  pub record RunsLine (scope : Scope) (m : Meaning) (input : List ℕ) (old new : Moment T P) (end : End) : Type 0 where
     pub root_later : root_disk.faults old.at.root ≤ root_disk.faults new.at.root
     pub repo_later : repo_disk.faults old.at.repo ≤ repo_disk.faults new.at.repo
     pub out_later : old.out.faults ≤ new.out.faults
@@ -101,4 +125,7 @@ module _ {T P : Type 0} (root_disk : DiskModel T) (repo_disk : DiskModel P) wher
     pub same : ChangesNothing end → ReadsSame root_disk repo_disk old.at new.at
     pub within : IsTrue repo_disk.tells → Confined repo_disk (Among (is_within repository_base)) old.at.repo new.at.repo
     pub told : IsTrue root_disk.tells → IsTrue repo_disk.tells → (s : State) → StandsFor root_disk repo_disk old.at s → LineFrom (m.IsOutcome s input) s old new end
-    pub alone : of_root ≡ true → LineAlone m input old new end
+    pub alone : scope.of_root ≡ true → LineAlone m input old new end
+    pub apart : scope.of_repository ≡ true → LineApart m input old new end
+    pub by_lists : scope.of_lists ≡ true → LineByLists m input old new end
+    pub by_tree : scope.of_tree ≡ true → LineByTree m input old new end

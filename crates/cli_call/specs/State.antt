@@ -40,6 +40,15 @@ pub record Meaning : Type 1 where
   pub takes_input : Bool
   pub IsOutcome : State → List ℕ → Result Effect Refusal → Type 0
 
+-- What a command works on: the root alone, whatever the repository's disk tells or stores; the repository alone, whatever the root's
+-- does; the root's tree outside its private directory and its installed list alone, whatever else both disks store; or only the lists
+-- that were read when they were opened.
+pub record Scope : Type 0 where
+  pub of_root : Bool
+  pub of_repository : Bool
+  pub of_tree : Bool
+  pub of_lists : Bool
+
 -- one disk at most stores another state
 abbrev pub OneDisk : State → State → Type 0
 OneDisk s t = (t.root ≡ s.root) ⊎ (t.repository ≡ s.repository)

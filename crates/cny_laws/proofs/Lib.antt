@@ -15,3 +15,4 @@ pub mod Targets
 pub mod JobOutcomes
 pub mod Updates
 pub mod Rollbacks
+pub mod Descriptions

@@ -21,7 +21,8 @@ use Rattle.change_rel.proofs.Members.{same_members}
 use Rattle.local_db.proofs.Sorted.{trove_total}
 use Rattle.cny_laws.specs.OneOutcome.{AtMostOne, HasOneOutcome}
 use Rattle.cny_laws.proofs.Tests.{done, refused, with_shared}
-use Rattle.cny_laws.proofs.Sets.{OneRelative, effect_once}
+use Rattle.cny_laws.proofs.Sets.{effect_once}
+use Rattle.repository.proofs.SetLaws.{OneRelative}
 
 -- ---- the troves that are reached, and their new ones
 

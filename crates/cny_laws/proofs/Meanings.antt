@@ -18,6 +18,7 @@ use Rattle.trove_spec.proofs.OneConfig.{OneLabel}
 use Rattle.repo_load.specs.State.{troves_of}
 use Rattle.repo_shadow.specs.declared.way.Way.{Way}
 use Rattle.repo_shadow.specs.Moved.{IsMovedExpansion, IsMoveRefusal}
+use Rattle.repo_shadow.proofs.OneMove.{OneExpansion}
 use Rattle.cli_call.specs.State.{tree_of}
 use Rattle.trove_spec.specs.declared.given.GivenSpec.{GivenSpec}
 use Rattle.trove_spec.specs.AndThen.{AndThen}
@@ -64,10 +65,6 @@ module _ (troves : List TroveParts) (config : Config) where
   means_once given (Err p) (Err q) h g = let same = refusal_once (lacks_label given.spec config) (resolution troves given.spec config) given.text p q h g in λ i. Err (same i)
 
 -- ---- what is reached
-
--- some roots have one expansion at most
-abbrev pub OneExpansion : Type 0
-OneExpansion = (troves : List TroveParts) (roots : List TroveId) (found other : List TroveParts) → IsExpansion troves roots found → IsExpansion troves roots other → found ≡ other
 
 module _ (one : OneExpansion) (troves : List TroveParts) (roots : List TroveId) where
   two_of_name : (found : List TroveParts) (r : Refusal) → IsExpansion troves roots found → first_of_same_name found ≡ None → IsOfOneName troves roots r → ⊥

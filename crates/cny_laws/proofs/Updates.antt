@@ -37,7 +37,8 @@ use Rattle.cny_laws.proofs.Configurations.{configured_once}
 use Rattle.cny_laws.proofs.JobOutcomes.{PlanLaws, StepLaws, job_once}
 use Rattle.cny_laws.proofs.Jobs.{erased_once, updated_once}
 use Rattle.cny_laws.proofs.Listings.{missing_once, never_missing, take_get}
-use Rattle.cny_laws.proofs.Meanings.{OneExpansion, means_once, reach_once}
+use Rattle.cny_laws.proofs.Meanings.{means_once, reach_once}
+use Rattle.repo_shadow.proofs.OneMove.{OneExpansion}
 use Rattle.cny_laws.proofs.Splits.{Cuts, same, earlier, later, cuts}
 use Rattle.cny_laws.proofs.Tests.{with_shared, and_then_once, SetLaws, set_once, ManifestLaws, manifest_once}
 

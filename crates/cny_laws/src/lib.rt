@@ -7,7 +7,7 @@ mod outcomes;
 
 pub use edits::{edited_root, edited_system, recovers_edited};
 pub use outcomes::{
-    one_commit, one_cook, one_erasure, one_installation, one_list_committed, one_list_installed,
-    one_list_jobs, one_local_change, one_moving, one_rollback, one_sending, one_update,
-    one_update_by_input, one_verification, stored_states,
+    one_commit, one_cook, one_description, one_erasure, one_installation, one_list_committed,
+    one_list_installed, one_list_jobs, one_local_change, one_moving, one_rollback, one_sending,
+    one_update, one_update_by_input, one_verification, stored_states,
 };

@@ -13,6 +13,7 @@ ghost use Rattle.repo_commands.specs.Cook.{cook};
 ghost use Rattle.repo_commands.specs.Listing.{list_committed};
 ghost use Rattle.repo_commands.specs.Moving.{move};
 ghost use Rattle.repo_commands.specs.Sending.{changeset};
+ghost use Rattle.repo_commands.specs.ShowChangeSet.{show_change_set};
 ghost use Rattle.root_commands.specs.Erase.{erase};
 ghost use Rattle.root_commands.specs.Install.{install};
 ghost use Rattle.root_commands.specs.Jobs.{list_jobs};
@@ -65,6 +66,14 @@ pub fn one_local_change()
     ensures { (name : List ℕ) → HasOneOutcome (change_locally name) }
 {
     one_relative();
+}
+
+/// `showcs`.
+pub fn one_description()
+    ensures { HasOneOutcome show_change_set }
+{
+    unique_set();
+    one_fault();
 }
 
 /// `commit`.

@@ -1,6 +1,5 @@
 -- A call of a command, from its steps.
-use Rattle.std.proofs.Common.{◌≡◌, ℕ, ◌≤◌, Bool, true, false, List, Result, Ok, Err, refl, sym, ap, ◌∙◌, subst, inl, inr, ⊎_elim, arith}
-use Rattle.std.proofs.lemmas.Bool.{false≢true}
+use Rattle.std.proofs.Common.{◌≡◌, ℕ, ◌≤◌, Bool, List, Result, Ok, Err, refl, sym, ap, subst, inl, inr, ⊎_elim, arith}
 use Rattle.cny_flow.specs.Flow.{SourceState, SinkState}
 use Rattle.cli_call.specs.tree-disk.Disk.{DiskModel, IsDisk}
 use Rattle.cli_call.specs.declared.failure.Failure.{Failure}
@@ -10,23 +9,22 @@ use Rattle.cli_call.proofs.CallLaws.{memory_call, whole_call}
 use Rattle.cli_call.specs.Line.{Moment, RunsLine}
 use Rattle.cli_call.specs.Reading.{ReadsGiven}
 use Rattle.cli_call.specs.Report.{End, Reports, status_of}
-use Rattle.cli_call.specs.State.{Meaning}
+use Rattle.cli_call.specs.State.{Meaning, Scope}
 use Rattle.cli_call.specs.Store.{IsStore}
 use Rattle.cli_call.specs.Stores.{repository_store}
 use Rattle.conary_cli.specs.declared.words.Command.{Command}
-use Rattle.conary_cli.specs.Commands.{meaning, is_of_root, RunsWords, RunsSome, IsWholeCall, IsSomeCall}
+use Rattle.conary_cli.specs.Commands.{meaning, scope_of, RunsWords, RunsSome, IsWholeCall, IsSomeCall}
 use Rattle.conary_cli.specs.Words.{AreWords, OrMemory, ReadsWords}
-use Rattle.conary_cli.proofs.FormEnds.{InputLaws, form_decides}
-use Rattle.conary_cli.proofs.RecordEnds.{memory_whole, records_whole}
+use Rattle.conary_cli.proofs.RecordEnds.{memory_whole}
 use Rattle.conary_cli.proofs.RestoreEnds.{rollback_restores}
 
-module _ {T P : Type 0} {root_disk : DiskModel T} {repo_disk : DiskModel P} (of_root : Bool) (m : Meaning) (takes : Bool) (old new : SourceState) where
+module _ {T P : Type 0} {root_disk : DiskModel T} {repo_disk : DiskModel P} (scope : Scope) (m : Meaning) (takes : Bool) (old new : SourceState) where
   -- the input wasn't read
-  pub not_read : (at : Moment T P) (e : Failure) → takes ≡ m.takes_input → ReadsGiven takes old new (Err e) → RunsOpen root_disk repo_disk of_root m old new at at (Err e)
+  pub not_read : (at : Moment T P) (e : Failure) → takes ≡ m.takes_input → ReadsGiven takes old new (Err e) → RunsOpen root_disk repo_disk scope m old new at at (Err e)
   not_read at e is reads = inl (record { failure = e; is = refl; reads = subst (λ (b : Bool). ReadsGiven b old new (Err e)) is reads; same = refl })
 
   -- it was, and the command was performed
-  pub was_read : (from to : Moment T P) (end : End) (bytes given : List ℕ) → bytes ≡ given → takes ≡ m.takes_input → ReadsGiven takes old new (Ok given) → RunsLine root_disk repo_disk of_root m bytes from to end → RunsOpen root_disk repo_disk of_root m old new from to end
+  pub was_read : (from to : Moment T P) (end : End) (bytes given : List ℕ) → bytes ≡ given → takes ≡ m.takes_input → ReadsGiven takes old new (Ok given) → RunsLine root_disk repo_disk scope m bytes from to end → RunsOpen root_disk repo_disk scope m old new from to end
   was_read from to end bytes given same is reads runs = inr (record {
     bytes = bytes;
     reads = subst (λ (b : Bool). ReadsGiven b old new (Ok bytes)) is (subst (λ (l : List ℕ). ReadsGiven takes old new (Ok l)) (sym same) reads);
@@ -38,7 +36,7 @@ same_end f e h = let same : f ≡ e = cc h in ap Err (sym same)
 
 -- words that weren't read as a command
 pub no_words : {T P : Type 0} {root_disk : DiskModel T} (repo_disk : DiskModel P) → IsDisk root_disk → (before : CallState T P) (words : Result Command Failure) (e : Failure) → ReadsWords words (Err e) → RunsWords root_disk repo_disk words before before (Err e)
-no_words repo_disk root_laws before (Ok c) failure.Memory reads = (memory_call root_laws (is_of_root c) (meaning c) before, memory_whole c before before)
+no_words repo_disk root_laws before (Ok c) failure.Memory reads = (memory_call root_laws (scope_of c) (meaning c) before, memory_whole c before before)
 no_words repo_disk root_laws before (Err f) failure.Memory reads = (refl, inr refl)
 no_words repo_disk root_laws before (Ok c) failure.Usage reads = absurd (cc reads)
 no_words repo_disk root_laws before (Err f) failure.Usage reads = (refl, inl (same_end f _ reads))
@@ -47,17 +45,16 @@ no_words repo_disk root_laws before (Err f) (failure.Refused r) reads = (refl, i
 no_words repo_disk root_laws before words _ reads = absurd reads
 
 -- the whole
-pub whole_words : {T P : Type 0} {root_disk : DiskModel T} {repo_disk : DiskModel P} → IsDisk root_disk → IsDisk repo_disk → IsStore repository_store → InputLaws → (before now : CallState T P) (err err' : SinkState) (status : ℕ) (end : End) (words : Result Command Failure)
+pub whole_words : {T P : Type 0} {root_disk : DiskModel T} {repo_disk : DiskModel P} → IsDisk root_disk → IsDisk repo_disk → IsStore repository_store → (before now : CallState T P) (err err' : SinkState) (status : ℕ) (end : End) (words : Result Command Failure)
     → RunsWords root_disk repo_disk words before now end → Reports end err err' status → IsWholeCall root_disk repo_disk words before now err err' status
-whole_words {root_disk = root_disk} {repo_disk = repo_disk} root_laws repo_laws store_laws laws before now err err' status end (Ok c) runs reports =
-    let call = whole_call root_laws repo_laws store_laws (is_of_root c) (meaning c) before now err err' status end runs.0 reports in
+whole_words {root_disk = root_disk} {repo_disk = repo_disk} root_laws repo_laws store_laws before now err err' status end (Ok c) runs reports =
+    let call = whole_call root_laws repo_laws store_laws (scope_of c) (meaning c) before now err err' status end runs.0 reports in
     record {
       call = call;
-      form = form_decides root_disk repo_disk before now err err' status laws c call;
-      records = records_whole root_laws repo_laws before now err err' status c end runs.1 reports;
+      records = record { end = end; reports = reports; whole = runs.1 };
       restores = rollback_restores root_disk repo_disk before now err err' status c call;
     }
-whole_words root_laws repo_laws store_laws laws before now err err' status end (Err e) runs reports = record {
+whole_words root_laws repo_laws store_laws before now err err' status end (Err e) runs reports = record {
   same = runs.0;
   reports = ⊎_elim
       (λ is. inl (subst (λ (x : End). Reports x err err' status) is reports))
@@ -78,10 +75,10 @@ some_unread root_disk repo_disk words before failure.RootFault are = inl (Err fa
 some_unread root_disk repo_disk words before failure.RepositoryFault are = inl (Err failure.RepositoryFault, are, (refl, inl refl))
 some_unread root_disk repo_disk words before (failure.Damaged path) are = inl (Err (failure.Damaged path), are, (refl, inl refl))
 
-pub some_words : {T P : Type 0} {root_disk : DiskModel T} {repo_disk : DiskModel P} → IsDisk root_disk → IsDisk repo_disk → IsStore repository_store → InputLaws → (words : List (List ℕ)) (before now : CallState T P) (err err' : SinkState) (status : ℕ) (end : End)
+pub some_words : {T P : Type 0} {root_disk : DiskModel T} {repo_disk : DiskModel P} → IsDisk root_disk → IsDisk repo_disk → IsStore repository_store → (words : List (List ℕ)) (before now : CallState T P) (err err' : SinkState) (status : ℕ) (end : End)
     → RunsSome root_disk repo_disk words before now end → Reports end err err' status → IsSomeCall root_disk repo_disk words before now err err' status
-some_words root_laws repo_laws store_laws laws words before now err err' status end (inl some) reports = inl (some.0, some.1, whole_words root_laws repo_laws store_laws laws before now err err' status end some.0 some.2 reports)
-some_words root_laws repo_laws store_laws laws words before now err err' status end (inr none) reports = inr (record {
+some_words root_laws repo_laws store_laws words before now err err' status end (inl some) reports = inl (some.0, some.1, whole_words root_laws repo_laws store_laws before now err err' status end some.0 some.2 reports)
+some_words root_laws repo_laws store_laws words before now err err' status end (inr none) reports = inr (record {
   same = none.0;
   reports = inr (subst (λ (x : End). Reports x err err' status) none.1 reports);
 })
@@ -95,8 +92,3 @@ pub known_status : (end : End) (err err' : SinkState) (status : ℕ) → Reports
 known_status (Ok x) err err' status h = let is : status ≡ 0 = h.0 in omega (arith, is)
 known_status (Err e) err err' status (inl tells) = let is : status ≡ status_of (Err e) = tells.answered in omega (arith, is, small_status e)
 known_status (Err e) err err' status (inr want) = let is : status ≡ 7 = want.1.answered in omega (arith, is)
-
--- ---- a command that doesn't work on the root alone
-
-pub not_of_root : (c d : Command) → c ≡ d → is_of_root d ≡ false → is_of_root c ≡ true → ⊥
-not_of_root c d same other is = false≢true (sym other ∙ ap is_of_root (sym same) ∙ is)

@@ -17,7 +17,8 @@ use Rattle.cli_call.specs.system-core.FixedDirs.{fixed_dirs}
 use Rattle.cli_call.specs.Input.{input_limit, within_limit}
 use Rattle.cli_call.specs.Reading.{given}
 use Rattle.cli_call.specs.State.{State, Effect, Meaning, tree_of, Then}
-use Rattle.cli_call.specs.WholeCall.{Outcome, IsAnswered, IsAnsweredOnRoot, IsCallOf}
+use Rattle.cli_call.specs.ByStatus.{IsAnswered, IsAnsweredOnRoot, IsCallOf}
+use Rattle.cli_call.specs.WholeCall.{Outcome}
 use Rattle.conary_cli.specs.declared.words.Command.{Command}
 use Rattle.conary_cli.specs.declared.words.Command.TheVariants as command
 use Rattle.conary_cli.specs.Commands.{meaning, is_of_root}
@@ -26,7 +27,7 @@ use Rattle.root_commands.specs.Install.{first_reserved, InstallsMade, UnlessRese
 use Rattle.root_commands.specs.Update.{UpdatesBy, update_input}
 use Rattle.repo_commands.specs.ManifestInput.{OfManifest}
 use Rattle.repo_commands.specs.SetInput.{OfChangeSet}
-use Rattle.conary_cli.specs.ShowChangeSet.{described, IsDescribed, show_change_set}
+use Rattle.repo_commands.specs.ShowChangeSet.{described, IsDescribed, show_change_set}
 
 -- ---- the outcome by the form
 
@@ -101,17 +102,17 @@ module _ {T P : Type 0} (root_disk : DiskModel T) (repo_disk : DiskModel P) (bef
   as_update : InputLaws → (options : Options) (Ended : Result Effect Refusal → Type 0) (input : List ℕ) (s : State) → HasCommandEnd s input Ended (command.UpdateByInput options) → fixed_dirs (tree_of s.root) ≡ Ok tt → length input ≤ input_limit → DecidesUpdate options input s Ended
   as_update laws options Ended input s a dirs le = updated_as laws options Ended input s a.0 (own_outcome (update_input options) s input a.0 refl dirs le a.1) a.2
 
-  pub form_decides : InputLaws → (c : Command) (call : IsCallOf root_disk repo_disk (is_of_root c) (meaning c) before now err err' status) → FormDecides root_disk repo_disk c call.input before now err err' status
-  form_decides laws c call = record {
-    manifest = λ options is root repo s recovers dirs le small. as_form laws options (Answered s) call.input s (subst (HasCommandEnd s call.input (Answered s)) is (call.answers small root repo s recovers)) dirs le;
-    set = λ is root repo s recovers dirs le small. as_set laws (Answered s) call.input s (subst (HasCommandEnd s call.input (Answered s)) is (call.answers small root repo s recovers)) dirs le;
-    update = λ options is root repo s recovers dirs le small. as_update laws options (Answered s) call.input s (subst (HasCommandEnd s call.input (Answered s)) is (call.answers small root repo s recovers)) dirs le;
+  pub form_decides : InputLaws → (c : Command) (input : List ℕ) → IsCallOf root_disk repo_disk (is_of_root c) (meaning c) input before now err err' status → FormDecides root_disk repo_disk c input before now err err' status
+  form_decides laws c input call = record {
+    manifest = λ options is root repo s recovers dirs le small. as_form laws options (Answered s) input s (subst (HasCommandEnd s input (Answered s)) is (call.answers small root repo s recovers)) dirs le;
+    set = λ is root repo s recovers dirs le small. as_set laws (Answered s) input s (subst (HasCommandEnd s input (Answered s)) is (call.answers small root repo s recovers)) dirs le;
+    update = λ options is root repo s recovers dirs le small. as_update laws options (Answered s) input s (subst (HasCommandEnd s input (Answered s)) is (call.answers small root repo s recovers)) dirs le;
     manifest_alone = λ options is root s recovers dirs le small. ⊎_elim
         (λ refused. inl refused)
-        (λ a. inr (as_form laws options (OnRoot s) call.input s (subst (HasCommandEnd s call.input (OnRoot s)) is a) dirs le))
+        (λ a. inr (as_form laws options (OnRoot s) input s (subst (HasCommandEnd s input (OnRoot s)) is a) dirs le))
         ((call.alone (ap is_of_root is)).answers small root s recovers);
     set_alone = λ is root s recovers dirs le small. ⊎_elim
         (λ refused. inl refused)
-        (λ a. inr (as_set laws (OnRoot s) call.input s (subst (HasCommandEnd s call.input (OnRoot s)) is a) dirs le))
+        (λ a. inr (as_set laws (OnRoot s) input s (subst (HasCommandEnd s input (OnRoot s)) is a) dirs le))
         ((call.alone (ap is_of_root is)).answers small root s recovers);
   }

@@ -1,6 +1,7 @@
-pub mod ShowEnds
 pub mod FormEnds
+pub mod BlockedEnds
 pub mod RecordEnds
+pub mod Performing
 pub mod RestoreEnds
 pub mod Calls
 pub mod Reading

@@ -16,7 +16,7 @@ use Rattle.cli_call.specs.Line.{Wrote}
 use Rattle.cli_call.specs.Reading.{ReadsGiven}
 use Rattle.cli_call.specs.Report.{End, Reports, Tells, status_of}
 use Rattle.cli_call.specs.Stops.{repository_failure, root_failure}
-use Rattle.cli_call.specs.WholeCall.{HasMissingDir, HasRefusedLog, IsRefused}
+use Rattle.cli_call.specs.ByStatus.{HasMissingDir, HasRefusedLog, IsRefused}
 use Rattle.conary_cli.specs.declared.words.Command.{Command}
 use Rattle.conary_cli.specs.declared.words.Command.TheVariants as command
 use Rattle.root_commands.specs.Records.{NoneIs}

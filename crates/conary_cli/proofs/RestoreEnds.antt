@@ -1,5 +1,5 @@
 -- What `rollback` restores, by how its call ended.
-use Rattle.std.proofs.Common.{◌≡◌, inl, inr, ⊎_elim, ℕ, false, List, ◌∷◌, ◌++◌, Option, Some, None, Result, Ok, Err, All, Contains, ◌∙◌, ap, subst}
+use Rattle.std.proofs.Common.{◌≡◌, ◌≤◌, refl, arith, inl, inr, ⊎_elim, ℕ, false, List, ◌∷◌, ◌++◌, Option, Some, None, Result, Ok, Err, All, Contains, ◌∙◌, ap, subst}
 use Rattle.std.specs.FinMap.{get}
 use Rattle.cli_call.specs.cny-base.declared.refusal.Refusal.{Refusal}
 use Rattle.cli_call.specs.cny-base.declared.refusal.Refusal.TheVariants.{Edited, NoJob, Parent, StackEmpty}
@@ -22,10 +22,11 @@ use Rattle.cli_call.specs.Reading.{given}
 use Rattle.cli_call.specs.State.{on_root, Change, Effect, State, Then, after, tree_of}
 use Rattle.cli_call.specs.Store.{RestsAt}
 use Rattle.cli_call.specs.Stores.{root_store}
-use Rattle.cli_call.specs.WholeCall.{IsAnswered, IsAnsweredOnRoot, IsCallOf, IsRefused, Outcome}
+use Rattle.cli_call.specs.declared.failure.Failure.TheVariants as failure
+use Rattle.cli_call.specs.Report.{End, status_of}
+use Rattle.cli_call.specs.WholeCall.{CallEnds, HasEffect, IsCall, Outcome}
 use Rattle.conary_cli.specs.declared.words.Command.{Command}
-use Rattle.conary_cli.specs.declared.words.Command.TheVariants as command
-use Rattle.conary_cli.specs.Commands.{is_of_root, meaning}
+use Rattle.conary_cli.specs.Commands.{is_of_root, meaning, scope_of}
 use Rattle.conary_cli.specs.Restores.{RestoresBy, RestoresNewest, RestoresTo, RollbackRestores}
 use Rattle.cli_call.specs.system-core.Job.{db_of}
 use Rattle.cny_version.proofs.cny-base.Lists.{left_all as all_front, all_at as all_middle, nothing_in}
@@ -87,58 +88,65 @@ module _ (s : SystemState) (system : IsSystemState s) (number : ℕ) where
 own_outcome : (number : Option ℕ) (s : State) (input : List ℕ) (o : Result Effect Refusal) → fixed_dirs (tree_of s.root) ≡ Ok tt → Outcome (roll_back number) s input o → take_back number s.root o
 own_outcome number s input o dirs is = subst (λ (d : Result (Unit {0}) Refusal). Then d (λ _. Then (given false input) ((roll_back number).IsOutcome s)) o) dirs is
 
-module _ {T P : Type 0} (root_disk : DiskModel T) (repo_disk : DiskModel P) (before now : CallState T P) (err err' : SinkState) (status : ℕ) where
+module _ {T P : Type 0} (root_disk : DiskModel T) (repo_disk : DiskModel P) (before now : CallState T P) (end : End) where
   module _ (s : State) where
-    -- after an effect the status is 0, and the root rests at the state after it
-    abbrev RestsAfter : Effect → Type 0
-    RestsAfter e = (status ≡ 0) × RestsAt root_store root_disk now.root (after s e.change).root
+    -- after an effect the root rests at the state after it
+    abbrev EndedBy : Result Effect Refusal → Type 0
+    EndedBy (Ok e) = (end ≡ Ok tt) × RestsAt root_store root_disk now.root (after s e.change).root
+    EndedBy (Err r) = end ≡ Err (failure.Refused r)
 
-    abbrev Refuses : Refusal → Type 0
-    Refuses r = IsRefused root_disk repo_disk r before now err err' status
+    -- an outcome by which it ended
+    abbrev HasEnd : (Result Effect Refusal → Type 0) → Type 0
+    HasEnd IsOutcome = (o : Result Effect Refusal) × IsOutcome o × EndedBy o
 
-    rests_at : (e : Effect) (t : SystemState) → e.change ≡ on_root t → RestsAfter e → RestsAt root_store root_disk now.root t
+    ended_by : (IsOutcome : Result Effect Refusal → Type 0) (next : State) (how : End) → end ≡ how → status_of how ≤ 2 → CallEnds IsOutcome s next before.out now.out how → (HasEffect how → RestsAt root_store root_disk now.root next.root) → HasEnd IsOutcome
+    ended_by IsOutcome next (Ok x) is small t rests = (Ok t.effect, t.is, (is, subst (λ (y : State). RestsAt root_store root_disk now.root y.root) t.leads (rests tt)))
+    ended_by IsOutcome next (Err (failure.Refused r)) is small h rests = (Err r, h.0, is)
+    ended_by IsOutcome next (Err failure.InputFault) is small h rests = absurd (omega (arith, small))
+    ended_by IsOutcome next (Err failure.OutputFault) is small h rests = absurd (omega (arith, small))
+    ended_by IsOutcome next (Err failure.RootFault) is small h rests = absurd (omega (arith, small))
+    ended_by IsOutcome next (Err failure.RepositoryFault) is small h rests = absurd (omega (arith, small))
+    ended_by IsOutcome next (Err failure.Memory) is small h rests = absurd (omega (arith, small))
+    ended_by IsOutcome next _ is small h rests = absurd h
+
+    rests_at : (e : Effect) (t : SystemState) → e.change ≡ on_root t → EndedBy (Ok e) → RestsAt root_store root_disk now.root t
     rests_at e t is ended = subst (λ (c : Change). RestsAt root_store root_disk now.root (after s c).root) is ended.1
 
-    module _ (system : IsSystemState s.root) (Ended : Result Effect Refusal → Type 0) (done : (e : Effect) → Ended (Ok e) → RestsAfter e) (refused : (r : Refusal) → Ended (Err r) → Refuses r) where
-      all_ended : (number : ℕ) (o : Result Effect Refusal) → TakesBackTo number s.root o → Ended o → RestoresTo root_disk repo_disk number s.root before now err err' status
+    module _ (system : IsSystemState s.root) where
+      all_ended : (number : ℕ) (o : Result Effect Refusal) → TakesBackTo number s.root o → EndedBy o → RestoresTo root_disk repo_disk number s.root now end
       all_ended number (Ok e) is ended has unedited =
-          let rests = rests_at e (rolled_back_to number s.root) is.change (done e ended) in
-          inl (record { ended = (done e ended).0; next = rolled_back_to number s.root; rests = rests; restored = all_restored_to s.root system number (root_disk.reads now.root) rests.stored })
-      all_ended number (Err r) is ended has unedited = inr (record { refusal = r; is = exception_to s.root system number has unedited r is; refused = refused r ended })
+          let rests = rests_at e (rolled_back_to number s.root) is.change ended in
+          inl (record { ended = ended.0; next = rolled_back_to number s.root; rests = rests; restored = all_restored_to s.root system number (root_disk.reads now.root) rests.stored })
+      all_ended number (Err r) is ended has unedited = inr (record { refusal = r; is = exception_to s.root system number has unedited r is; ended = ended })
 
       -- the newest alone
-      newest_ended : (o : Result Effect Refusal) → TakesBackTo (newest s.root.stack) s.root o → Ended o → RestoresNewest root_disk repo_disk s.root before now err err' status
+      newest_ended : (o : Result Effect Refusal) → TakesBackTo (newest s.root.stack) s.root o → EndedBy o → RestoresNewest root_disk repo_disk s.root now end
       newest_ended o is ended job olds stack unedited = ⊎_elim
           (λ done. inl (record { ended = done.ended; next = done.next; rests = done.rests; restored = newest_restored s.root system job olds stack (db_of done.next) (root_disk.reads now.root) done.restored }))
-          (λ met. inr (record { refusal = met.refusal; is = newest_exception s.root system job olds stack met.refusal met.is; refused = met.refused }))
+          (λ met. inr (record { refusal = met.refusal; is = newest_exception s.root system job olds stack met.refusal met.is; ended = met.ended }))
           (all_ended (newest s.root.stack) o is ended (has_newest s.root system job olds stack) (newest_unedited s.root system job olds stack unedited))
 
-      restores : (number : Option ℕ) (o : Result Effect Refusal) → take_back number s.root o → Ended o → RestoresBy root_disk repo_disk number s.root before now err err' status
+      restores : (number : Option ℕ) (o : Result Effect Refusal) → take_back number s.root o → EndedBy o → RestoresBy root_disk repo_disk number s.root now end
       restores None o is ended = newest_ended o is ended
       restores (Some number) o is ended = all_ended number o is ended
 
-    abbrev Answered : Result Effect Refusal → Type 0
-    Answered o = IsAnswered root_disk repo_disk s o before now err err' status
+    restored_so : IsSystemState s.root → (number : Option ℕ) (input : List ℕ) → HasEnd (Outcome (roll_back number) s input) → fixed_dirs (tree_of s.root) ≡ Ok tt → RestoresBy root_disk repo_disk number s.root now end
+    restored_so system number input a dirs = restores system number a.0 (own_outcome number s input a.0 dirs a.1) a.2
 
-    abbrev OnRoot : Result Effect Refusal → Type 0
-    OnRoot o = IsAnsweredOnRoot root_disk repo_disk s o before now err err' status
-
-    -- an outcome of the command, by which it ended
-    abbrev HasEnd : List ℕ → (Result Effect Refusal → Type 0) → Command → Type 0
-    HasEnd input Ended c = (o : Result Effect Refusal) × Outcome (meaning c) s input o × Ended o
-
-    by_both : IsSystemState s.root → (number : Option ℕ) (input : List ℕ) → HasEnd input Answered (command.Rollback number) → fixed_dirs (tree_of s.root) ≡ Ok tt → RestoresBy root_disk repo_disk number s.root before now err err' status
-    by_both system number input a dirs = restores system Answered (λ e ended. (ended.ended, ended.rests.root)) (λ r ended. ended) number a.0 (own_outcome number s input a.0 dirs a.1) a.2
-
-    by_root : IsSystemState s.root → (number : Option ℕ) (input : List ℕ) → HasEnd input OnRoot (command.Rollback number) → fixed_dirs (tree_of s.root) ≡ Ok tt → RestoresBy root_disk repo_disk number s.root before now err err' status
-    by_root system number input a dirs = restores system OnRoot (λ e ended. (ended.ended, ended.stands.rests)) (λ r ended. ended) number a.0 (own_outcome number s input a.0 dirs a.1) a.2
-
-  pub rollback_restores : (c : Command) (call : IsCallOf root_disk repo_disk (is_of_root c) (meaning c) before now err err' status) → RollbackRestores root_disk repo_disk c before now err err' status
-  rollback_restores c call = record {
-    restores = λ number is root repo s recovers dirs small. by_both s (is_system recovers.root.tree s.root recovers.root.stored) number call.input
-        (subst (HasEnd s call.input (Answered s)) is (call.answers small root repo s recovers)) dirs;
-    restores_alone = λ number is root s recovers dirs small. ⊎_elim
-        (λ refused. inl refused)
-        (λ a. inr (by_root s (is_system recovers.tree s.root recovers.stored) number call.input (subst (HasEnd s call.input (OnRoot s)) is a) dirs))
-        ((call.alone (ap is_of_root is)).answers small root s recovers);
-  }
+pub rollback_restores : {T P : Type 0} (root_disk : DiskModel T) (repo_disk : DiskModel P) (before now : CallState T P) (err err' : SinkState) (status : ℕ) (c : Command) (call : IsCall root_disk repo_disk (scope_of c) (meaning c) before now err err' status) → RollbackRestores root_disk repo_disk c before now call.end
+rollback_restores root_disk repo_disk before now err err' status c call = record {
+  restores = λ number is root repo s recovers dirs small.
+      let f = call.from root repo s recovers in
+      let ended = ended_by root_disk repo_disk before now call.end s (Outcome (meaning c) s call.input) f.next call.end refl small f.ends (λ h. (f.rests h).root) in
+      restored_so root_disk repo_disk before now call.end s (is_system recovers.root.tree s.root recovers.root.stored) number call.input
+      (subst (λ (d : Command). HasEnd root_disk repo_disk before now call.end s (Outcome (meaning d) s call.input)) is ended) dirs;
+  restores_alone = λ number is root s recovers dirs small.
+      let f = (call.on_root (ap is_of_root is)).from root s recovers in
+      ⊎_elim
+      (λ stops. inl stops)
+      (λ ends.
+      let ended = ended_by root_disk repo_disk before now call.end s (Outcome (meaning c) s call.input) f.next call.end refl small ends f.rests in
+      inr (restored_so root_disk repo_disk before now call.end s (is_system recovers.tree s.root recovers.stored) number call.input
+      (subst (λ (d : Command). HasEnd root_disk repo_disk before now call.end s (Outcome (meaning d) s call.input)) is ended) dirs))
+      f.ends;
+}

@@ -1,5 +1,5 @@
 -- The table of commands: what each means.
-use Rattle.std.specs.Prelude.{◌≡◌, ◌⊎◌, ℕ, ◌≤◌, Bool, true, false, not, List, Result, Ok, Err}
+use Rattle.std.specs.Prelude.{◌≡◌, ◌⊎◌, ℕ, Bool, true, false, not, IsTrue, List, Result, Ok, Err}
 use Rattle.cli_call.specs.cny-base.declared.options.Options.{Options}
 use Rattle.cny_flow.specs.Flow.{SinkState}
 use Rattle.cli_call.specs.tree-disk.Disk.{DiskModel}
@@ -7,8 +7,10 @@ use Rattle.cli_call.specs.declared.failure.Failure.{Failure}
 use Rattle.cli_call.specs.declared.failure.Failure.TheVariants as failure
 use Rattle.cli_call.specs.Call.{CallState, RunsCall}
 use Rattle.cli_call.specs.Report.{End}
-use Rattle.cli_call.specs.State.{Meaning}
-use Rattle.cli_call.specs.WholeCall.{IsCallOf, IsNoCall}
+use Rattle.cli_call.specs.Alone.{ActsOnRepository, AnswersByLists, AnswersByTree, PerformsAlone}
+use Rattle.cli_call.specs.Command.{Disks, Performs}
+use Rattle.cli_call.specs.State.{Meaning, Scope}
+use Rattle.cli_call.specs.WholeCall.{IsCall, IsNoCall}
 use Rattle.repo_commands.specs.Commit.{commit}
 use Rattle.repo_commands.specs.Cook.{cook}
 use Rattle.repo_commands.specs.Listing.{list_committed}
@@ -26,10 +28,9 @@ use Rattle.repo_commands.specs.Moving.{move}
 use Rattle.conary_cli.specs.declared.words.Command.{Command}
 use Rattle.conary_cli.specs.declared.words.Command.TheVariants as command
 use Rattle.conary_cli.specs.Words.{AreWords}
-use Rattle.conary_cli.specs.FormDecides.{FormDecides}
-use Rattle.conary_cli.specs.Records.{EndsOpened, RecordsAreWhole}
+use Rattle.conary_cli.specs.Records.{EndsOpened, EndsWhole, EndsWithWhole}
 use Rattle.conary_cli.specs.Restores.{RollbackRestores}
-use Rattle.conary_cli.specs.ShowChangeSet.{show_change_set}
+use Rattle.repo_commands.specs.ShowChangeSet.{show_change_set}
 
 -- what takes troves away keeps no file
 abbrev pub erasing : Bool → Options
@@ -69,20 +70,55 @@ is_of_root command.ListJobs = true
 is_of_root (command.LocalChanges name) = true
 is_of_root _ = false
 
+-- the commands that work on the repository alone
+abbrev pub is_of_repository : Command → Bool
+is_of_repository (command.Cook next) = true
+is_of_repository command.Commit = true
+is_of_repository (command.ListCommitted name) = true
+is_of_repository _ = false
+
+-- the commands that work on the lists alone which are read when the disks are opened
+abbrev pub is_of_lists : Command → Bool
+is_of_lists command.ShowChangeSet = true
+is_of_lists (command.ListCommitted name) = true
+is_of_lists (command.ListInstalled name) = true
+is_of_lists _ = false
+
+-- the commands that work on the root's tree and its installed list alone
+abbrev pub is_of_tree : Command → Bool
+is_of_tree (command.Verify full names) = not full
+is_of_tree (command.LocalChanges name) = true
+is_of_tree _ = false
+
+abbrev pub scope_of : Command → Scope
+scope_of c = record { of_root = is_of_root c; of_repository = is_of_repository c; of_tree = is_of_tree c; of_lists = is_of_lists c }
+
 module _ {T P : Type 0} (root_disk : DiskModel T) (repo_disk : DiskModel P) where
+  -- ---- over two disks that are open
+
+  -- THE CLAUSE of `perform`: the command was performed with this input, as it means, also where it is told of no more than what it works
+  -- on; and no damaged record was passed over.
+  pub record PerformsCommand (c : Command) (input : List ℕ) (old new : Disks T P) (result : Result (List ℕ) Failure) : Type 0 where
+    pub performs : Performs root_disk repo_disk (meaning c) input old new result
+    pub alone : is_of_root c ≡ true → PerformsAlone root_disk repo_disk (meaning c) input old new result
+    pub apart : is_of_repository c ≡ true → ActsOnRepository root_disk repo_disk (meaning c) input old new result
+    pub tree : is_of_tree c ≡ true → AnswersByTree root_disk repo_disk (meaning c) input old new result
+    pub lists : is_of_lists c ≡ true → AnswersByLists root_disk repo_disk (meaning c) input old new result
+    pub records : IsTrue root_disk.tells → EndsWhole c (root_disk.reads old.root) old.opened.db result
+
+  -- ---- a whole call
+
   -- The words are a command, and it was called; or they are none, and nothing was done.
   abbrev pub RunsWords : Result Command Failure → CallState T P → CallState T P → End → Type 0
-  RunsWords (Ok c) before now end = RunsCall root_disk repo_disk (is_of_root c) (meaning c) before now end × EndsOpened root_disk repo_disk c before now end
+  RunsWords (Ok c) before now end = RunsCall root_disk repo_disk (scope_of c) (meaning c) before now end × EndsOpened root_disk repo_disk c before now end
   RunsWords (Err e) before now end = (now ≡ before) × ((end ≡ Err e) ⊎ (end ≡ Err failure.Memory))
 
-  -- a call of a command, and what the form of its input decides of it
+  -- a call of a command, and what it says of records: none that it read is damaged where it is done or refused, and what `rollback`
+  -- restores
   pub record IsCommandCall (c : Command) (before now : CallState T P) (err err' : SinkState) (status : ℕ) : Type 0 where
-    pub call : IsCallOf root_disk repo_disk (is_of_root c) (meaning c) before now err err' status
-    pub form : FormDecides root_disk repo_disk c call.input before now err err' status
-    -- after status 0 or 1 no record that the command read is damaged
-    pub records : status ≤ 1 → RecordsAreWhole root_disk repo_disk c before now err err' status
-    -- what `rollback` restores
-    pub restores : RollbackRestores root_disk repo_disk c before now err err' status
+    pub call : IsCall root_disk repo_disk (scope_of c) (meaning c) before now err err' status
+    pub records : EndsWithWhole root_disk repo_disk c before now err err' status
+    pub restores : RollbackRestores root_disk repo_disk c before now call.end
 
   -- what a whole call promises: as its command means, or nothing was done
   abbrev pub IsWholeCall : Result Command Failure → CallState T P → CallState T P → SinkState → SinkState → ℕ → Type 0

@@ -14,13 +14,14 @@ use Rattle.cli_call.specs.Call.{CallState}
 use Rattle.cli_call.specs.system-core.FixedDirs.{fixed_dirs}
 use Rattle.cli_call.specs.Input.{input_limit}
 use Rattle.cli_call.specs.State.{State, Effect, tree_of}
-use Rattle.cli_call.specs.WholeCall.{FromStates, FromRoots, IsAnswered, IsAnsweredOnRoot, HasRefusedRepository}
+use Rattle.cli_call.specs.ByStatus.{IsAnswered, IsAnsweredOnRoot, HasRefusedRepository}
+use Rattle.cli_call.specs.WholeCall.{FromStates, FromRoots}
 use Rattle.repo_commands.specs.SetInput.{IsNoSetStream}
 use Rattle.conary_cli.specs.declared.words.Command.{Command}
 use Rattle.conary_cli.specs.declared.words.Command.TheVariants as command
 use Rattle.root_commands.specs.Install.{first_reserved, InstallsMade, UnlessReserved}
 use Rattle.root_commands.specs.Update.{UpdatesBy}
-use Rattle.conary_cli.specs.ShowChangeSet.{described}
+use Rattle.repo_commands.specs.ShowChangeSet.{described}
 
 -- an outcome by which the call ended
 abbrev pub HasEnd : (IsOutcome Ended : Result Effect Refusal → Type 0) → Type 0

@@ -1,5 +1,5 @@
-pub mod ShowChangeSet
 pub mod FormDecides
+pub mod Blocked
 pub mod Records
 pub mod Restores
 pub mod Commands

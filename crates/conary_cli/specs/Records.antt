@@ -7,8 +7,8 @@ use Rattle.cli_call.specs.tree-disk.Disk.{DiskModel}
 use Rattle.cli_call.specs.tree-disk.Tree.{Name, Tree}
 use Rattle.cli_call.specs.declared.failure.Failure.{Failure}
 use Rattle.cli_call.specs.Call.{CallState, NotOpened, OpensRoot}
-use Rattle.cli_call.specs.Report.{End, status_of}
-use Rattle.cli_call.specs.WholeCall.{HasMissingDir, HasRefusedLog}
+use Rattle.cli_call.specs.Report.{End, Reports, status_of}
+use Rattle.cli_call.specs.ByStatus.{HasMissingDir, HasRefusedLog}
 use Rattle.conary_cli.specs.declared.words.Command.{Command}
 use Rattle.conary_cli.specs.declared.words.Command.TheVariants as command
 use Rattle.root_commands.specs.Records.{FindsNone, IsDamagedBack, IsDamagedOfAll, NoneIs, last_job}
@@ -42,6 +42,12 @@ module _ {T P : Type 0} (root_disk : DiskModel T) (repo_disk : DiskModel P) wher
   -- where it is done or refused, unless the disks weren't opened
   abbrev pub EndsOpened : Command → CallState T P → CallState T P → End → Type 0
   EndsOpened c before now end = status_of end ≤ 1 → IsTrue root_disk.tells → NotOpened root_disk repo_disk before now end ⊎ EndsOnRoot c before.root end
+
+  -- So it ended, by an end that the status and the line on the standard error tell.
+  pub record EndsWithWhole (c : Command) (before now : CallState T P) (err err' : SinkState) (status : ℕ) : Type 0 where
+    pub end : End
+    pub reports : Reports end err err' status
+    pub whole : EndsOpened c before now end
 
   -- ---- by its status
 

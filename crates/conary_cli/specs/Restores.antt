@@ -1,7 +1,6 @@
 -- What `rollback` restores, where nothing at the paths of the jobs was edited since.
-use Rattle.std.specs.Prelude.{◌≡◌, ◌⊎◌, ℕ, ◌≤◌, List, ◌∷◌, Option, Some, None, Ok}
+use Rattle.std.specs.Prelude.{◌≡◌, ◌⊎◌, ℕ, ◌≤◌, List, ◌∷◌, Option, Some, None, Ok, Err}
 use Rattle.cli_call.specs.cny-base.declared.refusal.Refusal.{Refusal}
-use Rattle.cny_flow.specs.Flow.{SinkState}
 use Rattle.cli_call.specs.tree-disk.Tree.{Tree}
 use Rattle.cli_call.specs.tree-disk.Disk.{DiskModel}
 use Rattle.cli_call.specs.local-db.declared.db.Db.{Db}
@@ -14,48 +13,49 @@ use Rattle.cli_call.specs.Call.{CallState}
 use Rattle.cli_call.specs.State.{RootState, tree_of}
 use Rattle.cli_call.specs.Store.{RestsAt}
 use Rattle.cli_call.specs.Stores.{root_store}
-use Rattle.cli_call.specs.WholeCall.{FromStates, FromRoots, IsRefused, HasRefusedRepository}
+use Rattle.cli_call.specs.declared.failure.Failure.TheVariants as failure
+use Rattle.cli_call.specs.Report.{End, status_of}
+use Rattle.cli_call.specs.WholeCall.{FromStates, FromRoots, StopsForRepository}
 use Rattle.conary_cli.specs.declared.words.Command.{Command}
 use Rattle.conary_cli.specs.declared.words.Command.TheVariants as command
 use Rattle.cli_call.specs.system-core.Job.{db_of}
 
--- where the fixed directories stand, and the status is an answer's
-abbrev pub IfAnswered : RootState → ℕ → Type 0 → Type 0
-IfAnswered s status Holds = fixed_dirs (tree_of s) ≡ Ok tt → status ≤ 2 → Holds
+-- where the fixed directories stand, and the call was done or refused
+abbrev pub IfAnswered : RootState → End → Type 0 → Type 0
+IfAnswered s end Holds = fixed_dirs (tree_of s) ≡ Ok tt → status_of end ≤ 2 → Holds
+
+-- refused with an exception
+pub record MeetsException (Exception : Refusal → Type 0) (end : End) : Type 0 where
+  pub refusal : Refusal
+  pub is : Exception refusal
+  pub ended : end ≡ Err (failure.Refused refusal)
 
 module _ {T P : Type 0} (root_disk : DiskModel T) (repo_disk : DiskModel P) where
-  -- status 0: the root rests at a system, also after a crash, and this holds of the system's database and of the tree that the root
-  -- reads
-  pub record HasRestored (Restored : Db → Tree → Type 0) (now : CallState T P) (status : ℕ) : Type 0 where
-    pub ended : status ≡ 0
+  -- done: the root rests at a system, also after a crash, and this holds of the system's database and of the tree that the root reads
+  pub record HasRestored (Restored : Db → Tree → Type 0) (now : CallState T P) (end : End) : Type 0 where
+    pub ended : end ≡ Ok tt
     pub next : RootState
     pub rests : RestsAt root_store root_disk now.root next
     pub restored : Restored (db_of next) (root_disk.reads now.root)
 
-  -- status 1: the refusal of an exception, which leaves both disks as they were
-  pub record MeetsException (Exception : Refusal → Type 0) (before now : CallState T P) (err err' : SinkState) (status : ℕ) : Type 0 where
-    pub refusal : Refusal
-    pub is : Exception refusal
-    pub refused : IsRefused root_disk repo_disk refusal before now err err' status
-
   -- After a job at whose paths nothing was edited since: each path of it has its exact old node, every other path stays, and the list
   -- is that before the job; or it is one of the two exceptions, with the path that shows it.
-  abbrev pub RestoresNewest : RootState → CallState T P → CallState T P → SinkState → SinkState → ℕ → Type 0
-  RestoresNewest s before now err err' status = (o : StackItem) (olds : List StackItem) → s.stack ≡ o ∷ olds → IsUnedited o s.tree
-      → HasRestored (IsRestored o s.tree) now status ⊎ MeetsException (IsException o s.tree) before now err err' status
+  abbrev pub RestoresNewest : RootState → CallState T P → End → Type 0
+  RestoresNewest s now end = (o : StackItem) (olds : List StackItem) → s.stack ≡ o ∷ olds → IsUnedited o s.tree
+      → HasRestored (IsRestored o s.tree) now end ⊎ MeetsException (IsException o s.tree) end
 
   -- The same of all jobs from the newest down to the one of a number, where nothing at the paths of each was edited when its turn came.
-  abbrev pub RestoresTo : ℕ → RootState → CallState T P → CallState T P → SinkState → SinkState → ℕ → Type 0
-  RestoresTo number s before now err err' status = HasJob s.stack number → AreUnedited s number
-      → HasRestored (AreRestored (jobs_to number s.stack) s) now status ⊎ MeetsException (IsExceptionTo s number) before now err err' status
+  abbrev pub RestoresTo : ℕ → RootState → CallState T P → End → Type 0
+  RestoresTo number s now end = HasJob s.stack number → AreUnedited s number
+      → HasRestored (AreRestored (jobs_to number s.stack) s) now end ⊎ MeetsException (IsExceptionTo s number) end
 
-  abbrev pub RestoresBy : Option ℕ → RootState → CallState T P → CallState T P → SinkState → SinkState → ℕ → Type 0
+  abbrev pub RestoresBy : Option ℕ → RootState → CallState T P → End → Type 0
   RestoresBy None = RestoresNewest
   RestoresBy (Some number) = RestoresTo number
 
-  -- Where the disks are told and the fixed directories stand, a status up to 2 of `rollback` is such an end on each state to which they
-  -- recovered; on the root also where it alone is told, unless the repository's log can't be put.
-  pub record RollbackRestores (c : Command) (before now : CallState T P) (err err' : SinkState) (status : ℕ) : Type 0 where
-    pub restores : (number : Option ℕ) → c ≡ command.Rollback number → FromStates root_disk repo_disk before (λ s. IfAnswered s.root status (RestoresBy number s.root before now err err' status))
-    pub restores_alone : (number : Option ℕ) → c ≡ command.Rollback number → FromRoots root_disk repo_disk before (λ s. IfAnswered s.root status
-        (HasRefusedRepository root_disk repo_disk before now err err' status ⊎ RestoresBy number s.root before now err err' status))
+  -- Where the disks are told and the fixed directories stand, a `rollback` that is done or refused ends so on each state to which they
+  -- recovered; on the root also where it alone is told, unless the repository isn't opened.
+  pub record RollbackRestores (c : Command) (before now : CallState T P) (end : End) : Type 0 where
+    pub restores : (number : Option ℕ) → c ≡ command.Rollback number → FromStates root_disk repo_disk before (λ s. IfAnswered s.root end (RestoresBy number s.root now end))
+    pub restores_alone : (number : Option ℕ) → c ≡ command.Rollback number → FromRoots root_disk repo_disk before (λ s. IfAnswered s.root end
+        (StopsForRepository root_disk repo_disk before now end ⊎ RestoresBy number s.root now end))

@@ -1,16 +1,16 @@
 //! The table of commands: what each takes, and which function performs it.
-ghost use Rattle.std.specs.Prelude.{◌≡◌, List, ℕ, not, true, IsTrue};
-ghost use Rattle.cli_call.specs.Alone.{PerformsAlone};
+ghost use Rattle.std.specs.Prelude.{◌≡◌, List, ℕ, not, true};
+ghost use Rattle.cli_call.specs.Alone.{AnswersByTree, PerformsAlone};
 ghost use Rattle.cli_call.specs.Command.{disks, AreReady, Performs};
-ghost use Rattle.conary_cli.specs.Commands.{erasing, meaning, is_of_root, verify};
-ghost use Rattle.conary_cli.specs.Records.{EndsWhole};
+ghost use Rattle.conary_cli.specs.Commands.{erasing, meaning, verify, PerformsCommand};
 
-use crate::show::show_change_set;
 use crate::words::Command;
 use cli_call::cny_base::{Bytes, Name, Options, Text};
 use cli_call::tree_disk::TreeDisk;
 use cli_call::{Failure, Opened};
-use repo_commands::{commit_input, commit_moved, cook_manifest, list_committed, send_changes};
+use repo_commands::{
+    commit_input, commit_moved, cook_manifest, list_committed, send_changes, show_change_set,
+};
 use root_commands::{
     change_locally, erase_troves, install_manifest, list_installed, list_jobs, roll_back,
     update_input, update_specs, verify_fully, verify_installed,
@@ -72,6 +72,7 @@ fn verify<T: TreeDisk, P: TreeDisk>(
     requires { AreReady T.disk P.disk (disks root.old repo.old opened.now) }
     ensures performs { (input : List ℕ) → Performs T.disk P.disk (verify full names.now) input (disks root.old repo.old opened.now) (disks root.new repo.new opened.now) result }
     ensures alone { not full ≡ true → (input : List ℕ) → PerformsAlone T.disk P.disk (verify full names.now) input (disks root.old repo.old opened.now) (disks root.new repo.new opened.now) result }
+    ensures tree { not full ≡ true → (input : List ℕ) → AnswersByTree T.disk P.disk (verify full names.now) input (disks root.old repo.old opened.now) (disks root.new repo.new opened.now) result }
 {
     if full {
         return verify_fully(alloc, names, opened, repo, root);
@@ -89,11 +90,7 @@ pub fn perform<T: TreeDisk, P: TreeDisk>(
     root: &mut T,
 ) -> Result<Bytes, Failure>
     requires { AreReady T.disk P.disk (disks root.old repo.old opened.old) }
-    ensures performs { Performs T.disk P.disk (meaning command.now) input.now (disks root.old repo.old opened.old) (disks root.new repo.new opened.new) result }
-    // A command that works on the root alone does so whatever the repository's disk tells or stores.
-    ensures alone { is_of_root command.now ≡ true → PerformsAlone T.disk P.disk (meaning command.now) input.now (disks root.old repo.old opened.old) (disks root.new repo.new opened.new) result }
-    // Also where the root stores no system.
-    ensures records { IsTrue T.disk.tells → EndsWhole command.now (T.disk.reads root.old) opened.old.db result }
+    ensures { PerformsCommand T.disk P.disk command.now input.now (disks root.old repo.old opened.old) (disks root.new repo.new opened.new) result }
 {
     match command {
         Command::Install { options } => {

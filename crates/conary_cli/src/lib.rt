@@ -8,10 +8,11 @@
 
 mod commands;
 mod entry;
+mod laws;
 mod program;
-mod show;
 mod words;
 
 pub use entry::start;
+pub use laws::call_laws;
 pub use program::run;
 pub use words::{Command, NameList, SpecList, read_words, some_words};

@@ -6,17 +6,15 @@ ghost use Rattle.cny_flow.specs.Flow.{sink_state, source_state};
 ghost use Rattle.cli_call.specs.Call.{call_state, RunsCall, RunsOpen};
 ghost use Rattle.cli_call.specs.Command.{disks, AreReady};
 ghost use Rattle.cli_call.specs.Line.{moment, RunsLine};
-ghost use Rattle.conary_cli.specs.Commands.{meaning, is_of_root, IsSomeCall, IsWholeCall, RunsSome, RunsWords};
+ghost use Rattle.conary_cli.specs.Commands.{meaning, scope_of, IsSomeCall, IsWholeCall, RunsSome, RunsWords};
 ghost use Rattle.conary_cli.specs.Records.{EndsOpened, EndsWhole};
 ghost use Rattle.conary_cli.specs.Words.{AreWords};
 
 use crate::commands::{perform, takes_input};
 use crate::words::{Command, read_words};
-use cli_call::change_set::unique_set;
 use cli_call::tree_disk::TreeDisk;
 use cli_call::{Failure, Opened, open_disks, read_given, report, store_laws, write_answer};
 use cny_flow::{Sink, Source};
-use cny_manifest::one_manifest;
 use std::alloc::Global;
 
 // Performs a command over two disks that are open, and writes what it answers.
@@ -30,7 +28,7 @@ fn run_command<O: Sink, T: TreeDisk, P: TreeDisk>(
     root: &mut T,
 ) -> Result<(), Failure>
     requires { AreReady T.disk P.disk (disks root.old repo.old opened.old) }
-    ensures line { RunsLine T.disk P.disk (is_of_root command.now) (meaning command.now) input.now (moment O.sink root.old repo.old opened.old out.old) (moment O.sink root.new repo.new opened.new out.new) result }
+    ensures line { RunsLine T.disk P.disk (scope_of command.now) (meaning command.now) input.now (moment O.sink root.old repo.old opened.old out.old) (moment O.sink root.new repo.new opened.new out.new) result }
     ensures records { IsTrue T.disk.tells → EndsWhole command.now (T.disk.reads root.old) opened.old.db result }
 {
     let answered = perform(alloc, command, input, opened, repo, root);
@@ -48,7 +46,7 @@ fn run_open<I: Source, O: Sink, T: TreeDisk, P: TreeDisk>(
     root: &mut T,
 ) -> Result<(), Failure>
     requires { AreReady T.disk P.disk (disks root.old repo.old opened.old) }
-    ensures runs { RunsOpen T.disk P.disk (is_of_root command.now) (meaning command.now) (source_state I.source input.old) (source_state I.source input.new)
+    ensures runs { RunsOpen T.disk P.disk (scope_of command.now) (meaning command.now) (source_state I.source input.old) (source_state I.source input.new)
         (moment O.sink root.old repo.old opened.old out.old) (moment O.sink root.new repo.new opened.new out.new) result }
     ensures records { IsTrue T.disk.tells → EndsWhole command.now (T.disk.reads root.old) opened.old.db result }
 {
@@ -65,7 +63,7 @@ fn run_call<I: Source, O: Sink, T: TreeDisk, P: TreeDisk>(
     repo: &mut P,
     root: &mut T,
 ) -> Result<(), Failure>
-    ensures runs { RunsCall T.disk P.disk (is_of_root command.now) (meaning command.now) (call_state I.source O.sink input.old out.old root.old repo.old)
+    ensures runs { RunsCall T.disk P.disk (scope_of command.now) (meaning command.now) (call_state I.source O.sink input.old out.old root.old repo.old)
         (call_state I.source O.sink input.new out.new root.new repo.new) result }
     ensures records { EndsOpened T.disk P.disk command.now (call_state I.source O.sink input.old out.old root.old repo.old)
         (call_state I.source O.sink input.new out.new root.new repo.new) result }
@@ -112,10 +110,8 @@ pub fn run<I: Source, O: Sink, E: Sink, P: TreeDisk, T: TreeDisk>(
         (call_state I.source O.sink input.old out.old root.old repo.old) (call_state I.source O.sink input.new out.new root.new repo.new)
         (sink_state E.sink err.old) (sink_state E.sink err.new) result }
 {
-    // What the disks store is told by the names that count, and one input is one change set at most, and makes one value at most.
+    // What the disks store is told by the names that count.
     store_laws();
-    unique_set();
-    one_manifest();
     let end = run_words(alloc, words, input, out, repo, root);
     report(alloc, &end, err)
 }

@@ -25,13 +25,13 @@ use Rattle.repository.specs.Tests.{IsRefused, Passes}
 use Rattle.cny_report.specs.Troves.{committed_text}
 use Rattle.cli_call.specs.declared.failure.Failure.{Failure}
 use Rattle.cli_call.specs.declared.failure.Failure.TheVariants as failure
-use Rattle.cli_call.specs.Command.{Disks, AreReady, Answers, ChangesNothing, Goes, HasCause, Performs, StandsFor, end_of}
-use Rattle.cli_call.proofs.CommandLaws.{goes_read, performs_on_repository}
+use Rattle.cli_call.specs.Alone.{ActsOnRepository}
+use Rattle.cli_call.specs.Command.{Disks, AreReady, Answers, ChangesNothing, Goes, HasCause, end_of}
+use Rattle.cli_call.proofs.CommandLaws.{goes_read}
 use Rattle.cli_call.specs.Report.{status_of}
-use Rattle.cli_call.proofs.RootLaws.{root_laws}
 use Rattle.cli_call.specs.State.{State, IsNext, Takes}
 use Rattle.cli_call.specs.Stops.{repository_failure, repository_result}
-use Rattle.cli_call.specs.Store.{HasDamagedFile, IsSettled, IsStore, OneOf, Recovers}
+use Rattle.cli_call.specs.Store.{HasDamagedFile, IsSettled, IsStore, OneOf, Recovers, RestsAt}
 use Rattle.cli_call.specs.Stores.{repository_store}
 use Rattle.cli_call.proofs.StoreLaws.{read_settled}
 use Rattle.repo_commands.specs.Commit.{commit_of, committed, Commits}
@@ -95,20 +95,20 @@ still_synced disk old new p calm before = ⊎_elim (λ is. let was = calm p is i
 
 -- ---- the clause
 
-module _ {T P : Type 0} {root_disk : DiskModel T} {repo_disk : DiskModel P} (root_disk_laws : IsDisk root_disk) (repo_disk_laws : IsDisk repo_disk) (laws : CommitLaws) (set : ChangeSet) (input : List ℕ)
+module _ {T P : Type 0} {root_disk : DiskModel T} {repo_disk : DiskModel P} (repo_disk_laws : IsDisk repo_disk) (laws : CommitLaws) (set : ChangeSet) (input : List ℕ)
     (old new : Disks T P) (ready : AreReady root_disk repo_disk old) (root_same : new.root ≡ old.root) (c' : CatalogueParts) where
-  moments : {result : Result (List TroveId) Stop} → Committing repo_disk set old.opened.catalogue c' old.repo new.repo result → IsTrue repo_disk.tells → (s : State) → StandsFor root_disk repo_disk old s → HasMoments repo_disk set old.repo new.repo s.repository
-  moments done told s stands = done.any_moment told s.repository stands.repo.stored stands.repo.settled
+  moments : {result : Result (List TroveId) Stop} → Committing repo_disk set old.opened.catalogue c' old.repo new.repo result → IsTrue repo_disk.tells → (s : State) → RestsAt repository_store repo_disk old.repo s.repository → HasMoments repo_disk set old.repo new.repo s.repository
+  moments done told s stands = done.any_moment told s.repository stands.stored stands.settled
 
   -- -- committed
 
-  passes_of : (ids : List TroveId) → IsTrue repo_disk.tells → (s : State) → StandsFor root_disk repo_disk old s → (d : IsDone repo_disk set old.opened.catalogue c' ids old.repo new.repo) → Passes (catalogue_of s.repository.commits) s.repository.contents set d.troves
-  passes_of ids told s stands d = of_state laws (repo_disk.reads old.repo) s.repository old.opened.catalogue stands.repo.stored (ready.repo told).catalogue (λ (k : CatalogueParts) (held : ContentMap). Passes k held set d.troves) d.passes
+  passes_of : (ids : List TroveId) → IsTrue repo_disk.tells → (s : State) → RestsAt repository_store repo_disk old.repo s.repository → (d : IsDone repo_disk set old.opened.catalogue c' ids old.repo new.repo) → Passes (catalogue_of s.repository.commits) s.repository.contents set d.troves
+  passes_of ids told s stands d = of_state laws (repo_disk.reads old.repo) s.repository old.opened.catalogue stands.stored (ready.repo told).catalogue (λ (k : CatalogueParts) (held : ContentMap). Passes k held set d.troves) d.passes
 
-  step_of : (ids : List TroveId) → IsTrue repo_disk.tells → (s : State) → StandsFor root_disk repo_disk old s → (d : IsDone repo_disk set old.opened.catalogue c' ids old.repo new.repo) → IsStep s.repository set (after_commit d.troves set.contents s.repository)
+  step_of : (ids : List TroveId) → IsTrue repo_disk.tells → (s : State) → RestsAt repository_store repo_disk old.repo s.repository → (d : IsDone repo_disk set old.opened.catalogue c' ids old.repo new.repo) → IsStep s.repository set (after_commit d.troves set.contents s.repository)
   step_of ids told s stands d = record { troves = d.troves; passes = passes_of ids told s stands d; is = refl }
 
-  done_goes : (ids : List TroveId) (result : Result (List ℕ) Failure) → Committing repo_disk set old.opened.catalogue c' old.repo new.repo (Ok ids) → (told : IsTrue repo_disk.tells) (s : State) → StandsFor root_disk repo_disk old s
+  done_goes : (ids : List TroveId) (result : Result (List ℕ) Failure) → Committing repo_disk set old.opened.catalogue c' old.repo new.repo (Ok ids) → (told : IsTrue repo_disk.tells) (s : State) → RestsAt repository_store repo_disk old.repo s.repository
       → (d : IsDone repo_disk set old.opened.catalogue c' ids old.repo new.repo) → Goes repository_store repo_disk s.repository (after_commit d.troves set.contents s.repository) old.repo new.repo (end_of result)
   done_goes ids result done told s stands d =
       let m = moments done told s stands in
@@ -117,8 +117,8 @@ module _ {T P : Type 0} {root_disk : DiskModel T} {repo_disk : DiskModel P} (roo
         images = leaves_weaker (toward laws s.repository set m.next made m.is step) m.images;
         rests = λ le. record {
           resting = record { flag_clear = d.rests.flag_clear; flag_synced = d.rests.flag_synced };
-          settled = d.settled s.repository stands.repo.stored stands.repo.settled;
-          stored = d.stores s.repository stands.repo.stored;
+          settled = d.settled s.repository stands.stored stands.settled;
+          stored = d.stores s.repository stands.stored;
         };
         reads = toward laws s.repository set m.next made m.is step (repo_disk.reads new.repo) m.reads;
       }
@@ -130,67 +130,87 @@ module _ {T P : Type 0} {root_disk : DiskModel T} {repo_disk : DiskModel P} (roo
         synced = λ p. still_synced repo_disk old.repo new.repo p d.calm ((ready.repo told).settled.synced p);
       }
 
-  pub commit_told : (ids : List TroveId) (text : List ℕ) → Committing repo_disk set old.opened.catalogue c' old.repo new.repo (Ok ids) → text ≡ committed_text ids → Performs root_disk repo_disk (commit_of set) input old new (Ok text)
-  commit_told ids text done is = performs_on_repository root_disk_laws root_laws (commit_of set) input old new (Ok text) ready root_same done.later done.within tt
-      (λ le told. done_settled ids done told)
-      (λ none told. absurd none)
-      (λ told s stands.
-      let d : IsDone repo_disk set old.opened.catalogue c' ids old.repo new.repo = done.ends told in record {
-        next = after_commit d.troves set.contents s.repository;
-        answers = record {
-          effect = committed s.repository set d.troves;
-          is = record { troves = d.troves; passes = passes_of ids told s stands d; is = refl };
-          leads = refl;
-          bytes = sym (is ∙ ap committed_text d.ids_are);
+  pub commit_told : (ids : List TroveId) (text : List ℕ) → Committing repo_disk set old.opened.catalogue c' old.repo new.repo (Ok ids) → text ≡ committed_text ids → ActsOnRepository root_disk repo_disk (commit_of set) input old new (Ok text)
+  commit_told ids text done is = record {
+    root = root_same;
+    later = done.later;
+    cause = tt;
+    rest = λ le told. done_settled ids done told;
+    same = λ none told. absurd none;
+    within = done.within;
+    told = λ told s stands.
+        let d : IsDone repo_disk set old.opened.catalogue c' ids old.repo new.repo = done.ends told in record {
+          next = after_commit d.troves set.contents s.repository;
+          answers = record {
+            effect = committed s.repository set d.troves;
+            is = record { troves = d.troves; passes = passes_of ids told s stands d; is = refl };
+            leads = refl;
+            bytes = sym (is ∙ ap committed_text d.ids_are);
+          };
+          goes = done_goes ids (Ok text) done told s stands d;
         };
-        goes = done_goes ids (Ok text) done told s stands d;
-      })
+  }
 
   -- its ids couldn't be told, for want of memory
-  pub commit_untold : (ids : List TroveId) → Committing repo_disk set old.opened.catalogue c' old.repo new.repo (Ok ids) → Performs root_disk repo_disk (commit_of set) input old new (Err failure.Memory)
-  commit_untold ids done = performs_on_repository root_disk_laws root_laws (commit_of set) input old new (Err failure.Memory) ready root_same done.later done.within tt
-      (λ le told. done_settled ids done told)
-      (λ none told. absurd none)
-      (λ told s stands.
-      let d : IsDone repo_disk set old.opened.catalogue c' ids old.repo new.repo = done.ends told in
-      let step = step_of ids told s stands d in record {
-        next = after_commit d.troves set.contents s.repository;
-        answers = inr (takes_step set s (after_commit d.troves set.contents s.repository) step);
-        goes = done_goes ids (Err failure.Memory) done told s stands d;
-      })
+  pub commit_untold : (ids : List TroveId) → Committing repo_disk set old.opened.catalogue c' old.repo new.repo (Ok ids) → ActsOnRepository root_disk repo_disk (commit_of set) input old new (Err failure.Memory)
+  commit_untold ids done = record {
+    root = root_same;
+    later = done.later;
+    cause = tt;
+    rest = λ le told. done_settled ids done told;
+    same = λ none told. absurd none;
+    within = done.within;
+    told = λ told s stands.
+        let d : IsDone repo_disk set old.opened.catalogue c' ids old.repo new.repo = done.ends told in
+        let step = step_of ids told s stands d in record {
+          next = after_commit d.troves set.contents s.repository;
+          answers = inr (takes_step set s (after_commit d.troves set.contents s.repository) step);
+          goes = done_goes ids (Err failure.Memory) done told s stands d;
+        };
+  }
 
   -- -- stopped
 
   same_read : {A : Type 0} → HasRead repo_disk old.repo new.repo A → HasRead repo_disk old.repo new.repo (Unit {0})
   same_read read = record { answer = tt; same = read.same; time = read.time }
 
-  refused_so : (refusal : Refusal) → Committing repo_disk set old.opened.catalogue c' old.repo new.repo (Err (stop.Refused refusal)) → Performs root_disk repo_disk (commit_of set) input old new (Err (failure.Refused refusal))
-  refused_so refusal done = performs_on_repository root_disk_laws root_laws (commit_of set) input old new (Err (failure.Refused refusal)) ready root_same done.later done.within tt
-      (λ le told. read_settled (done.ends told).0 (ready.repo told).settled.flag_clear (ready.repo told).settled.synced)
-      (λ none told. (done.ends told).0.same.reads)
-      (λ told s stands.
-      let read = (done.ends told).0 in record {
-        next = s.repository;
-        answers = (of_state laws (repo_disk.reads old.repo) s.repository old.opened.catalogue stands.repo.stored (ready.repo told).catalogue (λ (k : CatalogueParts) (held : ContentMap). IsRefused k held set refusal) read.answer, refl);
-        goes = goes_read laws.store repo_disk_laws old.repo new.repo s.repository (end_of (Err (failure.Refused refusal))) (same_read read) stands.repo;
-      })
+  refused_so : (refusal : Refusal) → Committing repo_disk set old.opened.catalogue c' old.repo new.repo (Err (stop.Refused refusal)) → ActsOnRepository root_disk repo_disk (commit_of set) input old new (Err (failure.Refused refusal))
+  refused_so refusal done = record {
+    root = root_same;
+    later = done.later;
+    cause = tt;
+    rest = λ le told. read_settled (done.ends told).0 (ready.repo told).settled.flag_clear (ready.repo told).settled.synced;
+    same = λ none told. (done.ends told).0.same.reads;
+    within = done.within;
+    told = λ told s stands.
+        let read = (done.ends told).0 in record {
+          next = s.repository;
+          answers = (of_state laws (repo_disk.reads old.repo) s.repository old.opened.catalogue stands.stored (ready.repo told).catalogue (λ (k : CatalogueParts) (held : ContentMap). IsRefused k held set refusal) read.answer, refl);
+          goes = goes_read laws.store repo_disk_laws old.repo new.repo s.repository (end_of (Err (failure.Refused refusal))) (same_read read) stands;
+        };
+  }
 
   -- a fault, or want of memory
   module _ (result : Result (List ℕ) Failure) (low : status_of (end_of result) ≤ 4 → ⊥) (quiet : ChangesNothing (end_of result) → ⊥) (next_answers : (s next : State) → IsNext (Commits set s.repository) s next → Answers (Commits set s.repository) s next result) where
-    ended_so : (r : Result (List TroveId) Stop) → Committing repo_disk set old.opened.catalogue c' old.repo new.repo r → HasCause root_disk repo_disk old new result → Performs root_disk repo_disk (commit_of set) input old new result
-    ended_so r done cause = performs_on_repository root_disk_laws root_laws (commit_of set) input old new result ready root_same done.later done.within cause
-        (λ le told. absurd (low le))
-        (λ none told. absurd (quiet none))
-        (λ told s stands.
-        let m = moments done told s stands in record {
-          next = m.next;
-          answers = next_answers s (record { root = s.root; repository = m.next }) (next_of set s m.next m.is);
-          goes = record {
-            images = leaves_weaker (either_as s.repository m.next) m.images;
-            rests = λ le. absurd (low le);
-            reads = either_as s.repository m.next (repo_disk.reads new.repo) m.reads;
+    ended_so : (r : Result (List TroveId) Stop) → Committing repo_disk set old.opened.catalogue c' old.repo new.repo r → HasCause root_disk repo_disk old new result → ActsOnRepository root_disk repo_disk (commit_of set) input old new result
+    ended_so r done cause = record {
+      root = root_same;
+      later = done.later;
+      cause = cause;
+      rest = λ le told. absurd (low le);
+      same = λ none told. absurd (quiet none);
+      within = done.within;
+      told = λ told s stands.
+          let m = moments done told s stands in record {
+            next = m.next;
+            answers = next_answers s (record { root = s.root; repository = m.next }) (next_of set s m.next m.is);
+            goes = record {
+              images = leaves_weaker (either_as s.repository m.next) m.images;
+              rests = λ le. absurd (low le);
+              reads = either_as s.repository m.next (repo_disk.reads new.repo) m.reads;
+            };
           };
-        })
+    }
 
   damaged_file : (path : Name) → Committing repo_disk set old.opened.catalogue c' old.repo new.repo (Err (stop.Damaged path)) → IsTrue repo_disk.tells → HasDamagedFile repository_store (repo_disk.reads new.repo) path
   damaged_file path done told =
@@ -206,20 +226,25 @@ module _ {T P : Type 0} {root_disk : DiskModel T} {repo_disk : DiskModel P} (roo
         }));
       }
 
-  never_damaged : (path : Name) → Committing repo_disk set old.opened.catalogue c' old.repo new.repo (Err (stop.Damaged path)) → IsTrue repo_disk.tells → (s : State) → StandsFor root_disk repo_disk old s → ⊥
+  never_damaged : (path : Name) → Committing repo_disk set old.opened.catalogue c' old.repo new.repo (Err (stop.Damaged path)) → IsTrue repo_disk.tells → (s : State) → RestsAt repository_store repo_disk old.repo s.repository → ⊥
   never_damaged path done told s stands =
       let source = (done.ends told).0.answer in
-      let same = laws.catalogue (repo_disk.reads old.repo) s.repository old.opened.catalogue stands.repo.stored (ready.repo told).catalogue in
-      laws.contents (repo_disk.reads old.repo) s.repository source.content.name path stands.repo.stored
+      let same = laws.catalogue (repo_disk.reads old.repo) s.repository old.opened.catalogue stands.stored (ready.repo told).catalogue in
+      laws.contents (repo_disk.reads old.repo) s.repository source.content.name path stands.stored
       (subst (λ (k : CatalogueParts). IsDamagedContent k.troves source.content.name (repo_disk.reads old.repo) path) same source.damaged)
 
-  damaged_so : (path : Name) → Committing repo_disk set old.opened.catalogue c' old.repo new.repo (Err (stop.Damaged path)) → Performs root_disk repo_disk (commit_of set) input old new (Err (failure.Damaged path))
-  damaged_so path done = performs_on_repository root_disk_laws root_laws (commit_of set) input old new (Err (failure.Damaged path)) ready root_same done.later done.within (inr (damaged_file path done))
-      (λ le told. absurd (omega (arith, le)))
-      (λ none told. (done.ends told).0.same.reads)
-      (λ told s stands. absurd (never_damaged path done told s stands))
+  damaged_so : (path : Name) → Committing repo_disk set old.opened.catalogue c' old.repo new.repo (Err (stop.Damaged path)) → ActsOnRepository root_disk repo_disk (commit_of set) input old new (Err (failure.Damaged path))
+  damaged_so path done = record {
+    root = root_same;
+    later = done.later;
+    cause = (inr (damaged_file path done));
+    rest = λ le told. absurd (omega (arith, le));
+    same = λ none told. (done.ends told).0.same.reads;
+    within = done.within;
+    told = λ told s stands. absurd (never_damaged path done told s stands);
+  }
 
-  pub commit_stopped : (e : Stop) → Committing repo_disk set old.opened.catalogue c' old.repo new.repo (Err e) → Performs root_disk repo_disk (commit_of set) input old new (Err (repository_failure e))
+  pub commit_stopped : (e : Stop) → Committing repo_disk set old.opened.catalogue c' old.repo new.repo (Err e) → ActsOnRepository root_disk repo_disk (commit_of set) input old new (Err (repository_failure e))
   commit_stopped (stop.Refused refusal) done = refused_so refusal done
   commit_stopped (stop.Damaged path) done = damaged_so path done
   commit_stopped stop.Failed done = ended_so (Err failure.RepositoryFault) (λ le. omega (arith, le)) (λ none. none) (λ s next is. is) (Err stop.Failed) done done.causes
@@ -229,9 +254,9 @@ module _ {T P : Type 0} {root_disk : DiskModel T} {repo_disk : DiskModel P} (roo
 
   -- ---- by the result, with its stop as a failure
 
-  pub commit_failed : (r : Result (List TroveId) Stop) → Committing repo_disk set old.opened.catalogue c' old.repo new.repo r → (f : Failure) → repository_result r ≡ Err f → Performs root_disk repo_disk (commit_of set) input old new (Err f)
+  pub commit_failed : (r : Result (List TroveId) Stop) → Committing repo_disk set old.opened.catalogue c' old.repo new.repo r → (f : Failure) → repository_result r ≡ Err f → ActsOnRepository root_disk repo_disk (commit_of set) input old new (Err f)
   commit_failed (Ok ids) done f is = absurd (cc is)
-  commit_failed (Err e) done f is = subst (λ (x : Result (List TroveId) Failure). IfErr x (λ k. Performs root_disk repo_disk (commit_of set) input old new (Err k))) is (commit_stopped e done)
+  commit_failed (Err e) done f is = subst (λ (x : Result (List TroveId) Failure). IfErr x (λ k. ActsOnRepository root_disk repo_disk (commit_of set) input old new (Err k))) is (commit_stopped e done)
 
   pub commit_made : (r : Result (List TroveId) Stop) → Committing repo_disk set old.opened.catalogue c' old.repo new.repo r → (ids : List TroveId) → repository_result r ≡ Ok ids → Committing repo_disk set old.opened.catalogue c' old.repo new.repo (Ok ids)
   commit_made (Ok made) done ids is = subst (λ (x : Result (List TroveId) Failure). IfOk x (λ k. Committing repo_disk set old.opened.catalogue c' old.repo new.repo (Ok k))) is done

@@ -7,6 +7,7 @@ pub mod CookEnds
 pub mod ReadingEnds
 pub mod AfterReading
 pub mod SendingEnds
+pub mod ShowEnds
 pub mod CommittedTroves
 pub mod MovingEnds
 pub use Rattle.cli_call.proofs.job-record

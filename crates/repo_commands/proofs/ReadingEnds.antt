@@ -31,7 +31,7 @@ use Rattle.cli_call.specs.Failures.{failure_of_fault}
 use Rattle.cli_call.proofs.RootLaws.{root_laws, stored_outside}
 use Rattle.cli_call.specs.State.{tree_of, Meaning, State}
 use Rattle.cli_call.specs.Stops.{root_result}
-use Rattle.cli_call.specs.Store.{IsStore}
+use Rattle.cli_call.specs.Store.{IsStore, RestsAt}
 use Rattle.cli_call.proofs.StoreLaws.{nothing_done}
 use Rattle.cli_call.specs.Stores.{repository_store, root_store}
 
@@ -59,8 +59,11 @@ module _ {T P : Type 0} {root_disk : DiskModel T} {repo_disk : DiskModel P} wher
   config_of old r has s stands = same_config (root_disk.reads old.root) (tree_of s.root) r (stored_outside (root_disk.reads old.root) s.root stands.root.stored config_path foreign) has
 
   -- the state has the troves that were loaded
+  pub troves_at : CatalogueIs → (old : Disks T P) → AreReady root_disk repo_disk old → IsTrue repo_disk.tells → (s : State) → RestsAt repository_store repo_disk old.repo s.repository → old.opened.catalogue.troves ≡ troves_of s.repository.commits
+  troves_at law old ready told s rests = ap (λ (c : CatalogueParts). c.troves) (law (repo_disk.reads old.repo) s.repository old.opened.catalogue rests.stored (ready.repo told).catalogue)
+
   pub troves_are : CatalogueIs → (old : Disks T P) → AreReady root_disk repo_disk old → IsTrue repo_disk.tells → (s : State) → StandsFor root_disk repo_disk old s → old.opened.catalogue.troves ≡ troves_of s.repository.commits
-  troves_are law old ready told s stands = ap (λ (c : CatalogueParts). c.troves) (law (repo_disk.reads old.repo) s.repository old.opened.catalogue stands.repo.stored (ready.repo told).catalogue)
+  troves_are law old ready told s stands = troves_at law old ready told s stands.repo
 
   -- after the root was only read, a command may begin
   pub ready_on : (root root' : T) (repo : P) (opened : Opened) → (IsTrue root_disk.tells → HasRead root_disk root root' (Unit {0})) → AreReady root_disk repo_disk (disks root repo opened) → AreReady root_disk repo_disk (disks root' repo opened)

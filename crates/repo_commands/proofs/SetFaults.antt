@@ -7,7 +7,9 @@ use Rattle.cli_call.specs.tree-disk.Disk.{DiskModel, IsDisk}
 use Rattle.cli_call.specs.change-set.declared.change.ChangeSet.{ChangeSet}
 use Rattle.cli_call.specs.change-set.ChangeSet.{IsSetStream}
 use Rattle.cli_call.specs.change-set.FirstFault.{IsFaultOf, IsFirstFault}
+use Rattle.cli_call.specs.Alone.{ActsOnRepository}
 use Rattle.cli_call.specs.Command.{Disks, AreReady, Performs}
+use Rattle.cli_call.proofs.Answered.{fault_acted}
 use Rattle.cli_call.proofs.CommandLaws.{none_read}
 use Rattle.cli_call.specs.Failures.{failure_of_fault}
 use Rattle.cli_call.specs.State.{Meaning, State}
@@ -22,3 +24,8 @@ module _ {T P : Type 0} {root_disk : DiskModel T} {repo_disk : DiskModel P} (roo
   pub no_set : (f : Fault) → IsFaultOf input f → ((set : ChangeSet) → IsSetStream set input → f ≡ fault.Memory) → Performs root_disk repo_disk meaning input m m (Err (failure_of_fault f))
   no_set f is only = fault_ends root_disk_laws repo_disk_laws store_laws meaning input m m ready (none_read root_disk_laws repo_disk_laws m m refl refl) f
       (λ r same root repo s stands. refuses s r (λ set spelled. let h = only set spelled in absurd (cc (h, same))) (subst (IsFaultOf input) same is))
+
+  -- the same of a command that works on the repository alone
+  pub no_set_acts : (f : Fault) → IsFaultOf input f → ((set : ChangeSet) → IsSetStream set input → f ≡ fault.Memory) → ActsOnRepository root_disk repo_disk meaning input m m (Err (failure_of_fault f))
+  no_set_acts f is only = fault_acted repo_disk_laws store_laws meaning input m ready f
+      (λ r same told s rests. refuses s r (λ set spelled. let h = only set spelled in absurd (cc (h, same))) (subst (IsFaultOf input) same is))

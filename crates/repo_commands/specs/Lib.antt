@@ -4,6 +4,7 @@ pub mod Commit
 pub mod ManifestInput
 pub mod Cook
 pub mod Sending
+pub mod ShowChangeSet
 pub mod Moving
 pub use Rattle.cli_call.specs.change-set
 pub use Rattle.cli_call.specs.cny-base

@@ -1,7 +1,8 @@
 //! Commits of change sets.
 ghost use Rattle.std.specs.Prelude.{List, ℕ};
 ghost use Rattle.cli_call.specs.change-set.ChangeSet.{HasContents};
-ghost use Rattle.cli_call.specs.Command.{disks, AreReady, Performs};
+ghost use Rattle.cli_call.specs.Alone.{ActsOnRepository};
+ghost use Rattle.cli_call.specs.Command.{disks, AreReady};
 ghost use Rattle.repo_commands.specs.Commit as spec;
 ghost use Rattle.repo_commands.specs.Commit.{commit_of};
 
@@ -24,7 +25,7 @@ pub fn commit_set<T: TreeDisk, P: TreeDisk>(
 ) -> Result<Text, Failure>
     requires contents { HasContents set.now }
     requires ready { AreReady T.disk P.disk (disks root.now repo.old opened.old) }
-    ensures { (input : List ℕ) → Performs T.disk P.disk (commit_of set.now) input (disks root.now repo.old opened.old)
+    ensures { (input : List ℕ) → ActsOnRepository T.disk P.disk (commit_of set.now) input (disks root.now repo.old opened.old)
         (disks root.now repo.new opened.new) result }
 {
     store_laws();
@@ -45,7 +46,7 @@ pub fn commit_input<T: TreeDisk, P: TreeDisk>(
     root: &T,
 ) -> Result<Text, Failure>
     requires { AreReady T.disk P.disk (disks root.now repo.old opened.old) }
-    ensures { Performs T.disk P.disk spec.commit input.now (disks root.now repo.old opened.old) (disks root.now repo.new opened.new) result }
+    ensures { ActsOnRepository T.disk P.disk spec.commit input.now (disks root.now repo.old opened.old) (disks root.now repo.new opened.new) result }
 {
     store_laws();
     let set = decode(alloc, input)?;

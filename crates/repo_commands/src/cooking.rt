@@ -5,7 +5,8 @@ ghost use Rattle.cli_call.specs.change-set.declared.change.Part.TheVariants.{Who
 ghost use Rattle.cny_manifest.specs.Makes.{HasOwnContents};
 ghost use Rattle.repo_index.specs.Next.{HasOneVersion};
 ghost use Rattle.repo_index.specs.Steps.{IsErrOrMemory};
-ghost use Rattle.cli_call.specs.Command.{disks, AreReady, Performs};
+ghost use Rattle.cli_call.specs.Alone.{ActsOnRepository};
+ghost use Rattle.cli_call.specs.Command.{disks, AreReady};
 ghost use Rattle.repo_commands.specs.Cook as spec;
 
 use crate::committing::commit_set;
@@ -77,7 +78,7 @@ pub fn cook_manifest<T: TreeDisk, P: TreeDisk>(
     root: &T,
 ) -> Result<Text, Failure>
     requires { AreReady T.disk P.disk (disks root.now repo.old opened.old) }
-    ensures { Performs T.disk P.disk (spec.cook next) input.now (disks root.now repo.old opened.old) (disks root.now repo.new opened.new) result }
+    ensures { ActsOnRepository T.disk P.disk (spec.cook next) input.now (disks root.now repo.old opened.old) (disks root.now repo.new opened.new) result }
 {
     store_laws();
     stored_state();

@@ -1,5 +1,5 @@
-//! The commands of the repository, those that take specifications of troves, and those that commit what a specification means on
-//! another label. Each has its meaning in a file of its own in `specs/`, and a function with one clause: that it performs this
+//! The commands of the repository, those that take specifications of troves, those that commit what a specification means on
+//! another label, and the one that describes a change set. Each has its meaning in a file of its own in `specs/`, and a function with one clause: that it performs this
 //! meaning.
 #![tactic(auto)]
 
@@ -8,6 +8,7 @@ mod cooking;
 mod listing;
 mod moving;
 mod sending;
+mod showing;
 
 pub use cli_call::{change_set, cny_base, content_store, tree_disk, trove_parts, trove_stream};
 pub use committing::{commit_input, commit_set};
@@ -15,3 +16,4 @@ pub use cooking::cook_manifest;
 pub use listing::list_committed;
 pub use moving::commit_moved;
 pub use sending::send_changes;
+pub use showing::show_change_set;

@@ -4,7 +4,8 @@ ghost use Rattle.std.specs.Option.{option_copied};
 ghost use Rattle.repo_index.specs.Catalogue.{named};
 ghost use Rattle.repo_index.specs.Places.{troves_at};
 ghost use Rattle.cli_call.specs.Answer.{AnswersSo};
-ghost use Rattle.cli_call.specs.Command.{disks, AreReady, Performs};
+ghost use Rattle.cli_call.specs.Alone.{ActsOnRepository, AnswersByLists};
+ghost use Rattle.cli_call.specs.Command.{disks, AreReady};
 ghost use Rattle.repo_commands.specs.Listing as spec;
 ghost use Rattle.repo_commands.specs.Listing.{line_of, listed, IsTextOf};
 
@@ -74,7 +75,9 @@ pub fn list_committed<T: TreeDisk, P: TreeDisk>(
     root: &T,
 ) -> Result<Text, Failure>
     requires { AreReady T.disk P.disk (disks root.now repo.now opened.now) }
-    ensures { (input : List ℕ) → Performs T.disk P.disk (spec.list_committed name.now) input (disks root.now repo.now opened.now)
+    ensures acts { (input : List ℕ) → ActsOnRepository T.disk P.disk (spec.list_committed name.now) input (disks root.now repo.now opened.now)
+        (disks root.now repo.now opened.now) result }
+    ensures lists { (input : List ℕ) → AnswersByLists T.disk P.disk (spec.list_committed name.now) input (disks root.now repo.now opened.now)
         (disks root.now repo.now opened.now) result }
 {
     store_laws();

@@ -36,7 +36,6 @@ use Rattle.cli_call.proofs.ChangingRoot.{ChangesRoot}
 use Rattle.cli_call.specs.Command.{disks, AreReady, ChangesNothing, HasCause, Performs, StandsFor, end_of}
 use Rattle.cli_call.proofs.CommandLaws.{goes_read}
 use Rattle.cli_call.specs.Report.{status_of}
-use Rattle.cli_call.proofs.RootDatabase.{one_format}
 use Rattle.cli_call.specs.State.{Meaning, RootState, State}
 use Rattle.cli_call.specs.Stops.{root_failure, root_result}
 use Rattle.cli_call.specs.Store.{HasDamagedFile, IsSettled, IsStore}
@@ -44,6 +43,7 @@ use Rattle.cli_call.specs.Stores.{repository_store, root_store}
 use Rattle.cli_call.proofs.StoreLaws.{read_settled}
 use Rattle.cli_call.proofs.RootResults.{root_ok, same_failure}
 use Rattle.root_commands.specs.Update.{answers_of, update_to, UpdatesTo}
+use Rattle.root_commands.proofs.Answering.{stored_two}
 use Rattle.root_commands.proofs.SpecifiedEnds.{ReadsAtRefusal}
 use Rattle.root_commands.proofs.JobStates as states
 use Rattle.root_commands.proofs.JobStates.{IsUndamaged}
@@ -88,9 +88,6 @@ module _ {T P : Type 0} {root_disk : DiskModel T} {repo_disk : DiskModel P} (roo
   -- ---- by a state that both disks store
 
   module _ (root_told : IsTrue root_disk.tells) (told : IsTrue repo_disk.tells) (s : State) (stands : StandsFor root_disk repo_disk (disks root repo opened) s) where
-    stores : StoresIn Two (root_disk.reads root) s.root
-    stores = one_format law (root_disk.reads root) opened.db.installed opened.db.oldest opened.db.newest s.root (ready.root root_told).holds stands.root.stored
-
     same_troves : far.catalogue.now.troves ≡ troves_of s.repository.commits
     same_troves = ap (λ (c : CatalogueParts). c.troves) (laws.catalogue (repo_disk.reads repo) s.repository far.catalogue.now stands.repo.stored (holds told))
 
@@ -99,7 +96,7 @@ module _ {T P : Type 0} {root_disk : DiskModel T} {repo_disk : DiskModel P} (roo
         (subst (λ (t : List TroveParts). FindsContent t name (repo_disk.reads repo) found) same_troves (is.stands told))
 
     ends : (r : Result Done Stop) → Runs r → Ends root_disk (sources_of carried (answers_of s.repository.contents) options) (to_updated s.root.installed troves) s.root root root' opened'.db r
-    ends r ran = ends_more carried options (let contents = repo_contents repo_disk in contents.answers far) (answers_of s.repository.contents) answered s.root root_disk (to_updated s.root.installed troves) root root' opened'.db r (ran.ends root_told s.root stores)
+    ends r ran = ends_more carried options (let contents = repo_contents repo_disk in contents.answers far) (answers_of s.repository.contents) answered s.root root_disk (to_updated s.root.installed troves) root root' opened'.db r (ran.ends root_told s.root (stored_two law (disks root repo opened) ready root_told stands.root))
 
     whole : (e : Stop) → Runs (Err e) → IsUndamaged e
     whole (stop.FarDamaged path) ran =

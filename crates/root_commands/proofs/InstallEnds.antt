@@ -48,7 +48,7 @@ none_first t troves none = ap (λ (o : Option (List ℕ)). option_or o (first_re
 some_first : (t : TroveParts) (troves : List TroveParts) (path : List ℕ) → first_forbidden t.files ≡ Some path → first_reserved (t ∷ troves) ≡ Some path
 some_first t troves path some = ap (λ (o : Option (List ℕ)). option_or o (first_reserved troves)) some
 
-pub allowed_none : (troves : List TroveParts) → AreAllowed troves → first_reserved troves ≡ None
+allowed_none : (troves : List TroveParts) → AreAllowed troves → first_reserved troves ≡ None
 allowed_none [] allowed = refl
 allowed_none (t ∷ troves) allowed = none_first t troves (All-head IsAllowed t troves allowed) ∙ allowed_none troves (All-tail IsAllowed t troves allowed)
 
@@ -107,7 +107,8 @@ reserved_refuses options input made makes f is why same s =
     let named : first_reserved made.troves ≡ Some path = ap first_reserved first.is ∙ reserved_at first.front first.trove first.behind path first.allowed first.reserved.first in
     inl (record { made = made; makes = makes; is = subst (λ (o : Option (List ℕ)). UnlessReserved o (InstallsMade options made s.root) (Err why)) (sym named) (ap Err first.reserved.refused) })
 
--- what the manifest makes is installed
-pub installs_more : (options : Options) (input : List ℕ) (made : Made) → Makes input made → first_reserved made.troves ≡ None → (s : State) (outcome : Result Effect Refusal) → (install_made options made).IsOutcome s input outcome → (install options).IsOutcome s input outcome
-installs_more options input made makes none s outcome is =
+-- what the manifest makes is installed, where the given troves, which are those, are allowed
+pub installs_more : (options : Options) (input : List ℕ) (made : Made) {given : List TroveParts} → Makes input made → given ≡ made.troves → AreAllowed given → (s : State) (outcome : Result Effect Refusal) → (install_made options made).IsOutcome s input outcome → (install options).IsOutcome s input outcome
+installs_more options input made makes same allowed s outcome is =
+    let none = allowed_none made.troves (subst AreAllowed same allowed) in
     inl (record { made = made; makes = makes; is = subst (λ (o : Option (List ℕ)). UnlessReserved o (InstallsMade options made s.root) outcome) (sym none) is })

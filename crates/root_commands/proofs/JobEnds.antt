@@ -14,7 +14,7 @@ use Rattle.local_db.specs.declared.db.Db.{Db}
 use Rattle.local_db.specs.declared.format.Format.TheVariants.{Two}
 use Rattle.local_db.specs.Record as state
 use Rattle.local_db.specs.Stores.{HoldsDatabase, HoldsStack, StoresSystem}
-use Rattle.local_db.specs.SystemState.{IsStackItem, StackItem, newest, oldest}
+use Rattle.local_db.specs.SystemState.{IsStackItem, StackItem, newest}
 use Rattle.rollback_stack.specs.JobReading.{HoldsNoRecord, HoldsRecord, HoldsRecords, IsDamagedRecord}
 use Rattle.rollback_stack.specs.Numbers.{job_count}
 use Rattle.rollback_stack.specs.Reading.{AreNotes, IsAllStop}

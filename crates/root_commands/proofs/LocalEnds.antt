@@ -26,16 +26,13 @@ use Rattle.root_edits.specs.Standing.{Sight, sights}
 use Rattle.local_db.specs.Installed.{IsInstalled}
 use Rattle.cli_call.specs.declared.failure.Failure.{Failure}
 use Rattle.cli_call.specs.declared.opened.Opened.{Opened}
-use Rattle.cli_call.proofs.AloneLaws.{AnswersAlone}
+use Rattle.cli_call.proofs.AloneLaws.{AnswersWhere}
 use Rattle.cli_call.specs.Command.{disks, AreReady, HasCause}
 use Rattle.cli_call.specs.Failures.{failure_of_fault}
-use Rattle.cli_call.proofs.RootDatabase.{held_database}
-use Rattle.cli_call.proofs.RootLaws.{stored_outside}
 use Rattle.cli_call.specs.State.{State, tree_of}
 use Rattle.cli_call.specs.Stops.{root_result}
-use Rattle.cli_call.specs.Store.{RestsAt}
-use Rattle.cli_call.specs.Stores.{root_store}
 use Rattle.root_commands.specs.LocalChanges.{change_locally}
+use Rattle.root_commands.proofs.Answering.{IsSeen}
 use Rattle.root_commands.proofs.Verified.{AreOuter, files_outer, records_outer}
 use Rattle.system_core.proofs.Held.{OneDatabase}
 use Rattle.local_db.proofs.cny-base.Lists.{contains_at, contains_first, contains_rest}
@@ -100,7 +97,7 @@ module _ (t u : Tree) (same : AgreesOutside is_reserved t u) where
 
 module _ {T P : Type 0} (root_disk : DiskModel T) (repo_disk : DiskModel P) (law : OneDatabase) (name : List ℕ) (input : List ℕ) (root root' : T) (repo : P) (opened : Opened) (ready : AreReady root_disk repo_disk (disks root repo opened)) where
   abbrev pub Answered : Result (List ℕ) Failure → Type 0
-  Answered result = AnswersAlone root_disk (change_locally name) input root result
+  Answered result = AnswersWhere root_disk.tells (IsSeen root_disk root opened) (change_locally name) input result
 
   abbrev pub Caused : Result (List ℕ) Failure → Type 0
   Caused result = HasCause root_disk repo_disk (disks root repo opened) (disks root' repo opened) result
@@ -108,14 +105,12 @@ module _ {T P : Type 0} (root_disk : DiskModel T) (repo_disk : DiskModel P) (law
   abbrev pub Found : Result ChangeSet Stop → Type 0
   Found r = Ends root_disk.tells (IsLocal opened.db.installed name (root_disk.reads root)) (IsLocalRefusal opened.db.installed name (root_disk.reads root)) r (root_disk.faults root) (root_disk.faults root')
 
-  pub by_system : (IsIt : List TroveParts → Tree → Type 0) → ((list : List TroveParts) (t u : Tree) → AgreesOutside is_reserved t u → IsInstalled list → IsIt list t → IsIt list u) → IsTrue root_disk.tells → (s : State) → RestsAt root_store root_disk root s.root
+  pub by_state : (IsIt : List TroveParts → Tree → Type 0) → ((list : List TroveParts) (t u : Tree) → AgreesOutside is_reserved t u → IsInstalled list → IsIt list t → IsIt list u) → (s : State) → IsSeen root_disk root opened s
       → IsIt opened.db.installed (root_disk.reads root) → IsIt s.root.installed (tree_of s.root)
-  by_system IsIt moved told s rests is =
-      let held = held_database law (root_disk.reads root) opened.db s.root (ready.root told).holds rests.stored in
-      moved s.root.installed (root_disk.reads root) (tree_of s.root) (stored_outside (root_disk.reads root) s.root rests.stored) held.stores.system.list (subst (λ (l : List TroveParts). IsIt l (root_disk.reads root)) held.list is)
+  by_state IsIt moved s seen is = moved s.root.installed (root_disk.reads root) (tree_of s.root) seen.outer seen.rules (subst (λ (l : List TroveParts). IsIt l (root_disk.reads root)) seen.list is)
 
   pub stopped_ends : (e : Stop) → Found (Err e) → IfErr (let r : Result ChangeSet Stop = Err e in root_result r) (λ f. Answered (Err f) × Caused (Err f))
-  stopped_ends (stop.Refused why) h = (λ told s rests. inl (by_system (λ l t. IsLocalRefusal l name t why) (λ l t u same rules is. refused_same t u same l name why rules is) told s rests (h told)), tt)
+  stopped_ends (stop.Refused why) h = (λ told s seen. inl (by_state (λ l t. IsLocalRefusal l name t why) (λ l t u same rules is. refused_same t u same l name why rules is) s seen (h told)), tt)
   stopped_ends stop.Failed h = (tt, h)
   stopped_ends stop.Memory h = (tt, tt)
   stopped_ends (stop.Damaged path) h = absurd h
@@ -134,8 +129,8 @@ module _ {T P : Type 0} (root_disk : DiskModel T) (repo_disk : DiskModel P) (law
         at (Ok x) is run told = let same : x ≡ set = cc is in subst (IsLocal opened.db.installed name (root_disk.reads root)) same (run told)
         at (Err e) is run told = absurd (cc is)
 
-    set_of : IsTrue root_disk.tells → (s : State) → RestsAt root_store root_disk root s.root → IsLocal s.root.installed name (tree_of s.root) set
-    set_of told s rests = by_system (λ l t. IsLocal l name t set) (λ l t u same rules is. local_same t u same l name set rules is) told s rests (found_local told)
+    set_of : IsTrue root_disk.tells → (s : State) → IsSeen root_disk root opened s → IsLocal s.root.installed name (tree_of s.root) set
+    set_of told s seen = by_state (λ l t. IsLocal l name t set) (λ l t u same rules is. local_same t u same l name set rules is) s seen (found_local told)
 
     pub written_ends : (bytes : List ℕ) → IsSetStream set bytes → too_large set ≡ None → Answered (Ok bytes)
     written_ends bytes stream small told s rests = record { set = set; local = set_of told s rests; answered = (refl, stream, small) }

@@ -23,7 +23,6 @@ use Rattle.cli_call.specs.Alone.{PerformsAlone}
 use Rattle.cli_call.proofs.ChangingRoot.{ChangesRoot, alone_on_root, performs_on_root}
 use Rattle.cli_call.specs.Command.{disks, AreReady, ChangesNothing as KeepsAll, HasCause, Performs, end_of}
 use Rattle.cli_call.specs.Report.{status_of}
-use Rattle.cli_call.proofs.RootDatabase.{one_format}
 use Rattle.cli_call.specs.State.{Effect, Meaning, RootState, State}
 use Rattle.cli_call.specs.Stops.{root_failure, root_result}
 use Rattle.cli_call.specs.Store.{IsSettled, IsStore, RestsAt}
@@ -31,6 +30,7 @@ use Rattle.cli_call.proofs.StoreLaws.{nothing_done, read_settled}
 use Rattle.cli_call.specs.Stores.{root_store, repository_store}
 use Rattle.cli_call.proofs.RootResults.{root_ok, same_failure}
 use Rattle.root_commands.specs.JobOutcome.{JobOutcome}
+use Rattle.root_commands.proofs.Answering.{stored_two}
 use Rattle.root_commands.proofs.JobStates as states
 use Rattle.root_commands.proofs.JobStates.{IsUndamaged}
 use Rattle.system_core.proofs.Held.{OneDatabase}
@@ -81,17 +81,14 @@ module _ {T P : Type 0} {root_disk : DiskModel T} (root_disk_laws : IsDisk root_
   -- ---- by a state that the root stores
 
   module _ (told : IsTrue root_disk.tells) (s : State) (rests : RestsAt root_store root_disk root s.root) where
-    stores : StoresIn Two (root_disk.reads root) s.root
-    stores = one_format law (root_disk.reads root) opened.db.installed opened.db.oldest opened.db.newest s.root (ready.root told).holds rests.stored
-
     stopped : (e : Stop) → Runs (Err e) → ChangesRoot root_disk (IsOutcome s.root) s root root' (Err (root_failure e))
-    stopped e ran = states.stopped root_disk_laws root root' opened'.db from (step s.root) s rests e (ran.ends told s.root stores) (own_undamaged (Rose (root_disk.faults root) (root_disk.faults root')) e ran.causes)
+    stopped e ran = states.stopped root_disk_laws root root' opened'.db from (step s.root) s rests e (ran.ends told s.root (stored_two law (disks root repo opened) ready told rests)) (own_undamaged (Rose (root_disk.faults root) (root_disk.faults root')) e ran.causes)
 
     told_text : (made : Done) (text : List ℕ) → text ≡ changes_text made.changes → Runs (Ok made) → ChangesRoot root_disk (IsOutcome s.root) s root root' (Ok text)
-    told_text made text is ran = states.told_text root_disk_laws root root' opened'.db from (step s.root) s rests made text is (ran.ends told s.root stores)
+    told_text made text is ran = states.told_text root_disk_laws root root' opened'.db from (step s.root) s rests made text is (ran.ends told s.root (stored_two law (disks root repo opened) ready told rests))
 
     untold_text : (made : Done) → Runs (Ok made) → ChangesRoot root_disk (IsOutcome s.root) s root root' (Err failure.Memory)
-    untold_text made ran = states.untold_text root_disk_laws root root' opened'.db from (step s.root) s rests made (ran.ends told s.root stores)
+    untold_text made ran = states.untold_text root_disk_laws root root' opened'.db from (step s.root) s rests made (ran.ends told s.root (stored_two law (disks root repo opened) ready told rests))
 
   -- ---- on each root
 

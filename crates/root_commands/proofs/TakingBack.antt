@@ -31,6 +31,7 @@ use Rattle.cli_call.specs.Store.{HasDamagedFile, IsSettled, IsStore, RestsAt}
 use Rattle.cli_call.proofs.StoreLaws.{read_settled, settled_rests}
 use Rattle.cli_call.specs.Stores.{root_store, repository_store, HasDamagedJob, StoresNone}
 use Rattle.cli_call.proofs.RootResults.{root_ok, same_failure}
+use Rattle.root_commands.proofs.Answering.{stored_two}
 use Rattle.root_commands.specs.RollingBack.{IsBack}
 use Rattle.system_core.proofs.Held.{OneDatabase}
 
@@ -96,9 +97,6 @@ module _ {T P : Type 0} {root_disk : DiskModel T} (root_disk_laws : IsDisk root_
     effect_is s can = does s (effect_on s) (record { can = can; change = refl; out = refl })
 
     module _ (told : IsTrue root_disk.tells) (s : State) (rests : RestsAt root_store root_disk root s.root) where
-      stores : StoresIn Two (root_disk.reads root) s.root
-      stores = one_format law (root_disk.reads root) opened.db.installed opened.db.oldest opened.db.newest s.root (ready.root told).holds rests.stored
-
       -- it was only read
       still : (f : Result (List ℕ) Failure) → HasRead root_disk root root' (Unit {0}) → Answers (IsOutcome s.root) s s f → ChangesRoot root_disk (IsOutcome s.root) s root root' f
       still f read answers = record {
@@ -120,7 +118,7 @@ module _ {T P : Type 0} {root_disk : DiskModel T} (root_disk_laws : IsDisk root_
           rests = rests_then;
           reads = of_either s.root (back s.root) (root_disk.reads root') taken.moves.reads;
         };
-        outside = λ q out left. taken.moves.others q out (ways.left_out s.root stores can q (left (effect_on s.root) (effect_is s.root can)));
+        outside = λ q out left. taken.moves.others q out (ways.left_out s.root (stored_two law (disks root repo opened) ready told rests) can q (left (effect_on s.root) (effect_is s.root can)));
         seen = unfailed_weaker (λ t shown. inr (effect_on s.root, effect_is s.root can, shown)) taken.moves.shown;
       }
 
@@ -134,25 +132,25 @@ module _ {T P : Type 0} {root_disk : DiskModel T} (root_disk_laws : IsDisk root_
           taken.only
 
       stopped : (e : Stop) → Took (Err e) → ChangesRoot root_disk (IsOutcome s.root) s root root' (Err (root_failure e))
-      stopped (stop.Refused why) done = still (Err (failure.Refused why)) (done.stops told) (refused s.root why (done.taken told s.root stores).ends, refl)
-      stopped stop.Failed done = on_the_way (Err stop.Failed) failure.RootFault (λ le. omega (arith, le)) (done.taken told s.root stores) (λ next is. is)
-      stopped stop.Memory done = on_the_way (Err stop.Memory) failure.Memory (λ le. omega (arith, le)) (done.taken told s.root stores) (λ next is. is)
-      stopped (stop.Damaged path) done = absurd (done.taken told s.root stores).ends
-      stopped stop.FarFailed done = absurd (done.taken told s.root stores).ends
-      stopped (stop.FarDamaged path) done = absurd (done.taken told s.root stores).ends
+      stopped (stop.Refused why) done = still (Err (failure.Refused why)) (done.stops told) (refused s.root why (done.taken told s.root (stored_two law (disks root repo opened) ready told rests)).ends, refl)
+      stopped stop.Failed done = on_the_way (Err stop.Failed) failure.RootFault (λ le. omega (arith, le)) (done.taken told s.root (stored_two law (disks root repo opened) ready told rests)) (λ next is. is)
+      stopped stop.Memory done = on_the_way (Err stop.Memory) failure.Memory (λ le. omega (arith, le)) (done.taken told s.root (stored_two law (disks root repo opened) ready told rests)) (λ next is. is)
+      stopped (stop.Damaged path) done = absurd (done.taken told s.root (stored_two law (disks root repo opened) ready told rests)).ends
+      stopped stop.FarFailed done = absurd (done.taken told s.root (stored_two law (disks root repo opened) ready told rests)).ends
+      stopped (stop.FarDamaged path) done = absurd (done.taken told s.root (stored_two law (disks root repo opened) ready told rests)).ends
 
       rests_back : (n : ℕ) → Was s.root (Ok n) → RestsAt root_store root_disk root' (back s.root)
       rests_back n taken = settled_rests root_laws root' (back s.root) (record { flag_clear = taken.moves.rests.flag_clear; synced = taken.moves.rests.synced }) (inr taken.moves.rests.stores)
 
       told_text : (n : ℕ) (text : List ℕ) → Took (Ok n) → (Tells s.root n → text ≡ text_of s.root) → ChangesRoot root_disk (IsOutcome s.root) s root root' (Ok text)
       told_text n text done is =
-          let taken = done.taken told s.root stores in
+          let taken = done.taken told s.root (stored_two law (disks root repo opened) ready told rests) in
           let can = ways.can_tell s.root n taken.ends in
           moved (Ok n) (Ok text) taken can (λ le. rests_back n taken) (record { effect = effect_on s.root; is = effect_is s.root can; leads = refl; bytes = sym (is taken.ends) })
 
       untold_text : (n : ℕ) → Took (Ok n) → ChangesRoot root_disk (IsOutcome s.root) s root root' (Err failure.Memory)
       untold_text n done =
-          let taken = done.taken told s.root stores in
+          let taken = done.taken told s.root (stored_two law (disks root repo opened) ready told rests) in
           let can = ways.can_tell s.root n taken.ends in
           moved (Ok n) (Err failure.Memory) taken can (λ le. absurd (omega (arith, le))) (inr (record { effect = effect_on s.root; is = effect_is s.root can; leads = refl; bytes = tt }))
 
@@ -217,7 +215,7 @@ module _ {T P : Type 0} {root_disk : DiskModel T} (root_disk_laws : IsDisk root_
       memory_alone r n is took = alone_by (Err failure.Memory) (λ told s rests. untold_text told s rests n (subst Took (root_ok r n is) took))
 
       pub told_alone : (r : Result ℕ Stop) (n : ℕ) (text : List ℕ) → root_result r ≡ Ok n → Took r → (IsTrue root_disk.tells → (s : RootState) → StoresIn Two (root_disk.reads root) s → Tells s n → text ≡ text_of s) → Alone (Ok text)
-      told_alone r n text is took text_is = alone_by (Ok text) (λ told s rests. told_text told s rests n text (subst Took (root_ok r n is) took) (text_is told s.root (stores told s rests)))
+      told_alone r n text is took text_is = alone_by (Ok text) (λ told s rests. told_text told s rests n text (subst Took (root_ok r n is) took) (text_is told s.root (stored_two law (disks root repo opened) ready told rests)))
 
       module _ (repo_disk_laws : IsDisk repo_disk) (repo_laws : IsStore repository_store) where
         done_by : (f : Result (List ℕ) Failure) → Changed f → root_disk.faults root ≤ root_disk.faults root' → Caused f → (status_of (end_of f) ≤ 4 → IsTrue root_disk.tells → IsSettled root_disk root_store.base root')
@@ -237,4 +235,4 @@ module _ {T P : Type 0} {root_disk : DiskModel T} (root_disk_laws : IsDisk root_
         pub told_performs : (r : Result ℕ Stop) (n : ℕ) (text : List ℕ) → root_result r ≡ Ok n → Took r → (IsTrue root_disk.tells → (s : RootState) → StoresIn Two (root_disk.reads root) s → Tells s n → text ≡ text_of s) → Done (Ok text)
         told_performs r n text is took text_is =
             let now : Took (Ok n) = subst Took (root_ok r n is) took in
-            done_by (Ok text) (λ told s rests. told_text told s rests n text now (text_is told s.root (stores told s rests))) now.later tt (λ le told. now.rests told) (λ none told. absurd none)
+            done_by (Ok text) (λ told s rests. told_text told s rests n text now (text_is told s.root (stored_two law (disks root repo opened) ready told rests))) now.later tt (λ le told. now.rests told) (λ none told. absurd none)

@@ -14,17 +14,15 @@ use Rattle.root_edits.specs.Verify.{asked, verified, IsVerified, LacksOne}
 use Rattle.cny_report.specs.Verified.{verified_text}
 use Rattle.cli_call.specs.declared.failure.Failure.{Failure}
 use Rattle.cli_call.specs.declared.opened.Opened.{Opened}
-use Rattle.cli_call.proofs.AloneLaws.{AnswersAlone}
+use Rattle.cli_call.proofs.AloneLaws.{AnswersWhere}
 use Rattle.cli_call.specs.Command.{disks, AreReady, Disks, HasCause}
-use Rattle.cli_call.proofs.RootDatabase.{held_database}
-use Rattle.cli_call.proofs.RootLaws.{stored_outside}
 use Rattle.cli_call.specs.State.{State, tree_of}
 use Rattle.cli_call.specs.Stops.{root_result}
 use Rattle.cli_call.specs.Store.{RestsAt}
 use Rattle.cli_call.specs.Stores.{root_store}
 use Rattle.cli_call.specs.Answer.{answer}
 use Rattle.root_commands.specs.Verifying.{no_contents, verify_installed}
-use Rattle.root_commands.proofs.Answering.{installed_are}
+use Rattle.root_commands.proofs.Answering.{rests_seen, IsSeen}
 use Rattle.root_commands.proofs.Verified.{asked_outer, verified_same}
 use Rattle.system_core.proofs.Held.{OneDatabase}
 use Rattle.root_edits.specs.Local.{records}
@@ -35,24 +33,27 @@ abbrev pub Searched : {T C : Type 0} → DiskModel T → ContentsModel C → Lis
 Searched root_disk contents names list root root' far far' r =
     Searches root_disk contents (λ answers tree found. IsVerified answers tree (asked names list) found) (IsNotInstalled list names) (λ answers tree. LacksOne answers tree (records (asked names list))) root root' far far' r
 
--- what is found on the root's disk is what is found of each system that it stores
+-- what is found on the root's disk is what is found of each state that is seen, and of each system that it stores
+found_of_seen : {T : Type 0} (root_disk : DiskModel T) (root : T) (opened : Opened) (names : List (List ℕ)) (map : ContentMap) (s : State) → IsSeen root_disk root opened s
+    → verified map (root_disk.reads root) (asked names opened.db.installed) ≡ verified map (tree_of s.root) (asked names s.root.installed)
+found_of_seen root_disk root opened names map s seen =
+    ap (λ (l : List TroveParts). verified map (root_disk.reads root) (asked names l)) seen.list
+    ∙ verified_same map (root_disk.reads root) (tree_of s.root) seen.outer (asked names s.root.installed) (asked_outer names s.root.installed seen.rules)
+
 pub found_of_system : {T P : Type 0} (root_disk : DiskModel T) (repo_disk : DiskModel P) (law : OneDatabase) (m : Disks T P) → AreReady root_disk repo_disk m → IsTrue root_disk.tells → (names : List (List ℕ)) (map : ContentMap) (s : State)
     → RestsAt root_store root_disk m.root s.root → verified map (root_disk.reads m.root) (asked names m.opened.db.installed) ≡ verified map (tree_of s.root) (asked names s.root.installed)
-found_of_system root_disk repo_disk law m ready told names map s rests =
-    let held = held_database law (root_disk.reads m.root) m.opened.db s.root (ready.root told).holds rests.stored in
-    ap (λ (l : List TroveParts). verified map (root_disk.reads m.root) (asked names l)) held.list
-    ∙ verified_same map (root_disk.reads m.root) (tree_of s.root) (stored_outside (root_disk.reads m.root) s.root rests.stored) (asked names s.root.installed) (asked_outer names s.root.installed held.stores.system.list)
+found_of_system root_disk repo_disk law m ready told names map s rests = found_of_seen root_disk m.root m.opened names map s (rests_seen law m ready told s rests)
 
 module _ {T P : Type 0} (root_disk : DiskModel T) (repo_disk : DiskModel P) (law : OneDatabase) (names : List (List ℕ)) (input : List ℕ) (root root' : T) (repo : P) (opened : Opened) (ready : AreReady root_disk repo_disk (disks root repo opened)) (far far' : NoContents) where
   abbrev pub Ends : Result (List ℕ) Failure → Type 0
-  Ends result = AnswersAlone root_disk (verify_installed names) input root result
+  Ends result = AnswersWhere root_disk.tells (IsSeen root_disk root opened) (verify_installed names) input result
 
   abbrev pub Caused : Result (List ℕ) Failure → Type 0
   Caused result = HasCause root_disk repo_disk (disks root repo opened) (disks root' repo opened) result
 
   -- it stopped
   pub stopped_ends : (e : Stop) → Searched root_disk (empty_contents {C = NoContents}) names opened.db.installed root root' far far' (Err e) → IfErr (let r : Result Verified Stop = Err e in root_result r) (λ f. Ends (Err f) × Caused (Err f))
-  stopped_ends (stop.Refused why) run = (λ told s rests. subst (λ (l : List TroveParts). IsNotInstalled l names why) (installed_are law (disks root repo opened) ready told s rests) run.ends, tt)
+  stopped_ends (stop.Refused why) run = (λ told s seen. subst (λ (l : List TroveParts). IsNotInstalled l names why) seen.list run.ends, tt)
   stopped_ends stop.Failed run = (tt, run.ends)
   stopped_ends stop.Memory run = (tt, tt)
   stopped_ends (stop.Damaged path) run = absurd run.ends
@@ -66,11 +67,11 @@ module _ {T P : Type 0} (root_disk : DiskModel T) (repo_disk : DiskModel P) (law
   -- it found this
   module _ (found : Verified) (mapped : (map : ContentMap) → IsTrue root_disk.tells → ((name : List ℕ) → map name ≡ None) → found ≡ verified map (root_disk.reads root) (asked names opened.db.installed))
       (installed : AreInstalled opened.db.installed names) where
-    by_system : IsTrue root_disk.tells → (s : State) → RestsAt root_store root_disk root s.root → found ≡ verified no_contents (tree_of s.root) (asked names s.root.installed)
-    by_system told s rests = mapped no_contents told (λ name. refl) ∙ found_of_system root_disk repo_disk law (disks root repo opened) ready told names no_contents s rests
+    by_state : IsTrue root_disk.tells → (s : State) → IsSeen root_disk root opened s → found ≡ verified no_contents (tree_of s.root) (asked names s.root.installed)
+    by_state told s seen = mapped no_contents told (λ name. refl) ∙ found_of_seen root_disk root opened names no_contents s seen
 
     pub found_ends : (text : List ℕ) → text ≡ verified_text found → Ends (Ok text)
-    found_ends text is told s rests = (
-      subst (λ (l : List TroveParts). AreInstalled l names) (installed_are law (disks root repo opened) ready told s rests) installed,
-      ap answer (is ∙ ap verified_text (by_system told s rests)),
+    found_ends text is told s seen = (
+      subst (λ (l : List TroveParts). AreInstalled l names) seen.list installed,
+      ap answer (is ∙ ap verified_text (by_state told s seen)),
     )

@@ -1,6 +1,6 @@
 //! The command that lists installed troves.
 ghost use Rattle.std.specs.Prelude.{List, ℕ};
-ghost use Rattle.cli_call.specs.Alone.{PerformsAlone};
+ghost use Rattle.cli_call.specs.Alone.{AnswersByLists, PerformsAlone};
 ghost use Rattle.cli_call.specs.Answer.{AnswersSo};
 ghost use Rattle.cli_call.specs.Command.{disks, AreReady, Performs};
 ghost use Rattle.root_commands.specs.Listing as spec;
@@ -49,6 +49,8 @@ pub fn list_installed<T: TreeDisk, P: TreeDisk>(
     ensures performs { (input : List ℕ) → Performs T.disk P.disk (spec.list_installed name.now) input (disks root.now repo.now opened.now)
         (disks root.now repo.now opened.now) result }
     ensures alone { (input : List ℕ) → PerformsAlone T.disk P.disk (spec.list_installed name.now) input (disks root.now repo.now opened.now)
+        (disks root.now repo.now opened.now) result }
+    ensures lists { (input : List ℕ) → AnswersByLists T.disk P.disk (spec.list_installed name.now) input (disks root.now repo.now opened.now)
         (disks root.now repo.now opened.now) result }
 {
     store_laws();

@@ -1,6 +1,6 @@
 //! The commands that compare the root with what its troves record.
 ghost use Rattle.std.specs.Prelude.{List, ℕ};
-ghost use Rattle.cli_call.specs.Alone.{PerformsAlone};
+ghost use Rattle.cli_call.specs.Alone.{AnswersByTree, PerformsAlone};
 ghost use Rattle.cli_call.specs.Command.{disks, AreReady, Performs};
 ghost use Rattle.root_commands.specs.Verifying as spec;
 
@@ -28,6 +28,8 @@ pub fn verify_installed<T: TreeDisk, P: TreeDisk>(
     ensures performs { (input : List ℕ) → Performs T.disk P.disk (spec.verify_installed names.now) input (disks root.old repo.now opened.now)
         (disks root.new repo.now opened.now) result }
     ensures alone { (input : List ℕ) → PerformsAlone T.disk P.disk (spec.verify_installed names.now) input (disks root.old repo.now opened.now)
+        (disks root.new repo.now opened.now) result }
+    ensures tree { (input : List ℕ) → AnswersByTree T.disk P.disk (spec.verify_installed names.now) input (disks root.old repo.now opened.now)
         (disks root.new repo.now opened.now) result }
 {
     store_laws();

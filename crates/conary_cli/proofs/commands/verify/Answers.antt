@@ -1,6 +1,6 @@
 use Rattle.std.proofs.Common.{Bool, true, false, not, sym, ap, subst, ◌∙◌}
 use Rattle.std.proofs.lemmas.Bool.{false≢true}
-use Rattle.cli_call.specs.Alone.{PerformsAlone}
+use Rattle.cli_call.specs.Alone.{AnswersByTree, PerformsAlone}
 use Rattle.cli_call.specs.Command.{disks, Performs}
 use Rattle.conary_cli.specs.Commands.{verify}
 use Rattle.conary_cli.proofs.commands.verify.Goals as goal
@@ -25,3 +25,12 @@ returns-clause-alone g c = λ is input.
     let old = disks c.args.root.now c.args.repo.now c.args.opened.now in
     let new = disks c.verify_installed.new.root c.args.repo.now c.args.opened.now in
     subst (λ (full : Bool). PerformsAlone g.T.TreeDisk.disk g.P.TreeDisk.disk (verify full c.args.names.now) input old new c.verify_installed.result) (sym c.if-full.false) (c.verify_installed.ensures.alone input)
+
+pub returns-then-full-clause-tree : goal.returns-then-full-clause-tree
+returns-then-full-clause-tree g c = λ is. absurd (false≢true (ap not (sym c.if-full.true) ∙ is))
+
+pub returns-clause-tree : goal.returns-clause-tree
+returns-clause-tree g c = λ is input.
+    let old = disks c.args.root.now c.args.repo.now c.args.opened.now in
+    let new = disks c.verify_installed.new.root c.args.repo.now c.args.opened.now in
+    subst (λ (full : Bool). AnswersByTree g.T.TreeDisk.disk g.P.TreeDisk.disk (verify full c.args.names.now) input old new c.verify_installed.result) (sym c.if-full.false) (c.verify_installed.ensures.tree input)

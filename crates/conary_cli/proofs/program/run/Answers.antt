@@ -9,14 +9,14 @@ pub returns-clause-call : goal.returns-clause-call
 returns-clause-call g c expected are =
     let before = call_state g.I.Source.source g.O.Sink.sink c.args.input.now c.args.out.now c.args.root.now c.args.repo.now in
     let now = call_state g.I.Source.source g.O.Sink.sink c.run_words-end.new.input c.run_words-end.new.out c.run_words-end.new.root c.run_words-end.new.repo in
-    whole_words g.met.T.TreeDisk.laws g.met.P.TreeDisk.laws c.store_laws.ensures (record { set = c.unique_set.ensures; made = c.one_manifest.ensures.made; excluded = c.one_manifest.ensures.excluded }) before now (sink_state g.E.Sink.sink c.args.err.now) (sink_state g.E.Sink.sink c.report.new.err) c.report.result c.run_words-end.result
+    whole_words g.met.T.TreeDisk.laws g.met.P.TreeDisk.laws c.store_laws.ensures before now (sink_state g.E.Sink.sink c.args.err.now) (sink_state g.E.Sink.sink c.report.new.err) c.report.result c.run_words-end.result
     expected (c.run_words-end.ensures.each expected are) c.report.ensures
 
 pub returns-clause-some : goal.returns-clause-some
 returns-clause-some g c =
     let before = call_state g.I.Source.source g.O.Sink.sink c.args.input.now c.args.out.now c.args.root.now c.args.repo.now in
     let now = call_state g.I.Source.source g.O.Sink.sink c.run_words-end.new.input c.run_words-end.new.out c.run_words-end.new.root c.run_words-end.new.repo in
-    some_words g.met.T.TreeDisk.laws g.met.P.TreeDisk.laws c.store_laws.ensures (record { set = c.unique_set.ensures; made = c.one_manifest.ensures.made; excluded = c.one_manifest.ensures.excluded }) (map string_bytes c.args.words.now) before now (sink_state g.E.Sink.sink c.args.err.now) (sink_state g.E.Sink.sink c.report.new.err) c.report.result c.run_words-end.result
+    some_words g.met.T.TreeDisk.laws g.met.P.TreeDisk.laws c.store_laws.ensures (map string_bytes c.args.words.now) before now (sink_state g.E.Sink.sink c.args.err.now) (sink_state g.E.Sink.sink c.report.new.err) c.report.result c.run_words-end.result
     c.run_words-end.ensures.some c.report.ensures
 
 pub returns-clause-statuses : goal.returns-clause-statuses

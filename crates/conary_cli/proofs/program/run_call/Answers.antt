@@ -1,7 +1,7 @@
 use Rattle.std.proofs.Common.{refl, inl, inr}
 use Rattle.cli_call.specs.Call.{call_state, RunsCall}
 use Rattle.cli_call.proofs.CallLaws.{opened_ready}
-use Rattle.conary_cli.specs.Commands.{meaning, is_of_root}
+use Rattle.conary_cli.specs.Commands.{meaning, scope_of}
 use Rattle.conary_cli.specs.Records.{EndsOpened}
 use Rattle.cny_version.proofs.cny-base.Passing.{err_is}
 use Rattle.conary_cli.proofs.program.run_call.Goals as goal
@@ -10,7 +10,7 @@ pub returns-in_err-opened-clause-runs : goal.returns-in_err-opened-clause-runs
 returns-in_err-opened-clause-runs g c =
     let before = call_state g.I.Source.source g.O.Sink.sink c.args.input.now c.args.out.now c.args.root.now c.args.repo.now in
     let now = call_state g.I.Source.source g.O.Sink.sink c.args.input.now c.args.out.now c.open_disks.new.root c.open_disks.new.repo in
-    err_is (RunsCall g.T.TreeDisk.disk g.P.TreeDisk.disk (is_of_root c.args.command.now) (meaning c.args.command.now) before now) c.from_residual.result c.in_err-opened.field-0.0 c.from_residual.ensures.1
+    err_is (RunsCall g.T.TreeDisk.disk g.P.TreeDisk.disk (scope_of c.args.command.now) (meaning c.args.command.now) before now) c.from_residual.result c.in_err-opened.field-0.0 c.from_residual.ensures.1
     (inl (record { failure = c.in_err-opened.field-0.0; is = refl; stops = c.in_err-opened.ensures; unread = refl; silent = refl }))
 
 pub run_open-requires : goal.run_open-requires

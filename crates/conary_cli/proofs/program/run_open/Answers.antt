@@ -1,7 +1,7 @@
 use Rattle.cny_flow.specs.Flow.{source_state}
 use Rattle.cli_call.specs.Call.{RunsOpen}
 use Rattle.cli_call.specs.Line.{moment}
-use Rattle.conary_cli.specs.Commands.{meaning, is_of_root}
+use Rattle.conary_cli.specs.Commands.{meaning, scope_of}
 use Rattle.conary_cli.specs.Records.{EndsWhole}
 use Rattle.conary_cli.proofs.Calls.{not_read, was_read}
 use Rattle.conary_cli.proofs.RecordEnds.{unread_whole}
@@ -13,14 +13,14 @@ returns-in_err-bytes-clause-runs g c =
     let old = source_state g.I.Source.source c.args.input.now in
     let new = source_state g.I.Source.source c.read_given.new.input in
     let at = moment g.O.Sink.sink c.args.root.now c.args.repo.now c.args.opened.now c.args.out.now in
-    err_is (RunsOpen g.T.TreeDisk.disk g.P.TreeDisk.disk (is_of_root c.args.command.now) (meaning c.args.command.now) old new at at) c.from_residual.result c.in_err-bytes.field-0.0 c.from_residual.ensures.1
-    (not_read (is_of_root c.args.command.now) (meaning c.args.command.now) c.takes_input.result old new at c.in_err-bytes.field-0.0 c.takes_input.ensures c.in_err-bytes.ensures)
+    err_is (RunsOpen g.T.TreeDisk.disk g.P.TreeDisk.disk (scope_of c.args.command.now) (meaning c.args.command.now) old new at at) c.from_residual.result c.in_err-bytes.field-0.0 c.from_residual.ensures.1
+    (not_read (scope_of c.args.command.now) (meaning c.args.command.now) c.takes_input.result old new at c.in_err-bytes.field-0.0 c.takes_input.ensures c.in_err-bytes.ensures)
 
 pub returns-clause-runs : goal.returns-clause-runs
 returns-clause-runs g c =
     let old = source_state g.I.Source.source c.args.input.now in
     let new = source_state g.I.Source.source c.read_given.new.input in
-    was_read (is_of_root c.args.command.now) (meaning c.args.command.now) c.takes_input.result old new _ _ c.run_command.result c.get.result.now _ c.get.ensures c.takes_input.ensures c.in_ok-bytes.ensures c.run_command.ensures.line
+    was_read (scope_of c.args.command.now) (meaning c.args.command.now) c.takes_input.result old new _ _ c.run_command.result c.get.result.now _ c.get.ensures c.takes_input.ensures c.in_ok-bytes.ensures c.run_command.ensures.line
 
 pub returns-in_err-bytes-clause-records : goal.returns-in_err-bytes-clause-records
 returns-in_err-bytes-clause-records g c told =

@@ -1,6 +1,8 @@
 use Rattle.std.proofs.Common.{sym, subst, ◌∙◌}
 use Rattle.cli_call.specs.change-set.ChangeSet.{HasContents}
 use Rattle.cli_call.specs.change-set.declared.change.ChangeSet.{ChangeSet}
+use Rattle.cli_call.proofs.CommandLaws.{acts_performed}
+use Rattle.cli_call.proofs.RootLaws.{root_laws}
 use Rattle.cli_call.specs.Command.{disks, Performs}
 use Rattle.cli_call.specs.Failures.{failure_of_fault}
 use Rattle.repo_commands.specs.Commit.{commit_of}
@@ -67,4 +69,5 @@ returns g c input =
     let new = disks c.read_config.new.root c.commit_set.new.repo c.commit_set.new.opened in
     moved_ends g.met.T.TreeDisk.laws g.met.P.TreeDisk.laws c.stored_state.ensures.catalogue c.store_laws.ensures c.args.way c.args.label.now c.args.given.now input c.args.root.now c.read_config.new.root c.args.repo.now c.args.opened.now c.requires
     c.in_ok-config.config configured c.in_ok-id.id c.in_ok-id.ensures c.in_ok-troves.troves c.in_ok-troves.ensures.value new c.commit_set.result
-    (subst (λ (set : ChangeSet). Performs g.T.TreeDisk.disk g.P.TreeDisk.disk (commit_of set) input mid new c.commit_set.result) (set_is c.in_ok-set.set c.in_ok-troves.troves c.in_ok-set.ensures.parts c.in_ok-set.ensures.contents) (c.commit_set.ensures input))
+    (subst (λ (set : ChangeSet). Performs g.T.TreeDisk.disk g.P.TreeDisk.disk (commit_of set) input mid new c.commit_set.result) (set_is c.in_ok-set.set c.in_ok-troves.troves c.in_ok-set.ensures.parts c.in_ok-set.ensures.contents)
+    (acts_performed g.met.T.TreeDisk.laws root_laws (commit_of c.in_ok-set.set) input mid new c.commit_set.result (ready_on c.args.root.now c.read_config.new.root c.args.repo.now c.args.opened.now c.read_config.ensures.same c.requires) (c.commit_set.ensures input)))

@@ -5,7 +5,7 @@ use Rattle.cli_call.specs.Command.{disks, Performs}
 use Rattle.cli_call.proofs.CommandLaws.{performs_more}
 use Rattle.cli_call.specs.Failures.{failure_of_fault}
 use Rattle.root_commands.specs.Install.{install, install_made}
-use Rattle.root_commands.proofs.InstallEnds.{allowed_none, fault_alone, fault_performs, installs_more, reserved_refuses, unread_refuses}
+use Rattle.root_commands.proofs.InstallEnds.{fault_alone, fault_performs, installs_more, reserved_refuses, unread_refuses}
 use Rattle.local_db.proofs.cny-base.Passing.{err_is}
 use Rattle.root_commands.proofs.installing.install_manifest.Goals as goal
 
@@ -21,12 +21,7 @@ returns-in_err-check_allowed-clause-performs g c =
     (reserved_refuses c.args.options.now c.args.input.now c.in_ok-made.made c.in_ok-made.ensures.value c.in_err-check_allowed.field-0.0 (rw c.get.ensures at c.in_err-check_allowed.ensures.reserved)) g.met.P.TreeDisk.laws c.store_laws.ensures c.requires)
 
 pub returns-clause-performs : goal.returns-clause-performs
-returns-clause-performs g c =
-    let options = c.args.options.now in
-    let made = c.in_ok-made.made in
-    let allowed = c.in_ok-check_allowed.ensures.allowed.0 refl in
-    performs_more (install_made options made) (install options) c.args.input.now c.args.input.now (installs_more options c.args.input.now made c.in_ok-made.ensures.value (allowed_none made.troves (rw c.get.ensures at allowed)))
-    (disks c.args.root.now c.args.repo.now c.args.opened.now) (disks c.install_made.new.root c.args.repo.now c.install_made.new.opened) c.install_made.result (c.install_made.ensures.performs c.args.input.now)
+returns-clause-performs g c = performs_more (install_made c.args.options.now c.in_ok-made.made) (install c.args.options.now) c.args.input.now c.args.input.now (installs_more c.args.options.now c.args.input.now c.in_ok-made.made c.in_ok-made.ensures.value c.get.ensures (c.in_ok-check_allowed.ensures.allowed.0 refl)) _ _ _ (c.install_made.ensures.performs c.args.input.now)
 
 pub returns-in_err-made-clause-alone : goal.returns-in_err-made-clause-alone
 returns-in_err-made-clause-alone g c =
@@ -40,12 +35,7 @@ returns-in_err-check_allowed-clause-alone g c =
     (reserved_refuses c.args.options.now c.args.input.now c.in_ok-made.made c.in_ok-made.ensures.value c.in_err-check_allowed.field-0.0 (rw c.get.ensures at c.in_err-check_allowed.ensures.reserved)))
 
 pub returns-clause-alone : goal.returns-clause-alone
-returns-clause-alone g c =
-    let options = c.args.options.now in
-    let made = c.in_ok-made.made in
-    let allowed = c.in_ok-check_allowed.ensures.allowed.0 refl in
-    alone_more (install_made options made) (install options) c.args.input.now c.args.input.now (installs_more options c.args.input.now made c.in_ok-made.ensures.value (allowed_none made.troves (rw c.get.ensures at allowed)))
-    (disks c.args.root.now c.args.repo.now c.args.opened.now) (disks c.install_made.new.root c.args.repo.now c.install_made.new.opened) c.install_made.result (c.install_made.ensures.alone c.args.input.now)
+returns-clause-alone g c = alone_more (install_made c.args.options.now c.in_ok-made.made) (install c.args.options.now) c.args.input.now c.args.input.now (installs_more c.args.options.now c.args.input.now c.in_ok-made.made c.in_ok-made.ensures.value c.get.ensures (c.in_ok-check_allowed.ensures.allowed.0 refl)) _ _ _ (c.install_made.ensures.alone c.args.input.now)
 
 pub install_made-requires-clause-allowed : goal.install_made-requires-clause-allowed
 install_made-requires-clause-allowed g c = let allowed = c.in_ok-check_allowed.ensures.allowed.0 refl in rw c.get.ensures at allowed

@@ -1,7 +1,7 @@
 //! The command that describes a change set.
-ghost use Rattle.cli_call.specs.Alone.{PerformsAlone};
+ghost use Rattle.cli_call.specs.Alone.{AnswersByLists, PerformsAlone};
 ghost use Rattle.cli_call.specs.Command.{disks, AreReady, Performs};
-ghost use Rattle.conary_cli.specs.ShowChangeSet as spec;
+ghost use Rattle.repo_commands.specs.ShowChangeSet as spec;
 
 use cli_call::change_set::decode;
 use cli_call::cny_base::Text;
@@ -21,6 +21,7 @@ pub fn show_change_set<T: TreeDisk, P: TreeDisk>(
     requires { AreReady T.disk P.disk (disks root.now repo.now opened.now) }
     ensures performs { Performs T.disk P.disk spec.show_change_set input.now (disks root.now repo.now opened.now) (disks root.now repo.now opened.now) result }
     ensures alone { PerformsAlone T.disk P.disk spec.show_change_set input.now (disks root.now repo.now opened.now) (disks root.now repo.now opened.now) result }
+    ensures lists { AnswersByLists T.disk P.disk spec.show_change_set input.now (disks root.now repo.now opened.now) (disks root.now repo.now opened.now) result }
 {
     store_laws();
     let change = decode(alloc, input)?;

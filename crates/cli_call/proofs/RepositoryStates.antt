@@ -1,0 +1,120 @@
+-- What is known of a call of a command that works on the repository alone, from a state whose repository its disk recovers to.
+use Rattle.cli_call.specs.Call.{AreOpened, CallState, NotOpened, OpensRepository, OpensRoot}
+use Rattle.cli_call.specs.WholeCall.{CallEnds, CallOnRepository, HasEffect, OwnOutcome}
+use Rattle.local_db.specs.declared.db.Db.{Db}
+use Rattle.system_core.specs.tree-disk.Disk.{DiskModel, IsDisk}
+use Rattle.cli_call.specs.Report.{End}
+use Rattle.std.proofs.Common.{Err, List, Ok, Result, ap, inl, inr, refl, subst, sym, true, ℕ, ⊎_elim, ◌∙◌, ◌≡◌}
+use Rattle.cli_call.specs.Reading.{Gives, ReadsGiven, given}
+use Rattle.cli_call.specs.Store.{IsStore, Recovers, RestsAt}
+use Rattle.std.specs.Prelude.{IsTrue}
+use Rattle.system_core.specs.tree-disk.Confined.{LeavesOnly}
+use Rattle.cli_call.specs.State.{Meaning, Scope, State}
+use Rattle.cli_call.specs.Line.{Moment, RunsLine}
+use Rattle.system_core.specs.tree-journal.Recovery.{RecoversAsThen}
+use Rattle.system_core.specs.cny-base.declared.stop.Stop.{Stop}
+use Rattle.cli_call.specs.Command.{disks}
+use Rattle.cli_call.proofs.StoreLaws.{kept_recovers, never_damaged, none_yet, opened_rests, rest_reads}
+use Rattle.system_core.proofs.Opened.{never_blocked}
+use Rattle.cli_call.specs.declared.failure.Failure.{Failure}
+use Rattle.cli_call.specs.declared.opened.Opened.{Opened}
+use Rattle.cli_call.proofs.CallEnds.{own_ends, own_unread, no_repo_effect, no_root_effect, no_unread_effect, small}
+use Rattle.cli_call.specs.Stops.{repository_failure, root_failure}
+use Rattle.cli_call.specs.Stores.{repository_store}
+use Rattle.system_core.specs.cny-base.declared.stop.Stop.TheVariants as stop
+
+-- the repository wasn't opened
+stop_ends : {T P : Type 0} (root_disk : DiskModel T) {repo_disk : DiskModel P} → IsStore repository_store → (m : Meaning) (before now : CallState T P) (input : List ℕ) → IsTrue repo_disk.tells → (s : State) → Recovers repository_store (repo_disk.reads before.repo) s.repository
+    → (e : Stop) → OpensRepository root_disk repo_disk before.repo now.repo (Err e) → CallEnds (OwnOutcome m s input) s s before.out now.out (Err (repository_failure e))
+stop_ends root_disk {repo_disk} repo_laws m before now input repo_told s recovers stop.Failed opens = inl refl
+stop_ends root_disk {repo_disk} repo_laws m before now input repo_told s recovers stop.Memory opens = inl refl
+stop_ends root_disk {repo_disk} repo_laws m before now input repo_told s recovers (stop.Refused r) opens = absurd (⊎_elim (λ log. never_blocked log recovers.recovers) (λ is. absurd (cc is)) (opens.stops.told repo_told).cause)
+stop_ends root_disk {repo_disk} repo_laws m before now input repo_told s recovers (stop.Damaged path) opens = absurd (never_damaged repo_laws repo_disk before.repo now.repo path s.repository repo_told opens.stops recovers (kept_recovers repo_laws (repo_disk.reads before.repo) (repo_disk.reads now.repo) s.repository (opens.kept repo_told) recovers))
+stop_ends root_disk {repo_disk} repo_laws m before now input repo_told s recovers stop.FarFailed opens = absurd opens.stops
+stop_ends root_disk {repo_disk} repo_laws m before now input repo_told s recovers (stop.FarDamaged path) opens = absurd opens.stops
+
+module _ {T P : Type 0} {root_disk : DiskModel T} {repo_disk : DiskModel P} (repo_disk_laws : IsDisk repo_disk) (repo_laws : IsStore repository_store) (scope : Scope) (m : Meaning) (before now : CallState T P)
+    (input : List ℕ) (repo_told : IsTrue repo_disk.tells) (s : State) (recovers : Recovers repository_store (repo_disk.reads before.repo) s.repository) where
+  -- ---- the root wasn't opened
+
+  root_stopped : (end : End) (e : Stop) → end ≡ Err (root_failure e) → OpensRoot root_disk repo_disk before.root now.root (Err e) → now.repo ≡ before.repo → now.input ≡ before.input → CallOnRepository root_disk repo_disk m input s before now end
+  root_stopped end e is opens same unread = record {
+    next = s.repository;
+    ends = inl (record { stop = e; is = is; opens = opens; same = same; unread = unread });
+    repo = inl (subst (λ (d : P). LeavesOnly repo_disk before.repo d (RecoversAsThen repo_disk repository_store.base before.repo)) (sym same) (none_yet repo_disk_laws repository_store.base before.repo));
+    rests = λ h. absurd (no_root_effect e (subst HasEffect is h));
+    reads = inl (subst (λ (d : P). Recovers repository_store (repo_disk.reads d) s.repository) (sym same) recovers);
+  }
+
+  -- ---- the root was opened, and the repository wasn't
+
+  repository_stopped : (e : Stop) → OpensRepository root_disk repo_disk before.repo now.repo (Err e) → CallOnRepository root_disk repo_disk m input s before now (Err (repository_failure e))
+  repository_stopped e opens = record {
+    next = s.repository;
+    ends = inr (stop_ends root_disk repo_laws m before now input repo_told s recovers e opens);
+    repo = inl (opens.images repo_told);
+    rests = λ h. absurd (no_repo_effect e h);
+    reads = inl (kept_recovers repo_laws (repo_disk.reads before.repo) (repo_disk.reads now.repo) s.repository (opens.kept repo_told) recovers);
+  }
+
+  pub repository_unopened : (end : End) → NotOpened root_disk repo_disk before now end → CallOnRepository root_disk repo_disk m input s before now end
+  repository_unopened end stops = ⊎_elim
+      (λ at. root_stopped end at.stop (stops.is ∙ ap Err at.is) at.opens at.same stops.unread)
+      (λ at. subst (λ (x : End). CallOnRepository root_disk repo_disk m input s before now x) (sym (stops.is ∙ ap Err at.is)) (repository_stopped at.stop at.opens))
+      stops.stops
+
+  -- ---- both were opened
+
+  module _ (root : T) (repo : P) (opened opened' : Opened) (opens : AreOpened root_disk repo_disk before.root root before.repo repo opened) where
+    abbrev from_ : Moment T P
+    from_ = record { at = disks root repo opened; out = before.out }
+
+    abbrev to_ : Moment T P
+    to_ = record { at = disks now.root now.repo opened'; out = now.out }
+
+    repo_rests : RestsAt repository_store repo_disk repo s.repository
+    repo_rests = opened_rests repo_laws before.repo repo opened.catalogue s.repository (opens.opens.opened repo_told) recovers
+
+    -- the input wasn't read
+    pub repository_unread : (e : Failure) → ReadsGiven m.takes_input before.input now.input (Err e) → Gives m.takes_input input (Err e) → to_ ≡ from_ → CallOnRepository root_disk repo_disk m input s before now (Err e)
+    repository_unread e reads gives same =
+        let same_repo : now.repo ≡ repo = ap (λ (x : Moment T P). x.at.repo) same in
+        record {
+          next = s.repository;
+          ends = inr (own_unread m s input before.out now.out e reads gives);
+          repo = inl (subst (λ (d : P). LeavesOnly repo_disk before.repo d (RecoversAsThen repo_disk repository_store.base before.repo)) (sym same_repo) (opens.opens.images repo_told));
+          rests = λ h. absurd (no_unread_effect e reads h);
+          reads = inl (subst (λ (d : P). Recovers repository_store (repo_disk.reads d) s.repository) (sym same_repo) (rest_reads repo_laws repo s.repository repo_rests));
+        }
+
+    -- the command was performed
+    pub repository_run : (bytes : List ℕ) → given m.takes_input input ≡ Ok bytes → scope.of_repository ≡ true → (end : End) → RunsLine root_disk repo_disk scope m bytes from_ to_ end → CallOnRepository root_disk repo_disk m input s before now end
+    repository_run bytes gives is end runs =
+        let f = (runs.apart is).told repo_told s repo_rests in
+        record {
+          next = f.next;
+          ends = inr (own_ends m s input bytes gives before.out now.out (record { root = s.root; repository = f.next }) end f.ends);
+          repo = inr (record { opened = repo; opening = opens.opens.images repo_told; lives = f.repo.images });
+          rests = λ h. f.repo.rests (small end h);
+          reads = f.repo.reads;
+        }
+
+-- ---- the root
+
+-- it was opened at most
+pub record RootOpened {T P : Type 0} (root_disk : DiskModel T) (repo_disk : DiskModel P) (before now : CallState T P) : Type 0 where
+  pub opened : Result Db Stop
+  pub root : OpensRoot root_disk repo_disk before.root now.root opened
+
+module _ {T P : Type 0} {root_disk : DiskModel T} {repo_disk : DiskModel P} (before now : CallState T P) where
+  pub unopened_root : (end : End) → NotOpened root_disk repo_disk before now end → RootOpened root_disk repo_disk before now
+  unopened_root end stops = ⊎_elim
+      (λ at. record { opened = Err at.stop; root = at.opens })
+      (λ at. record { opened = Ok at.db; root = at.opens_root })
+      stops.stops
+
+  pub opened_root : (root : T) (repo : P) (opened : Opened) → AreOpened root_disk repo_disk before.root root before.repo repo opened → now.root ≡ root → RootOpened root_disk repo_disk before now
+  opened_root root repo opened opens same = record {
+    opened = Ok opened.db;
+    root = subst (λ (d : T). OpensRoot root_disk repo_disk before.root d (Ok opened.db)) (sym same) opens.opens_root;
+  }
