@@ -7,41 +7,21 @@
 //! failed call.
 #![tactic(auto)]
 
-mod calls;
-mod look;
-mod record;
-mod recorded;
-mod standing;
-mod told;
 mod trials;
-mod watched;
 
-use crate::calls::tell_calls;
-use crate::look::look;
-use crate::told::Told;
-use crate::trials::{Command, try_command};
+use crate::trials::{Command, try_command, words_of};
 use conary_cli::start;
+use host_words::{Told, tell_calls, tell_root};
 use std::fs;
 use std::io::{self, Write};
 use std::process::ExitCode;
 
-// The words of a line, with one space between them.
-fn words_of(rt: &HostRuntime, line: &str) -> io::Result<Vec<String>> {
-    let mut words = Vec::new(rt.alloc());
-    for word in line.split(' ') {
-        words.push(String::from_str(rt.alloc(), word)?)?;
+// What the command of a line reads: the file that is named behind ` < `, or nothing.
+fn input_of(rt: &HostRuntime, line: &str) -> io::Result<Vec<u8>> {
+    match line.split_once(" < ") {
+        Some((_, name)) => fs::read(rt, name),
+        None => Ok(Vec::new(rt.alloc())),
     }
-    Ok(words)
-}
-
-// A line is a command's words, and behind ` < ` the file that it reads.
-fn command_of(rt: &HostRuntime, line: &str) -> io::Result<Command> {
-    let (words, input) = match line.split_once(" < ") {
-        Some((words, name)) => (words, fs::read(rt, name)?),
-        None => (line, Vec::new(rt.alloc())),
-    };
-    let words = words_of(rt, words)?;
-    Ok(Command { words, input })
 }
 
 fn show(rt: &HostRuntime, told: &Told) -> io::Result<()> {
@@ -49,12 +29,23 @@ fn show(rt: &HostRuntime, told: &Told) -> io::Result<()> {
     rt.stdout().write_all(text.as_bytes())
 }
 
-fn try_line(rt: &HostRuntime, line: &str) -> io::Result<()> {
+fn tell_trial(rt: &HostRuntime, line: &str, command: &Command<'_>) -> io::Result<()> {
     let mut told = Told::new(rt.alloc());
     told.text(line);
-    let command = command_of(rt, line)?;
-    try_command(rt, &command, &mut told)?;
+    try_command(rt, command, &mut told)?;
     show(rt, &told)
+}
+
+// A line is a command's words, and what it reads.
+fn try_line(rt: &HostRuntime, line: &str) -> io::Result<()> {
+    let (words, _) = line.split_once(" < ").unwrap_or((line, ""));
+    let words = words_of(rt, words)?;
+    let input = input_of(rt, line)?;
+    let command = Command {
+        words: words.as_slice(),
+        input: input.as_slice(),
+    };
+    tell_trial(rt, line, &command)
 }
 
 fn try_lines(rt: &HostRuntime) -> io::Result<()> {
@@ -69,7 +60,7 @@ fn try_lines(rt: &HostRuntime) -> io::Result<()> {
 
 fn show_all(rt: &HostRuntime) -> io::Result<()> {
     let mut told = Told::new(rt.alloc());
-    look(rt, &mut told);
+    tell_root(rt, &mut told);
     tell_calls(rt, &mut told);
     show(rt, &told)?;
     try_lines(rt)

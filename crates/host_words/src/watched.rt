@@ -4,14 +4,23 @@ ghost use Rattle.tree_disk.specs.Untold.{untold, untold_laws};
 use crate::record::Record;
 use crate::recorded::Recorded;
 use std::alloc::Global;
+use std::marker::Model;
 use tree_disk::cny_base::{Mode, Names, Path, Target, Text};
 use tree_disk::{DiskStop, Look, TreeDisk};
 use tree_host::HostTree;
 
-/// The directory, and the record of what is asked of its files.
-pub(crate) struct Watched<'a> {
+/// The directory, and the record of what is asked of its files. It tells nothing but its count of faults.
+pub struct Watched<'a> {
     tree: HostTree<'a, Recorded<'a>>,
     record: &'a Record,
+}
+
+impl<'a> Model for Watched<'a> {
+    ghost use Rattle.std.specs.Prelude.{ℕ};
+
+    ghost Value = { ℕ };
+
+    ghost view = { λ a. a.tree };
 }
 
 // Written by hand, so that to let a value go is a single call wherever a function ends early.
@@ -26,12 +35,7 @@ impl Drop for Watched<'_> {
 
 impl<'a> Watched<'a> {
     /// The directory of this name, over files that keep this record.
-    pub(crate) fn new(
-        alloc: Global,
-        files: &'a Recorded<'a>,
-        record: &'a Record,
-        dir: Text,
-    ) -> Self {
+    pub fn new(alloc: Global, files: &'a Recorded<'a>, record: &'a Record, dir: Text) -> Self {
         Watched {
             tree: HostTree::new(alloc, files, dir),
             record,
@@ -42,10 +46,15 @@ impl<'a> Watched<'a> {
     pub(crate) fn waits(&self) -> u64 {
         self.record.waits()
     }
+
+    /// Whether a wait failed, and a further sync is answered as if none had.
+    pub fn forgets(&mut self, alloc: Global) -> bool {
+        self.record.has_failed_sync() && self.sync(alloc).is_ok()
+    }
 }
 
 impl TreeDisk for Watched<'_> {
-    ghost disk = { untold (λ d. d.tree) };
+    ghost disk = { untold (λ faults. faults) };
 
     fn look(&mut self, alloc: Global, path: &Path) -> Result<Look, DiskStop> {
         self.tree.look(alloc, path)
@@ -98,5 +107,5 @@ impl TreeDisk for Watched<'_> {
         answer
     }
 
-    ghost laws = { untold_laws (λ d. d.tree) };
+    ghost laws = { untold_laws (λ faults. faults) };
 }

@@ -11,7 +11,7 @@ type Unkept = BTreeMap<u64, String>;
 
 /// The calls of a run, one of which may fail, and the nodes that were changed and not synced since. It remembers whether it lacks
 /// something, so what notes a change gives nothing back.
-pub(crate) struct Record {
+pub struct Record {
     alloc: Global,
     fails_at: u64,
     calls: Cell<u64>,
@@ -53,12 +53,7 @@ impl Record {
         }
     }
 
-    /// How many calls were made.
-    pub(crate) fn calls(&self) -> u64 {
-        self.calls.get()
-    }
-
-    /// How many of them waited for the disk.
+    /// How many calls waited for the disk.
     pub(crate) fn waits(&self) -> u64 {
         self.waits.get()
     }
@@ -68,7 +63,7 @@ impl Record {
         self.fails_at != 0 && self.calls.get() >= self.fails_at
     }
 
-    /// Whether it was a wait for the disk.
+    /// Whether that call was a wait for the disk.
     pub(crate) fn has_failed_sync(&self) -> bool {
         self.has_failed_sync.get()
     }
@@ -142,6 +137,18 @@ impl Record {
             uncovered.push(String::from_str(self.alloc, place.as_str())?)?;
         }
         Ok(())
+    }
+
+    /// Tells what a run asked of the disk of this name.
+    pub fn tell(&self, told: &mut Told, name: &str) {
+        told.text("  ");
+        told.text(name);
+        told.text(": ");
+        told.number(self.calls.get());
+        told.text(" calls, ");
+        told.number(self.waits());
+        told.text(" waits, left out by a sync:");
+        self.tell_uncovered(told);
     }
 
     /// Tells the places that a sync left out, each behind a space.

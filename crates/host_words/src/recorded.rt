@@ -10,7 +10,7 @@ use tree_disk::cny_base::parent_of;
 
 /// The host's files, with a record of what is asked of them.
 #[derive(Drop)]
-pub(crate) struct Recorded<'a> {
+pub struct Recorded<'a> {
     rt: &'a HostRuntime,
     record: &'a Record,
     // Whether waits for the disk are made.
@@ -18,7 +18,7 @@ pub(crate) struct Recorded<'a> {
 }
 
 /// An open file of them.
-pub(crate) struct RecordedFile<'a> {
+pub struct RecordedFile<'a> {
     file: File,
     node: u64,
     place: String,
@@ -49,7 +49,7 @@ impl Drop for RecordedFile<'_> {
 
 impl<'a> Recorded<'a> {
     /// The files that keep this record; `waits` says whether they make the waits for the disk too.
-    pub(crate) fn new(rt: &'a HostRuntime, record: &'a Record, waits: bool) -> Self {
+    pub fn new(rt: &'a HostRuntime, record: &'a Record, waits: bool) -> Self {
         Recorded { rt, record, waits }
     }
 
@@ -74,12 +74,33 @@ impl<'a> Recorded<'a> {
         }
     }
 
-    // A node that stood at a place stands there no more.
-    fn end_removal(&self, node: Option<u64>, place: &str) {
+    // Behind a call that makes a directory.
+    fn end_making(&self, place: &str, made: io::Result<()>) -> io::Result<()> {
+        made?;
+        self.mark(place);
+        self.mark_name(place);
+        Ok(())
+    }
+
+    // Counts a call that takes away what stands at a place, and answers the node that stands there.
+    fn begin_removal(&self, place: &str) -> io::Result<Option<u64>> {
+        self.record.count()?;
+        Ok(self.node_at(place))
+    }
+
+    // Behind that call: where it ended well, the node stands there no more.
+    fn end_removal(
+        &self,
+        node: Option<u64>,
+        place: &str,
+        removed: io::Result<()>,
+    ) -> io::Result<()> {
+        removed?;
         if let Some(node) = node {
             self.record.drop_node(node);
         }
         self.mark_name(place);
+        Ok(())
     }
 }
 
@@ -127,44 +148,34 @@ impl<'a> Files for Recorded<'a> {
     }
 
     fn rename(&self, from: &str, to: &str) -> io::Result<()> {
-        self.record.count()?;
-        let replaced = self.node_at(to);
+        let replaced = self.begin_removal(to)?;
         self.rt.rename(from, to)?;
         self.mark_name(from);
-        self.end_removal(replaced, to);
-        Ok(())
+        self.end_removal(replaced, to, Ok(()))
     }
 
     fn remove_file(&self, path: &str) -> io::Result<()> {
-        self.record.count()?;
-        let node = self.node_at(path);
-        self.rt.remove_file(path)?;
-        self.end_removal(node, path);
-        Ok(())
+        let node = self.begin_removal(path)?;
+        let removed = self.rt.remove_file(path);
+        self.end_removal(node, path, removed)
     }
 
     fn create_dir(&self, path: &str) -> io::Result<()> {
         self.record.count()?;
-        self.rt.create_dir(path)?;
-        self.mark(path);
-        self.mark_name(path);
-        Ok(())
+        let made = self.rt.create_dir(path);
+        self.end_making(path, made)
     }
 
     fn create_dir_with_mode(&self, path: &str, mode: u32) -> io::Result<()> {
         self.record.count()?;
-        self.rt.create_dir_with_mode(path, mode)?;
-        self.mark(path);
-        self.mark_name(path);
-        Ok(())
+        let made = self.rt.create_dir_with_mode(path, mode);
+        self.end_making(path, made)
     }
 
     fn remove_dir(&self, path: &str) -> io::Result<()> {
-        self.record.count()?;
-        let node = self.node_at(path);
-        self.rt.remove_dir(path)?;
-        self.end_removal(node, path);
-        Ok(())
+        let node = self.begin_removal(path)?;
+        let removed = self.rt.remove_dir(path);
+        self.end_removal(node, path, removed)
     }
 
     fn remove_dir_all<B: Allocator>(&self, _alloc: B, _path: &str) -> io::Result<()> {

@@ -4,7 +4,7 @@ use std::io::{self, Error, ErrorKind};
 use tree_disk::cny_base::{Mode, decimal, octal};
 
 /// A text. It remembers whether something that was to be told couldn't be, so what adds to it gives nothing back.
-pub(crate) struct Told {
+pub struct Told {
     alloc: Global,
     text: String,
     has_failed: bool,
@@ -23,7 +23,7 @@ impl Drop for Told {
 
 impl Told {
     /// Nothing yet.
-    pub(crate) fn new(alloc: Global) -> Self {
+    pub fn new(alloc: Global) -> Self {
         Told {
             alloc,
             text: String::new(alloc),
@@ -58,14 +58,14 @@ impl Told {
     }
 
     /// Adds a text.
-    pub(crate) fn text(&mut self, text: &str) {
+    pub fn text(&mut self, text: &str) {
         if self.text.push_str(text).is_err() {
             self.fail();
         }
     }
 
     /// Adds a number in decimal digits.
-    pub(crate) fn number(&mut self, number: u64) {
+    pub fn number(&mut self, number: u64) {
         match decimal(self.alloc, number) {
             Ok(digits) => self.text(digits.get()),
             Err(_) => self.fail(),
@@ -81,7 +81,7 @@ impl Told {
     }
 
     /// The text, where all was told.
-    pub(crate) fn end(&self) -> io::Result<&str> {
+    pub fn end(&self) -> io::Result<&str> {
         if self.has_failed {
             return Err(Error::from(ErrorKind::Other));
         }

@@ -4,11 +4,11 @@ use std::fs::{self, Files};
 use std::io;
 use std::os::unix::fs::{PermissionsExt, symlink};
 
-// The bits of a mode that say who may do what.
-const PERMISSION_BITS: u32 = 0o7777;
+/// The bits of a mode that say who may do what.
+pub(crate) const PERMISSION_BITS: u32 = 0o7777;
 
 /// The kind, the mode, and the bytes or the target of what stands at each path below a directory.
-pub(crate) type Standing = BTreeMap<String, Vec<u8>>;
+pub type Standing = BTreeMap<String, Vec<u8>>;
 
 // A name below a directory.
 fn join(rt: &HostRuntime, dir: &str, name: &str) -> io::Result<String> {
@@ -42,6 +42,12 @@ fn add_children(
     Ok(())
 }
 
+// Adds the paths of what stands in the directory at a path, if it is one.
+fn add_below(rt: &HostRuntime, dir: &str, path: &str, paths: &mut Vec<String>) -> io::Result<()> {
+    let place = place_of(rt, dir, path)?;
+    add_children(rt, place.as_str(), path, paths)
+}
+
 // The paths of all that stands below a directory, each directory before what is in it.
 fn paths_below(rt: &HostRuntime, dir: &str) -> io::Result<Vec<String>> {
     let mut paths = Vec::new(rt.alloc());
@@ -51,37 +57,58 @@ fn paths_below(rt: &HostRuntime, dir: &str) -> io::Result<Vec<String>> {
             break;
         };
         let path = String::from_str(rt.alloc(), path.as_str())?;
-        let place = place_of(rt, dir, path.as_str())?;
-        add_children(rt, place.as_str(), path.as_str(), &mut paths)?;
+        add_below(rt, dir, path.as_str(), &mut paths)?;
     }
     Ok(paths)
 }
 
-fn node_at(rt: &HostRuntime, place: &str) -> io::Result<Vec<u8>> {
+fn add_link(rt: &HostRuntime, place: &str, node: &mut Vec<u8>) -> io::Result<()> {
+    node.push(b'l')?;
+    let target = rt.read_link(rt.alloc(), place)?;
+    node.extend_from_slice(target.as_str().as_bytes())?;
+    Ok(())
+}
+
+fn add_bytes(rt: &HostRuntime, place: &str, node: &mut Vec<u8>) -> io::Result<()> {
+    node.push(b'f')?;
+    let bytes = fs::read(rt, place)?;
+    node.extend_from_slice(bytes.as_slice())?;
+    Ok(())
+}
+
+fn add_node(rt: &HostRuntime, place: &str, node: &mut Vec<u8>) -> io::Result<()> {
     let metadata = fs::symlink_metadata(rt, place)?;
-    let mut node = Vec::new(rt.alloc());
     if metadata.is_symlink() {
-        node.push(b'l')?;
-        let target = rt.read_link(rt.alloc(), place)?;
-        node.extend_from_slice(target.as_str().as_bytes())?;
-        return Ok(node);
+        return add_link(rt, place, node);
     }
     let mode = metadata.permissions().mode() & PERMISSION_BITS;
     node.extend_from_slice(&mode.to_be_bytes())?;
     if metadata.is_file() {
-        node.push(b'f')?;
-        node.extend_from_slice(fs::read(rt, place)?.as_slice())?;
+        return add_bytes(rt, place, node);
     }
+    Ok(())
+}
+
+// What stands at a path below a directory.
+fn node_at(rt: &HostRuntime, dir: &str, path: &str) -> io::Result<Vec<u8>> {
+    let mut node = Vec::new(rt.alloc());
+    let place = place_of(rt, dir, path)?;
+    add_node(rt, place.as_str(), &mut node)?;
     Ok(node)
 }
 
+fn add_standing(rt: &HostRuntime, dir: &str, path: &str, found: &mut Standing) -> io::Result<()> {
+    let node = node_at(rt, dir, path)?;
+    found.insert(String::from_str(rt.alloc(), path)?, node)?;
+    Ok(())
+}
+
 /// What stands below a directory.
-pub(crate) fn standing(rt: &HostRuntime, dir: &str) -> io::Result<Standing> {
-    let mut found = BTreeMap::new(rt.alloc());
-    for path in paths_below(rt, dir)? {
-        let place = place_of(rt, dir, path.as_str())?;
-        let node = node_at(rt, place.as_str())?;
-        found.insert(path, node)?;
+pub fn standing_in(rt: &HostRuntime, dir: &str) -> io::Result<Standing> {
+    let mut found = Standing::new(rt.alloc());
+    let paths = paths_below(rt, dir)?;
+    for path in &paths {
+        add_standing(rt, dir, path.as_str(), &mut found)?;
     }
     Ok(found)
 }
@@ -100,15 +127,21 @@ fn copy_node(rt: &HostRuntime, from: &str, to: &str) -> io::Result<()> {
     fs::set_permissions(rt, to, metadata.permissions())
 }
 
+// Copies what stands at a path below a directory, without what is in it.
+fn copy_path(rt: &HostRuntime, from: &str, to: &str, path: &str) -> io::Result<()> {
+    let old = place_of(rt, from, path)?;
+    let new = place_of(rt, to, path)?;
+    copy_node(rt, old.as_str(), new.as_str())
+}
+
 /// Copies a directory with all below it to another name, in place of what stands there.
-pub(crate) fn copy_all(rt: &HostRuntime, from: &str, to: &str) -> io::Result<()> {
+pub fn copy_all(rt: &HostRuntime, from: &str, to: &str) -> io::Result<()> {
     if fs::exists(rt, to)? {
         fs::remove_dir_all(rt, to)?;
     }
-    for path in paths_below(rt, from)? {
-        let old = place_of(rt, from, path.as_str())?;
-        let new = place_of(rt, to, path.as_str())?;
-        copy_node(rt, old.as_str(), new.as_str())?;
+    let paths = paths_below(rt, from)?;
+    for path in &paths {
+        copy_path(rt, from, to, path.as_str())?;
     }
     Ok(())
 }
@@ -191,7 +224,7 @@ fn holds_all(found: &Standing, wanted: &Standing) -> bool {
 }
 
 /// Whether what was found is what is wanted, and beside it only what may be left.
-pub(crate) fn agrees(found: &Standing, wanted: &Standing) -> bool {
+pub fn agrees(found: &Standing, wanted: &Standing) -> bool {
     for path in found.keys() {
         let path = path.as_str();
         if !is_own(path) && !may_be_left(path) && wanted.get(path).is_none() {

@@ -228,7 +228,7 @@ fn tell_part(rt: &HostRuntime, part: &str, told: &mut Told) {
 /// Makes the calls of the file `calls`, and tells what each answers. An empty line is between two parts. Of each the first line is
 /// `over` and the name of a directory, and the others are calls of that directory as a disk, but those that begin with `host`, which
 /// are made past it.
-pub(crate) fn tell_calls(rt: &HostRuntime, told: &mut Told) {
+pub fn tell_calls(rt: &HostRuntime, told: &mut Told) {
     match fs::read_to_string(rt, "calls") {
         Ok(text) => {
             for part in text.split("\n\n") {

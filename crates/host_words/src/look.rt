@@ -1,20 +1,23 @@
 //! A look past the program at the directory `root`: its names, its nodes outside `var`, and the bytes of the file.
+use crate::standing::PERMISSION_BITS;
 use crate::told::Told;
 use std::fs::{self, Metadata};
 use std::io;
 use std::os::unix::fs::PermissionsExt;
 use tree_disk::cny_base::Mode;
 
-// The bits of a mode that say who may do what.
-const PERMISSION_BITS: u32 = 0o7777;
-
-// The names in a directory, in the order of their bytes.
-fn names_in(rt: &HostRuntime, dir: &str) -> io::Result<Vec<String>> {
-    let mut names = Vec::new(rt.alloc());
+fn add_names(rt: &HostRuntime, dir: &str, names: &mut Vec<String>) -> io::Result<()> {
     for entry in fs::read_dir(rt, dir)? {
         let entry = entry?;
         names.push(String::from_str(rt.alloc(), entry.file_name())?)?;
     }
+    Ok(())
+}
+
+// The names in a directory, in the order of their bytes.
+fn names_in(rt: &HostRuntime, dir: &str) -> io::Result<Vec<String>> {
+    let mut names = Vec::new(rt.alloc());
+    add_names(rt, dir, &mut names)?;
     names.sort()?;
     Ok(names)
 }
@@ -72,7 +75,7 @@ fn tell_bytes(rt: &HostRuntime, told: &mut Told, path: &str) {
 }
 
 /// Tells what stands in the directory `root` outside `var`.
-pub(crate) fn look(rt: &HostRuntime, told: &mut Told) {
+pub fn tell_root(rt: &HostRuntime, told: &mut Told) {
     tell_names(rt, told, "root");
     tell_names(rt, told, "root/etc");
     tell_node(rt, told, "root/etc");
