@@ -4,9 +4,11 @@ The calls act on one catalogue, which is empty at first: the list of all troves 
 end to end. What specifications mean, what references reach, shadows and branches are those of tools/model/repository.py.
 """
 import itertools
+import re
 import sys
 from random import Random
 
+from tools.cases.rows import Rows
 from tools.lines.words import digits
 from tools.model import repository
 from tools.model.streams import regular, trove_bytes, trove_of
@@ -22,13 +24,14 @@ def on(label, revision):
     return b"/" + label + b"/" + revision
 
 
-def shadow(label, revision):
-    return b"/" + LABEL + b"//" + label + b"/" + revision
-
-
 def named(name, version=on(LABEL, b"1.0-1-1"), flavor=b""):
     return name + b"=" + version + flavor
 
+
+F255, F256 = b"f" * 255, b"f" * 256
+TABLE = Rows("catalogues", globals(), {f"L{size}": b"h@n:" + b"t" * (size - 4) for size in range(240, 256)})
+# The topics of worked cases, whose answers are written by hand.
+WORKED = [topic for topic in TABLE.topics if "_" in topic]
 
 # ---- what each call answers, and how a line has its arguments
 
@@ -184,59 +187,58 @@ def look_ups():
     yield from (("has_content", byte) for byte in (0, 1, 97, 98, 99, 255))
 
 
-def index_calls():
-    yield from look_ups()
-    # The second time the same id, with other contents: nothing is added.
-    for contents, after in (([97], [("count_commit",)]), ([98, 255], [])):
-        yield add_with(named(b"foo:runtime"), *contents)
-        yield from after
-        yield from look_ups()
-    # Another version, the same version with a flavor, another label, another name.
-    yield from (add_with(named(b"foo:runtime", on(LABEL, b"1.0-2-1")), 98, 97, 98), add_with(named(b"foo:runtime", flavor=b"[ssl]")))
-    yield from (add_with(named(b"foo:runtime", on(OTHER, b"1.0-1-1")), 0, 1), add_with(named(b"foo:lib")), ("count_commit",))
-    yield from look_ups()
-    # An older revision committed last is the latest one.
-    yield from (add_with(named(b"foo:runtime", on(LABEL, revision))) for revision in (b"1.1-1-7", b"1.0-1-9", b"1.1-1-3"))
-    yield from look_ups()
-    yield from (("latest", b"foo:runtime", on(LABEL, revision), asked) for revision, asked in ((b"1.1-1-1", b"any"), (b"1.1-2-1", b"source")))
-    # Sources, their shadow, a package and a group.
-    yield from (add_with(named(b"foo:source", on(LABEL, revision))) for revision in (b"1.0-1", b"1.0-2"))
-    yield from (add_with(named(b"foo:source", shadow(OTHER, revision))) for revision in (b"1.0-1", b"1.0-1.1"))
-    yield from (add(named(b"foo"), named(b"foo:lib")), add(named(b"group-x"), named(b"foo"), named(b"foo:lib")), ("count_commit",))
-    yield from look_ups()
-    for revision, asked in itertools.product((b"1.0-1", b"1.0-1.1", b"1.0-2", b"1.1-1"), (b"any", b"source")):
-        yield "latest", b"foo:source", shadow(OTHER, revision), asked
-    # A copy is a catalogue of its own.
-    yield from (("copy",), add_with(named(b"foo:lib")), add_with(named(b"foo:lib", on(LABEL, b"1.0-1-2")), 99))
-    yield from look_ups()
+def id_text_of(text):
+    """An id, which is at the first revision on the label where a row doesn't tell its version."""
+    name, bracket, flavor = TABLE.bytes(text).partition(b"[")
+    return (name if b"=" in name else named(name)) + bracket + flavor
 
 
-def cut(given):
-    return given.split(b"|")
+def calls_of(row):
+    """The calls of a row. Ids of which there are several have a blank between two, but those that are added and moved."""
+    call, _, rest = row.partition(" ")
+    fields = re.split(r" ?\| ?", rest)
+    further = fields[-1].split() if fields[1:] else []
+    match call:
+        case "look_ups":
+            yield from look_ups()
+        case "add":
+            yield add(id_text_of(fields[0]), *map(id_text_of, further))
+        case "add_with":
+            yield add_with(id_text_of(fields[0]), *map(int, further))
+        case "expand":
+            yield call, *map(id_text_of, rest.split())
+        case "resolve":
+            spec, labels, flavor = map(TABLE.bytes, fields)
+            yield call, spec, labels.split(), flavor
+        case "move":
+            yield from move(id_text_of(fields[0]), *TABLE.lines(further))
+        case "moved":
+            text, label, way = rest.split(" ")
+            yield call, id_text_of(text), TABLE.bytes(label), way
+        case "config":
+            yield call, TABLE.bytes(rest)
+        case _:
+            yield call, *TABLE.lines(rest.split())
+
+
+def calls_in(topic):
+    return (call for row in TABLE.topics[topic] for call in calls_of(row))
 
 
 def spec_calls():
     """Texts of specifications, and texts of none."""
-    names = [*cut(b"foo|foo:runtime|group-x||foo:|-foo|foo:bar:baz|group-x:lib"), b"f" * 255, b"f" * 256, b"a+b.c_d-e"]
-    places = [b"", b"=", b"=" + LABEL, b"=" + on(LABEL, b"1.0-1-1"), b"=" + on(LABEL, b"1.0-1"), b"==" + LABEL, b"=" + LABEL + b"="]
-    places += cut(b"=a@b:c|=a@b|=b:c|=/a@b:c|=a@b:c/1-1|=/a@b:c//d/1-1|=/a@b:c//e:d/1-1.1-1|=/b:c/1-1|=/a@b:c/1-1/d/1-2-3|=/a@b:c/1-01|= a@b:c|=a@b:c ")
-    places.append(b" =a@b:c")
-    flavors = cut(b"|[]|[|]|[ssl]|[!ssl]|[ssl, ~krb is: x86(sse2)]|[krb,ssl  is:x86]|[ssl][krb]|[[ssl]]|[ssl] |[ssl|ssl]|[ ssl]|[ssl,ssl]|[=]|[a=b]")
+    names, places, flavors = map(TABLE.all_bytes, ("names", "places", "flavors"))
     yield from (("spec", name + place) for name in names for place in places)
     yield from (("spec", b"foo:runtime" + place + flavor) for place in places for flavor in flavors)
 
 
 def config_calls():
     """Configuration files: one line of each kind, and files of several lines."""
-    keys = cut(b"installLabelPath|flavor|other|installLabelPaths|installlabelpath|Flavor|flavors|flavo||#|#flavor|[|[flavor|\xff|flavor\r|flavor[")
-    values = [b"", LABEL, LABEL + b" " + OTHER, OTHER + b"\t \t" + LABEL]
-    values += cut(b"a@b|@b:c|a@b:c,a@b:c|a@b:c a@b:c|ssl|~ssl, krb|ssl\tis: x86|~ssl,\t!krb\tis:\tx86(sse2)|ssl,ssl|ssl,|is: |\xc3\xa9|\xff|a@b:c \xff")
-    values += cut(b"a@b:c\ra@b:c|[x")
-    blanks = [cut(blank) for blank in (b"| |", b" \t|\t  |\t \r", b"\r| |", b"|\r|", b"| |\r\r", b"| |\r ", b"|=|")]
+    keys, values, lines = map(TABLE.all_bytes, ("keys", "values", "lines of configurations"))
+    blanks = [blank.split(b"|") for blank in (b"| |", b" \t|\t  |\t \r", b"\r| |", b"|\r|", b"| |\r\r", b"| |\r ", b"|=|")]
     for key, value, (front, between, back) in itertools.product(keys, values, blanks):
         yield "config", front + key + between + value + back
-    lines = cut(b"|installLabelPath a@b:c|installLabelPath\td@e:f a@b:c|installLabelPath|flavor ssl|flavor|flavor ~krb is: x86|other|[section]| [|flavor ssl,")
-    lines += [b"installLabelPath a@b", *(b"installLabelPath " + b" ".join(b"a@b:c%d" % place for place in range(count)) for count in (63, 64, 65))]
+    lines += (b"installLabelPath " + b" ".join(b"a@b:c%d" % place for place in range(count)) for count in (63, 64, 65))
     for first, second in itertools.product(lines, lines):
         yield "config", first + b"\n" + second
         yield "config", first + b"\r\n\r\n" + second + b"\r\n"
@@ -246,28 +248,16 @@ def config_calls():
 
 def resolve_calls():
     """Which troves specifications mean: on labels, at versions, on flavors."""
-    for name, label, revision, flavor in (
-        (b"baz:lib", LABEL, b"1.0-1-1", b"[ssl]"), (b"baz:lib", LABEL, b"1.0-2-1", b"[~ssl]"), (b"two:lib", LABEL, b"1.0-1-1", b"[ssl]"),
-        (b"two:lib", LABEL, b"1.0-1-1", b"[!ssl]"), (b"old:lib", OLD, b"1.0-1-1", b""), (b"old:lib", OLD, b"2.0-1-1", b"[is: x86]"),
-        (b"old:lib", OTHER, b"1.5-1-1", b"[krb]"), *((b"old:lib", LABEL, b"1.0-3-1", b"[%s]" % flavor) for flavor in cut(b"~!krb|~krb,~ssl|~krb|~ssl")),
-        (b"old:lib", LABEL, b"1.0-2-1", b""), (b"old:lib", LABEL, b"1.0-3-1", b"[!zip]"),
-        *((b"tie:lib", LABEL, b"1.0-1-1", b"[~%s]" % flavor) for flavor in cut(b"b|a|c")),
-    ):
-        yield add_with(named(name, on(label, revision), flavor))
-    yield add_with(named(b"tie:source", shadow(OTHER, b"1.0-1")))
-    # A newer version wins over a better score; of one version the flavor that fits is chosen.
-    yield "resolve", b"baz:lib=" + LABEL, [], b"ssl"
-    for flavor in cut(b"|~!ssl|ssl|~ssl|!ssl"):
-        yield from (("resolve", b"two:lib=" + LABEL, [], flavor), ("resolve", b"two:lib", [LABEL], flavor))
-    # The refusals of specifications without a label, and of those that nothing resolves.
-    yield from (("resolve", b"foo", [], b""), ("resolve", b"none=" + LABEL, [], b""), ("resolve", b"none", [LABEL], b""))
-    flavors = cut(b"|krb|~krb|~!krb|!krb|ssl|krb,ssl is: x86|~!ssl,zip|a,b|~a,c")
-    paths = [[], [LABEL], [OTHER], [OLD], [OLD, LABEL], [OTHER, OLD, LABEL], [b"a@b:c", OTHER], [b"a@b:c"]]
-    for name, flavor in itertools.product(cut(b"foo:runtime|old:lib|baz:lib|tie:lib|tie:source|absent"), flavors):
+    # A newer version wins over a better score; of one version the flavor that fits is chosen. The refusals of specifications without a
+    # label, and of those that nothing resolves.
+    yield from calls_in("resolved")
+    flavors, paths = TABLE.all_bytes("flavors of a configuration"), [path.split() for path in TABLE.all_bytes("paths of labels")]
+    for name, flavor in itertools.product((b"foo:runtime", b"old:lib", b"baz:lib", b"tie:lib", b"tie:source", b"absent"), flavors):
         yield from (("resolve", name, path, flavor) for path in paths)
         for label in (LABEL, OTHER, OLD):
-            yield from (("resolve", name + b"=" + label + own, path, flavor) for own, path in ((b"", [b"a@b:c"]), (b"[~!krb]", []), (b"[]", [LABEL])))
-        for revision in cut(b"1.0-1-1|1.0-2-1|1.0-3-1|2.0-1-1|9-9-9"):
+            for own, path in ((b"", [b"a@b:c"]), (b"[~!krb]", []), (b"[]", [LABEL])):
+                yield "resolve", name + b"=" + label + own, path, flavor
+        for revision in (b"1.0-1-1", b"1.0-2-1", b"1.0-3-1", b"2.0-1-1", b"9-9-9"):
             yield "resolve", named(name, on(LABEL, revision)), [], flavor
             yield "resolve", named(name, on(OLD, revision), b"[is: x86]"), [OTHER], flavor
         yield "resolve", name + b"=/" + LABEL + b"//stable/1.0-1", [], flavor
@@ -280,20 +270,15 @@ def expand_calls():
         parts = [named(name + part, on(LABEL, revision)) for part in (b":devel", b":lib", b":runtime")]
         yield from map(add, parts)
         yield add(named(name, on(LABEL, revision)), *parts)
-    one, two, newer, newest = named(b"one"), named(b"two"), named(b"one", on(LABEL, b"1.0-2-1")), named(b"one", on(LABEL, b"1.0-10-1"))
-    base, tools, both, mixed, lost, fits = (named(b"group-" + name) for name in cut(b"base|tools|both|mixed|lost|fits"))
-    yield from (add(base, one, two), add(tools, one, named(b"two:lib")), add(both, base, tools, named(b"one:lib")), add(mixed, one, newer, newest))
     # A ring, a reference to nothing, a chain, and one name with two flavors.
-    ring, chain = ([named(form % place) for place in range(count)] for form, count in ((b"group-ring%d", 4), (b"group-chain%02d", 30)))
-    yield from (add(text, ring[(place + 1) % 4], *([one] if place == 2 else [])) for place, text in enumerate(ring))
-    yield add(lost, two, named(b"absent"), named(b"one:lib", on(LABEL, b"9-9-9")))
-    yield from (add(text, *(chain[place + 1 : place + 2] or [two])) for place, text in enumerate(chain))
-    plain, fitted = named(b"fits:lib"), named(b"fits:lib", flavor=b"[~ssl]")
-    yield from (add(fitted), add(plain), add(fits, plain, fitted), ("expand",), ("expand", named(b"absent")))
-    texts = [one, two, newer, newest, base, tools, both, mixed, *ring, lost, chain[0], chain[7], plain, fitted, fits]
-    texts += [named(b"one:lib"), named(b"one:lib", on(LABEL, b"1.0-2-1")), named(b"absent")]
+    yield from calls_in("groups that are expanded")
+    chain = [named(b"group-chain%02d" % place) for place in range(30)]
+    yield from (add(text, *(chain[place + 1 : place + 2] or [named(b"two")])) for place, text in enumerate(chain))
+    yield from calls_in("expanded")
+    texts = [id_text_of(text) for row in TABLE.topics["roots of expansions"] for text in row.split()]
     yield from (("expand", first, *second) for first in texts for second in [[], *([text] for text in texts)])
-    yield from (("expand", *chain), ("expand", *reversed(texts[:6])), ("expand", both, tools, base, two, one, ring[1], chain[29], plain))
+    yield "expand", *chain
+    yield from calls_in("many roots")
     yield from random_expansions()
 
 
@@ -301,15 +286,12 @@ def random_expansions():
     """Groups with references to some of the others, and what some of them reach."""
     dice = Random(25)
     for turn in range(6):
-        texts = [b"group-r%d-%02d=" % (turn, place % (12, 20)[turn % 2]) + on(LABEL, b"1.0-%d-1" % (place // 12 + 1)) for place in range(20)]
+        names = [b"group-r%d-%02d" % (turn, place % (12, 20)[turn % 2]) for place in range(20)]
+        texts = [named(name, on(LABEL, b"1.0-%d-1" % (place // 12 + 1))) for place, name in enumerate(names)]
         for text in texts:
             others = [other for other in texts if id_of_text(other).name != id_of_text(text).name]
             yield add(text, *dice.sample(others, dice.choice((0, 0, 1, 1, 2, 3))))
         yield from (("expand", *dice.sample(texts, count)) for count in (1, 1, 1, 1, 2, 2, 3, 5) for _ in range(5))
-
-
-def long_label(size):
-    return b"h@n:" + b"t" * (size - 4)
 
 
 def move(text, *labels):
@@ -319,56 +301,15 @@ def move(text, *labels):
 
 def moved_calls():
     """What troves reach, as shadows on labels and as branches onto them, and each reason why it isn't moved."""
-    third = b"x.y@z:w"
-    # Packages with their components, one with a flavor; groups that share them, a group of groups, a ring.
-    yield ("new",)
-    yield from move(named(b"absent"), OTHER)
-    parts = [b"one:devel", b"one:lib", b"one:runtime"]
-    yield from (add_with(named(part), 97, len(part)) for part in parts)
-    one, lib, ssl, ssl_lib = named(b"one"), named(b"one:lib"), named(b"two", flavor=b"[ssl]"), named(b"two:lib", flavor=b"[ssl]")
-    source = named(b"one:source", on(LABEL, b"1.0-1"))
-    base, tools, both, older, newer = (named(b"group-" + name) for name in cut(b"base|tools|both|old|new"))
-    ring = [named(b"group-ring%d" % place) for place in range(3)]
-    yield from (add(one, *map(named, parts)), add(ssl_lib), add(ssl, ssl_lib), add(source))
-    yield from (add(base, one, ssl), add(tools, one, lib, ssl_lib), add(both, base, tools, source))
-    yield from (add(text, ring[(place + 1) % 3], one) for place, text in enumerate(ring))
-    for root in (lib, one, ssl, source, base, tools, both, ring[0], ring[2], named(b"two")):
-        yield from move(root, OTHER, third, LABEL, b"conary.example.com@ex:dev", b"conary.example.com@ex:devell")
-    # Other versions of one name, on the label and elsewhere.
-    others = [named(b"one:lib", on(OTHER, b"1.0-1-1")), named(b"one:lib", on(LABEL, b"1.0-2-1"))]
-    yield from (*map(add, others), add(older, one, others[0]), add(newer, one, others[1]))
-    yield from (call for root in (older, newer) for call in move(root, OTHER, LABEL, third))
-    # Moved troves are committed and moved again: their ids exist, and go on from branch to branch.
-    for way, between in ((b"shadow", b"//"), (b"branch", b"/")):
-        end = b"/1.0-1-1"
-        first = (on(LABEL, b"1.0-1-1") if way == b"branch" else b"/" + LABEL) + between + OTHER + end
-        second = (first if way == b"branch" else first[: -len(end)]) + between + third + end
-        (once_lib, once), (twice_lib, twice) = ([named(name, version, b"[ssl]") for name in (b"two:lib", b"two")] for version in (first, second))
-        yield add(once_lib)
-        yield from (*move(ssl, OTHER), *move(base, OTHER), add(once, once_lib), *move(ssl, OTHER, third), *move(both, OTHER, third))
-        yield from (*move(once, OTHER, third, LABEL), add(twice_lib), add(twice, twice_lib))
-        yield from (*move(twice, OTHER, third, LABEL, long_label(255)), *move(once, third))
-    # A source's shadow has a source count of its own; a branch of it keeps it.
-    moved_source = named(b"one:source", shadow(OTHER, b"1.0-1.1"))
-    yield from (add(moved_source), *move(moved_source, third, LABEL, OTHER))
-    yield from limit_calls()
+    # Packages with their components, one with a flavor; groups that share them, a group of groups, a ring; other versions of one name,
+    # on the label and elsewhere. Moved troves are committed and moved again: their ids exist, and go on from branch to branch. A source's
+    # shadow has a source count of its own; a branch of it keeps it.
+    yield from calls_in("moved")
+    # At the limit of a version's text, and past it: the first that is too long, the label before, the existing id after.
+    yield from calls_in("moved at the limit of a version")
     yield from random_moves()
     # With a reference to nothing, if only of a trove that the root doesn't reach.
     yield from (add(named(b"group-lost"), named(b"absent")), *move(named(b"b:lib"), OTHER))
-
-
-def limit_calls():
-    """At the limit of a version's text, and past it: the first that is too long, the label before, the existing id after."""
-    yield ("new",)
-    a, b, c = named(b"a:lib", b"/" + long_label(245) + b"/1.0-1-1"), named(b"b:lib"), named(b"c:lib", b"/" + long_label(250) + b"/1.0-1-1")
-    d = named(b"d:lib", on(OTHER, b"1.0-1-1"))
-    ab, abc, bc, abcd = (named(b"group-" + name) for name in cut(b"ab|abc|bc|abcd"))
-    yield from (*map(add, (a, b, c, d)), add(ab, a, b), add(abc, ab, c), add(bc, b, c), add(abcd, abc, d))
-    labels = [long_label(size) for size in (244, 245, 249, 250, 251, 252, 255)]
-    yield from (call for root in (a, c, ab, abc, bc, abcd) for call in move(root, *labels, LABEL, OTHER))
-    for label in (long_label(240), long_label(255)):
-        yield from (add(named(b"b:lib", version)) for version in (shadow(label, b"1.0-1-1"), on(LABEL, b"1.0-1-1") + b"/" + label + b"/1.0-1-1"))
-        yield from (call for root in (b, ab, abc, bc, abcd) for call in move(root, label, OTHER))
 
 
 def random_moves():
@@ -379,8 +320,8 @@ def random_moves():
         texts = []
         for place in range(dice.choice((3, 5, 8))):
             label = dice.choice(labels[: dice.choice((1, 2, 4))])
-            base = b"/" + labels[0]
-            version = dice.choice((on(label, b"1.0-%d-1" % dice.choice((1, 2))), base + b"//" + label + b"/1.0-1-1", base + b"/1.0-1-1/" + label + b"/1.0-1-1"))
+            base, end = b"/" + labels[0], label + b"/1.0-1-1"
+            version = dice.choice((on(label, b"1.0-%d-1" % dice.choice((1, 2))), base + b"//" + end, base + b"/1.0-1-1/" + end))
             text = named(b"c%d:lib" % place, version, dice.choice((b"", b"[ssl]")))
             if text not in texts:
                 texts.append(text)
@@ -412,51 +353,23 @@ def index_thousand_names():
             yield from (("latest", name, on(label, b"1.0-" + source + b"-1"), b"source") for source in (b"1", b"2", b"3"))
 
 
-F1, F2, SOURCE = named(b"foo:runtime"), named(b"foo:runtime", on(LABEL, b"1.0-2-1")), named(b"foo:source", on(LABEL, b"1.0-1"))
-SHADOW, GROUP_A, GROUP_B, X = named(b"foo:source", shadow(OTHER, b"1.0-1")), named(b"group-a"), named(b"group-b"), named(b"x:lib")
-CONFIG = [b"# mine", b"root /", b"installLabelPath " + LABEL, b"flavor ~ssl, ~!krb is: x86(~i686, sse2)", b"[build]", b"flavor (("]
-FLAVOR = b"~!krb,~ssl is: x86(~i686,sse2)"
-
-# The worked cases by their names: what is added to an empty catalogue, then calls, and the answers, which are written by hand.
-ROWS = {
-    "flavor_chosen": [
-        (add(F1 + b"[ssl]"), b"ok"), (add(F1 + b"[!ssl]"), b"ok"), (("resolve", b"foo:runtime=" + LABEL, [], b"~!ssl"), F1 + b"[!ssl]"),
-        (("resolve", b"foo:runtime=" + LABEL, [], b""), F1 + b"[!ssl]"),
-    ],
-    "newer_version_over_better_score": [
-        (add(F1 + b"[ssl]"), b"ok"), (add(F2 + b"[~ssl]"), b"ok"), (("resolve", b"foo:runtime=" + LABEL, [], b"ssl"), F2 + b"[~ssl]"),
-    ],
-    "config_file": [
-        (("config", b"\n".join(CONFIG) + b"\n"), b"ok\t" + LABEL + b"\t" + FLAVOR),
-        (("config", b"\n".join([CONFIG[0], b"flavor ((", *CONFIG[2:]]) + b"\n"), b"bad config line 2"),
-        (add(F1), b"ok"), (("resolve", b"foo:runtime", [LABEL], FLAVOR), F1),
-    ],
-    "spec_refusals": [(("resolve", b"foo", [], b""), b"no label"), (("resolve", b"foo=" + LABEL, [], b""), b"missing trove foo=" + LABEL)],
-    "shared_component_once": [
-        (add(X), b"ok"), (add(GROUP_A, X), b"ok"), (add(GROUP_B, GROUP_A, X), b"ok"),
-        (("expand", GROUP_B), b"\t".join([b"ok", GROUP_A, GROUP_B, X])), (("expand", GROUP_B, GROUP_A), b"\t".join([b"ok", GROUP_A, GROUP_B, X])),
-    ],
-    "shadow_and_next_revision": [
-        (add_with(SOURCE), b"ok"), (("moved", SOURCE, OTHER, "shadow"), b"ok\t" + SHADOW), (add_with(SHADOW), b"ok"),
-        (("moved", SOURCE, OTHER, "shadow"), b"exists " + SHADOW), (("latest", b"foo:source", shadow(OTHER, b"1.0-1"), b"any"), b"ok\t" + SHADOW + b"\t0"),
-    ],
-    "same_label": [
-        (add(F1), b"ok"), (("moved", F1, LABEL, "shadow"), b"same label " + LABEL), (("moved", F1, LABEL, "branch"), b"same label " + LABEL),
-        (("moved", F1, OTHER, "branch"), b"ok\t" + F1 + b"/" + OTHER + b"/1.0-1-1|97"),
-    ],
-    "two_versions_of_one_name": [(add(F1), b"ok"), (add(F2), b"ok"), (("expand", F2, F1), b"exists " + F2)],
-}
+def answered_rows(topic):
+    """The call of each row of a worked case, and the answer."""
+    for row in TABLE.topics[topic]:
+        step, _, says = row.rpartition(" > ")
+        yield next(calls_of(step)), TABLE.bytes(says)
 
 
 def calls():
-    for topic in (index_calls, spec_calls, config_calls, resolve_calls, expand_calls):
+    yield from calls_in("index")
+    for topic in (spec_calls, config_calls, resolve_calls, expand_calls):
         yield from topic()
     yield "moved", named(b"absent"), OTHER, "shadow"
     yield from moved_calls()
     yield from index_thousand_names()
-    for rows in ROWS.values():
+    for topic in WORKED:
         yield ("new",)
-        yield from (call for call, _ in rows)
+        yield from (call for call, _ in answered_rows(topic))
 
 
 def answer(answers, call, *arguments):
@@ -465,9 +378,9 @@ def answer(answers, call, *arguments):
 
 def lines():
     """Each call with its arguments, and its answer; those of the worked cases are the ones written by hand."""
-    for name, rows in ROWS.items():
+    for name in WORKED:
         answers = Answers()
-        for call, wanted in rows:
+        for call, wanted in answered_rows(name):
             found = answer(answers, *call)
             if found != wanted:
                 sys.exit(f"{name}: {found!r} and not {wanted!r}")

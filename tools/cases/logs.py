@@ -9,8 +9,10 @@ A put is a pair: a path, and what is to stand there.
 import itertools
 from random import Random
 
+from tools.cases.reading import puts_of, rows, word_of
 from tools.model.records import four
-from tools.model.streams import NotOfForm, is_path, item
+from tools.model.streams import is_path, item
+from tools.model.texts import of_form
 from tools.model.trees import Journal, joined
 
 BASE = b"/base"
@@ -33,74 +35,20 @@ def file_of(place, size=0, name=ABCD, mode=0o600):
     return "staged", mode, place, size, name
 
 
-# ---- cases worked by hand
+# ---- cases worked by hand: the rows of logs.txt, each with what is wanted behind ` > `
 
-# One put of each kind, and their log.
-KINDS = [(b"/a", ("dir", 0o755)), (b"/a-b", file_of(0x10203, 5, mode=0o644)), (b"/a/c", ("link", b"b")), (b"/d", None)]
-LOG = (
-    b"CNYLG01\n\x31\0\0\0\x04\x01\xed/a\x34\0\0\0\x24\x01\xa4\0\x04/a-b\0\x01\x02\x03\0\0\0\x05ABCDEFGHIJKLMNOPQRST"
-    b"\x32\0\0\0\x09\0\x04/a/c\0\x01b\x30\0\0\0\x02/d\x3f\0\0\0\x04\0\0\0\x04"
-)
-NONE = b"CNYLG01\n\x3f\0\0\0\x04\0\0\0\0"
-ONE, TWO, THREE = (b"\x3f\0\0\0\x04\0\0\0" + bytes([count]) for count in (1, 2, 3))
+def wanted_of(kind):
+    return [row.split(" > ") for row in rows("logs", kind)]
 
-# Logs that are none, and some beside them that are.
-BROKEN = [(data, False) for data in (
-    b"", b"CNYLG02\n\x3f\0\0\0\x04\0\0\0\0", b"CNYLG01\n",
-    # The number of puts, and the end.
-    b"CNYLG01\n" + ONE, b"CNYLG01\n\x3f\0\0\0\x04\0\0\0\0\0", b"CNYLG01\n\x3f\0\0\0\x04\0\0\0", b"CNYLG01\n\x3f\0\0\0\x03\0\0\0",
-    # A tag that no item has, and a file with its bytes.
-    b"CNYLG01\n\x35\0\0\0\x02/a" + ONE, b"CNYLG01\n\x33\0\0\0\x08\x01\xa4\0\x02/ahi" + ONE,
-)] + [(MAGIC + items, good) for items, good in (
-    # A staged file: whole, with a mode of 0o10000, without the last byte of its digest, with one more.
-    (b"\x34\0\0\0\x22\x01\xa4\0\x02/a\0\0\0\0\xff\xff\xff\xffABCDEFGHIJKLMNOPQRST" + ONE, True),
-    (b"\x34\0\0\0\x22\x10\0\0\x02/a\0\0\0\0\xff\xff\xff\xffABCDEFGHIJKLMNOPQRST" + ONE, False),
-    (b"\x34\0\0\0\x21\x01\xa4\0\x02/a\0\0\0\0\xff\xff\xff\xffABCDEFGHIJKLMNOPQRS" + ONE, False),
-    (b"\x34\0\0\0\x23\x01\xa4\0\x02/a\0\0\0\0\xff\xff\xff\xffABCDEFGHIJKLMNOPQRSTU" + ONE, False),
-    # Paths that don't rise.
-    (b"\x30\0\0\0\x02/a\x30\0\0\0\x02/a" + TWO, False),
-    # No path, a mode of 0o10000, an empty target, a byte behind a target, a path that isn't all there.
-    (b"\x30\0\0\0\x02a/" + ONE, False),
-    (b"\x31\0\0\0\x04\x10\0/a" + ONE, False),
-    (b"\x32\0\0\0\x06\0\x02/a\0\0" + ONE, False),
-    (b"\x32\0\0\0\x08\0\x02/a\0\x01bc" + ONE, False),
-    (b"\x34\0\0\0\x06\0\0\0\x09/a" + ONE, False),
-    # Paths that a log can't name.
-    (b"\x30\0\0\0\x01/" + ONE, False),
-    (b"\x30\0\0\0\x05/base" + ONE, False),
-    # A directory below a path at which nothing is to stand, with a path between them.
-    (b"\x30\0\0\0\x02/a\x30\0\0\0\x04/a-b\x31\0\0\0\x08\0\0/a/b/c" + THREE, False),
-    (b"\x30\0\0\0\x02/a\x30\0\0\0\x04/a-b\x30\0\0\0\x06/a/b/c" + THREE, True),
-    (b"\x31\0\0\0\x04\0\0/a\x31\0\0\0\x08\0\0/a/b/c" + TWO, True),
-    (b"\x30\0\0\0\x08/base/db" + ONE, True),
-)]  # fmt: skip
 
-# Private directories, paths, and whether a log in them can name these.
-NAMED = [(BASE, path, False) for path in (b"/", b"/base", b"/base/gate", b"/base/log/x", b"/base/w", b"/base/p/1")]
-NAMED += [(BASE, path, True) for path in (b"/base/gate2", b"/base2", b"/gate")]
-NAMED += [(b"/", b"/gate", False), (b"/", b"/w/a", False), (b"/", b"/wa", True)]
+def words_of(kind):
+    """The words of the row of a topic."""
+    return list(map(word_of, rows("logs", kind)[0].split(" ")))
 
-# Files with their bytes, between them staged files that have the numbers 2 and 0, and 2 again; and their log, with the files under
-# the numbers 1, 3 and 4.
-TWO_STAGED, ABC_FILE = file_of(2, 0, bytes(20)), ("file", 0o644, b"abc")
-MIXED_PUTS = [(b"/a", ABC_FILE), (b"/b", TWO_STAGED), (b"/c", ("file", 0o644, b"")), (b"/d", None)]
-MIXED_PUTS += [(b"/e", file_of(0, 0, bytes(20))), (b"/f", TWO_STAGED), (b"/g", ABC_FILE)]
-ABC_NAME = b"\xa9\x99\x3e\x36\x47\x06\x81\x6a\xba\x3e\x25\x71\x78\x50\xc2\x6c\x9c\xd0\xd8\x9d"
-EMPTY_NAME = b"\xda\x39\xa3\xee\x5e\x6b\x4b\x0d\x32\x55\xbf\xef\x95\x60\x18\x90\xaf\xd8\x07\x09"
-MIXED = (
-    b"CNYLG01\n"
-    b"\x34\0\0\0\x22\x01\xa4\0\x02/a\0\0\0\x01\0\0\0\x03" + ABC_NAME + b"\x34\0\0\0\x22\x01\x80\0\x02/b\0\0\0\x02\0\0\0\0" + bytes(20) +
-    b"\x34\0\0\0\x22\x01\xa4\0\x02/c\0\0\0\x03\0\0\0\0" + EMPTY_NAME + b"\x30\0\0\0\x02/d"
-    b"\x34\0\0\0\x22\x01\x80\0\x02/e\0\0\0\0\0\0\0\0" + bytes(20) + b"\x34\0\0\0\x22\x01\x80\0\x02/f\0\0\0\x02\0\0\0\0" + bytes(20) +
-    b"\x34\0\0\0\x22\x01\xa4\0\x02/g\0\0\0\x04\0\0\0\x03" + ABC_NAME + b"\x3f\0\0\0\x04\0\0\0\x07"
-)
 
-# Names of staged files, of which the first and the third are kept.
-NAMES = [b"0", b"1", b"2", b"02", b"", b"2a", b"4294967298", b"18446744073709551618"]
-
-# Below a base of 1,011 bytes each number has a path, below 1,020 only one of one digit, and below 1,021 none.
-LONG = [(1_011, 4_294_967_295, True), (1_012, 999_999_999, True), (1_012, 1_000_000_000, False), (1_020, 9, True), (1_020, 10, False)]
-LONG += [(1_021, 0, False), (1_022, 0, False)]
+(KINDS, LOG), (MIXED_PUTS, MIXED) = [(puts_of(puts), word_of(log)) for puts, log in wanted_of("puts and their log")]
+ONE, ABC_FILE = b"\x3f\0\0\0\x04\0\0\0\x01", ("file", 0o644, b"abc")
+is_log = of_form(JOURNAL.read_log)
 
 
 def long_path(length):
@@ -112,41 +60,34 @@ def held(answer, wanted):
     assert answer == wanted, (answer, wanted)
 
 
-def is_log(base, data):
-    try:
-        return Journal(base).read_log(data) is not None
-    except NotOfForm:
-        return False
-
-
 def by_hand():
     """The log of one put of each kind and of none, written and read; logs that are none; what a log can name, and what its puts may be;
     the numbers of files between staged ones, and the last names and the numbers of these; paths of staged files, also where private
     directories are so long that some numbers have none."""
-    held([logged(KINDS), JOURNAL.read_log(LOG), JOURNAL.read_log(NONE)], [LOG, KINDS, []])
-    yield from [("encode", KINDS), ("decode", BASE, LOG), ("encode", []), ("decode", BASE, NONE)]
-    held(len(BROKEN), 25)
-    for data, good in BROKEN:
-        held(is_log(BASE, data), good)
-        yield "decode", BASE, data
-    for base, path, named in NAMED:
-        held(Journal(base).can_be_named(path), named)
+    for puts, log in ((KINDS, LOG), ([], MAGIC + item(JOURNAL.END, bytes(4)))):
+        held((logged(puts), JOURNAL.read_log(log)), (log, puts))
+        yield from [("encode", puts), ("decode", BASE, log)]
+    for data, good in wanted_of("read"):
+        held(is_log(word_of(data)), good == "a log")
+        yield "decode", BASE, word_of(data)
+    for two, named in wanted_of("named"):
+        base, path = map(str.encode, two.split(" "))
+        held(Journal(base).can_be_named(path), named == "yes")
         yield "named", base, [path]
     held((JOURNAL.keeps_rules(KINDS), Journal(b"/a/c").keeps_rules(KINDS)), (True, False))
     yield from [("rules", BASE, KINDS), ("rules", b"/a/c", KINDS), ("contains", KINDS, [b"/a/c", BASE]), ("encode", KINDS[::-1])]
-    held((logged(MIXED_PUTS), [name for name in NAMES if name in JOURNAL.kept(MIXED_PUTS)]), (MIXED, [b"0", b"2"]))
-    yield from [("encode", MIXED_PUTS), ("decode", BASE, MIXED), ("kept", MIXED_PUTS, NAMES), ("numbers", MIXED_PUTS, [2, 3])]
+    names = words_of("kept")
+    held((logged(MIXED_PUTS), [name for name in names if name in JOURNAL.kept(MIXED_PUTS)]), (MIXED, [b"0", b"2"]))
+    yield from [("encode", MIXED_PUTS), ("decode", BASE, MIXED), ("kept", MIXED_PUTS, names), ("numbers", MIXED_PUTS, [2, 3])]
     for directory, number, path in ((b"/base/p", 4_294_967_295, b"/base/p/4294967295"), (b"/p", 0, b"/p/0")):
         held(Journal(directory[:-2]).staged_path(number), path)
         yield "staged", directory, [number]
-    for length, number, stands in LONG:
+    for two, stands in wanted_of("long"):
+        length, number = map(int, two.split(" "))
         base = long_path(length)
-        held(is_path(Journal(base).staged_path(number)), stands)
+        held(is_path(Journal(base).staged_path(number)), stands == "yes")
         yield "is_staged", base, [number]
         yield "staged", base + b"/p", [number]
-
-
-# ---- more of each
 
 
 def changed_logs():
@@ -158,7 +99,7 @@ def changed_logs():
         yield data + data
     for data in (LOG, MIXED):
         for place, byte in enumerate(data):
-            others = {(byte + 1) % 256, byte ^ 0x10} if data is MIXED else {(byte + 1) % 256, (byte - 1) % 256, byte ^ 0x80, byte ^ 0x10, 47, 0, 97}
+            others = {(byte + 1) % 256, byte ^ 0x10} | ({(byte - 1) % 256, byte ^ 0x80, 47, 0, 97} if data is LOG else set())
             yield from (data[:place] + bytes([other]) + data[place + 1 :] for other in sorted(others - {byte}))
     for place in range(len(LOG)):
         yield LOG[:place] + LOG[place + 1 :]
@@ -167,8 +108,8 @@ def changed_logs():
 
 WANTS = [None, ("dir", 0o755), ABC_FILE, ("link", b"b"), file_of(1, 5, mode=0o4755)]
 # What stands between a put at `/a` and one below it, and the path of that one.
-BETWEEN = [([], b"/a/b"), ([], b"/a/b/c"), ([], b"/a/b/c/d"), ([], b"/a/b/c/d/e"), ([(b"/a-b", None)], b"/a/b"), ([(b"/a-b", None)], b"/a/b/c/d")]
-BETWEEN += [([(b"/a/b", None)], b"/a/b/c"), ([(b"/a/b", ("dir", 0))], b"/a/b/c")]
+BETWEEN = [([], b"/a/b"), ([], b"/a/b/c"), ([], b"/a/b/c/d"), ([], b"/a/b/c/d/e"), ([(b"/a-b", None)], b"/a/b")]
+BETWEEN += [([(b"/a-b", None)], b"/a/b/c/d"), ([(b"/a/b", None)], b"/a/b/c"), ([(b"/a/b", ("dir", 0))], b"/a/b/c")]
 
 
 def orders():
@@ -186,7 +127,8 @@ def orders():
     for puts in some:
         yield from [("rules", BASE, puts), ("decode", BASE, JOURNAL.log_of(puts))]
     chance, wants = Random(7), [None, ("dir", 0o755), ("dir", 0o700), *WANTS]
-    paths = sorted(top + rest for top in (b"/a", b"/a-b", b"/ab", b"/base") for rest in (b"", b"/b", b"/b-", b"/b/c", b"/b/c/d", b"/log", b"/x"))
+    below = b"", b"/b", b"/b-", b"/b/c", b"/b/c/d", b"/log", b"/x"
+    paths = sorted(top + rest for top in (b"/a", b"/a-b", b"/ab", b"/base") for rest in below)
     for _ in range(200):
         puts = [(path, chance.choice(wants)) for path in sorted(chance.sample(paths, chance.randint(2, 4)))]
         yield from [("rules", BASE, puts), *written(puts)]
@@ -217,8 +159,7 @@ def named_everywhere():
 
 def no_texts():
     """Bytes that are no path or no target, as those of each kind of put; and some at the limits that are."""
-    texts = [b"", b"a", b"a/b", b"//", b"/a/", b"/a//b", b"/.", b"/..", b"/a/.", b"/../a", b"/...", b"/.a", b"/a\n", b"/a\x1f", b"/a\x7f"]
-    texts += [b"/ ", b"/\xff", b"/a\xc3", b"/\xc0\xaf", b"/\xed\xa0\x80", b"/\xc3\xa9", b"/a\xc3/b", b"/\xf4\x90\x80\x80", b"b", b"..", b"\0"]
+    texts = words_of("no texts")
     texts += [b"/" + b"b" * 255, b"/" + b"b" * 256, long_path(1024), long_path(1025), b"/" + b"\xc3\xa9" * 128, b"/a" + b"\xc3\xa9" * 127]
     texts += [b"t" * 1024, b"t" * 1025, b"\xc3\xa9" * 512]
     for text in texts:
@@ -264,7 +205,7 @@ TAKEN = ([], [0], [1], [0, 1], [1, 0], [2, 1], [3, 1], [0, 2, 4], [4, 3, 2, 1, 0
 
 def taken_numbers():
     """Files among staged ones, which take the least free numbers: below, between and above those that are taken."""
-    names = [b"0", b"1", b"2", b"3", b"4", b"5", b"9", b"10", b"00", b"01", b"4294967295", b"4294967296", b"-1", b"+1"]
+    names = words_of("names beside taken numbers")
     for taken in TAKEN:
         staged = [file_of(number, 1) for number in taken]
         files = [("file", 0o644, bytes([65 + place]) * place) for place in range(4)]
@@ -284,8 +225,7 @@ def places():
     """Last names that are no text of a number, or of another one; each of many paths looked up, and those beside them; private directories
     around the limit, with the least and the greatest number of each count of digits."""
     puts = [(b"/a", file_of(NUMBER_LIMIT - 1)), (b"/b", file_of(10)), (b"/c", ("file", 0o600, b"x")), (b"/d", file_of(0))]
-    names = [b"4294967295", b"4294967294", b"04294967295", b"+4294967295", b"4294967295 ", b" 10", b"10 ", b"10", b"010", b"+10", b"-10", b"0x0a"]
-    names += [b"1e1", b"10.", b"1_0", b"0", b"-0", b"+0", b"00", b"", b"-", b"+", b"a", b"\xd9\xa1\xd9\xa0", b"8589934591", b"1", b"100", b"4294967306"]
+    names = words_of("names that are no text of a number")
     yield from [("kept", puts, names), ("kept", [], names), ("numbers", [], [0, 1, NUMBER_LIMIT - 1])]
     yield "numbers", puts, [0, 1, 9, 10, 11, NUMBER_LIMIT - 2, NUMBER_LIMIT - 1]
     paths = sorted({joined(directory, b"%d" % number) for directory in (b"/", b"/a", b"/a-b", b"/a/b") for number in range(5)} | {b"/a"})
@@ -300,11 +240,7 @@ def places():
         yield from [("is_staged", base, edges), ("staged", base, edges), ("rules", base, [(b"/a", file_of(NUMBER_LIMIT - 1))])]
 
 
-def decoded(some):
-    return (("decode", BASE, data) for data in some())
-
-
 def cases():
     """All calls with their arguments."""
-    some = [by_hand(), decoded(changed_logs), orders(), named_everywhere(), decoded(no_texts), modes_and_numbers(), decoded(ends)]
-    return itertools.chain(*some, taken_numbers(), places())
+    for some in (by_hand, changed_logs, orders, named_everywhere, no_texts, modes_and_numbers, ends, taken_numbers, places):
+        yield from (("decode", BASE, one) if isinstance(one, bytes) else one for one in some())

@@ -1,5 +1,6 @@
 """The calls of the program text_lines on the lowest libraries, and what they have to answer: comparisons of bytes, and sources and
 sinks that give and take a part, and fail."""
+from tools.cases.reading import rows
 
 
 def compared(first, second):
@@ -18,35 +19,17 @@ def lanes(length):
     return [word for one in changed for word in compared(data, one)] + compared(data, data) + compared(data + b"\x00", data)
 
 
-# Calls on sources and sinks, and the answers to them that were found by hand; `,` stands between two fields, and bytes of an answer are
-# shown here as a text in quotes. A call of a source gives the number of bytes and the buffer of four bytes, which begins as `....`.
-FLOWS = """
-memory_source,hello,2,4         > 4,'hell',failed,1,'oell',0,'oell'
-memory_source,hello,,3          > 4,'hell',1,'oell',0,'oell'
-memory_source,,1;2,3            > failed,failed,0,'....'
-one_by_one,hello,               > 'hello'
-one_by_one,,                    > ''
-one_by_one,hello,3              > 'he'failed
-std_source,hello,2,2            > 2,'he..',failed,'llo'
-std_source,hello,0,0            > 'hello'
-std_source,hello,1,4            > failed,2,'he..',2,'ll..',1,'ol..',''
-memory_sink,2,ab,cd,e           > ok,failed,ok,'abe'
-memory_sink,                    > ''
-std_sink,7,fails,hello, you     > ok,failed,'hello y'
-std_sink,7,stops,hello, you     > ok,failed,'hello y'
-std_sink,9,fails,hello, you     > ok,ok,'hello you'
-"""
-
-
 def low_lines():
     """The calls, each with its answer."""
     cases = [(["lanes_of_length", str(length)], lanes(length)) for length in range(131)]
     pairs = ((b"abc", b"abX"), (b"abc", b"XYZ"), (b"abc", b"ab"), (b"", b""))
     cases += [(["lanes", first.decode(), second.decode()], compared(first, second)) for first, second in pairs]
-    for row in FLOWS.strip().split("\n"):
+    # Calls on sources and sinks, and the answers to them that were found by hand; `,` stands between two fields, and bytes of an answer are
+    # shown as a text in quotes. A call of a source gives the number of bytes and the buffer of four bytes, which begins as `....`.
+    for row in rows("low"):
         call, wanted = row.split(" > ")
         # What stands between two quotes is every second piece.
         pieces = [piece.encode().hex() if place % 2 else piece for place, piece in enumerate(wanted.split("'"))]
-        cases.append((call.rstrip().split(","), "".join(pieces).split(",")))
+        cases.append((call.split(","), "".join(pieces).split(",")))
     for call, answer in cases:
         yield "\t".join(call).encode(), "\t".join(answer).encode()

@@ -1,29 +1,32 @@
 """Lines of list_lines on fingerprints, plans, their write sets and verifications, and the answers by tools/model/plans.py; how often a
 plan looks at the disk and reads it, and how often a write set asks for contents and files, from what docs/ARCHITECTURE.md says of their
-cost.
+cost. In plans.txt there are cases that are told one by one: what stands, and the troves before and, but for verifications, after, as
+tools/cases/notation.py has them, and then what else is given.
 """
 import itertools
 import random
 
-from tools.cases.manifests import SHATTERED
-from tools.lines.words import digits, node_word, spelled, tree_word, word
+from tools.cases.notation import ONE, OTHER, content, node_of, placed, record_of, recorded, troves_of
+from tools.cases.tables import table
+from tools.lines.words import digits, node_word, rows_of, tree_word, word, yes_or_no
 from tools.model.plans import FIXED, all_paths, owned, plan_changes, record, write_set
 from tools.model.records import mark_of, mark_of_record
 from tools.model.reports import finding_line
 from tools.model.root import found_at
-from tools.model.streams import LARGEST_CONTENT, different_bytes, directory, file_of, flag_letters, flags_of_letters, link, sha, trove_bytes, trove_of
+from tools.model.streams import different_bytes, file_of, flag_letters, flags_of_letters, sha, trove_bytes, trove_of
 from tools.model.texts import Refused
 from tools.model.trees import parent_of
 
 PIECE = 65_536
-ONE, OTHER = SHATTERED
+TABLE = table("plans")
+NAMED = dict(row.split(" = ") for row in TABLE["names"])
 
 # ---- nodes, records and texts
 
 
 def data(text):
-    """Bytes of a text, of pieces (`65536*a+b`), or none for `-`."""
-    return text if isinstance(text, bytes) else b"" if text == "-" else spelled(text)
+    """Bytes, of a text where they aren't given."""
+    return text if isinstance(text, bytes) else content(text)
 
 
 def node(text="x", mode=0o644):
@@ -34,14 +37,17 @@ def rec(text="x", flags="", mode=0o644):
     return file_of(data(text), mode, flags_of_letters(flags))
 
 
-def goes_to(target):
-    return "link", target
+def each(text, made=node_of):
+    """What is made of each of these words."""
+    return [None if one == "nothing" else made(*one.split()) for one in text.split("; ")]
 
 
-D, PRIVATE = ("dir", 0o755), ("dir", 0o700)
-RD, RPRIVATE = directory(0o755), directory(0o700)
-LA, LB, LX, LY = (goes_to(target) for target in (b"a", b"b", b"x", b"y"))
-RLA, RLB, RLX, RLY = (link(target) for target in (b"a", b"b", b"x", b"y"))
+def tree_of(text):
+    return placed(text, node_of, NAMED)
+
+
+D, LA = each("dir; link a")
+RD, RLB = each("dir; link b", record_of)
 
 
 def at(*nodes):
@@ -83,6 +89,13 @@ def call_line(call, *arguments, words=""):
 
 def rooted(tree):
     return {b"/": D, **tree}
+
+
+def given_in(row, lists):
+    """What stands in a row, so many lists of troves, and what else is given, by its first word."""
+    stands, *rest = row.split(" | ")
+    more = dict(one.partition(" ")[::2] for one in rest[lists:])
+    return tree_of(stands), *(troves_of(one, NAMED) for one in rest[:lists]), more
 
 
 # ---- plans
@@ -132,25 +145,11 @@ def plan_line(tree, old, fresh, *options):
 EVERY = [[], ["replace"], ["keep"], ["keep", "replace"]]
 
 
-def named_lines():
-    """The examples that docs/MODEL.md and the commands name."""
-
-    def foo(text, flags=""):
-        return {b"foo:runtime": at("/etc", RD, "/etc/foo", rec(text, flags))}
-
-    def stands(text):
-        return at("/etc", D, "/etc/foo", node(text))
-
-    both = {**foo("abc"), b"bar:runtime": foo("abc")[b"foo:runtime"]}
-    yield plan_line({}, {}, foo("abc"), "install_component")
-    yield from (plan_line(stands("xyz"), {}, foo("abc"), "unowned_file_kept", *more) for more in ([], ["replace"]))
-    for flags, *more in ([""], ["", "keep"], ["c", "keep"], ["", "replace"]):
-        yield plan_line(stands("abX"), foo("abc"), foo("abcd", flags), "edited_file_refused", *more)
-    yield plan_line(stands("abX"), foo("abc"), foo("abc"), "edit_kept_when_unchanged")
-    yield plan_line({**stands("abc"), b"/etc/other": node("o")}, foo("abc"), {}, "erase_keeps_foreign_file")
-    yield plan_line(stands("abc"), foo("abc"), {}, "erase_removes_empty_directory")
-    for case in (({}, {}, {b"foo:runtime": at("/etc/foo", rec("abc"))}), ({}, {}, both), (at("/etc", D), foo("abc"), both)):
-        yield plan_line(*case, "parent_reserved_owned")
+def plan_lines(topic, choices):
+    """The rows of a topic, each with each choice of options."""
+    for row, options in itertools.product(rows_of(TABLE, topic), choices):
+        *case, more = given_in(row, 2)
+        yield plan_line(*case, *more, *options)
 
 
 def of_one(record):
@@ -159,10 +158,10 @@ def of_one(record):
 
 def table_lines():
     """Each record before and after against each thing that may stand, with each choice of options."""
-    olds = [None, RD, rec("aa"), rec("aa", "i"), rec("aa", "t"), RLA]
-    news = [None, RD, rec("aa"), rec("bb"), rec("bb", "c"), rec("bb", "i"), rec("bb", "t"), rec("cc", "ci"), RLA, RLB]
-    stand = [{}, at("/p", D), at("/p", PRIVATE, "/p/x", node()), *(at("/p", one) for one in (node("aa"), node("aa", 0o600), node("bb"), LA, LB, PRIVATE))]
-    for old, new, tree, options in itertools.product(olds, news, stand, EVERY):
+    olds = each("nothing; dir; file aa; file aa i; file aa t; link a", record_of)
+    news = each("nothing; dir; file aa; file bb; file bb c; file bb i; file bb t; file cc ci; link a; link b", record_of)
+    trees = "nothing | /p dir | /p dir 0700; /p/x file x | /p file aa | /p file aa 0600 | /p file bb | /p link a | /p link b | /p dir 0700"
+    for old, new, tree, options in itertools.product(olds, news, map(tree_of, trees.split(" | ")), EVERY):
         if old is not None or new is not None:
             yield plan_line(tree, of_one(old), of_one(new), *options)
 
@@ -171,81 +170,8 @@ def flag_lines():
     """Records with several flags at once, before and after."""
     pairs = [(rec("aa", flags), new) for flags in ("ci", "ct", "it", "cit") for new in (None, rec("bb"))]
     pairs += [(old, rec("bb", flags)) for flags in ("ci", "ct", "it", "cit") for old in (None, rec("aa"), RD)]
-    stand = [{}, *(at("/p", one) for one in (D, node("aa"), node("ee"), LA))]
-    for (old, new), tree, options in itertools.product(pairs, stand, EVERY):
-        yield plan_line(tree, of_one(old), of_one(new), *options)
-
-
-def shape_lines():
-    """Directories, parents, owners and the order of refusals."""
-    deep, owned_deep = at("/a", D, "/a/b", D, "/a/b/c", D, "/a/b/c/f", node()), at("/a", RD, "/a/b", RD, "/a/b/c", RD, "/a/b/c/f", rec())
-    whole, p_and_f = {b"a:lib": owned_deep}, at("/p", D, "/p/f", node())
-    rest, private, two_edits = {b"b:lib": at("/a", RD, "/a/b", RD)}, {b"b:lib": at("/a", RPRIVATE)}, at("/a", node("e"), "/z", node("e"))
-    cases = [
-        # directories that go from the deepest up, and what keeps them
-        (deep, whole, {}), ({**deep, b"/a/b/foreign": node()}, whole, {}), ({**deep, b"/a/b/c/foreign": LX}, whole, {}),
-        (deep, lib("/a", RD, "/a/b", RD), {}), (deep, lib("/a/b", RD, "/a/b/c", RD, "/a/b/c/f", rec()), {}),
-        *((deep, {b"a:lib": {**owned_deep, b"/a/b/c/f": rec("y", flag)}}, {}) for flag in "it"),
-        (deep, whole, {b"b:lib": at("/a/new", rec("n"))}), (deep, whole, {b"b:lib": at("/a/b/c/f", rec("n"))}),
-        (deep, {**whole, **rest}, rest), (deep, {**whole, **private}, private), (at("/a", PRIVATE), lib("/a", RD), {}),
-        # byte order isn't the order of subtrees
-        (at("/a", D, "/a-b", D, "/a-b/f", node(), "/a/f", node()), lib("/a", RD, "/a-b", RD, "/a-b/f", rec(), "/a/f", rec()), {}),
-        (at("/a", D, "/a-b", node("e"), "/a/x", node("e")), lib("/a", RD, "/a/x", rec()), lib("/a", RD, "/a-b", rec())),
-        (at("/a", D, "/a/x", node()), {}, lib("/a", link(b"l"), "/a-b", rec(), "/a-b/c", rec())),
-        (at("/a", D, "/a/x", node()), {b"b:lib": at("/a", RD)}, lib("/a", link(b"l"), "/a-b/c", rec(), "/a0/c", rec())),
-        # kinds that change
-        (p_and_f, lib("/p", RD, "/p/f", rec()), lib("/p", rec("n"))), ({**p_and_f, b"/p/g": node()}, lib("/p", RD, "/p/f", rec()), lib("/p", rec("n"))),
-        ({**p_and_f, b"/p/g": node()}, lib("/p", RD), lib("/p", link(b"n"))),
-        *((at("/p", node(text)), lib("/p", rec()), lib("/p", RD, "/p/f", rec("n"))) for text in "xe"),
-        (at("/p", goes_to(b"q"), "/q", D), {}, lib("/p/f", rec("n"))), (p_and_f, lib("/p", rec("e", "t"), "/p/f", rec()), {}),
-        *((p_and_f, lib("/p", rec("e", flags)), {}) for flags in ("t", "")),
-        # missing parents
-        ({}, {}, lib("/p/q/f", rec())), ({}, {}, lib("/p/q", RD, "/p/q/f", rec())), ({}, {}, lib("/p", RD, "/p/q", RD, "/p/q/f", rec())),
-        *(({}, lib("/p", RD), lib("/p", mode, "/p/q", rec())) for mode in (RD, RPRIVATE)), (at("/p", node()), {}, lib("/p/q", rec())),
-        # a path of several troves
-        *(({}, {}, {**lib("/p", first), b"b:lib": at("/p", RD), b"c:lib": at("/p", rec())}) for first in (RD, rec())),
-        ({}, {}, {name: at("/p", RLX, "/q", rec()) for name in (b"a:lib", b"b:lib")}), ({}, {}, {**lib("/p", RD), b"b:lib": at("/p", RPRIVATE)}),
-        (at("/p", PRIVATE), {**lib("/p", RD), b"b:lib": at("/p", RPRIVATE)}, {b"b:lib": at("/p", RPRIVATE)}),
-        # the order of refusals: owned, then the table, then parents, each by the first path
-        (at("/a", node("e")), {}, {**lib("/a", rec(), "/z", rec()), b"b:lib": at("/z", rec())}),
-        (at("/z", node("e")), {}, lib("/a/b", rec(), "/z", rec())),
-        (two_edits, lib("/z", rec()), lib("/a", rec(), "/z", rec("n"))), (two_edits, lib("/a", rec()), lib("/a", rec("n"), "/z", rec())),
-        # fixed directories
-        (at("/var", D, "/var/lib", D), lib("/", RD, "/var", RD, "/var/lib", RD), {}),
-        (at("/var", D), {}, lib("/", RPRIVATE, "/var", RPRIVATE, "/var/lib", RD)), (at("/var", D), {}, lib("/var/lib", RD, "/var/lib/x", rec())),
-        (at("/var", D), lib("/var", rec()), {}), (at("/var", D), {}, lib("/var", rec())), (at("/var", D), {}, lib("/var", RLX)),
-        (at("/var", D), lib("/var", RLX), lib("/var", rec())), (at("/var", node("e")), lib("/var", rec()), lib("/var", rec("n"))),
-        # nothing at all
-        (at("/a", D), {}, {}), (at("/a", D), {b"a:lib": {}}, {b"b:lib": {}}),
-    ]
-    for case, options in itertools.product(cases, EVERY):
-        yield plan_line(*case, *options)
-    # what both lists record so isn't looked at
-    same = at("/", RD, "/a", RD, "/a/f", rec(), "/l", RLX)
-    changes = [lib("/a", RD)]
-    for fresh in [{b"a:lib": same}, {b"b:lib": same}, *({b"a:lib": {**same, path: one}} for path, one in ((b"/a/f", rec("x", "c")), (b"/n", rec())))] + changes:
-        yield plan_line(at("/a", D, "/a/f", node("e")), {b"a:lib": same}, fresh, "fail")
-
-
-def call_lines():
-    """How often the disk is asked: what both lists record so is never looked at and never read."""
-    texts = {"a": "edited", "b": "b", "c": "65536*c+c", "e": "-"}
-    stands = {**at("/d", D, "/l", LX), **{b"/d/" + name.encode(): node(text) for name, text in texts.items()}}
-    old = {**at("/d", RD, "/l", RLX), **{b"/d/" + name.encode(): rec(text) for name, text in {**texts, "a": "a"}.items()}}
-    unedited = {**stands, b"/d/a": node("a")}
-
-    def left(*names):
-        return {path: one for path, one in old.items() if path not in names}
-
-    cases = [(stands, old, {**old, **at(*more)}) for more in (
-        [], ["/d/b", rec("b", "c")], ["/d/b", rec("n")], ["/d/c", rec("n")], ["/d/e", rec("n"), "/d/c", rec("-")], ["/d/n", rec("n")],
-        ["/d/n", rec("n"), "/d/m", rec("m"), "/z", rec("z")], ["/d/n", RD, "/d/n/f", rec("f")], ["/l", RLY],
-    )]
-    cases += [(stands, old, left(b"/d/b")), (stands, old, left(b"/d/b", b"/d/c", b"/d/e", b"/l")), (stands, old, left(b"/d"))]
-    cases += [(stands, old, {**left(b"/d"), b"/d/n": rec("n")}), (unedited, old, {}), ({**unedited, b"/d/foreign": node("f")}, old, {})]
-    cases += [(unedited, old, at("/d", link(b"n"))), ({}, {}, old), (stands, {}, old)]
-    for tree, before, after in cases:
-        yield from (plan_line(tree, {b"a:lib": before}, {b"a:lib": after}, "calls", *more) for more in ([], ["replace"]))
+    for (old, new), one, options in itertools.product(pairs, each("nothing; dir; file aa; file ee; link a"), EVERY):
+        yield plan_line(at("/p", one), of_one(old), of_one(new), *options)
 
 
 def random_tree(rng, paths, share, choose):
@@ -257,17 +183,18 @@ def random_tree(rng, paths, share, choose):
     return made
 
 
+def random_troves(rng, recs, paths, share, most):
+    """Troves that are in the list by chance, and record by chance what is at each of the paths."""
+    names = (name for name in (b"a:lib", b"b:lib", b"c:lib") if rng.random() < most)
+    return {name: {path: rng.choice(recs) for path in paths if rng.random() < share} for name in names}
+
+
 def random_lines(count):
     """Small trees and lists by chance, from a fixed seed."""
     rng = random.Random(30)
     paths = [path.encode() for path in "/a /a-b /a-b/c /a/b /a/b/c /a/b/d /a/c /b /b/a /b/a/b".split()]
-    nodes = [D, D, PRIVATE, node("x"), node("y"), LA]
-    recs = [RD, RD, RD, RPRIVATE, rec("x"), rec("y"), rec("y", "c"), rec("y", "i"), rec("y", "t"), RLA, RLB]
-
-    def troves(share):
-        return {
-            name: {path: rng.choice(recs) for path in paths if rng.random() < share} for name in (b"a:lib", b"b:lib", b"c:lib") if rng.random() < 0.6
-        }
+    nodes = each("dir; dir; dir 0700; file x; file y; link a")
+    recs = each("dir; dir; dir; dir 0700; file x; file y; file y c; file y i; file y t; link a; link b", record_of)
 
     def without_clash(made):
         """Of several troves with one path that isn't a directory in all, the first alone has it."""
@@ -284,13 +211,13 @@ def random_lines(count):
             for path in files:
                 one = stands.get(path)
                 if one is not None and rng.random() < 0.7:
-                    files[path] = rec(one[2], rng.choice(["", "", "c", "i"]), one[1]) if one[0] == "file" else directory(one[1]) if one[0] == "dir" else link(one[1])
+                    files[path] = recorded(one, rng.choice(["", "", "c", "i"]) if one[0] == "file" else "")
         return made
 
     for _ in range(count):
         stands = random_tree(rng, paths, 0.75, lambda: rng.choice(nodes))
-        old = without_clash(near(troves(0.6), stands))
-        fresh = troves(0.5)
+        old = without_clash(near(random_troves(rng, recs, paths, 0.6, 0.6), stands))
+        fresh = random_troves(rng, recs, paths, 0.5, 0.6)
         if rng.random() < 0.9:
             fresh = without_clash(fresh)
         options = rng.choice([[], ["replace"], ["replace"], ["keep"], ["keep", "replace"]]) + rng.choice([[], ["calls"]])
@@ -300,12 +227,9 @@ def random_lines(count):
 # ---- fingerprints and differences
 
 
-def yes_or_no(holds):
-    return "yes" if holds else "no"
-
-
 def mark_line(tree, path, wanted=None, words=""):
-    return call_line("mark", tree_word(tree, word), path, words=words), mark_text(rooted(tree).get(path.encode())) if wanted is None else wanted
+    stands = mark_text(rooted(tree).get(path.encode()))
+    return call_line("mark", tree_word(tree, word), path, words=words), stands if wanted is None else wanted
 
 
 def matches_line(tree, path, record, wanted, words=""):
@@ -322,27 +246,25 @@ def mark_lines():
         front = "" if text == "-" else text + "+"
         yield matches_line(at("/f", node(front + "1*x")), b"/f", rec(front + "1*y"), "no")
     yield from (mark_line(at("/d", one), "/d", wanted) for one, wanted in ((D, "dir 0755"), (("dir", 0), "dir 0000")))
-    yield from (mark_line(at("/l", goes_to(b"../x")), path, wanted) for path, wanted in (("/l", "link ../x"), ("/l/x", "nothing")))
+    yield from (mark_line(at("/l", ("link", b"../x")), path, wanted) for path, wanted in (("/l", "link ../x"), ("/l/x", "nothing")))
     yield from (mark_line(at("/d", D), "/e", "nothing"), mark_line({}, "/", "dir 0755"))
     one = at("/f", node("a"))
     yield from (mark_line(one, "/f", "failed", words="fail"), matches_line(one, b"/f", rec("a"), "failed", words="fail"))
     yield call_line("differing", tree_word(one, word), "/f", "a", words="fail"), "failed"
-    stand = [D, PRIVATE, node("x"), node("y"), LX, LY, None]
-    recs = [RD, RPRIVATE, rec("x"), rec("x", "c"), rec("yy"), RLX, RLY]
+    stand = each("dir; dir 0700; file x; file y; link x; link y; nothing")
+    recs = each("dir; dir 0700; file x; file x c; file yy; link x; link y", record_of)
     for one, record in itertools.product(stand, recs):
         yield matches_line(at("/p", one), b"/p", record, yes_or_no(mark_of(one) == mark_of_record(record)))
     for one, other in itertools.product(recs, recs):
-        yield "\t".join(["same", record_field(b"/p", one), record_field(b"/q", other)]), yes_or_no(mark_of_record(one) == mark_of_record(other))
+        line = "\t".join(["same", record_field(b"/p", one), record_field(b"/q", other)])
+        yield line, yes_or_no(mark_of_record(one) == mark_of_record(other))
     for one, other in itertools.product(stand, stand):
         yield call_line("alike", tree_word(at("/p", one, "/q", other), word), "/p", "/q"), yes_or_no(mark_of(one) == mark_of(other))
     yield "verified\t/a/b", "/a/b 1"
 
 
 def differing_lines():
-    pairs = """- -|- abc|abc -|abc abc|abc abX|abX abcd|abcd aXc|abc xyz|65536*a 65536*a|65536*a+b 65536*a+c|65535*a+b 65535*a+c|65536*a 65537*a
-65537*a 65536*a|100000*a 100000*b|100000*a 99999*b|99999*b 100000*a|131072*a+x 131072*a+y|65535*a+xy+65535*a+z 65535*a+yx+65535*a+w+q
-200000*a -|- 200000*a|100*a+b+70000*c 100*a+c+70000*c|130*a 129*a+b|63*a+b 64*a|64*a+b 65*a"""
-    for pair in pairs.replace("\n", "|").split("|"):
+    for pair in TABLE["differences"]:
         one, other = map(data, pair.split())
         yield call_line("differing", tree_word(at("/f", node(one)), word), "/f", word(other)), str(different_bytes(one, other))
 
@@ -352,7 +274,8 @@ def differing_lines():
 
 def verify_line(tree, troves, names=(), known=(), fails=False):
     known = list(map(data, known))
-    line = call_line("verify", tree_word(tree, word), troves_field(troves), b";".join(names).decode(), ";".join(map(word, known)), words="fail" if fails else "")
+    words = b";".join(names).decode(), ";".join(map(word, known))
+    line = call_line("verify", tree_word(tree, word), troves_field(troves), *words, words="fail" if fails else "")
     absent = [name for name in names if name not in troves]
     if absent:
         return line, f"not installed {absent[0].decode()}"
@@ -364,28 +287,22 @@ def verify_line(tree, troves, names=(), known=(), fails=False):
     return line, "|".join(texts + [f"verified {len(paths)} paths, {len(texts)} changed", "", ""])
 
 
+def verify_row(row):
+    tree, troves, more = given_in(row, 1)
+    return verify_line(tree, troves, more.get("names", "").encode().split(), more.get("known", "").split(), "fail" in more)
+
+
 def verify_lines():
-    runtime, doc = b"foo:runtime", b"foo:doc"
-    foo, stands = {runtime: at("/etc", RD, "/etc/foo", rec("abc"))}, at("/etc", D, "/etc/foo", node("abX"))
-    yield from (verify_line(stands, foo, (), known) for known in ([], ["abc"], ["abX"]))
-    yield from (verify_line(stands, foo, names, known) for names, known in (([runtime] * 2, ["abc"]), ([doc], ["abc"]), ([runtime, doc, b"a:b"], [])))
-    yield from (verify_line(stands, foo, names, fails=True) for names in ([], [doc]))
-    yield from (verify_line(stands, {}), verify_line(at("/etc", D), foo, known=["abc"]))
-    yield verify_line(at("/etc", goes_to(b"/usr"), "/usr", D, "/usr/foo", node("abc")), foo, known=["abc"])
-    # a changed mode: of a directory it doesn't count, of a file no byte differs
-    yield verify_line(at("/etc", PRIVATE, "/etc/foo", node("abc", 0o600)), foo, known=["abc"])
-    recs = [RD, rec("aa"), rec("ab+c", "c"), RLA]
-    nodes = [None, D, PRIVATE, node("aa"), node("aa", 0o600), node("ba"), node("abc"), node("-"), LA, LB]
+    yield from map(verify_row, rows_of(TABLE, "verify"))
+    recs = each("dir; file aa; file ab+c c; link a", record_of)
+    nodes = each("nothing; dir; dir 0700; file aa; file aa 0600; file ba; file abc; file -; link a; link b")
     for record, one, known in itertools.product(recs, nodes, ([], ["aa"], ["abc"], ["aa", "abc", "-"])):
         yield verify_line(at("/p", one), lib("/p", record), (), known)
-    # troves in the order of their names, a path that two of them record, packages without files
-    two = {b"b:lib": at("/d", RD, "/d/x", rec("x")), **lib("/d", RD, "/d/y", link(b"z")), b"c": {}}
-    for names in ([], [b"a:lib"], [b"b:lib"], [b"b:lib", b"a:lib"], [b"c"], [b"c", b"b:lib", b"c"], [b"c", b"d"]):
-        yield from (verify_line(at("/d", node("d")), two, names, ["x"]), verify_line({}, two, names))
+    yield from map(verify_row, rows_of(TABLE, "verify several"))
     rng, paths = random.Random(31), [b"/a", b"/a/b", b"/a/c", b"/b"]
     for _ in range(60):
         made = random_tree(rng, paths, 0.8, lambda: rng.choice(nodes[1:]))
-        lists = {name: {p: rng.choice(recs) for p in paths if rng.random() < 0.6} for name in (b"a:lib", b"b:lib", b"c:lib") if rng.random() < 0.7}
+        lists = random_troves(rng, recs, paths, 0.6, 0.7)
         names = [name for name in (b"c:lib", b"a:lib", b"b:lib", b"d:lib") if rng.random() < 0.3]
         yield verify_line(made, lists, names, rng.choice([[], ["aa"], ["abc", "aa"]]))
 
@@ -412,70 +329,51 @@ def targets_line(options, tree, old, fresh, carried=(), far=(), now=None):
     far_field = "!fails" if "far-fails" in options else "!damaged" if "far-damaged" in options else ";".join(map(word, far))
     line = call_line(
         "targets", tree_word(tree, word), troves_field(old), troves_field(fresh), "=" if now is None else tree_word(now, word),
-        ";".join(map(word, sorted(set(carried), key=sha))), far_field, words=" ".join(one for one in options if not one.startswith("far-")),
+        ";".join(map(word, sorted(set(carried), key=sha))), far_field,
+        words=" ".join(one for one in options if not one.startswith("far-")),
     )
     try:
         changes = plan_changes(tree, old, fresh, options)
         stood, wants, asked = write_set(tree, changes, now or tree, carried, far, options)
     except Refused as why:
         return line, str(why)
-    parts = [f"{p.decode()}: {node_text(stood[p])} -> {node_text(wants[p])} ({node_word(mark_of_record(changes[p]))})" for p in sorted(changes)]
+    marks = {path: node_word(mark_of_record(want)) for path, want in changes.items()}
+    parts = [f"{path.decode()}: {node_text(stood[path])} -> {node_text(wants[path])} ({marks[path]})" for path in sorted(changes)]
     return line, "\t".join(["ok", *parts, f"{asked['finds']} finds, {asked['files']} files"])
 
 
+def targets_rows(topic, options=(), carried=(), far=()):
+    """The rows of a topic, which may have options, contents and what stands later with them."""
+    for row in rows_of(TABLE, topic):
+        tree, old, fresh, more = given_in(row, 2)
+        some, others = (more.pop(name).split() if name in more else given for name, given in (("carried", carried), ("far", far)))
+        now = tree_of(more.pop("now")) if "now" in more else None
+        yield targets_line([*options, *more], tree, old, fresh, some, others, now)
+
+
 def targets_lines():
-    # each source of bytes, and that the first one gives them; where the mode alone differs, too
     for carried, far in itertools.product(([], ["new"], ["newer"], ["x", "new", "y"]), ([], ["new"], ["x", "y"], ["other", "new"])):
-        yield targets_line([], {}, {}, lib("/f", rec("new")), carried, far)
-        yield targets_line([], at("/f", node("old")), lib("/f", rec("old")), lib("/f", rec("new")), carried, far)
-        yield targets_line([], at("/f", node("new")), lib("/f", rec("new")), lib("/f", rec("new", "", 0o755)), carried, far)
-        yield targets_line(["replace"], at("/f", node("new", 0o600)), {}, lib("/f", rec("new", "", 0o755)), carried, far)
-    # bytes of one SHA-1 that differ: the carried ones come before those of the contents, and these before what stands
+        yield from targets_rows("sources", (), carried, far)
     for carried, far in itertools.product(([], [ONE], [OTHER]), repeat=2):
-        for stands in (ONE, OTHER):
-            yield targets_line([], at("/f", node(stands)), lib("/f", rec(ONE)), lib("/f", rec(ONE, "", 0o755)), carried, far)
-        yield targets_line([], {}, {}, lib("/f", rec(ONE), "/g", rec(OTHER)), carried, far)
-    # contents that fail or are damaged: not asked where a content is carried
-    n, old_f, plain = rec("n", "", 0o755), lib("/f", rec("old")), lib("/d", RD, "/l", RLX)
+        yield from targets_rows("one SHA-1", (), carried, far)
     for words, carried in itertools.product(([], ["far-fails"], ["far-damaged"], ["fail"]), ([], ["new"], ["new", "n"])):
-        both = at("/f", node("old"), "/g", node("n")), lib("/f", rec("old"), "/g", rec("n")), lib("/f", rec("new"), "/g", n)
-        yield targets_line(words, *both, carried, ["new", "n"])
-        yield targets_line(words, at("/g", node("n")), lib("/g", rec("n")), lib("/g", n), carried)
-        yield from (targets_line(words, {}, {}, plain, carried), targets_line(words, at("/f", node("old")), old_f, {}, carried))
+        yield from targets_rows("contents that fail or are damaged", words, carried)
     # the first missing content, in path order
-    every = lib("/a", rec("a"), "/b", rec("b"), "/c", rec("c"), "/d", RD, "/d/a", rec("a"), "/e", rec("-"))
-    for carried in ([], ["a"], ["a", "b"], ["a", "b", "c"], ["b", "c", "-"], ["a", "b", "c", "-"]):
-        yield from (targets_line([], {}, {}, every, carried, far) for far in ([], ["-"], ["c", "b"]))
+    every = troves_of("/a file a; /b file b; /c file c; /d dir; /d/a file a; /e file -", NAMED)
+    for carried, far in itertools.product(("", "a", "a b", "a b c", "b c -", "a b c -"), ("", "-", "c b")):
+        yield targets_line([], {}, {}, every, carried.split(), far.split())
     # all kinds, before and after
-    stand = [None, D, PRIVATE, node("s"), node("-"), node("s", 0o600), LA, LB]
-    for one, new, words in itertools.product(stand, [None, RD, rec("s"), rec("n"), rec("-"), RLA], (["replace"], ["replace", "fail"])):
+    stand = each("nothing; dir; dir 0700; file s; file -; file s 0600; link a; link b")
+    news = each("nothing; dir; file s; file n; file -; link a", record_of)
+    for one, new, words in itertools.product(stand, news, (["replace"], ["replace", "fail"])):
         old = lib("/z", rec("z"), "/p", (rec("s") if one != D else RD) if new is None else None)
         yield targets_line(words, at("/p", one, "/z", node("z")), old, lib("/p", new, "/z", rec("zz")), ["n", "zz"], ["-", "s"])
-    # paths in byte order, which isn't that of subtrees
-    deep = lib("/a", RD, "/a-b", rec("1"), "/a/b", RD, "/a/b/c", rec("2"), "/a0", RLA)
-    stands = at("/a", D, "/a-b", node("1"), "/a/b", D, "/a/b/c", node("2"), "/a0", LA)
-    yield from (targets_line([], {}, {}, deep, ["1", "2"]), targets_line([], stands, deep, {}), targets_line([], stands, deep, lib("/a", rec("3")), ["3"]))
-    yield targets_line([], {}, {}, {}, ["1"])
-    # sizes at the limit, and that a missing content comes first
-    for size in (LARGEST_CONTENT, LARGEST_CONTENT + 1):
-        yield targets_line(["replace"], at("/p", node(f"{size}*a")), {}, lib("/p", rec("n")), ["n"])
-    large = node(f"{LARGEST_CONTENT + 1}*a")
-    stands = at("/a", node("a"), "/m", node(f"{LARGEST_CONTENT + 3}*m"), "/p", large)
-    yield targets_line(["replace"], stands, {}, lib("/a", RLX, "/m", RD, "/p", RD))
-    yield targets_line(["replace"], at("/a", node("a"), "/p", large), {}, lib("/a", rec("n"), "/p", RD, "/z", rec("z")), ["n"])
+    yield from targets_rows("order")
     # equal old contents, and different ones of one SHA-1
     for a, b, c in itertools.product((b"o", ONE, OTHER), repeat=3):
         yield targets_line(["replace"], at("/a", node(a), "/b", node(b), "/c", node(c)), lib("/a", rec(a), "/b", rec(b), "/c", rec(c)), {})
-    collide, removed = at("/a", node(ONE), "/b", node(OTHER), "/c", node("c")), lib("/a", rec(ONE), "/b", rec(OTHER), "/c", rec("c"))
-    yield targets_line([], collide, removed, lib("/d", rec("d")))
-    yield targets_line(["replace"], {**collide, b"/c": node(f"{LARGEST_CONTENT + 1}*c")}, removed, {})
-    yield from (targets_line([], collide, removed, lib("/b", record)) for record in (rec(OTHER), RLX))
-    # edits between the plan and its write set, which a disk that tells nothing may show
-    before, recorded, mode_alone = at("/f", node("new"), "/g", node("g")), lib("/f", rec("new"), "/g", rec("g")), lib("/f", rec("new", "", 0o755))
-    for text in ("new", "nev", "newer", "-", ONE):
-        yield from (targets_line([], before, recorded, mode_alone, carried, [], {**before, b"/f": node(text)}) for carried in ([], ["new"]))
-        yield targets_line([], before, recorded, {}, [], [], {**before, b"/g": node(text, 0o600)})
-    yield targets_line([], before, recorded, {}, [], [], {**before, b"/g": node(f"{LARGEST_CONTENT + 5}*g")})
+    yield from targets_rows("collisions")
+    yield from targets_rows("edits between the plan and its write set, which a disk that tells nothing may show")
     yield from random_targets()
 
 
@@ -502,9 +400,12 @@ def random_targets():
         for given in (carried, far):
             if ONE in given and OTHER in given:
                 given.remove(rng.choice([ONE, OTHER]))
-        yield targets_line(["replace"] + rng.choice([[], [], [], ["fail"], ["far-fails"]]), stands, {b"a:lib": old}, {b"a:lib": fresh}, carried, far)
+        options = ["replace"] + rng.choice([[], [], [], ["fail"], ["far-fails"]])
+        yield targets_line(options, stands, {b"a:lib": old}, {b"a:lib": fresh}, carried, far)
 
 
 def lines():
-    for topic in (named_lines, table_lines, flag_lines, shape_lines, call_lines, lambda: random_lines(700), mark_lines, differing_lines, verify_lines, targets_lines):
-        yield from topic()
+    yield from itertools.chain(plan_lines("named", [[]]), table_lines(), flag_lines(), plan_lines("shapes", EVERY))
+    yield from plan_lines("what both lists record so isn't looked at", [[]])
+    yield from plan_lines("calls", [["calls"], ["calls", "replace"]])
+    yield from itertools.chain(random_lines(700), mark_lines(), differing_lines(), verify_lines(), targets_lines())

@@ -2,35 +2,23 @@
 
 An argument is bytes or Terms (tools/lines/words.py).
 """
+import functools
 import itertools
 
+from tools.cases.reading import file_in, id_of, rows, trove_in, word_of
 from tools.lines.words import Terms
 from tools.model.relatives import relative_of
 from tools.model.streams import (
-    TAGS, Id, Owner, Relative, directory, file_of, id_bytes, item, link, record_bytes, regular, relative_bytes, set_bytes, sha,
-    trove_bytes, trove_of,
+    TAGS, Id, Relative, Trove, file_of, id_bytes, item, record_bytes, relative_bytes, set_bytes, trove_bytes, trove_of,
 )
 
-V1, V2, V3 = [b"/conary.example.com@ex:devel/1.0-%d-1" % count for count in (1, 2, 3)]
 OLD, NEW = [b"/a@b:c/1-%d-1" % count for count in (1, 2)]
+RECORDS = [file_in("/x " + row)[1] for row in rows("relatives", "records")]
+DIR, FILE, OTHER_FILE, LINK, OTHER_LINK = [RECORDS[place] for place in (0, 4, 11, 12, 13)]
 
 
-def component(version, files=(), requires=(), provides=(), name=b"foo:runtime", flavor=b""):
-    return trove_of(name, version, files, (), requires, provides, flavor)
-
-
-def of_refs(name, version, refs=()):
-    return trove_of(name, version, refs=refs)
-
-
-ETC = (b"/etc", directory(0o755))
-FOO_1, FOO_2, FOO_3 = (component(version, [ETC, (b"/etc/foo", file_of(data))]) for version, data in ((V1, b"abc"), (V2, b"abcd"), (V3, b"abc")))
-DIR, FILE, OTHER_FILE, LINK, OTHER_LINK = directory(0o755), file_of(b"abc"), file_of(b"abd"), link(b"abc"), link(b"abd")
-RECORDS = [
-    DIR, directory(0o700), directory(0o755, Owner(b"daemon", b"root")), directory(0o755, Owner(b"root", b"daemon")), FILE, file_of(b"abc", 0o600),
-    *(file_of(b"abc", flags=flags) for flags in (1, 2, 4)), file_of(b"abc", owner=Owner(b"daemon", b"adm")), regular(0o644, 0, 4, sha(b"abc")),
-    OTHER_FILE, LINK, OTHER_LINK,
-]
+def component(version, files=(), requires=(), provides=(), name=b"foo:runtime"):
+    return trove_of(name, version, files, (), requires, provides)
 
 
 def changed(relative, tag, values):
@@ -54,25 +42,36 @@ def all_between(pairs):
     return (call for pair in pairs for call in between(*pair))
 
 
-def all_to_send(trove):
-    return "all_to_send", trove_bytes(trove)
+# ---- the rows of relatives.txt
+
+def relative_in(text):
+    """Two ids with ` to ` between them, and behind ` with ` the changes: files, references, requirements and what is provided, those that
+    go behind `gone`."""
+    ids, _, parts = text.partition(" with ")
+    made = none_of(*map(id_of, ids.split(" to ")))
+    for part in filter(None, parts.split(", ")):
+        is_gone, part = part.startswith("gone "), part.removeprefix("gone ")
+        word, _, rest = part.partition(" ")
+        tag, read = {"ref": (0x25, id_of), "requires": (0x27, word_of), "provides": (0x29, word_of)}.get(word, (0x23, None))
+        value = read(rest) if read else word_of(part) if is_gone else file_in(part)
+        made.lists[tag + (not is_gone)].append(value)
+    return made
 
 
-def worked():
-    # The last: a file edited on the machine, as the branch of local changes has it.
-    local = component(V1 + b"/local@local:LOCAL/1.0-1-1", [ETC, (b"/etc/foo", file_of(b"abX"))])
-    yield from all_between([(FOO_1, FOO_2), (FOO_2, FOO_1), (FOO_1, FOO_3), (FOO_1, local)])
-    yield apply(FOO_1, relative_of(FOO_1, FOO_2))
-    # Other names, one id, and bytes that are none.
-    one = trove_bytes(FOO_1)
-    for other in (component(V2, name=b"foo:doc"), FOO_1, component(V1)):
-        yield "relative_of", one, trove_bytes(other)
-    yield from (("relative_of", one, b"\x01"), ("apply", one, b"\x21"))
+def stream_of(call, text):
+    """The stream of a trove, of a relative trove or of a change set without contents; or bytes."""
+    if text.startswith("bytes "):
+        return bytes.fromhex(text[6:])
+    parts = [relative_in(one) if " to " in one else trove_in(one) for one in text.split(" + ") if one]
+    if call in ("allowed", "applied"):
+        return set_bytes(parts, [])
+    return trove_bytes(*parts) if isinstance(parts[0], Trove) else relative_bytes(*parts)
 
 
-def flavors():
-    ssl = component(V1, flavor=b"ssl")
-    return all_between([(ssl, component(V1, flavor=b"!ssl")), (ssl, component(V2))])
+def written(topic):
+    """The calls of a topic of the table, each with the streams of its troves."""
+    for call, *given in (row.split(" | ") for row in rows("relatives", topic)):
+        yield from between(*map(trove_in, given)) if call == "between" else [(call, *(stream_of(call, text) for text in given))]
 
 
 def records():
@@ -82,7 +81,7 @@ def records():
     for old, new in zip(olds, news):
         yield from between(component(OLD), new)
         yield from between(old, component(NEW))
-        yield all_to_send(new)
+        yield "all_to_send", trove_bytes(new)
 
 
 def subsets(values):
@@ -101,12 +100,8 @@ def lists():
         yield from between(component(OLD, requires=old, provides=DEPS[:2]), component(NEW, requires=new, provides=DEPS[2:]))
         yield from between(component(OLD, requires=DEPS[:2], provides=old), component(NEW, requires=DEPS[1:3], provides=new))
     refs = [Id(b"a", OLD, b""), Id(b"a", NEW, b""), Id(b"a", NEW, b"ssl"), Id(b"a:b", OLD, b"")]
-    yield from all_between((of_refs(b"group-x", OLD, old), of_refs(b"group-x", NEW, new)) for old in subsets(refs[1:]) for new in subsets(refs[:3]))
-
-
-def packages():
-    parts = [(version, [Id(b"foo:" + name, version, b"") for name in names]) for version, names in ((OLD, (b"doc", b"runtime")), (NEW, (b"lib", b"runtime")))]
-    return between(*(of_refs(b"foo", version, refs) for version, refs in parts))
+    for old, new in itertools.product(subsets(refs[1:]), subsets(refs[:3])):
+        yield from between(trove_of(b"group-x", OLD, refs=old), trove_of(b"group-x", NEW, refs=new))
 
 
 def both_kinds():
@@ -137,34 +132,12 @@ def bases():
     # One change more: a path gone that isn't there, before, between and behind; a record set as it stands; others that are good.
     more = [(0x23, path) for path in (b"/", b"/a/a", b"/bb", b"/dd", b"/d")]
     more += [(0x24, file) for file in ((b"/d", LINK), (b"/d", OTHER_LINK), (b"/", DIR), (b"/e", DIR))]
-    more += [(tag, dep) for tag in TAGS[4:] for dep in (b"trove: 0", b"trove: c", b"trove: d", b"trove: e") if dep not in relative.lists[tag]]
+    deps = b"trove: 0", b"trove: c", b"trove: d", b"trove: e"
+    more += [(tag, dep) for tag in TAGS[4:] for dep in deps if dep not in relative.lists[tag]]
     yield from (apply(old, changed(relative, tag, sorted(relative.lists[tag] + [one]))) for tag, one in more)
     # No change at all, and each list of changes left out.
     yield apply(old, none_of(old.identity, new.identity))
     yield from (apply(old, changed(relative, tag, [])) for tag in TAGS)
-
-
-def rules():
-    """What comes of it has to be a trove."""
-    ref, newer, other = Id(b"a", OLD, b""), Id(b"a", NEW, b""), Id(b"b", OLD, b"")
-    bare = component(OLD)
-    yield apply(bare, changed(none_of(bare.identity, component(NEW).identity), 0x26, [ref]))
-    # References gone that aren't there, added that are, and others that are good.
-    group = of_refs(b"group-x", OLD, [ref])
-    relative = none_of(group.identity, Id(b"group-x", NEW, b""))
-    for tag, one in (
-        (0x24, (b"/a", DIR)), (0x28, DEPS[0]), (0x2A, DEPS[0]), (0x26, Id(b"group-x", OLD, b"")), (0x26, other), (0x25, other), (0x25, newer), (0x26, ref),
-        (0x26, newer), (0x25, ref),
-    ):
-        yield apply(group, changed(relative, tag, [one]))
-    # The components of a package have its version.
-    package = of_refs(b"foo", OLD, [Id(b"foo:lib", OLD, b"")])
-    relative = none_of(package.identity, Id(b"foo", NEW, b""))
-    yield from (apply(package, relative), apply(package, changed(relative, 0x25, package.refs)))
-    # A build count where there may be none, and none where there has to be one.
-    source = component(b"/a@b:c/1-1", name=b"foo:source")
-    for base, version in ((source, b"/a@b:c/1-2"), (source, b"/a@b:c/1-2-1"), (bare, b"/a@b:c/1-2")):
-        yield apply(base, none_of(base.identity, base.identity._replace(version=version)))
 
 
 def limits():
@@ -188,87 +161,13 @@ def long_lists():
         yield from ((call, counted(OLD, 2_000, b"abc"), counted(NEW, count, data)) for call in ("relative_of", "round", "to_send"))
 
 
-def sendings():
-    """Contents of one name, and contents that move."""
-
-    def to_send(old, new):
-        return "to_send", trove_bytes(old), trove_bytes(new)
-
-    same_name = [(b"/a", FILE), (b"/b", regular(0o644, 0, 4, sha(b"abc"))), (b"/c", OTHER_FILE)]
-    trove = component(NEW, same_name)
-    yield all_to_send(trove)
-    moved = [(path, record) for path, (_, record) in zip((b"/b", b"/c", b"/a"), same_name)]
-    yield from (to_send(component(OLD, files), trove) for files in [*subsets(same_name), moved])
-    # Names in another order than the paths, and one many times.
-    many, again = (component(NEW, [(b"/%02d" % place, file_of(b"%d" % (place % count))) for place in range(12)]) for count in (12, 3))
-    yield from (all_to_send(many), all_to_send(again), to_send(many, again), to_send(again, many), all_to_send(of_refs(b"group-x", OLD)))
-
-
-def a_set(*parts):
-    return set_bytes(parts, [])
-
-
-RESERVED = component(V1, [(b"/a", DIR), (b"/var/lib/conarydb", DIR), (b"/var/lib/conarydb/x", FILE)], name=b"bad:runtime")
-PINNED = component(V1, [(b"/var", LINK), (b"/var/lib/conarydb/y", FILE)], name=b"worse:runtime")
-NEARLY = component(V1, [(b"/", DIR), (b"/var", RECORDS[1]), (b"/var/lib", RECORDS[2]), (b"/var/lib/conarydb-x", FILE)], name=b"good:runtime")
-
-
-def allowed_cases():
-    """The first forbidden path of the first trove that has one."""
-    yield "allowed", a_set()
-    for troves in subsets([FOO_1, NEARLY, PINNED, RESERVED]):
-        yield from (("allowed", a_set(*troves)), ("allowed", a_set(*reversed(troves))))
-    for path in (b"/", b"/var", b"/var/lib", b"/var/lib/conarydb", b"/var/lib/conarydb-x", b"/var/lib/conarydb/x", b"/var/lib/c"):
-        yield from (("allowed", a_set(FOO_1, component(V1, [(path, record)], name=b"x:y"))) for record in (DIR, FILE, LINK))
-    yield from (("allowed", a_set(relative_of(FOO_1, FOO_2))), ("allowed", b"\x01"))
-
-
-def coming_cases():
-    """Parts over installed troves."""
-
-    def applied(installed, *parts):
-        return "applied", a_set(*installed), a_set(*parts)
-
-    forth, further = relative_of(FOO_1, FOO_2), relative_of(FOO_2, FOO_3)
-    other = component(V1, [ETC, (b"/etc/foo", file_of(b"other"))])
-    same_version = component(V1, FOO_1.files, name=b"foo:doc")
-    lists = [[], [FOO_1], [FOO_2], [other], [same_version], [same_version, FOO_1], [component(V3)], [component(V1, flavor=b"ssl")]]
-    comes = [[], [FOO_1], [forth], [further], [FOO_1, forth], [forth, FOO_1], [other, forth], [forth, forth], [forth, further], [FOO_2, further]]
-    comes += [[FOO_1, FOO_1], [FOO_1, other], [same_version, forth, FOO_3]]
-    yield from (applied(installed, *parts) for installed in lists for parts in comes)
-    # Each of many, by its name.
-    old, new = ([trove_of(name, version) for name in (b"a", b"a:b", b"a:c", b"aa:b", b"b:a", b"foo:lib", b"foo:runtime")] for version in (V1, V2))
-    changes = [relative_of(*pair) for pair in zip(old, new)]
-    for place, change in enumerate(changes):
-        before, behind = old[:place], old[place + 1 :]
-        yield from (applied(old, change), applied(before + behind, change), applied([*before, new[place], *behind], change))
-    yield applied(old, *reversed(changes))
-    # Forbidden paths: set, kept from the base, and gone; of the first part that has one, and its first.
-    bad = relative_of(FOO_1, component(V2, [ETC, (b"/var/lib/conarydb/a", FILE), (b"/var/lib/conarydb/b", FILE)]))
-    kept = relative_of(RESERVED, component(V2, [RESERVED.files[0], RESERVED.files[2]], name=b"bad:runtime"))
-    gone = relative_of(RESERVED, component(V2, RESERVED.files[:1], name=b"bad:runtime"))
-    lost = relative_of(component(V3, name=b"x:y"), component(V2, name=b"x:y"))
-    parts = [forth, bad, kept, gone, lost, RESERVED, PINNED, NEARLY]
-    for one in parts:
-        yield from (applied([RESERVED, FOO_1], one, *two) for two in [[], *([two] for two in parts)])
-    yield applied([RESERVED, FOO_1], forth, NEARLY, gone, FOO_3)
-    # Lists that aren't installed ones, and bytes that are no change sets.
-    yield from (applied(installed, forth) for installed in ([FOO_1, same_version], [FOO_1, FOO_2], [forth]))
-    yield from (("applied", b"\x01", a_set(forth)), ("applied", a_set(FOO_1), b"\x01"))
+def topic(title, made=None):
+    return title, made or functools.partial(written, title)
 
 
 CASES = [
-    ("worked relative troves", worked),
-    ("flavors", flavors),
-    ("records", records),
-    ("lists", lists),
-    ("packages", packages),
-    ("gone, set, replaced and kept", both_kinds),
-    ("bases", bases),
-    ("rules of troves", rules),
-    ("limits", limits),
-    ("long lists", long_lists),
-    ("contents to send", sendings),
-    ("forbidden paths", allowed_cases),
-    ("change sets over installed troves", coming_cases),
+    topic("worked relative troves"), topic("flavors"), topic("records", records), topic("lists", lists), topic("packages"),
+    topic("gone, set, replaced and kept", both_kinds), topic("bases", bases), topic("rules of troves"), topic("limits", limits),
+    topic("long lists", long_lists), topic("contents to send"), topic("forbidden paths"),
+    topic("change sets over installed troves"),
 ]

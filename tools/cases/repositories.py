@@ -4,26 +4,24 @@ the answers are those of tools/model/repository.py.
 """
 from hashlib import sha1
 
-from tools.cases.samples import V1 as F1, V2 as F2, content_at, file
+from tools.cases import samples
+from tools.cases.rows import Rows
+from tools.cases.samples import LABEL, V1 as F1, V2 as F2, at as on, content_at, file, group, plain
 from tools.lines.words import items, standing, term, tree_term
 from tools.model import repository
 from tools.model.repository import BASE, CONTENTS, MAGIC, commit_bytes, commit_path
-from tools.model.streams import ChangeSet, Trove, directory, id_of_text, id_text, item, read_set, regular, set_bytes
+from tools.model.streams import ChangeSet, id_of_text, id_text, item, read_set, regular, set_bytes
 from tools.model.trees import DIR, Damaged, Failed, Refused, Tree
 
 # ---- repositories
 
 
-def on(name, revision):
-    return name + b"=/conary.example.com@ex:devel/" + revision
-
-
 def component(name, revision, files):
-    return Trove(id_of_text(on(name, revision)), [(path, regular(0o644, 0, len(text), sha1(text).digest())) for path, text in files], [], [], [])
+    return samples.component(name, revision, [(path, plain(text)) for path, text in files])
 
 
 def collection(name, revision, refs):
-    return Trove(id_of_text(on(name, revision)), [], sorted(map(id_of_text, refs)), [], [])
+    return group(name, revision, map(id_of_text, refs))
 
 
 def tree_of(commits, contents, more=()):
@@ -42,20 +40,21 @@ def with_node(nodes, path, node):
 
 OLD, NEW = b"old\n", b"new\n"
 LINK = ("link", b"elsewhere")
-V1 = component(b"foo:runtime", b"1.0-1-1", [(b"/etc/foo", OLD), (b"/usr/foo", NEW)])
-V2 = component(b"foo:runtime", b"1.1-1-1", [(b"/etc/foo", NEW)])
-EMPTY = component(b"bar:runtime", b"2-1-1", [(b"/bar", b"")])
-PACKAGE = collection(b"foo", b"1.0-1-1", [on(b"foo:runtime", b"1.0-1-1")])
-GROUP = collection(b"group-all", b"1-1-1", [on(b"foo", b"1.0-1-1"), on(b"bar:runtime", b"2-1-1")])
-LOST = collection(b"group-lost", b"1-1-1", [on(b"none:runtime", b"1-1-1")])
-RESERVED = component(b"bad:runtime", b"1-1-1", [(b"/var/lib/conarydb/x", OLD)])
-PINNED = component(b"pin:runtime", b"1-1-1", [(b"/var/lib", OLD)])
-FIXED = Trove(id_of_text(on(b"fix:runtime", b"1-1-1")), [(b"/var/lib", directory(0o755))], [], [], [])
-# One content with another size than that of its record.
-SHORT = Trove(id_of_text(on(b"short:runtime", b"1-1-1")), [(b"/short", regular(0o644, 0, 9, sha1(OLD).digest()))], [], [], [])
+ELSE = b"else"
+TABLE = Rows("repositories", globals())
+V1, V2, MOVED, EMPTY, PACKAGE, NEXT_FOO, GROUP, NEXT, OTHER, LONG = TABLE.named("V1 V2 MOVED EMPTY PACKAGE NEXT_FOO GROUP NEXT OTHER LONG")
+# One content with another size than that of its record; and a trove of other flags and another mode.
+SHORT = component(b"short:runtime", b"1-1-1", [])._replace(files=[(b"/short", regular(0o644, 0, 9, sha1(OLD).digest()))])
+MODE = component(b"foo:runtime", b"1.3-1-1", [])._replace(files=[(b"/etc/foo", plain(OLD, 0o600)), (b"/usr/foo", plain(NEW, 0o644, 1))])
 
-WHOLE = [[V1], [PACKAGE, GROUP, EMPTY], [V2]]
-TREE = tree_of(WHOLE, [OLD, NEW, b""])
+
+def trees_of(topic):
+    """Rows have the troves of each commit, the contents, and further nodes."""
+    for commits, contents, *more in TABLE.fields(topic):
+        yield tree_of(map(TABLE.named, commits.split(";")), TABLE.named(contents), *map(TABLE.nodes, more))
+
+
+TREE = next(trees_of("trees"))
 
 
 def changed(text, at):
@@ -67,12 +66,8 @@ def trees():
     yield {b"/": DIR}
     yield {b"/": DIR, BASE: file(OLD, 0o644)}
     yield {b"/": DIR, BASE: DIR}
-    yield TREE
-    # What nothing refers to doesn't count.
-    yield tree_of(WHOLE, [OLD, NEW, b"", b"else"], [(BASE + b"/k.5", file(OLD)), (BASE + b"/k.04", DIR), (BASE + b"/k.0", DIR)])
-    # A reference to a trove that is committed later, or in the same commit.
-    yield tree_of([[GROUP], [EMPTY, PACKAGE], [V1]], [OLD, NEW, b""])
-    yield tree_of([[FIXED]], [])
+    # What nothing refers to doesn't count; a reference to a trove that is committed later, or in the same commit.
+    yield from trees_of("trees")
     for number in (1, 2, 3):
         path = commit_path(number)
         text = TREE[path][2]
@@ -80,16 +75,9 @@ def trees():
         texts = [b"", MAGIC, MAGIC + item(0x4F, b""), *(text[:cut] for cut in cuts), *(changed(text, at) for at in places), text + b"\0"]
         for node in (None, DIR, LINK, *map(file, texts), file(text + item(0x4F, b""))):
             yield with_node(TREE, path, node)
-    # Cross-checks: an id twice, in one commit and in two; paths that no trove may record; a reference to no trove.
-    yield tree_of([[V1, V1]], [OLD, NEW])
-    yield tree_of([[V1], [V2], [EMPTY, V2]], [OLD, NEW, b""])
-    yield tree_of([[V1], [RESERVED]], [OLD, NEW])
-    yield tree_of([[PINNED], [V1]], [OLD, NEW])
-    yield tree_of([[V1], [LOST], [V2]], [OLD, NEW])
-    yield tree_of([[LOST], [V1], [LOST]], [OLD, NEW])
-    # A file that isn't in its grammar counts before a reference.
-    yield tree_of([[LOST], [V1], [V2]], [OLD, NEW], [(commit_path(3), DIR)])
-    yield tree_of([[GROUP], [V1], [EMPTY]], [OLD, NEW, b""])
+    # An id twice, in one commit and in two; paths that no trove may record; a reference to no trove, before which a file counts that isn't
+    # in its grammar.
+    yield from trees_of("cross-checks")
 
 
 def damaged_contents():
@@ -110,16 +98,14 @@ NAMES = [sha1(text).digest() for text in (OLD, NEW, b"", b"else")]
 WORKED = tree_of([[F1], [F2]], [b"abc", b"abcd"])
 
 # The same file at other paths and with another mode; the same contents in two troves; a trove that the old ones don't have.
-MOVED = component(b"foo:runtime", b"1.2-1-1", [(b"/etc/bar", OLD), (b"/usr/foo", NEW)])
-MODE = Trove(id_of_text(on(b"foo:runtime", b"1.3-1-1")), [(b"/etc/foo", regular(0o600, 0, 4, sha1(OLD).digest())), (b"/usr/foo", regular(0o644, 1, 4, sha1(NEW).digest()))], [], [], [])
-OTHER = component(b"other:lib", b"1-1-1", [(b"/lib/a", OLD), (b"/lib/b", OLD), (b"/lib/c", b"else")])
-NEXT = collection(b"group-all", b"2-1-1", [on(b"foo:runtime", b"1.1-1-1"), on(b"other:lib", b"1-1-1")])
-NEXT_FOO = collection(b"foo", b"1.1-1-1", [on(b"foo:runtime", b"1.1-1-1")])
 MANY = [[V1], [PACKAGE, GROUP, EMPTY], [V2, NEXT_FOO], [MOVED, MODE], [OTHER, NEXT]]
 MANY_TREE = tree_of(MANY, [OLD, NEW, b"", b"else"])
 # Two records of one name with different sizes, so that no bytes can be sent for both; each alone with the bytes that it asks for.
-LONG = Trove(id_of_text(on(b"long:runtime", b"1-1-1")), [(b"/long", regular(0o644, 0, 4, sha1(OLD).digest()))], [], [], [])
 SIZES = tree_of([[SHORT], [LONG]], [OLD])
+
+
+def pairs(topic):
+    return [list(map(TABLE.named, fields)) for fields in TABLE.fields(topic)]
 
 
 def lists():
@@ -133,37 +119,19 @@ def lists():
         for fresh in (V1, V2, MOVED, MODE):
             yield [old], [fresh]
             yield [EMPTY, old], [fresh, OTHER]
-    before, after = [EMPTY, PACKAGE, V1, GROUP], [NEXT_FOO, V2, NEXT, OTHER]
-    yield before, after
-    yield after, before
-    yield [], before
-    yield [], after
-    yield before, [EMPTY, NEXT_FOO, V2, GROUP]
-    yield [V1], before
-    yield [V1], after
-    yield [EMPTY], [V1, OTHER]
+    yield from pairs("old and new troves")
 
 
 def sets():
     """Calls of `between`: a tree, the old troves and the new ones."""
-    yield WORKED, [], [F2]
-    yield WORKED, [], [F1]
-    yield WORKED, [F1], [F2]
-    yield WORKED, [F2], [F1]
-    yield WORKED, [], []
-    for old, fresh in lists():
-        yield MANY_TREE, old, fresh
+    yield from ((WORKED, *two) for two in pairs("over the worked troves"))
+    yield from ((MANY_TREE, *two) for two in lists())
     # A content that is damaged counts only where it is sent.
     for text in (OLD, NEW):
         path = content_at(text)
         for node in (None, DIR, LINK, file(text + b"x"), file(b"fals"), file(text, 0o644)):
-            tree = with_node(MANY_TREE, path, node)
-            for old, fresh in (([], [V1]), ([], [V2]), ([V1], [V2]), ([V2], [V1]), ([V1], [MODE]), ([V1], [MOVED]), ([V1], [V1, OTHER]), ([V1], [V1])):
-                yield tree, old, fresh
-    yield SIZES, [], [LONG]
-    yield SIZES, [], [SHORT]
-    yield SIZES, [], [LONG, SHORT]
-    yield SIZES, [LONG], [LONG, SHORT]
+            yield from ((with_node(MANY_TREE, path, node), *two) for two in pairs("over damaged contents"))
+    yield from ((SIZES, *two) for two in pairs("over two sizes"))
 
 
 def reading():

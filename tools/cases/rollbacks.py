@@ -3,16 +3,17 @@
 The roots are laid out as files. What a rollback does is told by tools/model/root.py, which shares nothing with the program that is
 tested.
 """
+from tools.cases.reading import puts_of, rows, word_of
 from tools.cases.stacks import ABCD, ERASE, ETC, FOO, FOO_2, INSTALL, INSTALLED, SAVED, WITH_KINDS, trove
 from tools.lines.system_lines import damaged, fail_line, rollback, run_line, stop_lines
-from tools.model.records import BASE, record_path
+from tools.model.records import record_path
 from tools.model.root import Root
 from tools.model.runs import PICKS
 from tools.model.stacks import file
 from tools.model.streams import link
 from tools.model.trees import DIR
 
-LABEL, PRIVATE_DIR, ABY = "rollback", ("dir", 0o700), file(b"abY")
+LABEL, ABY = "rollback", file(b"abY")
 BAR, BAR_TOO = trove(b"bar:runtime", ETC, (b"/etc/bar", link(b"foo"))), {b"/etc/bar": ("link", b"foo")}
 
 # An edit that an update replaced, and a file that stood before its package came.
@@ -25,39 +26,33 @@ LIST_ALONE = INSTALLED.job([], {})
 CLEAN = INSTALLED.job([FOO_2], ABCD).job([BAR, FOO_2], BAR_TOO)
 IN_PLACE = Root().edit(b"/srv", DIR).job([BAR], {b"/srv/bar": file(b"b")})
 TAKEN = Root().edit(b"/srv", DIR).edit(b"/srv/bar", file(b"b")).job([], {b"/srv/bar": None})
+NAMED = {"INSTALLED": INSTALLED, "REPLACED": REPLACED, "ERASED": ERASED, "WITH_KINDS": WITH_KINDS}
+NAMED |= {"THREE": THREE, "IN_PLACE": IN_PLACE, "TAKEN": TAKEN}
 
-# Roots whose newest job can be taken back.
+
+def data_of(text):
+    return REPLACED.own[record_path(1)][2] if text == "RECORD" else word_of(text)
+
+
+def edited(kind):
+    """The rows of rollbacks.txt: a root, edits, and a number where there is one."""
+    for root, edits, *number in (row.split(" | ") for row in rows("rollbacks", kind)):
+        yield NAMED[root], puts_of(edits, data_of), *map(int, number)
+
+
+# Roots whose newest job can be taken back, and edits that keep it from that.
 ROOTS = [INSTALLED, REPLACED, OWNED, ERASED, WITH_KINDS, THREE, LIST_ALONE, IN_PLACE, TAKEN]
-# Edits at other paths stay.
-ROOTS += [INSTALLED.edit(b"/etc2", DIR).edit(b"/etc2/new", file(b"new")), REPLACED.edit(b"/etc/new", file(b"new")).edit(b"/home", ("link", b"elsewhere"))]
-ROOTS.append(IN_PLACE.edit(b"/srv", PRIVATE_DIR))
-# Other files of the program stay, and what an edit left of a mode of its own.
-ROOTS.append(REPLACED.edit(BASE + b"/r.7", file(b"junk")).edit(BASE + b"/s.7", DIR).edit(BASE, PRIVATE_DIR))
-
-# Edits that keep the newest job from being taken back: at a path of the job other bytes, another mode, another kind, nothing.
-REFUSED = [REPLACED.edit(b"/etc/foo", node) for node in (ABY, file(b"abcd", 0o600), DIR, ("link", b"foo"), None)]
-REFUSED += [INSTALLED.edit(b"/etc", PRIVATE_DIR), INSTALLED.edit(b"/etc/foo"), ERASED.edit(b"/etc", DIR), ERASED.edit(b"/etc", DIR).edit(b"/etc/foo", file(b"abcd"))]
-# The first of two.
-REFUSED.append(INSTALLED.edit(b"/etc", PRIVATE_DIR).edit(b"/etc/foo", file(b"x")))
-# Into a directory that the job made, also in place of a file.
-REFUSED += [INSTALLED.edit(b"/etc/new", file(b"new")), WITH_KINDS.edit(b"/x/new", DIR), INSTALLED.edit(b"/etc/new", DIR).edit(b"/etc/foo", file(b"x"))]
-# The directory of a path that the job took away is gone, or another kind.
-REFUSED += [TAKEN.edit(b"/srv", node) for node in (None, file(b"no directory"), ("link", b"elsewhere"))]
-
-# Damaged files by the roots that have them.
-DAMAGED = [(INSTALLED, record_path(1), node) for node in (None, DIR, file(b"junk"))] + [(REPLACED, record_path(2), REPLACED.own[record_path(1)])]
-DAMAGED += [(REPLACED, SAVED, node) for node in (None, DIR, ABY, file(b""))]
-# The same with numbers down to which nothing can be taken back. The content is of the oldest job that has the path, which is to stand again.
-DAMAGED_TO = [(THREE, record_path(3), None, 2), (THREE, record_path(2), file(b"junk"), 1), (THREE, record_path(1), DIR, 1)]
-DAMAGED_TO += [(THREE, SAVED, node, 2) for node in (None, ABY)]
+ROOTS += [root.edits(*edits) for root, edits in edited("stays")]
+REFUSED = [root.edits(*edits) for root, edits in edited("refused")]
 
 
 def run(root, *numbers):
     return run_line(LABEL, root, *map(rollback, numbers))
 
 
-def damaged_line(root, path, node, number=None):
-    return run_line(LABEL, root.edit(path, node), damaged(rollback(number), path))
+def damaged_lines(kind):
+    for root, edits, *number in edited(kind):
+        yield run_line(LABEL, root.edits(*edits), damaged(rollback(*number), edits[0][0]))
 
 
 def cut_lines(root, picks=PICKS[:3], number=None):
@@ -72,7 +67,7 @@ def lines():
         yield run(root, None)
         yield run(root, *[None] * (len(root.jobs) + 1))
     yield from (run(root, None) for root in REFUSED)
-    yield from (damaged_line(*row) for row in DAMAGED)
+    yield from damaged_lines("damaged")
     # The tests of the paths come before a saved content is read.
     yield run(REPLACED.edit(b"/etc/foo", ABY).edit(SAVED), None)
     for root in (INSTALLED, REPLACED, ERASED, WITH_KINDS, LIST_ALONE):
@@ -98,7 +93,7 @@ def lines_to():
     dropped = INSTALLED.job([], ERASE, 7)
     dropped = dropped._replace(jobs=dropped.jobs[1:]).with_database().job([FOO], INSTALL)
     yield from (run(dropped, number) for number in (1, 6, 7, 8))
-    yield from (damaged_line(*row) for row in DAMAGED_TO)
+    yield from damaged_lines("damaged where several are taken back, down to a number")
     # A content that isn't to stand again isn't looked at.
     yield run(CLEAN.edit(SAVED), 1)
     for root, number in ((THREE, 3), (CLEAN, 1), (WITH_KINDS, 1)):

@@ -5,17 +5,18 @@ The answers come from tools/model/records.py and tools/model/stacks.py, readings
 import itertools
 from random import Random
 
-from tools.lines.words import bytes_word, node_word, placed, tree_word
 from tools.cases.manifests import SHATTERED
+from tools.cases.rows import LABEL, Rows
+from tools.lines.words import bytes_word, node_word, placed, tree_word
 from tools.model import stacks
 from tools.model.records import (
     BASE, CAME, DATABASE, DATABASE_END, DATABASE_MAGIC, EMPTY, END, ENTRY, LISTED, MAGIC, NOTHING, NUMBER, NUMBERS, TROVE, TURNED, WAS, Db,
-    Record, content_path, database_bytes, delta_bytes, entry_bytes, four, mark_of, read_database, read_record, record_bytes, saved_path, sha,
+    Record, content_path, database_bytes, delta_bytes, entry_bytes, four, mark_of, read_database, read_record, record_bytes, saved_path,
+    sha,
 )  # fmt: skip
 from tools.model.relatives import relative_of
 from tools.model.stacks import file
 from tools.model.streams import NotOfForm, Owner, directory, file_of, id_text, item, link, relative_bytes, trove_bytes, trove_of
-from tools.model.texts import Id
 from tools.model.trees import DIR, Damaged, Refused, is_of, parent_of
 
 # The directories in which a root has its files.
@@ -42,34 +43,30 @@ def answered(call, *given):
 
 # ---- databases
 
-V1, V2 = b"/conary.example.com@ex:devel/1.0-1-1", b"/conary.example.com@ex:devel/2.0-1-1"
+V1, V2 = b"/" + LABEL + b"/1.0-1-1", b"/" + LABEL + b"/2.0-1-1"
 OTHER = Owner(b"web", b"www")
 ABC = file_of(b"abc")
 ETC = (b"/etc", directory(0o755))
+# Two contents of one SHA-1.
+ONE, TWO = SHATTERED
+ABC_NAME, CUT_NAME = sha(b"abc"), sha(b"abc")[:-1]
 
 
 def trove(name, *files, version=V1):
     return trove_of(name, version, files)
 
 
-FOO, FOO_2 = (trove(b"foo:runtime", ETC, (b"/etc/foo", file_of(data)), version=version) for version, data in ((V1, b"abc"), (V2, b"abcd")))
-BAR = trove(b"bar:runtime", (b"/etc", directory(0o750)), (b"/etc/bar", link(b"foo")))
 OWNED = trove(b"web:runtime", (b"/etc", directory(0o755, OTHER)), (b"/srv", file_of(b"abc", 0o600, 1, OTHER)))
-PACKAGE = trove_of(b"foo", V1, refs=[Id(b"foo:runtime", V1, b"")])
+TABLE = Rows("states", globals())
+FOO, FOO_2, BAR, PACKAGE = TABLE.named("FOO FOO_2 BAR PACKAGE")
 
 # The bytes of a database with the one component `foo:runtime`, `/etc` and `/etc/foo`, after one job; written by hand.
-BY_HAND_2 = bytes.fromhex(
-    "434e5944423032 0a 50 00000092 01 0000000b 666f6f3a72756e74696d65"
-    "02 00000024 2f636f6e6172792e6578616d706c652e636f6d4065783a646576656c2f312e302d312d31 03 00000000"
-    "04 00000017 0004 2f657463 02 64 00 01ed 0004 726f6f74 0004 726f6f74"
-    "04 00000033 0008 2f6574632f666f6f 02 66 00 01a4 0004 726f6f74 0004 726f6f74 00000003 a9993e364706816aba3e25717850c26c9cd0d89d"
-    "51 00000008 00000001 00000001 5f 00000000"
-)
+BY_HAND_2 = TABLE.by_hand("database of the component after one job")
 
-# The formats of databases, and what they have: no trove, a component, several, a directory of two troves, a full stack, one that dropped
-# jobs, a name below another one; a fixed directory.
-GOOD = [(2, [], 0, 0), (2, [FOO], 1, 1), (1, [FOO], 1, 1), (2, [BAR, PACKAGE, FOO, OWNED], 7, 9), (1, [BAR, FOO], 3, 3), (2, [FOO], 1, 4_096)]
-GOOD += [(2, [FOO], 4_294_963_200, 4_294_967_295), (2, [PACKAGE, FOO], 1, 2)]
+
+def databases(topic):
+    """Formats of databases, and what they have: the troves, and the numbers of jobs."""
+    return [(int(kind), TABLE.named(troves), *map(int, numbers.split())) for kind, troves, numbers in TABLE.fields(topic)]
 
 
 def db_text(db):
@@ -104,8 +101,7 @@ def bad():
     yield from (one[:cut] for cut in range(1, len(one)))
     yield from [one + b"\0", one + end, one[:-5] + item(DATABASE_END, b"\0"), one[:-5] + item(0x5E, b"")]
     # Numbers.
-    for oldest, newest in ((1, 0), (0, 1), (2, 1), (1, 4_097), (4_294_963_199, 4_294_967_295), (4_294_967_295, 0)):
-        yield database_bytes(2, [FOO], oldest, newest)
+    yield from (database_bytes(*row) for row in databases("databases with other numbers"))
     yield from (magic + part + end for part in (item(NUMBERS, four(1)), item(NUMBERS, four(1) + four(1) + b"\0"), b"", numbers + numbers))
     # Order and names, then owners.
     later = trove(b"foo:runtime", version=V1.replace(b"1.0", b"1.1"))
@@ -130,7 +126,8 @@ def database_lines():
     yield decode_line(BY_HAND_2)
     for text in (database_bytes(1, [FOO], 1, 1), BY_HAND_2):
         yield line("encode", bytes_word(text)), BY_HAND_2.hex()
-    for row in GOOD:
+    # No trove, a component, several, a directory of two troves, a full stack, one that dropped jobs, a name below another one.
+    for row in databases("databases"):
         yield decode_line(database_bytes(*row))
         yield load_line(file(database_bytes(*row), 0o600))
     yield decode_line(database_bytes(2, [trove(b"a:b", (b"/var/lib", directory(0o700)))], 1, 1))
@@ -145,20 +142,16 @@ def database_lines():
 # ---- rollback records
 
 # The record of the job that installed the component `foo:runtime` with `/etc` and `/etc/foo`; written by hand.
-RECORD_BY_HAND = bytes.fromhex(
-    "434e5952423032 0a 60 00000004 00000001 64 00000035 000b 666f6f3a72756e74696d65"
-    "0024 2f636f6e6172792e6578616d706c652e636f6d4065783a646576656c2f312e302d312d31 0000"
-    "67 00000008 0004 2f657463 6e 3d 67 0000000c 0008 2f6574632f666f6f 6e 3d 6f 00000000"
-)
+RECORD_BY_HAND = TABLE.by_hand("record of the job that installed the component")
 EDITED = ("file", 0o644, 3, sha(b"abX"))
 UPDATE = (TURNED, relative_of(FOO_2, FOO))
-MARKS = [NOTHING, LISTED, ("dir", 0o7777), ("dir", 0), EDITED, ("file", 0, 4_294_967_295, sha(b"abc")), ("link", b"x"), ("link", b"y" * 1_024)]
+MARKS = [NOTHING, LISTED, ("dir", 0o7777), ("dir", 0), EDITED, ("file", 0, 4_294_967_295, ABC_NAME), ("link", b"x"), ("link", b"y" * 1_024)]
 
 # Formats, and records that they have.
 RECORDS = [(2, Record(1, [(CAME, FOO.identity)], [(b"/etc", NOTHING, LISTED), (b"/etc/foo", NOTHING, LISTED)]))]
 RECORDS += [(kind, Record(2, [UPDATE], [(b"/etc/foo", EDITED, LISTED)])) for kind in (2, 1)]
-RECORDS += [(1, Record(2, [(WAS, FOO)], [(b"/etc/foo", LISTED, NOTHING)])), (2, Record(2, [(WAS, OWNED)], [])), (2, Record(4_294_967_295, [], []))]
-RECORDS += [(2, Record(0, [(CAME, BAR.identity), (WAS, PACKAGE), (WAS, FOO)], []))]
+RECORDS += [(1, Record(2, [(WAS, FOO)], [(b"/etc/foo", LISTED, NOTHING)])), (2, Record(2, [(WAS, OWNED)], []))]
+RECORDS += [(2, Record(4_294_967_295, [], [])), (2, Record(0, [(CAME, BAR.identity), (WAS, PACKAGE), (WAS, FOO)], []))]
 RECORDS += [(2, Record(7, [], [(b"/%02d" % at, MARKS[at // 8], MARKS[at % 8]) for at in range(64)]))]
 
 
@@ -177,19 +170,17 @@ def bad_records():
     some += [head + item(NUMBER, four(1)) + end, head + part + end, head + item(END, b"\0")]
     some += [head + middle + end for middle in (was + came, came + came, etc + was, foo + etc, foo + foo, came + etc + was)]
     # Values.
-    relative, full = UPDATE[1], trove_bytes(FOO, True)
+    relative, full = relative_bytes(UPDATE[1], True), trove_bytes(FOO, True)
     values = [(CAME, value) for value in (b"", BAR.identity.name, full)]
     values += [(WAS, value) for value in (b"", trove_bytes(FOO, False), full + b"\0", full[:-1])]
-    values += [(TURNED, relative_bytes(relative, False)), (TURNED, relative_bytes(relative, True)[:-1]), (WAS, relative_bytes(relative, True))]
+    values += [(TURNED, relative_bytes(UPDATE[1], False)), (TURNED, relative[:-1]), (WAS, relative)]
     yield from ((2, text) for text in [*some, *(head + item(*value) + end for value in values)])
     owned = relative_of(FOO_2._replace(identity=OWNED.identity._replace(version=V2)), OWNED)
-    values = [(WAS, full), (WAS, trove_bytes(OWNED, False)), (TURNED, relative_bytes(relative, True)), (TURNED, relative_bytes(owned, False))]
+    values = [(WAS, full), (WAS, trove_bytes(OWNED, False)), (TURNED, relative), (TURNED, relative_bytes(owned, False))]
     yield from ((1, MAGIC[1] + head[8:] + item(*value) + end) for value in values)
     # Fingerprints and paths.
-    name = sha(b"abc")
-    marks = [b"", b"n", b"nnn", b"=x", b"xn", b"nd\1", b"nd\x10\0", b"nf\1\xa4\0\0\0\3" + name[:-1], b"nf\x10\0\0\0\0\3" + name]
-    marks += [b"nf\1\xa4\0\0\0\3" + name + b"n", b"nl\0\0", b"nl\0\1\1", b"nl\0\2x", b"nl\0\1\x80", b"n="]
-    values = [b"\0\4/etc" + mark for mark in marks] + [path + b"n=" for path in (b"\0\0", b"\0\3etc", b"\0\5/etc/", b"\0\4/et\x80", b"\0")]
+    values = [b"\0\4/etc" + mark for mark in TABLE.all_bytes("fingerprints that are none")]
+    values += (path + b"n=" for path in TABLE.all_bytes("paths that are none"))
     yield from ((2, head + item(ENTRY, value) + end) for value in values)
 
 
@@ -210,7 +201,8 @@ def record_line(kind, text):
 
 
 def record_lines():
-    for kind, text, again in [*((kind, record_bytes(one, kind), record_bytes(one, 2)) for kind, one in RECORDS), (2, RECORD_BY_HAND, RECORD_BY_HAND)]:
+    texts = [(kind, record_bytes(one, kind), record_bytes(one, 2)) for kind, one in RECORDS]
+    for kind, text, again in [*texts, (2, RECORD_BY_HAND, RECORD_BY_HAND)]:
         yield record_line(kind, text)
         yield line("rewritten", kind, bytes_word(text)), again.hex()
     yield from (record_line(*one) for one in bad_records())
@@ -218,18 +210,16 @@ def record_lines():
 
 # ---- saved contents
 
-# Two contents of one SHA-1.
-ONE, TWO = SHATTERED
-
-
 def entries_word(job):
     """The paths of a job, each with what it found there and the fingerprint of what it left."""
     return ";".join(f"{placed(path, was, bytes_word)}|{node_word(now)}" for path, was, now in job)
 
 
-def stashable_line(*nodes):
-    answer = answered(lambda: stacks.check_stashable(nodes) or "ok")
-    return line("stashable", entries_word([(b"/%02d" % at, node, NOTHING) for at, node in enumerate(nodes)])), answer
+def stashable_lines(table):
+    """Contents that are to be saved at once."""
+    for nodes in ([], *([table.node(part) for part in row.split("; ")] for row in table.topics["contents"])):
+        answer = answered(lambda: stacks.check_stashable(nodes) or "ok")
+        yield line("stashable", entries_word([(b"/%02d" % at, node, NOTHING) for at, node in enumerate(nodes)])), answer
 
 
 def old_line(nodes, number, mark):
@@ -237,17 +227,14 @@ def old_line(nodes, number, mark):
 
 
 def saved_lines():
-    one, two, abc, abx, a, none = map(file, (ONE, TWO, b"abc", b"abX", b"a", b""))
-    target = ("link", b"x")
-    lists = [[], [none], [a, file(b"b")], [a, a], [None, DIR, target, abc, abx, abc], [one, two], [two, DIR, one], [one, one]]
-    lists += [[target, None, one, none, two, one], [file(ONE, 0o600), file(ONE, 0o755)]]
-    yield from (stashable_line(*nodes) for nodes in lists)
+    yield from stashable_lines(TABLE)
+    target, abx, none = ("link", b"x"), file(b"abX"), file(b"")
     number, mark = 4_294_967_295, mark_of(abx)
     place = content_path(number, sha(b"abX"))
     good = {saved_path(number): DIR, place: file(b"abX", 0o600), content_path(number, sha(b"")): file(b"", 0o777)}
     for one in (NOTHING, ("dir", 0), ("dir", 0o7777), target, mark, mark_of(file(b"abX", 0o4755)), mark_of(none), mark_of(file(b"other"))):
         yield from [old_line(good, number, one), old_line({}, 1, one), old_line(good, 1, one)]
-    for node in (DIR, target, none, file(b"abY"), file(b"abXX"), file(b"ab")):
+    for node in TABLE.all_nodes("damaged contents"):
         yield old_line({**good, place: node}, number, mark)
     yield old_line(good, number, ("file", 0o644, 4, sha(b"abX")))
     yield from ((line("old", fails, tree_text(good), number, node_word(mark)), "failed") for fails in (1, 2))
@@ -258,7 +245,8 @@ def saved_lines():
 
 def undo_line(nodes, newest, *jobs, fails=0):
     """The jobs, the newest first, are lists of a path, what the job found there and the fingerprint of what it left."""
-    return line("undo", fails, tree_text(nodes), newest, *map(entries_word, jobs)), "1\tfailed" if fails else undo({**FIXED, **nodes}, newest, jobs)
+    answer = "1\tfailed" if fails else undo({**FIXED, **nodes}, newest, jobs)
+    return line("undo", fails, tree_text(nodes), newest, *map(entries_word, jobs)), answer
 
 
 def undo(nodes, newest, jobs):

@@ -4,26 +4,29 @@ A line has what is done, what it shows, the nodes of the root, and calls. `run` 
 other; `stop` cuts one off after each number of calls of the disk, takes the crash that a number picks, makes the root ready and makes
 the call again; `fail` lets each call of the disk fail in turn; `seen` tells what others read at paths meanwhile. The answers come
 from tools/model/root.py, which shares nothing with the program that is tested. A row is a line of `run`: what it shows, the root, and
-calls.
+calls. Most rows are those of systems.txt.
 """
 import itertools
 import random
 
 from tools.cases.jobs import collection, component
-from tools.cases.manifests import SHATTERED
+from tools.cases.notation import ONE, OTHER as TWO, content, node_of, placed, record_of
 from tools.cases.stacks import OLD_DATABASE_2_BY_HAND, OLD_RECORD_2_BY_HAND, OLD_RECORD_BY_HAND
+from tools.cases.tables import table
 from tools.lines.system_lines import (
-    ROLLBACK, Call, Edit, adopt, damaged, erase, fail_line, rollback, run_line, seen_line, stop_lines, unready_failures, unready_line, update,
-    verify,
+    ROLLBACK, Call, Edit, adopt, damaged, erase, fail_line, rollback, run_line, seen_line, stop_lines, unready_failures, unready_line,
+    update, verify,
 )  # fmt: skip
-from tools.lines.words import bytes_word
+from tools.lines.words import bytes_word, rows_of
 from tools.model.lists import name_of
-from tools.model.records import BASE, DATABASE, GREATEST_NUMBER, record_path, saved_path
+from tools.model.records import BASE, DATABASE, record_path
 from tools.model.root import Root, cut_off
 from tools.model.runs import PICKS
 from tools.model.stacks import file, in_format_1
-from tools.model.streams import ROOT, Owner, Trove, directory, file_of, link, trove_bytes
+from tools.model.streams import Owner, Trove, directory, file_of, link, trove_bytes
 from tools.model.trees import DIR, is_of, parent_of
+
+TABLE = table("systems")
 
 # ---- troves and roots
 
@@ -37,214 +40,122 @@ def trove(name, files=(), revision=b"1.0-1-1", requires=(), **more):
     return component(name, *requires, revision=revision, files=dict(files).items(), **more)
 
 
-def foo(data=b"abc", revision=b"1.0-1-1", mode=0o644, flags=0, owner=ROOT, **more):
-    return trove(RUNTIME, {b"/etc": directory(0o755, owner), FOO: file_of(data, mode, flags, owner)}, revision, **more)
-
-
-def newer(name, files=(), **more):
-    return trove(name, files, b"2.0-1-1", **more)
-
-
 def after(system, *calls):
     for call in calls:
         system, _ = call.on(system)
     return system
 
 
-def numbered(oldest, newest, system=None):
-    """A system, the first one that is installed if none is given, with a stack of jobs of which nothing stands."""
-    return (system or INSTALLED).numbered(oldest, newest).with_database()
+EMPTY, TROVES = Root(), {}
 
 
-EMPTY = Root()
-M, M2, M3 = foo(), foo(b"abcd", b"1.0-2-1"), foo(b"abc", b"1.0-2-1")
-ABC, ABCD, BOTH_TEXTS = [b"abc"], [b"abcd"], [b"abc", b"abcd"]
-INSTALL, UPDATE = update([M], ABC), update([M2], ABCD)
-ERASE, ERASE_EDITED = erase([RUNTIME]), erase([RUNTIME], REPLACE)
-INSTALLED = after(EMPTY, INSTALL)
-EDIT = Edit(FOO, file(b"abX"))
-EDITED = after(INSTALLED, EDIT)
-FOREIGN = EMPTY.edits((b"/etc", DIR), (FOO, file(b"xyz")))
-OTHER = trove(b"bar:runtime", {b"/etc": D, b"/etc/bar": link(b"foo")})
-BAR = trove(b"bar:lib")
-CARRIED, REPLACING = update([M], BOTH_TEXTS), update([M2], BOTH_TEXTS, options=REPLACE)
+def trove_of_row(head, *rest):
+    name, *revision = (word.encode() for word in head.split())
+    told = {word: [one.partition(" ")[2].encode() for one in rest if one.startswith(word)] for word in ("requires", "provides", "of")}
+    if told["of"]:
+        troves = (TROVES[one.decode()] for one in told["of"][0].split())
+        return collection(name, *troves, **({"revision": revision[0]} if revision else {}))
+    files = placed("; ".join(one for one in rest if one.startswith("/")) or "nothing", record_of, {})
+    return trove(name, files, *revision, requires=told["requires"], gives=told["provides"])
+
+
+for made, text in (row.split(" = ") for row in rows_of(TABLE, "troves")):
+    TROVES[made] = trove_of_row(*text.split("; "))
+CALLS = dict(row.split(" = ") for row in TABLE["calls"])
+
+
+def call_of(text):
+    """A call that is named so, or written out: with the troves, names or number it takes, its contents, and its options."""
+    said, *more = CALLS.get(text, text).split(", ")
+    what, *words = said.split()
+    given = dict(one.partition(" ")[::2] for one in more)
+    contents, far = list(map(content, given.pop("carried", "").split())), given.pop("far", "")
+    far = far if far in ("fails", "damaged") else list(map(content, far.split()))
+    if what == "edit":
+        return Edit(words[0].encode(), node_of(*words[1:]) if words[1:] else None)
+    if what == "numbered":
+        # A stack of jobs of which nothing stands.
+        return Call(text, lambda system: (system.numbered(*map(int, words)).with_database(), "numbered"))
+    if what == "rollback":
+        return rollback(*map(int, words))
+    if what == "update":
+        return update([TROVES[word] for word in words], contents, far, tuple(given))
+    if what == "adopt":
+        return adopt([TROVES[word] for word in words], far, tuple(given))
+    names = [word.encode() for word in words]
+    return verify(names, far) if what == "verify" else erase(names, tuple(given))
+
+
+def system_of(text):
+    """A system that is named so, after calls."""
+    named, *calls = text.split(" > ")
+    return after(SYSTEMS[named], *map(call_of, calls))
+
+
+def rows(topic):
+    for label, system, *calls in (row.split(" | ") for row in rows_of(TABLE, topic)):
+        yield label, system_of(system), *map(call_of, calls)
+
+
+SYSTEMS = {"EMPTY": EMPTY}
+for made, text in (row.split(" = ") for row in TABLE["systems"]):
+    SYSTEMS[made] = system_of(text)
+INSTALLED, EDITED, STARTED = (SYSTEMS[made] for made in ("INSTALLED", "EDITED", "STARTED"))
+M, M2, M3, OTHER = (TROVES[made] for made in ("M", "M2", "M3", "OTHER"))
+WEB = Owner(b"web", b"www")
+for made, data, revision in (("M_OF_WEB", b"abc", b"1.0-1-1"), ("M2_OF_WEB", b"abcd", b"1.0-2-1")):
+    TROVES[made] = trove(RUNTIME, {b"/etc": directory(0o755, WEB), FOO: file_of(data, owner=WEB)}, revision)
+TROVES["M_SSL"] = trove(RUNTIME, M.files, flavor=b"ssl")
+ABC, ABCD = [b"abc"], [b"abcd"]
+INSTALL, UPDATE, ERASE = map(call_of, ("INSTALL", "UPDATE", "ERASE"))
 BACK_TWICE = (ROLLBACK, ROLLBACK)
-
-
-def worked_rows():
-    """The rows that the documents name."""
-    yield "install_component", EMPTY, CARRIED
-    yield "unowned_file_kept", FOREIGN, CARRIED, update([M], BOTH_TEXTS, options=REPLACE), ROLLBACK
-    yield from (("empty_file_digest", EMPTY, update([foo(b"")], *sources)) for sources in ([[b""]], [[], [b""]], []))
-    config = foo(b"abcd", b"1.0-2-1", flags=CONFIG)
-    for come, options in ((M2, ()), (M2, KEEP), (config, KEEP), (config, ()), (M2, REPLACE)):
-        yield "edited_file_refused", EDITED, update([come], BOTH_TEXTS, options=options)
-    yield "edit_kept_when_unchanged", EDITED, update([M3], BOTH_TEXTS)
-    yield "edit_kept_when_unchanged", EDITED, update([M3]), *BACK_TWICE
-    other = INSTALLED.edit(b"/etc/other", file(b"o"))
-    yield from (("erase_keeps_foreign_file", other, ERASE, *backs) for backs in ([], BACK_TWICE))
-    yield "erase_removes_empty_directory", INSTALLED, ERASE, ROLLBACK, *BACK_TWICE
-    yield from (("rollback_empty_stack", system, ROLLBACK) for system in (EMPTY, after(INSTALLED, ROLLBACK)))
-    yield "rollback_restores_edit", EDITED, REPLACING, *BACK_TWICE
-    yield "rollback_restores_edit", EMPTY, CARRIED, Edit(FOO, file(b"abX", 0o600)), REPLACING, *BACK_TWICE
-    both = after(EMPTY, update([BAR, foo(requires=[b"trove: bar:lib"])], ABC))
-    yield from (("erase_breaks_requirement", both, erase(names)) for names in ([b"bar:lib"], [b"bar:lib", RUNTIME]))
-    yield from (("not_installed_and_nothing_changes", *row) for row in ((EMPTY, erase([b"foo"])), (INSTALLED, CARRIED)))
-    yield "parent_reserved_owned", EMPTY, update([trove(RUNTIME, {FOO: file_of(b"abc")})], BOTH_TEXTS)
-    yield "parent_reserved_owned", INSTALLED, update([trove(b"bar:runtime", M.files)], BOTH_TEXTS)
-    yield "package_components", EMPTY, update([collection(b"bar", BAR), BAR])
-
-
-def verify_rows():
-    """Roots compared with their troves, without contents, with those that are recorded, and with others."""
-    plain, whole = verify(), verify(far=ABC)
-    yield "verify_edit", EMPTY, INSTALL, EDIT, plain, whole
-    yield "verify_edit", EDITED, plain, whole, verify(far=[b"abX", b"abcd"]), update([M2], ABCD, options=REPLACE), plain, ROLLBACK, whole
-    yield from (("verify_edit", INSTALLED.edit(FOO, file(text)), plain, whole) for text in (b"", b"ab", b"abcd", b"xyz", b"xyz0"))
-    others = [Edit(FOO, node) for node in (None, file(b"abc", 0o600), file(b"abX", 0o600), DIR, ("link", b"abc"))]
-    for edit in [*others, Edit(b"/etc", PRIVATE_DIR), Edit(b"/etc/other", file(b"o"))]:
-        yield "verify", INSTALLED, plain, edit, plain, whole, ERASE_EDITED, plain
-    both = after(INSTALLED, update([OTHER])).edits((FOO, file(b"abX")), (b"/etc/bar", ("link", b"fo")))
-    for names in ([], [RUNTIME], [b"bar:runtime"], [RUNTIME, b"bar:runtime", RUNTIME], [b"foo:doc"], [b"bar:runtime", b"foo:doc", b"a:b"]):
-        yield "verify", both, *(verify(names, far) for far in ((), ABC, "fails", "damaged"))
-    # Contents are only searched where another file stands.
-    for system in (EMPTY, INSTALLED, INSTALLED.edit(FOO), INSTALLED.edit(FOO, ("link", b"abc")), EDITED):
-        yield "verify", system, verify(far="fails"), verify(far="damaged")
-    gone = WITH_KINDS.edits((b"/d/f", None), (b"/d", file(b"d")), (b"/l", ("link", b"y")), (b"/f", file(b"F")))
-    yield "verify", gone, plain, verify(far=KINDS_TEXTS), update(KINDS_2, KINDS_TEXTS, options=REPLACE), plain, ROLLBACK, plain
-
-
-def left_by(system, number, text):
-    """What a job of this number left in the private directory."""
-    record, saved = record_path(number), saved_path(number)
-    return system.edits((record, file(text)), (saved, DIR), (saved + b"/x", file(b"x")))
-
-
-def dropped_rows():
-    """A full stack drops its oldest job. What a dropped job left goes when the next one is dropped."""
-    full = numbered(1, 4_096)
-    for number in (1, 2, 3):
-        full = left_by(full, number, b"r%d" % number)
-    steps = [UPDATE, update([M3], ABC), UPDATE]
-    for calls in (steps[:1], steps[:2], [*steps, *BACK_TWICE, steps[1]]):
-        yield "dropped_oldest", full, *calls
-    yield "dropped_oldest", numbered(2, 4_097), UPDATE
-    yield "dropped_oldest", numbered(1, 4_095), *steps
-    # The greatest number, and one less.
-    for count in (1, 4_095, 4_096):
-        yield "greatest_number", numbered(GREATEST_NUMBER - count + 1, GREATEST_NUMBER), UPDATE, update([M])
-        yield "greatest_number", numbered(GREATEST_NUMBER - count, GREATEST_NUMBER - 1), UPDATE, steps[1], ROLLBACK, steps[1]
-
-
-def places_rows():
-    """What stands where a job is about to write: places that don't count, and a private directory that is none. Then nothing stands at the
-    database, or one without troves."""
-    record, saved = record_path(1), saved_path(1)
-    stale = EMPTY.edits((BASE, DIR), (record, PRIVATE_DIR), (record + b"/deep", file(b"x")), (saved, DIR), (saved + b"/old", file(b"x")))
-    stale = stale.edits((record_path(2), ("link", b"r.1")), (BASE + b"/mine", file(b"kept")))
-    for system in (stale, *(EMPTY.edit(BASE, node) for node in (file(b"no directory"), ("link", b"elsewhere"), PRIVATE_DIR))):
-        yield "places", system, INSTALL, UPDATE, *BACK_TWICE
-    for node in (file(b"no directory"), ("link", b"elsewhere"), ("dir", 0o711)):
-        system = EMPTY.edits((b"/etc", DIR), (FOO, file(b"mine")), (BASE, DIR), (saved, node))
-        yield "places", system, update([M], ABC, options=REPLACE), ROLLBACK
-    yield "places", numbered(1, 0, EMPTY), INSTALL
 
 
 # ---- refusals
 
-ONE, TWO = SHATTERED
-OLD = [trove(b"e:lib", {b"/e": file_of(b"e")}), *(trove(name + b":lib", {b"/" + name: file_of(name, flags=TRANSIENT)}) for name in (b"n", b"x"))]
-STARTED = after(EMPTY, update([*OLD, trove(b"y:lib"), trove(b"z:lib", requires=[b"trove: y:lib"])], [b"e", b"n", b"x"]))
-MINE = file(b"mine")
+
+def drafts(topic, counts, first=0):
+    """So many of the tests of a topic failing at once: their labels, the root, and what each of them gives, by its first word."""
+    tests = []
+    for label, *rest in (row.split(" | ") for row in rows_of(TABLE, topic)[first:]):
+        given = [one for one in rest if one.startswith(("come", "far", "before", "behind"))]
+        tests.append((label, [call_of(one) for one in rest if one not in given], dict(one.split(" ", 1) for one in given)))
+    for some in (some for count in counts for some in itertools.combinations(tests, count)):
+        calls = (call for _, calls, _ in some for call in calls)
+        yield "+".join(label for label, *_ in some), after(STARTED, *calls), [given for *_, given in some]
 
 
-def with_collision(system):
-    """The root with two files whose contents have one SHA-1. One of the two isn't the content that is recorded."""
-    return after(system, update([trove(b"c:lib", {b"/c": file_of(ONE), b"/c2": file_of(ONE)})], [ONE])).edit(b"/c2", file(TWO))
-
-
-def with_ok(name, *paths, **more):
-    return newer(name, {path: file_of(b"ok") for path in paths}, **more)
-
-
-def same(system):
-    return system
-
-
-def no_number_left(system):
-    return numbered(GREATEST_NUMBER, GREATEST_NUMBER, system)
-
-
-# What refuses a job: what is made of the root, the troves that come, and the far contents.
-MISSING = newer(b"m:lib", {b"/m": file_of(b"m")})
-TESTS = {
-    "exists": (same, [newer(b"twice:lib"), trove(b"twice:lib")], []),
-    "unmet": (same, [newer(b"needy:lib", requires=[b"soname: absent.so"])], []),
-    "owned": (same, [with_ok(b"o1:lib", b"/o"), with_ok(b"o2:lib", b"/o")], []),
-    "unowned": (lambda system: system.edit(b"/u", file(b"u")), [with_ok(b"u:lib", b"/u")], []),
-    "edited": (lambda system: system.edit(b"/e", MINE), [with_ok(b"e:lib", b"/e")], []),
-    "orphan": (same, [with_ok(b"p:lib", b"/p/q")], []),
-    "missing": (same, [MISSING], []),
-    "far_fails": (same, [MISSING], "fails"),
-    "far_damaged": (same, [MISSING], "damaged"),
-    "collision": (with_collision, [newer(b"c:lib")], []),
-    "numbers": (no_number_left, [], []),
-}
-
-
-def drafts(tests):
-    """A root and the troves that are to come, with each of the tests failing, and with each two of them. A file above the limit isn't
-    among them: each such line costs the SHA-1 of 16 MB."""
-    for some in (some for count in (0, 1, 2) for some in itertools.combinations(tests, count)):
-        system, come, far = STARTED, [with_ok(b"ok:lib", b"/ok")], []
-        for change, troves, found in map(TESTS.get, some):
-            system, come, far = change(system), come + troves, found or far
-        yield "+".join(some) or "passes", system, come, far
+def job_drafts(first=0):
+    """With the troves that are to come, with each of the tests failing, and with each two of them. A file above the limit isn't among
+    them: each such line costs the SHA-1 of 16 MB."""
+    for label, system, given in drafts("refusals of a job", (0, 1, 2), first):
+        come = [TROVES[name] for one in given for name in one.get("come", "").split()]
+        yield label or "passes", system, [TROVES["OK"], *come], next((one["far"] for one in reversed(given) if "far" in one), [])
 
 
 def refusal_rows():
     """Each refusal of a job but the two of sizes, and each two of them at once."""
-    for label, system, come, far in drafts(TESTS):
+    for label, system, come, far in job_drafts():
         yield "update " + label, system, update(come, [b"ok"], far)
         yield "update replacing " + label, system, update(come, [b"ok"], far, REPLACE)
-    for label, system, come, far in drafts(list(TESTS)[1:]):
+    for label, system, come, far in job_drafts(1):
         troves = {name_of(one): one for one in [*system.troves, *come]}.values()
         yield "adopt " + label, system, adopt(list(troves), far if isinstance(far, str) else [*far, b"ok"])
 
 
-# What refuses an erasure: what is made of the names that are erased, and of the root.
-ERASURES = {
-    "absent": (lambda names: [b"absent:lib", *names, b"none:lib"], same),
-    "unmet": (lambda names: [b"y:lib", *names], same),
-    "edited": (lambda names: [*names, b"e:lib"], lambda system: system.edit(b"/e", MINE)),
-    "orphan": (lambda names: [*names, b"x:lib"], lambda system: system.edits((b"/x", DIR), (b"/x/y", file(b"y")))),
-    "collision": (lambda names: [b"c:lib", *names], with_collision),
-    "numbers": (lambda names: names or [b"z:lib"], no_number_left),
-}
-
-
 def erasure_rows():
-    for some in (some for count in (1, 2) for some in itertools.combinations(ERASURES, count)):
-        names, system = [], STARTED
-        for named, change in map(ERASURES.get, some):
-            names, system = named(names), change(system)
-        yield "erase " + "+".join(some), system, erase(names)
-    yield "erase passes", STARTED, erase([b"z:lib", b"y:lib", b"e:lib"]), ROLLBACK
-    yield "erase replacing", STARTED.edit(b"/e", MINE), erase([b"e:lib"], REPLACE), ROLLBACK
-    yield "erase twice", STARTED, erase([b"e:lib", b"e:lib"])
-    # A directory that two troves record with two modes, which somebody took away: an erasure of the first would make it again.
-    two = [trove(b"d1:lib", {b"/d": D}), trove(b"d2:lib", {b"/d": directory(0o700)})]
-    yield "erase directory", after(EMPTY, update(two)).edit(b"/d"), erase([b"d1:lib"]), erase([b"d1:lib"], REPLACE), ROLLBACK
+    for label, system, given in drafts("refusals of an erasure", (1, 2)):
+        names = []
+        for one in given:
+            names = [*one.get("before", "").encode().split(), *names, *one.get("behind", "").encode().split()]
+        yield "erase " + label, system, erase(names or [b"z:lib"])
 
 
 # ---- more jobs
 
 
 def large_rows():
-    """A file that is too large to be replaced, and one that isn't. Then troves that each provide a thousand names, and so many of
-    them that the database doesn't hold them."""
-    yield "too large", EMPTY.edits((b"/etc", DIR), (FOO, file(b"x" * 16_777_217))), INSTALL, update([M], ABC, options=REPLACE)
-    yield from (("too large", INSTALLED.edit(FOO, file(b"x" * size)), ERASE_EDITED, ROLLBACK) for size in (16_777_217, 16_777_216))
+    """Troves that each provide a thousand names, and so many of them that the database doesn't hold them."""
     names = [b"soname: %04d" % number + b"a" * 1020 for number in range(1_000)]
     troves = [trove(b"t%d:lib" % number, gives=names) for number in range(10_000, 10_518)]
     front, back = trove_bytes(troves[0], True).split(b"10000")
@@ -252,126 +163,17 @@ def large_rows():
     yield "too large", INSTALLED, Call(words, lambda system: system.update(troves))
 
 
-def sources_rows():
-    """Where the bytes of a file come from, also where two contents have one SHA-1."""
-    for sources in itertools.product(([], ABCD, [b"x"]), ([], ABCD, [b"x"], "fails", "damaged")):
-        yield "sources", INSTALLED, update([M2], *sources)
-    with_one = trove(b"a:lib", {b"/f": file_of(ONE)})
-    for sources in itertools.product(([], [ONE], [TWO]), repeat=2):
-        yield "one digest", EMPTY, update([with_one], *sources), ROLLBACK
-        yield "one digest", EMPTY.edit(b"/f", file(TWO, 0o600)), update([with_one], *sources, REPLACE), ROLLBACK
-    # Bytes that stand count as unedited by their SHA-1, and are what is saved and given back.
-    one = after(EMPTY, update([with_one], [ONE]))
-    for system in (one.edit(b"/f", file(data)) for data in (ONE, TWO)):
-        yield "one digest", system, update([newer(b"a:lib", {b"/f": file_of(b"n")})], [b"n"]), *BACK_TWICE
-        yield "one digest", system, update([newer(b"a:lib", {b"/f": file_of(ONE, 0o600)})]), ROLLBACK
-        yield "one digest", system, erase([b"a:lib"]), ROLLBACK
-    both = after(EMPTY, update([with_one, trove(b"b:lib", {b"/g": file_of(ONE)})], [ONE])).edit(b"/g", file(TWO))
-    yield "collision", both, erase([b"a:lib", b"b:lib"]), erase([b"a:lib"]), erase([b"b:lib"]), *BACK_TWICE
-    yield "collision", both, update([newer(b"a:lib", {b"/f": file_of(b"n")}), newer(b"b:lib", {b"/g": file_of(b"n")})], [b"n"])
-    # A mode that changes takes the bytes that stand; a file and a link keep no content that nothing asks for.
-    mode = [foo(b"abc", b"1.0-2-1", 0o600)]
-    yield "mode alone", INSTALLED, update(mode), ROLLBACK
-    yield "mode alone", EDITED, update(mode), update(mode, options=REPLACE), update(mode, ABC, options=REPLACE), ROLLBACK
-
-
-def nothing_rows():
-    """Jobs that change nothing, the list alone, or a trove of the same id."""
-    yield from (("nothing changes", system, update([]), erase([]), adopt(system.troves)) for system in (EMPTY, INSTALLED, EDITED))
-    yield "nothing changes", INSTALLED, update([M]), update([M, M]), update([M], ABC, "fails", ("replace", "keep"))
-    yield "nothing changes", INSTALLED.edit(FOO), update([M], ABC, options=REPLACE)
-    yield "nothing changes", numbered(GREATEST_NUMBER - 4_095, GREATEST_NUMBER), update([M])
-    group = update([collection(b"b", trove(b"b:lib"))])
-    yield "list alone", EMPTY, update([trove(b"a:lib")]), group, erase([b"a:lib"]), ROLLBACK, *BACK_TWICE
-    yield "one id", INSTALLED, update([foo(b"abcd")], ABCD), *BACK_TWICE
-    yield "one id", INSTALLED, update([foo(gives=[b"soname: foo.so"])]), ROLLBACK
-    yield "one id", INSTALLED, update([foo(), foo(b"abcd")], ABCD)
-    web = Owner(b"web", b"www")
-    second = update([foo(b"abcd", b"1.0-2-1", owner=web)], ABCD)
-    yield "owner", EMPTY, update([foo(owner=web)], ABC), update([M]), second, ROLLBACK, *BACK_TWICE
-    umlaut = "/\u00e4".encode()
-    letters = trove(b"n:lib", {umlaut: D, umlaut + "/\u65e5\u672c".encode(): file_of(b"x"), b"/~": link(umlaut[1:] + b"/..")})
-    yield "letters", EMPTY, update([letters], [b"x"]), erase([b"n:lib"]), ROLLBACK
-    yield "flavor", INSTALLED, update([trove(RUNTIME, M.files, flavor=b"ssl")]), ROLLBACK
-    group = update([collection(b"group-a", M, OTHER), M, OTHER])
-    yield "references", INSTALLED, group, update([collection(b"group-a", OTHER, revision=b"2.0-1-1"), OTHER]), ROLLBACK, *BACK_TWICE
-    yield "references", INSTALLED, group, erase([b"group-a"]), ROLLBACK, adopt([OTHER]), ROLLBACK
-
-
-KINDS = [trove(b"k:lib", {b"/d": D, b"/d/f": file_of(b"1"), b"/l": link(b"x"), b"/f": file_of(b"f"), b"/same": file_of(b"same")})]
-KINDS_2 = [newer(b"k:lib", {b"/d": link(b"y"), b"/f": directory(0o711), b"/f/g": file_of(b"g"), b"/l": file_of(b"l", 0o4755), b"/same": file_of(b"same")})]
-KINDS_TEXTS = [b"1", b"f", b"g", b"l", b"same"]
-FIRST, SECOND = update(KINDS, KINDS_TEXTS), update(KINDS_2, KINDS_TEXTS)
-WITH_KINDS = after(EMPTY, FIRST)
-
-
-def kinds_rows():
-    yield "kinds", EMPTY, FIRST, SECOND, ROLLBACK, SECOND, erase([b"k:lib"]), ROLLBACK, *BACK_TWICE
-    for edit in (Edit(b"/f", MINE), Edit(b"/l", MINE), Edit(b"/d/mine", MINE), Edit(b"/same"), Edit(b"/f")):
-        yield "kinds", WITH_KINDS, edit, SECOND, update(KINDS_2, KINDS_TEXTS, options=REPLACE), *BACK_TWICE
-    for edit in (Edit(b"/f/mine", MINE), Edit(b"/d", ("link", b"mine")), Edit(b"/f", DIR), Edit(b"/other", MINE)):
-        yield "kinds", after(WITH_KINDS, SECOND), edit, *BACK_TWICE
-    flags = ((b"c", CONFIG), (b"i", INITIAL), (b"t", TRANSIENT))
-    first, second = (made(b"q:lib", {b"/" + name: file_of(name + last, flags=flag) for name, flag in flags}) for made, last in ((trove, b""), (newer, b"2")))
-    edited_all, texts = [Edit(b"/" + name, MINE) for name, _ in flags], [name + last for last in (b"", b"2") for name, _ in flags]
-    for options in ((), KEEP, REPLACE, BOTH):
-        yield "flags", EMPTY, update([first], texts), *edited_all, update([second], texts, options=options), ROLLBACK
-        yield "flags", EMPTY, update([first], texts), *edited_all, erase([b"q:lib"], options), ROLLBACK
-        yield "flags", EMPTY.edit(b"/i", MINE), update([first], texts, options=options), erase([b"q:lib"], options), ROLLBACK
-
-
-def several_rows():
-    """Several jobs taken back at once."""
-    three = [CARRIED, update([M2], BOTH_TEXTS), ERASE]
-    yield from (("several", after(EMPTY, *three), rollback(number)) for number in (0, 1, 2, 3, 4, GREATEST_NUMBER))
-    yield "several", EMPTY, rollback(1), *three, *map(rollback, (2, 3, 1, 1))
-    yield "several", after(EDITED, update([M2], ABCD, options=REPLACE)), *map(rollback, (1, 2, 1))
-    for path, node in ((FOO, file(b"mine")), (b"/etc", PRIVATE_DIR), (b"/etc/mine", file(b"mine")), (b"/mine", DIR)):
-        yield "several", after(EMPTY, *three[:2]), Edit(path, node), *map(rollback, (1, 2, 1))
-    # Dropped jobs aren't on the stack.
-    yield "several", after(numbered(1, 4_096), three[1]), *map(rollback, (1, 4_098, 4_097))
-
-
 # ---- cut off and failing
 
 
-def steps():
-    """Systems and calls on them, with the picks of the crashes that are tried and whether each call of the disk fails once. Each of
-    these lines makes the call hundreds of times, so most of them have none."""
-    replaced, second = after(EDITED, REPLACING), update([M2], BOTH_TEXTS)
-    yield "install", EMPTY, CARRIED, PICKS[1:2], True
-    yield from (("unowned_file_kept", FOREIGN, update([M], BOTH_TEXTS, options=options), (), False) for options in ((), REPLACE))
-    yield "rollback_restores_edit", EDITED, REPLACING, PICKS, True
-    yield "rollback_restores_edit", replaced, ROLLBACK, PICKS, True
-    yield "erase_keeps_foreign_file", INSTALLED.edit(b"/etc/other", file(b"o")), ERASE, (), False
-    yield "erase", INSTALLED, ERASE, PICKS, True
-    yield "erase", after(INSTALLED, ERASE), ROLLBACK, (), False
-    yield "kinds", WITH_KINDS, SECOND, PICKS[2:], False
-    yield "kinds", WITH_KINDS, adopt([M], KINDS_TEXTS + BOTH_TEXTS), (), False
-    yield "adopt", EDITED, adopt([M2, OTHER], BOTH_TEXTS, REPLACE), PICKS, True
-    yield "verify_edit", EDITED, verify(far=ABC), PICKS[1:2], True
-    yield "kinds", after(WITH_KINDS, SECOND), ROLLBACK, (), False
-    yield "several", replaced, rollback(1), PICKS[:1], False
-    yield "several", after(INSTALLED, second), rollback(1), PICKS, True
-    yield "list alone", INSTALLED, update([M3], BOTH_TEXTS), (), False
-    yield "nothing changes", INSTALLED, CARRIED, PICKS[:1], True
-    yield "edited_file_refused", EDITED, second, PICKS[:1], True
-    yield "missing content", INSTALLED, update([M2]), (), False
-    yield "erase_breaks_requirement", STARTED, erase([b"y:lib"]), PICKS[:1], False
-    record, saved = record_path(2), saved_path(2)
-    stale = EDITED.edits((record, DIR), (record + b"/x", file(b"x")), (saved, DIR), (saved + b"/x", file(b"x")))
-    yield "places", stale, REPLACING, PICKS[1:2], False
-    yield "places", EMPTY.edit(BASE, ("link", b"elsewhere")), CARRIED, (), False
-    full = left_by(numbered(1, 4_096), 1, b"r1")
-    yield "dropped_oldest", full, second, (), False
-    yield "dropped_oldest", after(full, second), update([M3], BOTH_TEXTS), PICKS[2:], False
-
-
 def step_lines():
-    for label, system, call, picks, fails in steps():
+    for row in rows_of(TABLE, "steps"):
+        label, system, call, *more = row.split(" | ")
+        system, call = system_of(system), call_of(call)
         yield seen_line(label, system, call)
-        yield from stop_lines(label, system, call, picks)
-        if fails:
+        picks = (int(pick) for one in more if one.startswith("picks ") for pick in one.split()[1:])
+        yield from stop_lines(label, system, call, [PICKS[pick] for pick in picks])
+        if "fails" in more:
             # (a job that changes nothing looks at no path)
             yield fail_line(label, system, call, looks=label != "nothing changes")
 
@@ -406,7 +208,7 @@ def fixed_dirs_lines():
 
 def migrated_lines():
     """Roots of format 1: the first call on them brings them to format 2, whatever it is and whatever it answers."""
-    label, replaced = "format 1", after(EDITED, update([foo(b"abcd", b"2.0-1-1")], ABCD, options=REPLACE))
+    label, replaced = "format 1", system_of("EDITED > update M_NEWER, carried abcd, replace")
     nodes = in_format_1(replaced.nodes())
     assert nodes[DATABASE][2] == OLD_DATABASE_2_BY_HAND
     assert [nodes[record_path(number)][2] for number in (1, 2)] == [OLD_RECORD_BY_HAND, OLD_RECORD_2_BY_HAND]
@@ -420,7 +222,7 @@ def migrated_lines():
     for call in (ROLLBACK, update([M3], ABC)):
         yield from stop_lines(label, replaced, call, PICKS, nodes)
         yield seen_line(label, replaced, call, nodes)
-    for system, some in ((INSTALLED, [UPDATE, *BACK_TWICE]), (numbered(1, 0, EMPTY), [INSTALL, ROLLBACK])):
+    for system, some in ((INSTALLED, [UPDATE, *BACK_TWICE]), (SYSTEMS["NO_TROVES"], [INSTALL, ROLLBACK])):
         yield run_line(label, system, *some, nodes=in_format_1(system.nodes()))
     # Its files are read before anything is written.
     bad = [(record_path(number), text) for number in (1, 2) for text in (OLD_RECORD_BY_HAND[:-1], replaced.nodes()[record_path(number)][2])]
@@ -502,7 +304,8 @@ class Chance:
         return names + names[:1] if self.is_below(0.05) else names
 
     def group(self):
-        return Drawn(*collection(self.one_of([b"group-g", b"group-h"]), *(trove(name) for name in (b"a:lib", b"b:lib", b"c:lib") if self.is_below(0.5))))
+        name = self.one_of([b"group-g", b"group-h"])
+        return Drawn(*collection(name, *(trove(name) for name in (b"a:lib", b"b:lib", b"c:lib") if self.is_below(0.5))))
 
     def options(self):
         return self.one_of([(), (), (), REPLACE, REPLACE, KEEP, BOTH])
@@ -569,10 +372,14 @@ def random_lines():
             yield from stop_lines("by chance", system, call[0], [chance.one_of([*PICKS, chance.dice.randrange(4**16)])])
 
 
-ROWS = (worked_rows, verify_rows, dropped_rows, places_rows, refusal_rows, erasure_rows, large_rows, sources_rows, nothing_rows, kinds_rows, several_rows)
+ROWS = (
+    "worked", "verified", "dropped", "places", refusal_rows, erasure_rows, "erasures", "too large", large_rows, "sources",
+    "two contents of one SHA-1", "a mode that changes takes the bytes that stand", "nothing", "kinds that change",
+    "several jobs that are taken back at once",
+)
 LINES = (step_lines, half_done_lines, fixed_dirs_lines, migrated_lines, hostile_lines, random_lines)
 
 
 def lines():
-    rows = (run_line(*row) for rows in ROWS for row in rows())
-    return itertools.chain(rows, *(some() for some in LINES))
+    made = (row for some in ROWS for row in (rows(some) if isinstance(some, str) else some()))
+    return itertools.chain((run_line(*row) for row in made), *(some() for some in LINES))

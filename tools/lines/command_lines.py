@@ -5,8 +5,8 @@ to answer. All answers are those of models that share nothing with the program (
     python3 -m tools.lines.command_lines stdin    >crates/command_lines/stdin     a call and its arguments in each line
     python3 -m tools.lines.command_lines stdout   >crates/command_lines/stdout    what each has to answer
     python3 -m tools.lines.command_lines count    how many cases there are of each name
-    python3 -m tools.lines.command_lines check    compares the model with the worked examples, whose answers are written by hand, and each job
-                                                  with a second model of jobs; tells what differs, and which examples lack
+    python3 -m tools.lines.command_lines check    compares the model with the worked examples, whose answers are written by hand, and each
+                                                  job with a second model of jobs; tells what differs, and which examples lack
 """
 import sys
 
@@ -22,9 +22,11 @@ from tools.model.trees import DIR
 def said():
     """The script of all cases; each example has to be there, and what it answers has to be what is written with it."""
     script = Script()
-    for cases in commands.CASES + EXAMPLES + root_commands.CASES:
-        script.name = cases.__name__
-        cases(script)
+    for table, cases in ((commands.TABLE, commands.CASES), (None, EXAMPLES), (root_commands.TABLE, root_commands.CASES)):
+        for some in cases:
+            # The name of a topic means its steps.
+            script.name = some if isinstance(some, str) else some.__name__
+            table.say_all(script, some) if isinstance(some, str) else some(script)
     return script
 
 

@@ -165,7 +165,6 @@ class Steps:
 
 # ---- write sets and their logs, and the journal: how each call writes its arguments, and what it answers
 
-
 def yes_or_no(answers):
     return "\t".join("yes" if answer else "no" for answer in answers)
 

@@ -4,7 +4,7 @@ Of the lines only those of `cut` and `from` depend on how many calls of its disk
 """
 import re
 
-from tools.lines.words import node_term, shown, standing, term, tree_term
+from tools.lines.words import puts_term, shown, standing, term, tree_term
 from tools.model import repository
 from tools.model.by_files import Call
 from tools.model.program import JOURNAL, Streams
@@ -29,10 +29,6 @@ def argument(data):
 
 def words_of(words):
     return words.split(b" ") if isinstance(words, bytes) else words
-
-
-def edits_word(edits):
-    return ";".join(f"{node_term(node)} {term(path)}" for path, node in edits)
 
 
 # ---- answers
@@ -100,7 +96,7 @@ class Script:
         for path, node in edits:
             self.trees[side].edit(path, node)
         if edits:
-            self.say(side, edits_word(edits))
+            self.say(side, puts_term(edits))
         return self
 
     def input(self, data, most=2**32 - 1, fails=0):
@@ -153,6 +149,10 @@ class Script:
         answer = told(self.called(words, self.trees)) + recovered(side, self.trees[side], pick)
         self.trees = crashed(self.trees, side, pick)
         self.say("cut", side, calls, pick, *map(argument, words), answer=answer)
+
+    def cut_at(self, side, pick, more, kind, path, *words):
+        """A call that is cut off behind its last call of this kind at a path, or so many calls later."""
+        self.cut(side, self.last_call(side, words, kind, path) + more, pick, *words)
 
     def again(self, words, trees):
         return "\tagain " + told(self.called(words, trees)) + both(trees)

@@ -6,12 +6,14 @@ docs/FORMATS.md alone, and the texts of refusals from docs/COMMANDS.md; nothing 
 from functools import partial
 from operator import itemgetter
 
+from tools.cases.tables import table
+from tools.lines.words import yes_or_no
 from tools.model import manifests, relatives, streams
 from tools.model.relatives import Refused
 from tools.model.streams import (
-    TAGS, Fault, NotOfForm, Owner, Relative, Trove, directory, flag_letters, flags_of_letters, id_bytes, id_of_text, id_text, inner_items, is_owner, item, items, link, need,
-    number, read_dependency, read_file, read_id, read_path, read_record, read_relative, read_set, read_trove, record_bytes, regular,
-    relative_bytes, rises, set_bytes, sha, trove_bytes,
+    TAGS, Fault, NotOfForm, Owner, Relative, Trove, directory, flag_letters, flags_of_letters, id_bytes, id_of_text, id_text, inner_items,
+    is_owner, item, items, link, need, number, read_dependency, read_file, read_id, read_path, read_record, read_relative, read_set,
+    read_trove, record_bytes, regular, relative_bytes, rises, set_bytes, sha, trove_bytes,
 )
 
 # So many elements of a list are shown; more bytes than these are told by their number and their SHA-1: of a stream, of items, of a text.
@@ -23,10 +25,6 @@ SHOWN, MOST_OF_STREAM, MOST_OF_ITEMS, MOST_OF_TEXT = 8, 400, 500, 1_000
 
 def fields(*texts):
     return "\t".join(texts)
-
-
-def told(holds):
-    return "yes" if holds else "no"
 
 
 def digest(text):
@@ -68,7 +66,8 @@ def refs_text(refs):
 
 
 def trove_text(trove):
-    return fields(id_text(trove.identity).decode(), files_text(trove.files), refs_text(trove.refs), shown(trove.requires), shown(trove.provides))
+    lists = files_text(trove.files), refs_text(trove.refs), shown(trove.requires), shown(trove.provides)
+    return fields(id_text(trove.identity).decode(), *lists)
 
 
 def relative_text(relative):
@@ -135,7 +134,7 @@ def make_record(*arguments):
 
 def owner(*words):
     need(is_owner(words))
-    return fields(*(word.decode() for word in words), told(words == streams.ROOT))
+    return fields(*(word.decode() for word in words), yes_or_no(words == streams.ROOT))
 
 
 # ---- calls on lists
@@ -187,7 +186,7 @@ def elements(text, tag, read):
 
 def are(name, tag, text):
     read, key, *_ = LISTS[name]
-    return told(rises([key(one) for one in elements(text, tag, read)]))
+    return yes_or_no(rises([key(one) for one in elements(text, tag, read)]))
 
 
 # ---- calls on troves and relative troves
@@ -231,7 +230,8 @@ def joined(*given):
 
 # How streams are read, told and spelled, in the compact encoding or the explicit one.
 CODECS = {
-    "record": (read_record, with_file_id, record_bytes), "trove": (read_trove, trove_text, trove_bytes), "relative": (read_relative, relative_text, relative_bytes),
+    "record": (read_record, with_file_id, record_bytes), "trove": (read_trove, trove_text, trove_bytes),
+    "relative": (read_relative, relative_text, relative_bytes),
 }
 
 
@@ -285,18 +285,14 @@ def changes_to(kind, text, values):
 
 # ---- refusals
 
-REFUSALS = """Malformed: malformed at {}|TooLarge: too large: {} {}|Exists: exists {}|MissingTrove: missing trove {}|MissingBase: missing base {}
-MissingContent: missing content {}|Collision: collision {} at {}|MissingRef: missing ref {}|NotInstalled: not installed {}|Unmet: unmet {} {}
-Owned: owned {} {} {}|Unowned: unowned {}|Edited: edited {}|Parent: parent {}|StackEmpty: stack empty|Reserved: reserved {}|NoLabel: no label
-SameLabel: same label {}|BadConfig: bad config line {}|NotBuilt: not built {}|NoJob: no job r.{}|NoModel: no model|BadModel: bad model line {}"""
-REFUSAL_TEXTS = dict(one.split(": ", 1) for line in REFUSALS.split("\n") for one in line.split("|"))
+REFUSALS = dict(row.split(": ", 1) for row in table("streams")["texts of refusals"])
 
 
 def refusal(kind, *rest):
     texts = [text.decode() for text in rest]
     if kind == b"TooLarge":
         texts[0] = "change set" if texts[0] == "ChangeSet" else texts[0].lower()
-    return REFUSAL_TEXTS[kind.decode()].format(*texts)
+    return REFUSALS[kind.decode()].format(*texts)
 
 
 # ---- what relative troves do, and what comes with a change set. Where an argument is no stream of its kind, or two troves are no
@@ -360,12 +356,12 @@ CALLS = {
     "next_item": next_item,
     **{name + end: partial(decoded, name, bool(end)) for name in CODECS for end in ("", "_full")},
     "make_record": make_record,
-    "same_record": lambda one, other: told(read_record(one, True) == read_record(other, True)),
+    "same_record": lambda one, other: yes_or_no(read_record(one, True) == read_record(other, True)),
     "owner": owner,
     **{name: partial(take, name) for name in LISTS},
     "id_item": id_item,
     **{f"are_{name}": partial(are, name, tag) for name, tag in (("files", 4), ("refs", 5), ("deps", 6), ("paths", 0x23))},
-    "sized_file": lambda size, name: told(int(size) <= streams.LARGEST_CONTENT and len(bytes.fromhex(name.decode())) == 20),
+    "sized_file": lambda size, name: yes_or_no(int(size) <= streams.LARGEST_CONTENT and len(bytes.fromhex(name.decode())) == 20),
     "make_trove": make_trove,
     "check": check,
     "troves_text": lambda *given: on_a_line(b"".join(id_text(read_trove(text).identity) + b"\n" for text in given)),

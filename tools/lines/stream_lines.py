@@ -34,7 +34,7 @@ def answer_to(call, arguments):
 
 def check_by_hand():
     for (call, *arguments), wanted in streams.ITEMS_BY_HAND:
-        if answer_to(call, arguments) != wanted:
+        if answer_to(call, arguments).rstrip() != wanted:
             sys.exit(f"{call} {arguments} is answered {answer_to(call, arguments)!r} and not {wanted!r}")
 
 

@@ -10,8 +10,6 @@ from tools.model.streams import trove_bytes
 from tools.model.texts import Refused
 from tools.model.trees import DIR, is_of, is_tree
 
-# ---- calls
-
 
 class Call(namedtuple("Call", "words made")):
     """A call: its words in a line, and what it makes of a system."""
@@ -84,9 +82,6 @@ def damaged(call, path):
         raise Refused("damaged " + path.decode())
 
     return Call(call.words, made)
-
-
-# ---- lines
 
 
 def standing(nodes):

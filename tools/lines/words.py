@@ -10,8 +10,6 @@ LONGEST_SHOWN, LONGEST_NAMED = 40, 1_000_000
 MOST_TIMES, LONG_RUN = 1_000_000, 1_000
 PLAIN = re.compile(rb"(?!0x)[A-Za-z0-9/][A-Za-z0-9/._-]*")
 
-# ---- arguments
-
 
 def digits(data):
     return "0x" + data.hex()
@@ -34,22 +32,17 @@ def plain_or_hex(data):
     return data.decode() if data.isalnum() and not data.startswith(b"0x") else digits(data)
 
 
-def times(count, byte):
-    """Terms for one byte so many times."""
-    counts = [MOST_TIMES] * (count // MOST_TIMES) + [count % MOST_TIMES]
-    return [f"{one}*{plain_or_hex(byte)}" for one in counts if one]
-
-
 def bytes_word(data, least=LONG_RUN):
     """Bytes as an argument of root_lines or a part of one, each run of at least so many equal ones as terms."""
-    runs = [(byte, len(list(run))) for byte, run in itertools.groupby(data)]
-    if all(count < least for _, count in runs):
-        return plain_or_hex(data)
     terms = []
-    for is_long, some in itertools.groupby(runs, lambda run: run[1] >= least):
-        some = [(bytes([byte]), count) for byte, count in some]
-        terms += [term for byte, count in some for term in times(count, byte)] if is_long else [plain_or_hex(b"".join(byte * count for byte, count in some))]
-    return "=" + "+".join(terms)
+    for is_long, runs in itertools.groupby((bytes(run) for _, run in itertools.groupby(data)), lambda run: len(run) >= least):
+        if not is_long:
+            terms.append(plain_or_hex(b"".join(runs)))
+            continue
+        for run in runs:
+            counts = [MOST_TIMES] * (len(run) // MOST_TIMES) + [len(run) % MOST_TIMES]
+            terms += [f"{count}*{plain_or_hex(run[:1])}" for count in counts if count]
+    return "=" + "+".join(terms) if "*" in "".join(terms) else plain_or_hex(data)
 
 
 def items(values):
@@ -115,7 +108,13 @@ def word(data):
     return data.decode() if data.isalnum() and data.isascii() else digits(data)
 
 
-# ---- answers
+def rows_of(table, topic):
+    """The rows of a table of a topic, also where a remark stands behind its name."""
+    return [row for name, rows in table.items() if name.partition(":")[0] == topic for row in rows]
+
+
+def yes_or_no(holds):
+    return "yes" if holds else "no"
 
 
 def shown(data):
@@ -123,9 +122,6 @@ def shown(data):
     if len(data) <= LONGEST_SHOWN:
         return data.hex() or "-"
     return str(len(data)) if len(data) > LONGEST_NAMED else f"{len(data)}:{hashlib.sha1(data).hexdigest()}"
-
-
-# ---- nodes
 
 
 def node_word(node, show=shown, text=bytes.decode):

@@ -1,10 +1,8 @@
-"""A model of a whole call: the words, the order of all tests, and the commands of a root, `install`, `update`, `erase`, `rollback`, `q`,
-`rblist`, `verify` and `localcs`, made from docs/COMMANDS.md, docs/FORMATS.md and docs/MODEL.md alone. The commands of a repository are
-those of model/program.py.
+"""A model of a whole call: the words, the order of all tests, and the commands of a root, made from docs/COMMANDS.md, docs/FORMATS.md and
+docs/MODEL.md alone. The commands of a repository are those of model/program.py.
 
-Nothing is remembered between calls: the database, the records and the saved contents are read from the root's files by
-model/stacks.py. Lists are those of model/lists.py, the table of paths is that of model/plans.py, and disks and journals are those of
-model/trees.py. How many calls of the root a command makes, and in which order, is told here, for the lines `from`.
+Nothing is remembered between calls: the database, the records and the saved contents are read from the root's files. How many calls of
+the root a command makes, and in which order, is told here, for the lines `from`.
 """
 import re
 
@@ -17,7 +15,7 @@ from tools.model.records import (
 )
 from tools.model.relatives import all_made, check_allowed
 from tools.model.reports import change_lines, finding_line, id_lines, note_text, or_nothing, trove_text
-from tools.model.streams import LARGEST_CONTENT, NotOfForm, different_bytes, is_label, is_name, keep, read_set, set_text, sha
+from tools.model.streams import NotOfForm, different_bytes, is_label, is_name, read_set, set_text, sha
 from tools.model.trees import Damaged, Refused, clear, is_of, make_dir, parent_of, read_whole
 
 PIECE, MOST_BYTES = 65_536, stacks.LIMIT[2]
@@ -34,7 +32,6 @@ OPTIONS = {
     b"cook": (b"--next",), b"install": (b"--replace", b"--keep"), b"update": (b"--replace", b"--keep"), b"erase": (b"--replace",),
     b"verify": (b"--full",),
 }  # fmt: skip
-WITHOUT_WORDS = b"install cook commit showcs rblist".split()
 
 
 def job_number(word):
@@ -43,23 +40,20 @@ def job_number(word):
     return int(digits[1]) if digits and int(digits[1]) <= GREATEST_NUMBER else None
 
 
+# Behind a command and its options stand at least and at most so many words, each of which is one by the test.
+WORDS = {
+    b"rq": (0, 1, is_name), b"q": (0, 1, is_name), b"rollback": (0, 1, job_number), b"localcs": (1, 1, is_name),
+    b"changeset": (1, 2, is_spec), b"erase": (1, MOST_NAMES, is_name), b"verify": (0, MOST_NAMES, is_name),
+    b"update": (1, MOST_NAMES, is_spec), **dict.fromkeys(b"install cook commit showcs rblist".split(), (0, 0, None)),
+}
+
+
 def are_words_of(command, rest):
     """Whether these words may stand behind the command and its options."""
-    if command in WITHOUT_WORDS:
-        return not rest
-    if command in (b"rq", b"q"):
-        return len(rest) <= 1 and all(map(is_name, rest))
-    if command == b"rollback":
-        return len(rest) <= 1 and all(job_number(word) for word in rest)
-    if command == b"localcs":
-        return len(rest) == 1 and is_name(rest[0])
-    if command in (b"erase", b"verify"):
-        return (command == b"verify" or rest != []) and len(rest) <= MOST_NAMES and all(map(is_name, rest))
-    if command == b"update":
-        return rest == [b"-"] or (rest != [] and len(rest) <= MOST_NAMES and all(map(is_spec, rest)))
-    if command == b"changeset":
-        return len(rest) in (1, 2) and all(map(is_spec, rest))
-    return command in (b"shadow", b"branch") and len(rest) == 2 and is_label(rest[0]) and is_spec(rest[1])
+    if command in (b"shadow", b"branch"):
+        return len(rest) == 2 and is_label(rest[0]) and is_spec(rest[1])
+    least, most, is_word = WORDS.get(command, (1, 0, None))
+    return (command, rest) == (b"update", [b"-"]) or least <= len(rest) <= most and all(map(is_word, rest))
 
 
 def command_of(words):
@@ -84,29 +78,20 @@ def command_of(words):
 
 # ---- nodes and files
 
-def read_file(tree, path):
-    """A look, and where a file stands its bytes."""
-    node = tree.look(path)
-    if is_of(node, "file"):
-        read_whole(tree, path)
-    return node
-
-
-def mark_at(tree, path):
-    """A look, and where a file stands its bytes in large pieces."""
-    node = tree.look(path)
-    if is_of(node, "file"):
-        read_pieces(tree, path, len(node[2]))
-    return node
-
-
-def read_pieces(tree, path, size):
-    for _ in range(0, size, PIECE):
+def read_pieces(tree, path, size=None):
+    for _ in range(0, len(tree.nodes[path][2]) if size is None else size, PIECE):
         tree.read_at(path)
 
 
-# ---- opening a root that is recovered
+def read_file(tree, path, read=read_whole):
+    """A look, and where a file stands its bytes."""
+    node = tree.look(path)
+    if is_of(node, "file"):
+        read(tree, path)
+    return node
 
+
+# ---- opening a root that is recovered
 
 def write_all(tree, puts):
     JOURNAL.apply(tree, sorted(puts.items()))
@@ -130,26 +115,23 @@ def open_database(tree):
         raise Damaged(DATABASE) from None
 
 
-# ---- plans
-
-
-def records_of(troves):
-    return {trove.identity.name: dict(trove.files) for trove in troves}
-
-
 class Plan:
     """What a job makes of the paths that it changes, by the tests of the lists and of the tree, in the order of the calls."""
 
     def __init__(self, tree, before, after, options):
         self.tree, self.options = tree, [option.removeprefix(b"--").decode() for option in options]
-        self.old, self.fresh, self.nodes = records_of(before), records_of(after), dict(tree.nodes)
+        self.old, self.fresh = ({trove.identity.name: dict(trove.files) for trove in troves} for troves in (before, after))
+        self.nodes = dict(tree.nodes)
         plans.check_owned(self.fresh)
         left, refusal = self.tested(), None
         try:
             self.changes = plans.plan_changes(self.nodes, self.old, self.fresh, self.options)
         except Refused as why:
             self.changes, refusal = {}, why
-        self.settle(left)
+        # Each directory that may be left empty is listed, but where something comes directly into it.
+        for path in reversed(left):
+            if not any(want is not None and parent_of(other) == path for other, want in self.changes.items()):
+                tree.list(path)
         self.look_at_parents()
         if refusal is not None:
             raise refusal
@@ -161,17 +143,11 @@ class Plan:
             old, fresh = plans.record(self.old, path), plans.record(self.fresh, path)
             if path in program.FIXED or mark_of_record(old) == mark_of_record(fresh):
                 continue
-            stands = mark_at(self.tree, path)
+            stands = read_file(self.tree, path, read_pieces)
             plans.check_target(path, plans.row(path, old, fresh, stands, False, self.options))
             if fresh is None and old.kind == "d" and is_of(stands, "dir"):
                 left.append(path)
         return left
-
-    def settle(self, left):
-        """Lists each directory that may be left empty, but where something comes directly into it."""
-        for path in reversed(left):
-            if not any(want is not None and parent_of(other) == path for other, want in self.changes.items()):
-                self.tree.list(path)
 
     def look_at_parents(self):
         def stays_dir(path):
@@ -187,10 +163,6 @@ class Plan:
                 self.tree.list(path)
 
 
-def is_content(data, record):
-    return data is not None and len(data) == record.size and sha(data) == record.name
-
-
 class Job:
     """A job on the root of a call, whose contents are carried, found in the repository, or stand at their paths."""
 
@@ -201,9 +173,8 @@ class Job:
         """Makes the job, or doesn't where nothing changes; answers the lines of it."""
         lists.closed(after)
         plan = Plan(self.tree, self.db.troves, after, options)
-        olds = {path: plan.nodes.get(path) for path in sorted(plan.changes)}
-        wants = {path: self.wanted(path, plan.changes[path], was) for path, was in olds.items()}
-        self.read_olds([path for path in olds if is_of(olds[path], "file")], olds)
+        find = self.call.found if self.searched else lambda name: None
+        olds, wants = plans.targets(plan.nodes, plan.changes, self.carried.values(), find, lambda path: read_whole(self.tree, path))
         size = len(database_bytes(2, after, 0, 0))
         if size > MOST_BYTES:
             raise Refused(b"too large: database %d" % size)
@@ -211,31 +182,6 @@ class Job:
         if wants or changes:
             self.write(after, wants, olds)
         return or_nothing(change_lines(changes))
-
-    def wanted(self, path, record, was):
-        """What is to stand at a path, by what is recorded and what stands."""
-        if record is None or record.kind != "f":
-            return None if record is None else mark_of_record(record)
-        carried = self.carried.get(record.name)
-        if is_content(carried, record):
-            return "file", record.mode, carried
-        found = self.call.found(record.name) if self.searched else None
-        if is_content(found, record):
-            return "file", record.mode, found
-        if is_of(was, "file") and is_content(was[2], record):
-            return "file", record.mode, read_whole(self.tree, path)
-        raise Refused(b"missing content " + record.name.hex().encode())
-
-    def read_olds(self, paths, olds):
-        """What stands at the paths that change: tests of its sizes, and of the names of its bytes."""
-        kept = {}
-        for size in (len(olds[path][2]) for path in paths):
-            if size > LARGEST_CONTENT:
-                raise Refused(b"too large: local %d" % size)
-        for path in paths:
-            read_whole(self.tree, path)
-        for path in paths:
-            keep(kept, olds[path][2])
 
     def write(self, after, wants, olds):
         """Saves the old contents, and puts targets, record and database by one write set."""
@@ -247,31 +193,24 @@ class Job:
             clear(self.tree, record_path(one))
             clear(self.tree, saved_path(one))
         make_dir(self.tree, BASE)
-        for path in sorted(olds):
-            if is_of(olds[path], "file"):
-                self.save(number, olds[path][2])
+        for data in (node[2] for _, node in sorted(olds.items()) if is_of(node, "file")):
+            make_dir(self.tree, saved_path(number))
+            path = content_path(number, sha(data))
+            if self.tree.look(path) is None:
+                self.tree.append(path, data)
+            else:
+                read_pieces(self.tree, path, len(data))
         marks = [(path, mark_of(olds[path]), mark_of(wants[path])) for path in sorted(wants)]
         record = record_bytes(record_of(number, self.db.troves, after, marks), 2)
         own = {record_path(number): record, DATABASE: database_bytes(2, after, oldest, number)}
         write_all(self.tree, {**wants, **{path: ("file", 0o644, data) for path, data in own.items()}})
-
-    def save(self, number, data):
-        make_dir(self.tree, saved_path(number))
-        path = content_path(number, sha(data))
-        if self.tree.look(path) is None:
-            self.tree.append(path, data)
-        else:
-            read_pieces(self.tree, path, len(data))
-
-
-# ---- jobs taken back
 
 
 def check_undo(tree, found, changes):
     """The looks at the paths of a job that is to be taken back, up to its first refusal, which isn't told here."""
     paths = {path for path, _, _ in changes}
     for path, was, now in changes:
-        node = found[path] if path in found else mark_of(mark_at(tree, path))
+        node = found[path] if path in found else mark_of(read_file(tree, path, read_pieces))
         if node != now:
             return
         if was[0] != "dir" and now[0] == "dir" and is_of(tree.look(path), "dir"):
@@ -303,9 +242,6 @@ def taken_back(tree, db, number):
     return stacks.inverse_to(tree.nodes, db, number)
 
 
-# ---- a whole call
-
-
 class Call(program.Call):
     """A whole call of the program, with the commands of the root as jobs."""
 
@@ -322,29 +258,24 @@ class Call(program.Call):
         return self.answer(command, options, rest, data)
 
     def answer(self, command, options, rest, data):
-        if command == b"showcs":
-            return set_text(read_set(data))
-        if command == b"rq":
-            return self.list_troves(*rest)
-        if command == b"changeset":
-            return self.change_set(rest)
-        if command in (b"shadow", b"branch"):
-            return self.move(command.decode(), *rest)
-        if command in (b"cook", b"commit"):
-            return self.cook(data, options) if command == b"cook" else self.commit(data)
-        if command == b"install":
-            return self.install(data, options)
-        if command == b"update":
-            return self.update(rest, options) if data is None else self.update_to(data, options)
-        if command == b"erase":
-            return Job(self, [], False).made(lists.erased(self.db.troves, rest), options)
-        if command == b"rollback":
-            return self.roll_back(job_number(rest[0]) if rest else None)
-        if command == b"rblist":
-            return self.jobs()
-        if command == b"q":
-            return self.installed(rest)
-        return self.verify(rest, bool(options)) if command == b"verify" else self.local(rest[0])
+        calls = {
+            b"showcs": lambda: set_text(read_set(data)),
+            b"rq": lambda: self.list_troves(*rest),
+            b"changeset": lambda: self.change_set(rest),
+            b"shadow": lambda: self.move("shadow", *rest),
+            b"branch": lambda: self.move("branch", *rest),
+            b"cook": lambda: self.cook(data, options),
+            b"commit": lambda: self.committed(read_set(data)),
+            b"install": lambda: self.install(data, options),
+            b"update": lambda: self.update(rest, options) if data is None else self.update_to(data, options),
+            b"erase": lambda: Job(self, [], False).made(lists.erased(self.db.troves, rest), options),
+            b"rollback": lambda: self.roll_back(job_number(rest[0]) if rest else self.db.newest),
+            b"rblist": self.jobs,
+            b"q": lambda: self.installed(rest),
+            b"verify": lambda: self.verify(rest, bool(options)),
+            b"localcs": lambda: self.local(*rest),
+        }
+        return calls[command]()
 
     # ---- jobs
 
@@ -371,10 +302,9 @@ class Call(program.Call):
         return repository.content_of(self.repo, self.catalogue, name)
 
     def roll_back(self, number):
-        newest = self.db.newest
-        puts, left = taken_back(self.root, self.db, number or newest)
+        puts, left = taken_back(self.root, self.db, number)
         write_all(self.root, {**puts, DATABASE: ("file", 0o644, database_bytes(2, *left))})
-        return b"".join(b"rolled back r.%d\n" % one for one in range(newest, (number or newest) - 1, -1))
+        return b"".join(b"rolled back r.%d\n" % one for one in range(self.db.newest, number - 1, -1))
 
     # ---- what is only read
 
@@ -407,7 +337,7 @@ class Call(program.Call):
 
     def found_at(self, path, record, full):
         """What is found at a path: nothing where it is as recorded, a word, or how many bytes differ from the content in the repository."""
-        node = mark_at(self.root, path)
+        node = read_file(self.root, path, read_pieces)
         if node is None:
             return "missing"
         if record.kind == "d" and node[0] == "dir" or mark_of(node) == mark_of_record(record):

@@ -17,9 +17,6 @@ def names_of(troves):
     return set(map(name_of, troves))
 
 
-# ---- lists
-
-
 def reached(installed, roots, entered):
     """The names that the roots reach by references of installed troves, by rounds; a name is entered where the test says so."""
     names, found = names_of(installed), set(roots)
@@ -57,9 +54,6 @@ def changed(before, after):
     for name in sorted(was.keys() | is_.keys()):
         if was.get(name) != is_.get(name):
             yield "+" if name not in was else "-" if name not in is_ else "~", is_.get(name, was.get(name)).identity
-
-
-# ---- closure
 
 
 def first_unmet(troves):

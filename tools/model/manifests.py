@@ -3,8 +3,10 @@
 The texts of names, paths, versions, flavors and dependencies are those of tools/model/texts.py, troves those of tools/model/streams.py.
 """
 from tools.model import texts
-from tools.model.streams import LARGEST_CONTENT, ROOT, Owner, Trove, check_trove, directory, flag_letters, is_owner, keep, link, regular, sha
-from tools.model.texts import Id, NotOfForm, Refused, check_path, check_target, id_of_text, id_text, is_name, matches, name_kind, need, version_of
+from tools.model.streams import (
+    FLAGS, LARGEST_CONTENT, ROOT, Owner, Trove, check_trove, directory, flag_letters, is_owner, keep, link, malformed, regular, sha,
+)
+from tools.model.texts import Id, NotOfForm, Refused, id_of_text, id_text, is_name, is_path, is_target, matches, name_kind, need, version_of
 
 LINE_ROOM = 2049
 
@@ -23,35 +25,9 @@ def component_of(path, is_directory):
     return next((component for component, fronts, ends in POLICY if tested.startswith(fronts) or tested.endswith(ends)), b"runtime")
 
 
-# ---- values in lines
-
-
-def flavor_text(text):
-    need(text != b"")
-    return texts.flavor_text(texts.flavor_of(text))
-
-
-def owner_of(text):
-    owner = Owner(*text.split(b":")) if text.count(b":") == 1 else None
-    need(owner is not None and is_owner(owner))
-    return owner
-
-
 def mode_of(text):
     need(matches(rb"[0-7]{4}", text))
     return int(text, 8)
-
-
-def size_of(text):
-    need(matches(rb"0|[1-9][0-9]{0,18}", text))
-    return int(text)
-
-
-def malformed(at):
-    return Refused(f"malformed at {at}")
-
-
-# ---- one manifest
 
 
 class Reading:
@@ -89,8 +65,6 @@ class Reading:
         self.at += size + 1
         return content
 
-    # ---- lines
-
     def magic(self, text):
         need(text in (b"manifest 1", b"manifest 2"))
         self.names_owners = text.endswith(b"2")
@@ -116,36 +90,33 @@ class Reading:
         """The owner, if this format names one, and what stands behind it."""
         if not self.names_owners:
             return ROOT, fields
-        owner, space, rest = fields.partition(b" ")
-        need(space)
-        return owner_of(owner), rest
+        words, space, rest = fields.partition(b" ")
+        need(space and words.count(b":") == 1 and is_owner(words.split(b":")))
+        return Owner(*words.split(b":")), rest
 
     def next_path(self, path):
-        check_path(path)
-        need(self.kind != b"group" and (not self.files or self.files[-1][0] < path))
+        need(is_path(path) and self.kind != b"group" and (not self.files or self.files[-1][0] < path))
         return path
 
     def dir_line(self, fields):
         mode, space, rest = fields.partition(b" ")
-        mode = mode_of(mode)
         owner, path = self.owned(rest)
         need(space)
-        self.files.append((self.next_path(path), directory(mode, owner)))
+        self.files.append((self.next_path(path), directory(mode_of(mode), owner)))
 
     def file_line(self, fields):
         mode, _, rest = fields.partition(b" ")
         size, space, rest = rest.partition(b" ")
-        need(space)
-        mode, size, flags = mode_of(mode), size_of(size), 0
+        need(space and matches(rb"0|[1-9][0-9]{0,18}", size))
+        mode, size, flags = mode_of(mode), int(size), 0
         owner, rest = self.owned(rest)
-        for bit, word in ((1, b"config "), (2, b"initial "), (4, b"transient ")):
-            if rest.startswith(word):
-                flags, rest = flags | bit, rest[len(word) :]
+        for bit, word in FLAGS:
+            if rest.startswith(word + b" "):
+                flags, rest = flags | bit, rest[len(word) + 1 :]
         return self.next_path(rest), regular(mode, flags, size, b"", owner)
 
     def target_line(self, text):
-        need(text.startswith(b"target "))
-        check_target(text[7:])
+        need(text.startswith(b"target ") and is_target(text[7:]))
         return text[7:]
 
     def body_line(self, text):
@@ -156,8 +127,8 @@ class Reading:
         word, space, fields = text.partition(b" ")
         need(space)
         if word == b"flavor":
-            need(not (self.flavor or self.refs or self.requires or self.provides or self.files))
-            self.flavor = flavor_text(fields)
+            need(fields != b"" and not (self.flavor or self.refs or self.requires or self.provides or self.files))
+            self.flavor = texts.flavor_text(texts.flavor_of(fields))
         elif word == b"ref":
             identity = id_of_text(fields)
             need(self.kind == b"group" and (not self.refs or self.refs[-1] < identity))
@@ -185,8 +156,6 @@ class Reading:
         content = self.take_content(record.size)
         self.files.append((path, record._replace(name=sha(content))))
         self.contents.append(content)
-
-    # ---- what it makes
 
     def made(self):
         if self.kind == b"group":
@@ -222,16 +191,14 @@ class Reading:
         return self.troves, sorted(kept.items())
 
 
-# ---- texts of what was read
-
-
 def file_text(path, record):
     owner = b"%s:%s" % record.owner
     if record.kind == "d":
         return b"dir %d %s %s" % (record.mode, owner, path)
     if record.kind == "l":
         return b"link %s to %s" % (path, record.target)
-    return b"file %d %s %s %d %s %s" % (record.mode, owner, flag_letters(record.flags).encode(), record.size, record.name.hex().encode(), path)
+    letters, name = flag_letters(record.flags).encode(), record.name.hex().encode()
+    return b"file %d %s %s %d %s %s" % (record.mode, owner, letters, record.size, name, path)
 
 
 def made_text(troves, contents):

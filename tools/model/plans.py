@@ -10,8 +10,6 @@ from tools.model.trees import parent_of
 
 CONFIG, INITIAL, TRANSIENT = 1, 2, 4
 
-# ---- the table
-
 STAYS, GOES, COMES = "stays", "goes", "comes"
 
 
@@ -39,9 +37,6 @@ def row(path, old, new, stands, below, options):
     if has(new, CONFIG) and "keep" in options:
         return STAYS
     return COMES if replace else "edited"
-
-
-# ---- plans
 
 
 def all_paths(*lists):
@@ -97,12 +92,44 @@ def plan_changes(tree, old, fresh, options):
     return changes
 
 
-# ---- write sets
+def is_content(data, record):
+    return data is not None and len(data) == record.size and sha(data) == record.name
+
+
+def targets(tree, changes, carried, find, read):
+    """What stood at each path of a plan and what is to stand there, as nodes: the tests in their order. A content is carried, found by its
+    name, or read from the file that stands there by `read`, as are all files that change."""
+
+    def content(path, record):
+        found = next((data for data in carried if is_content(data, record)), None)
+        found = find(record.name) if found is None else found
+        if not is_content(found, record) and mark_of(tree.get(path))[2:] == (record.size, record.name):
+            found = read(path)
+        if not is_content(found, record):
+            raise Refused(f"missing content {record.name.hex()}")
+        return found
+
+    def wanted(path, record):
+        mark = mark_of_record(record)
+        return None if record is None else ("file", record.mode, content(path, record)) if mark[0] == "file" else mark
+
+    wants = {path: wanted(path, changes[path]) for path in sorted(changes)}
+    stood, kept = {path: tree.get(path) for path in wants}, {}
+    files = [path for path, node in stood.items() if node and node[0] == "file"]
+    for path in files:
+        if len(tree[path][2]) > LARGEST_CONTENT:
+            raise Refused(f"too large: local {len(tree[path][2])}")
+    for path in files:
+        stood[path] = ("file", tree[path][1], read(path))
+        if len(stood[path][2]) > LARGEST_CONTENT:
+            raise Refused(f"too large: local {LARGEST_CONTENT + 1}")
+    for path in files:
+        keep(kept, stood[path][2])
+    return stood, wants
 
 
 def write_set(tree, changes, now, carried, far, options):
-    """What stood at each path of a plan and what is to stand there, as nodes, where `now` stands, and how often contents and files are
-    asked for: the tests in their order."""
+    """The targets of a plan where `now` stands, and how often contents and files are asked for."""
     asked = {"finds": 0, "files": 0}
 
     def read(path):
@@ -111,40 +138,11 @@ def write_set(tree, changes, now, carried, far, options):
         asked["files"] += 1
         return now[path][2]
 
-    def content(path, record):
-        def is_it(data):
-            return len(data) == record.size and sha(data) == record.name
-
-        found = next(filter(is_it, carried), None)
-        if found is not None:
-            return found
+    def find(name):
         asked["finds"] += 1
         for word, refusal in (("far-fails", "far failed"), ("far-damaged", "far damaged /c/damaged")):
             if word in options:
                 raise Refused(refusal)
-        found = next(filter(is_it, far), None)
-        if found is None and mark_of(tree.get(path))[2:] == (record.size, record.name):
-            found = next(filter(is_it, [read(path)]), None)
-        if found is None:
-            raise Refused(f"missing content {record.name.hex()}")
-        return found
+        return next((data for data in far if sha(data) == name), None)
 
-    def wanted(path, record):
-        mark = mark_of_record(record)
-        return None if record is None else ("file", record.mode, content(path, record)) if mark[0] == "file" else mark
-
-    paths, stood, kept = sorted(changes), {}, {}
-    wants = {path: wanted(path, changes[path]) for path in paths}
-    files = [path for path in paths if tree.get(path) and tree[path][0] == "file"]
-    for path in files:
-        if len(tree[path][2]) > LARGEST_CONTENT:
-            raise Refused(f"too large: local {len(tree[path][2])}")
-    for path in paths:
-        stood[path] = tree.get(path)
-        if path in files:
-            stood[path] = ("file", tree[path][1], read(path))
-            if len(stood[path][2]) > LARGEST_CONTENT:
-                raise Refused(f"too large: local {LARGEST_CONTENT + 1}")
-    for path in files:
-        keep(kept, stood[path][2])
-    return stood, wants, asked
+    return *targets(tree, changes, carried, find, read), asked

@@ -1,55 +1,31 @@
 """A model of the program over two trees in memory, which shares nothing with it: the standard streams, the texts and statuses with which
 a call ends, and the commands of a repository, made from the rules of docs/COMMANDS.md and docs/FORMATS.md alone. The words, the order of
 all tests and the commands of a root are in model/by_files.py.
-
-The disks and their journals are those of model/trees.py, the repository is that of model/repository.py, whole manifests are read
-by model/manifests.py and change sets by model/streams.py.
 """
 from tools.model import manifests as manifest_model
 from tools.model import repository
 from tools.model import texts
-from tools.model.trees import Damaged, Failed, Journal, Refused, is_of, read_whole
+from tools.model.trees import Damaged, Failed, Refused, is_of, read_whole
 from tools.model.repository import id_text
-from tools.model.streams import ChangeSet, read_set, set_bytes
+from tools.model.runs import BASE, JOURNAL
+from tools.model.streams import ChangeSet, set_bytes
+from tools.model.texts import FIXED
 
-BASE = b"/var/lib/conarydb"
-JOURNAL = Journal(BASE)
-FIXED = (b"/", b"/var", b"/var/lib")
-CONFIG = b"/etc/conaryrc"
-LARGEST_CONFIG = 65_536
+CONFIG, LARGEST_CONFIG = b"/etc/conaryrc", 65_536
+LONGEST_WORD, MOST_WORDS, CHUNK = 4096, 1024, 4096
+TAKES_INPUT = (b"install", b"cook", b"commit", b"showcs")
+USAGE = b"usage: conary [--disk ROOT REPO] COMMAND [WORD...]\n"
+
+is_spec = texts.of_form(repository.spec_of)
 
 
 class Ended(Exception):
     """Another status than 0 and 1, with the line behind `conary: `."""
 
 
-# ---- the words
-
-LONGEST_WORD, MOST_WORDS = 4096, 1024
-
-
-def is_spec(text):
-    try:
-        repository.spec_of(text)
-    except texts.Bad:
-        return False
-    return True
-
-
-TAKES_INPUT = (b"install", b"cook", b"commit", b"showcs")
-
-
-# ---- whole manifests and change sets
-
 def manifest_of(data):
     """The troves and contents of a whole manifest."""
     return manifest_model.Reading(data).read()
-
-
-# ---- a whole call
-
-USAGE = b"usage: conary [--disk ROOT REPO] COMMAND [WORD...]\n"
-CHUNK = 4096
 
 
 class Streams:
@@ -106,9 +82,6 @@ class Call:
         """Commits a change set, and tells the troves that were committed."""
         ids = repository.commit(self.repo, self.catalogue, change)
         return b"".join(b"committed " + id_text(one) + b"\n" for one in ids) or b"nothing changes\n"
-
-    def commit(self, data):
-        return self.committed(read_set(data))
 
     def cook(self, data, options):
         troves, contents = manifest_of(data)

@@ -45,9 +45,6 @@ def is_roots(files):
     return all(record.owner == ROOT for _, record in files)
 
 
-# ---- databases
-
-
 def share_dirs_alone(troves):
     seen = {}
     for path, record in (file for trove in troves for file in trove.files):
@@ -79,9 +76,6 @@ def database_bytes(kind, troves, oldest, newest):
     return DATABASE_MAGIC[kind] + body + item(NUMBERS, four(oldest) + four(newest)) + item(DATABASE_END, b"")
 
 
-# ---- fingerprints
-
-
 def mark_of(node):
     """The fingerprint of a node."""
     return NOTHING if node is None else (*node[:2], len(node[2]), sha(node[2])) if node[0] == "file" else node
@@ -106,21 +100,15 @@ def mark_bytes(mark):
 
 def take_mark(text):
     """The fingerprint, or `=`, at the front, and what stands behind it."""
-    need(text[:1] in (b"=", b"n", b"d", b"f", b"l"))
-    kind, rest = {b"=": "=", b"n": "nothing", b"d": "dir", b"f": "file", b"l": "link"}[text[:1]], text[1:]
-    if kind in ("=", "nothing"):
-        return (kind,), rest
-    if kind == "link":
-        target, rest = take_str(rest)
+    if text[:1] == b"l":
+        target, rest = take_str(text[1:])
         need(is_target(target))
-        return (kind, target), rest
-    size = 2 if kind == "dir" else 26
-    need(len(rest) >= size and number(rest[:2]) <= 0o7777)
-    mark = (kind, number(rest[:2])) if kind == "dir" else (kind, number(rest[:2]), number(rest[2:6]), rest[6:26])
-    return mark, rest[size:]
-
-
-# ---- deltas
+        return ("link", target), rest
+    kinds = {b"=": ("=", 0, 0), b"n": ("nothing", 0, 0), b"d": ("dir", 1, 2), b"f": ("file", 3, 26)}
+    need(text[:1] in kinds)
+    (kind, count, size), rest = kinds[text[:1]], text[1:]
+    need(len(rest) >= size and (size == 0 or number(rest[:2]) <= 0o7777))
+    return (kind, *[number(rest[:2]), number(rest[2:6]), rest[6:26]][:count]), rest[size:]
 
 
 def delta_name(delta):
@@ -141,9 +129,6 @@ def read_delta(tag, value, kind):
     made = (read_trove if tag == WAS else read_relative)(value, full)
     need(full or is_roots(made.files if tag == WAS else made.lists[0x24]))
     return tag, made
-
-
-# ---- records
 
 
 def read_entry(value):
@@ -175,9 +160,6 @@ def entry_bytes(entry):
 def record_bytes(record, kind):
     deltas = b"".join(delta_bytes(delta, kind) for delta in record.deltas)
     return MAGIC[kind] + item(NUMBER, four(record.number)) + deltas + b"".join(map(entry_bytes, record.entries)) + item(END, b"")
-
-
-# ---- the record of a job
 
 
 def by_name(troves):

@@ -41,26 +41,19 @@ def contents_to_send(old, new):
     return sorted({record.name for path, record in new.files if record.kind == "f" and was.get(path) != (record.name, record.size)})
 
 
-# ---- troves that come with a change set
-
-
 def check_allowed(trove):
     path = forbidden_path(trove)
     if path is not None:
         raise Refused("reserved " + path.decode())
 
 
-def made_of(part, installed):
-    """The trove that a part makes: its own, or what leads from an installed one."""
-    made = part if isinstance(part, Trove) else next(filter(None, (applied(base, part) for base in installed)), None)
-    if made is None:
-        raise Refused("missing base " + id_text(part.old).decode())
-    return made
-
-
 def all_made(parts, installed):
+    """The troves that parts make: their own, or what leads from installed ones."""
     made = []
     for part in parts:
-        made.append(made_of(part, installed))
-        check_allowed(made[-1])
+        trove = part if isinstance(part, Trove) else next(filter(None, (applied(base, part) for base in installed)), None)
+        if trove is None:
+            raise Refused("missing base " + id_text(part.old).decode())
+        check_allowed(trove)
+        made.append(trove)
     return made

@@ -1,7 +1,6 @@
 """The texts that commands write about troves and jobs, by the rules of docs/FORMATS.md alone."""
-from tools.model.streams import id_text
+from tools.model.streams import FLAGS, id_text
 
-FLAGS = ((1, b"config"), (2, b"initial"), (4, b"transient"))
 CHANGES = {"+": b"installed ", "~": b"updated ", "-": b"erased "}
 
 

@@ -1,15 +1,13 @@
 """A model of a repository on a disk, made from docs/FORMATS.md alone: its commits and contents read and written, which troves a
-specification means, what references reach, shadows and branches of that, and the tests of a commit.
-
-Streams are read and written by model/streams.py, texts by model/texts.py, and the journal's files by model/trees.py. Nothing is shared
-with the program.
+specification means, what references reach, shadows and branches of that, and the tests of a commit. Nothing is shared with the program.
 """
-import hashlib
 from collections import namedtuple
 
 from tools.model import texts
 from tools.model.relatives import applied, contents_to_send, relative_of
-from tools.model.streams import ChangeSet, NotOfForm, Relative, forbidden_path, id_text, inner_items, item, items, need, read_trove, trove_bytes
+from tools.model.streams import (
+    ChangeSet, NotOfForm, Relative, difference, forbidden_path, id_text, inner_items, item, items, need, read_trove, sha, trove_bytes,
+)
 from tools.model.trees import Damaged, Journal, Refused, clear, is_of, make_dir, read_whole
 
 BASE = b"/conaryrepo"
@@ -26,23 +24,11 @@ def content_path(name):
     return CONTENTS + b"/" + name.hex().encode()
 
 
-# ---- the files of commits
-
-
 def commit_bytes(troves):
     return MAGIC + items(0x40, map(trove_bytes, troves)) + item(0x4F, b"")
 
 
-def read_commit(text):
-    """The troves of a commit's stream."""
-    need(text.startswith(MAGIC))
-    found = inner_items(text[len(MAGIC) :])
-    need(len(found) > 1 and found[-1] == (0x4F, b"") and all(tag == 0x40 for tag, _ in found[:-1]))
-    return [read_trove(value) for _, value in found[:-1]]
-
-
 # ---- what is read
-
 
 def sizes_in(troves, name):
     """The sizes that troves record of a content's name."""
@@ -56,8 +42,12 @@ def read_troves(tree, number):
         if tree.look(path) is None:
             return None
         raise Damaged(path)
+    text = read_whole(tree, path)
     try:
-        return read_commit(read_whole(tree, path))
+        need(text.startswith(MAGIC))
+        found = inner_items(text[len(MAGIC) :])
+        need(len(found) > 1 and found[-1] == (0x4F, b"") and all(tag == 0x40 for tag, _ in found[:-1]))
+        return [read_trove(value) for _, value in found[:-1]]
     except NotOfForm:
         raise Damaged(path) from None
 
@@ -103,7 +93,7 @@ def content(tree, sizes, name):
     if not is_of(tree.look(path), "file"):
         raise Damaged(path)
     data = read_whole(tree, path)
-    if hashlib.sha1(data).digest() != name or len(data) not in sizes:
+    if sha(data) != name or len(data) not in sizes:
         raise Damaged(path)
     return data
 
@@ -152,7 +142,7 @@ def read_config(data):
                 texts.need(len(labels) <= 64)
             elif words[0] == b"flavor":
                 flavor = texts.flavor_of(value)
-        except texts.Bad:
+        except texts.NotOfForm:
             raise Refused(b"bad config line %d" % number) from None
     return Config(labels, flavor)
 
@@ -233,15 +223,9 @@ def between(tree, catalogue, old, new):
             continue
         parts.append(trove if base is None else relative_of(base, trove))
         names |= set(contents_to_send(base, trove))
-    contents = []
-    for name in sorted(names):
-        sizes = sizes_in(new, name)
-        # Of two records with different sizes no content can be sent for both.
-        contents.append((name, content(tree, sizes if len(sizes) == 1 else (), name)))
-    return ChangeSet(parts, contents)
-
-
-# ---- the next revision
+    # Of two records with different sizes no content can be sent for both.
+    sizes = {name: sizes_in(new, name) for name in sorted(names)}
+    return ChangeSet(parts, [(name, content(tree, some if len(some) == 1 else (), name)) for name, some in sizes.items()])
 
 
 def next_revised(catalogue, troves):
@@ -265,7 +249,6 @@ def next_revised(catalogue, troves):
 
 # ---- a commit
 
-
 def troves_of(catalogue, parts):
     """The troves that the parts make: part by part its base, its id and its paths are tested."""
     made = []
@@ -285,14 +268,6 @@ def troves_of(catalogue, parts):
     return made
 
 
-def test_refs(catalogue, troves):
-    ids = catalogue.ids() | {trove.identity for trove in troves}
-    for trove in troves:
-        for ref in trove.refs:
-            if ref not in ids:
-                raise Refused(b"missing ref " + id_text(ref))
-
-
 def test_contents(tree, catalogue, troves, contents):
     carried = {(name, len(data)) for name, data in contents}
     for trove in troves:
@@ -302,8 +277,7 @@ def test_contents(tree, catalogue, troves, contents):
     for name, data in contents:
         committed = content_of(tree, catalogue, name)
         if committed not in (None, data):
-            at = next(at for at, (one, other) in enumerate(zip(committed, data)) if one != other)
-            raise Refused(b"collision %s at %d" % (name.hex().encode(), at))
+            raise Refused(b"collision %s at %d" % (name.hex().encode(), difference(committed, data)))
 
 
 def commit(tree, catalogue, change):
@@ -311,7 +285,10 @@ def commit(tree, catalogue, change):
     troves = troves_of(catalogue, change.parts)
     if not troves:
         return []
-    test_refs(catalogue, troves)
+    ids = catalogue.ids() | {trove.identity for trove in troves}
+    for ref in (ref for trove in troves for ref in trove.refs):
+        if ref not in ids:
+            raise Refused(b"missing ref " + id_text(ref))
     test_contents(tree, catalogue, troves, change.contents)
     make_dir(tree, BASE)
     make_dir(tree, CONTENTS)

@@ -4,9 +4,9 @@ They are those of tools/model/trees.py, of a journal in one private directory. A
 """
 import itertools
 
+from tools.model.records import BASE
 from tools.model.trees import Damaged, Failed, Journal, Refused, Tree
 
-BASE = b"/var/lib/conarydb"
 JOURNAL = Journal(BASE)
 
 # Numbers that pick crashes. All unsynced names as they read; the first, and each 32nd after it, as at the last sync, and the rest as they
@@ -67,9 +67,6 @@ def calls_until(nodes, puts, path):
     return next(calls for calls, cut in enumerate(applied_cuts(nodes, puts)) if cut.tree.nodes.get(path) is not None) - 1
 
 
-# ---- what others see
-
-
 def changes(found):
     """What is found, each that differs from the one before."""
     return [one for one, _ in itertools.groupby(found)]
@@ -84,9 +81,6 @@ def seen_in_recovery(nodes, puts, calls, pick, path):
     """The same of the recovery of the tree that an application left which was cut off after so many calls."""
     tree = applied(nodes, puts, calls).tree
     return changes(cut.tree.crash(pick).nodes.get(path) for cut in cuts_of(lambda calls: recovered(tree, calls=calls)))
-
-
-# ---- what is found after a crash and its recovery
 
 
 class Counts:
@@ -104,14 +98,11 @@ class Counts:
         image = tree.crash(pick)
         key = frozenset(image.nodes.items())
         if key not in self.known:
-            self.known[key] = self.kind_of(recovered(image))
+            ended = recovered(image)
+            found, differ = stored(ended.tree), self.before != self.after
+            is_before = differ and ended.end == "no" and found == self.before
+            self.known[key] = "after" if differ and ended.is_done and found == self.after else "before" if is_before else "other"
         self.found[self.known[key]] += 1
-
-    def kind_of(self, ended):
-        found = stored(ended.tree)
-        if ended.is_done and found == self.after != self.before:
-            return "after"
-        return "before" if ended.end == "no" and found == self.before != self.after else "other"
 
 
 def images_found(nodes, puts, calls, picks):

@@ -24,7 +24,6 @@ def file(data, mode=0o644):
 
 # ---- what a record tells, by the list after its job
 
-
 def taken_back(troves, deltas):
     """The list before the job, by the deltas and the list after it."""
     there = by_name(troves)
@@ -84,9 +83,6 @@ def old_node(nodes, number, mark):
     return file(nodes[path][2], mark[1])
 
 
-# ---- jobs taken back
-
-
 def marks_of(nodes):
     return {path: mark_of(node) for path, node in nodes.items()}
 
@@ -106,10 +102,6 @@ def undone(marks, changes):
     return after
 
 
-def db_below(db, troves, number):
-    return Db(troves, db.oldest, number - 1) if db.oldest < number else Db(troves, 0, 0)
-
-
 def inverse_to(nodes, db, number):
     """The writes that take back all jobs from the newest down to a number, and the database after them."""
     if db.newest == 0:
@@ -122,10 +114,7 @@ def inverse_to(nodes, db, number):
         found.update({path: (job.number, was) for path, was, _ in job.changes})
     puts = {record_path(one): None for one in range(number, db.newest + 1)}
     puts |= {path: old_node(nodes, one, was) for path, (one, was) in sorted(found.items()) if was != NOTHING or path in nodes}
-    return puts, db_below(db, job.before, number)
-
-
-# ---- formats
+    return puts, Db(job.before, *((db.oldest, number - 1) if db.oldest < number else (0, 0)))
 
 
 def migrated(nodes):
@@ -150,9 +139,6 @@ def in_format(nodes, db, kind, other):
 def in_format_1(nodes):
     """The nodes of a root of format 2 as format 1 has them."""
     return {**nodes, **in_format(nodes, read_database(nodes[DATABASE][2]), 2, 1)}
-
-
-# ---- jobs made
 
 
 def push(nodes, db, before, changes, olds):

@@ -7,15 +7,15 @@ import hashlib
 from collections import namedtuple
 
 from tools.model.texts import (  # some of these are for those who read streams
-    Id, NotOfForm, Refused, check_path, has_build, id_bytes, id_of_text, id_text, is_forbidden, is_label, is_name, is_path, is_target, is_word, matches,
-    name_kind, need, read_id, rises, str_field, take_id, take_str, version_of, whole_dep_of, whole_flavor_of,
+    Id, NotOfForm, Refused, check_path, has_build, id_bytes, id_of_text, id_text, is_forbidden, is_label, is_name, is_path, is_target,
+    is_word, name_kind, need, read_id, rises, str_field, take_str, version_of, whole_dep_of, whole_flavor_of,
 )
 
 MOST_FILES, MOST_DEPS, MOST_PARTS = 65_535, 4_096, 4_096
 LARGEST_CONTENT, LARGEST_SET = 16_777_216, 268_435_456
 
 
-class FaultAt(Exception):
+class FaultAt(NotOfForm):
     """No item stands at a place: the place of the fault."""
 
 
@@ -54,7 +54,6 @@ def number(text):
 
 # ---- items
 
-
 def item(tag, value):
     return bytes([tag]) + len(value).to_bytes(4, "big") + value
 
@@ -80,11 +79,8 @@ def inner_items(text):
     """The items inside the value of another item, of which nothing may be left over."""
     found, at = [], 0
     while at < len(text):
-        need(len(text) >= at + 5)
-        end = at + 5 + number(text[at + 1 : at + 5])
-        need(len(text) >= end)
-        found.append((text[at], text[at + 5 : end]))
-        at = end
+        tag, start, at = next_item(text, at, range(256))
+        found.append((tag, text[start:at]))
     return found
 
 
@@ -111,7 +107,7 @@ Owner = namedtuple("Owner", "user group")
 ROOT = Owner(b"root", b"root")
 # `kind` is a letter; of a link there is the target alone, of a directory no flags, size and name.
 Record = namedtuple("Record", "kind mode owner flags size name target")
-FLAG_LETTERS = ((1, "c"), (2, "i"), (4, "t"))
+FLAGS = ((1, b"config"), (2, b"initial"), (4, b"transient"))
 
 
 def directory(mode, owner=ROOT):
@@ -128,12 +124,12 @@ def file_of(data, mode=0o644, flags=0, owner=ROOT):
 
 
 def flag_letters(flags):
-    """A letter for each flag of a file, config, initial and transient, or `-` where it isn't set."""
-    return "".join(letter if flags & bit else "-" for bit, letter in FLAG_LETTERS)
+    """The first letter of each flag of a file, or `-` where it isn't set."""
+    return "".join(chr(word[0]) if flags & bit else "-" for bit, word in FLAGS)
 
 
 def flags_of_letters(letters):
-    return sum(bit for bit, letter in FLAG_LETTERS if letter in letters)
+    return sum(bit for bit, word in FLAGS if chr(word[0]) in letters)
 
 
 def link(target):
@@ -192,10 +188,6 @@ def read_file(text, full=False):
     return path, read_record(record, full)
 
 
-def paths_of(files):
-    return [path for path, _ in files]
-
-
 # ---- troves
 
 Trove = namedtuple("Trove", "identity files refs requires provides")
@@ -210,7 +202,7 @@ def check_trove(trove):
     """The rules of troves."""
     (name, version, flavor), files, refs, requires, provides = trove
     need(len(files) <= MOST_FILES and len(refs) <= MOST_FILES and len(requires) <= MOST_DEPS and len(provides) <= MOST_DEPS)
-    need(rises(paths_of(files)) and rises(refs) and rises(requires) and rises(provides))
+    need(all(map(rises, ([path for path, _ in files], refs, requires, provides))))
     need(all(record.size <= LARGEST_CONTENT for _, record in files))
     # Only what is built has a build count, and a component called `source` isn't.
     need(has_build(version) != name.endswith(b":source"))
@@ -254,7 +246,7 @@ TAGS = range(0x23, 0x2B)
 def check_relative(relative):
     old, new, lists = relative
     need(old.name == new.name and old != new)
-    keys = {**lists, 0x24: paths_of(lists[0x24])}
+    keys = {**lists, 0x24: [path for path, _ in lists[0x24]]}
     need(all(record.size <= LARGEST_CONTENT for _, record in lists[0x24]))
     # Nothing is both gone and set, or both gone and added.
     need(all(rises(keys[tag]) for tag in TAGS) and not any(set(keys[tag]) & set(keys[tag + 1]) for tag in TAGS[::2]))
@@ -289,14 +281,6 @@ def asked_by(part):
     return {(record.name, record.size) for _, record in files if record.kind == "f"}
 
 
-def read_content(value, asked, contents):
-    """A name and bytes: the name is their SHA-1, a record asks for it and their size, and the names strictly rise."""
-    need(len(value) >= 20)
-    name, text = value[:20], value[20:]
-    need(sha(text) == name and (name, len(text)) in asked and (not contents or contents[-1][0] < name))
-    return name, text
-
-
 def read_set(text):
     """The change set, or the first fault. The text is read item by item, from the front."""
     # An item that isn't all there is at fault where the text ends, whatever is wrong with it but its tag and a content's length.
@@ -308,18 +292,23 @@ def read_set(text):
         full = found.contents or len(found.parts) == MOST_PARTS
         if at == len(text) or text[at] not in ((CONTENT, END) if full else (WHOLE, RELATIVE, CONTENT, END)):
             raise malformed(at)
-        tag, length, end = text[at], number(text[at + 1 : at + 5]), at + 5 + number(text[at + 1 : at + 5])
+        length = number(text[at + 1 : at + 5])
         # A content that is too large is refused by its length alone: 20 bytes of it are its name.
-        if len(text) >= at + 5 and tag == CONTENT and length > LARGEST_CONTENT + 20:
+        if len(text) >= at + 5 and text[at] == CONTENT and length > LARGEST_CONTENT + 20:
             raise Fault(f"too large: content {length - 20}")
-        if len(text) < at + 5 or len(text) < end:
+        if len(text) < at + 5 + length:
             raise malformed(len(text))
-        value = text[at + 5 : end]
+        tag, start, end = next_item(text, at, range(256))
+        value = text[start:end]
         try:
             if tag == END:
                 need(value == b"")
             elif tag == CONTENT:
-                found.contents.append(read_content(value, asked, found.contents))
+                # The name is the SHA-1 of the bytes, a record asks for it and their size, and the names strictly rise.
+                name, data = value[:20], value[20:]
+                need(len(value) >= 20 and sha(data) == name and (name, len(data)) in asked)
+                need(not found.contents or found.contents[-1][0] < name)
+                found.contents.append((name, data))
             else:
                 found.parts.append(read_trove(value) if tag == WHOLE else read_relative(value))
                 asked.update(asked_by(found.parts[-1]))
@@ -332,26 +321,21 @@ def read_set(text):
             return found
 
 
-def part_bytes(part):
-    return item(WHOLE, trove_bytes(part)) if isinstance(part, Trove) else item(RELATIVE, relative_bytes(part))
-
-
 def set_bytes(parts, contents):
     """The stream, or the fault of a set that is too large."""
     if len(parts) > MOST_PARTS:
         raise Fault(f"too large: change set {len(parts)}")
-    text = MAGIC + b"".join(map(part_bytes, parts)) + items(CONTENT, [name + text for name, text in contents]) + item(END, b"")
+    made = [item(WHOLE, trove_bytes(part)) if isinstance(part, Trove) else item(RELATIVE, relative_bytes(part)) for part in parts]
+    text = MAGIC + b"".join(made) + items(CONTENT, [name + text for name, text in contents]) + item(END, b"")
     if len(text) > LARGEST_SET:
         raise Fault(f"too large: change set {len(text)}")
     return text
 
 
-def part_line(part):
-    if isinstance(part, Trove):
-        return b"absolute " + id_text(part.identity) + b"\n"
-    return b"relative " + id_text(part.new) + b" from " + id_text(part.old) + b"\n"
-
-
 def set_text(found):
-    contents = (b"content %s %d\n" % (name.hex().encode(), len(text)) for name, text in found.contents)
-    return b"".join([*map(part_line, found.parts), *contents])
+    lines = []
+    for part in found.parts:
+        whole = isinstance(part, Trove)
+        lines.append(b"absolute " + id_text(part.identity) if whole else b"relative " + id_text(part.new) + b" from " + id_text(part.old))
+    lines += [b"content %s %d" % (name.hex().encode(), len(text)) for name, text in found.contents]
+    return b"".join(line + b"\n" for line in lines)

@@ -18,7 +18,6 @@ class Refused(Exception):
         return self.args[0].decode()
 
 
-Bad = NotOfForm
 cached = lru_cache(maxsize=4096)
 
 
@@ -83,13 +82,10 @@ def is_line(text):
     return is_utf8(text) and not any(byte < 0x20 or byte == 0x7F for byte in text)
 
 
-def is_part(part):
-    return 1 <= len(part) <= 255 and part not in (b".", b"..") and is_line(part)
-
-
 def check_path(text):
     """`/`, or one or more of `/part`; at most 1,024 bytes."""
-    need(text == b"/" or text.startswith(b"/") and len(text) <= 1024 and all(map(is_part, text[1:].split(b"/"))))
+    are_parts = all(1 <= len(part) <= 255 and part not in (b".", b"..") for part in text[1:].split(b"/"))
+    need(text == b"/" or text.startswith(b"/") and len(text) <= 1024 and are_parts and is_line(text))
 
 
 def check_target(text):
@@ -243,11 +239,6 @@ def flags_of(text):
     return put_in_order([(flag.lstrip(b"~!"), flag[: len(flag) - len(flag.lstrip(b"~!"))]) for flag in re.findall(FLAG, text)])
 
 
-def set_of(text):
-    word, _, flags = text.partition(b"(")
-    return word, flags_of(flags)
-
-
 @cached
 def flavor_of(text):
     """Flags, then `is: ` and sets, each in their order; either may be missing, and a relaxed text has more spaces."""
@@ -256,7 +247,8 @@ def flavor_of(text):
     found = re.fullmatch(rb"(?:(" + FLAGS + rb")(?: +|\Z))?(?:is: *(" + SETS + rb"))?", text)
     need(found is not None and not text.endswith(b" "))
     flags = flags_of(found[1] or b"")
-    sets = put_in_order([set_of(one) for one in re.findall(SET, found[2] or b"")])
+    sets = (one.partition(b"(") for one in re.findall(SET, found[2] or b""))
+    sets = put_in_order([(word, flags_of(own)) for word, _, own in sets])
     need(len(flags) + sum(1 + len(own) for _, own in sets) <= 64)
     return flags, sets
 

@@ -51,9 +51,6 @@ def is_tree(nodes):
     return is_of(nodes.get(b"/"), "dir") and all(is_of(nodes.get(parent_of(path)), "dir") for path in nodes)
 
 
-# ---- a tree in memory: what it reads, what the last sync kept, and which names changed since
-
-
 class Tree:
     """Nodes by their paths. A call that isn't allowed is made by nobody but a Disk, which says so."""
 
@@ -148,8 +145,7 @@ class Tree:
         self.put(path, None)
 
     def sync(self):
-        if self.turn("sync", None)[0]:
-            raise Failed(self)
+        self.read("sync", None)
         self.settle()
 
     def crash(self, pick):
@@ -205,7 +201,6 @@ def make_dir(tree, path):
 
 
 # ---- a disk that says what isn't allowed, and a content store on it: a directory whose files are named by their contents' names
-
 
 class Collision(Exception):
     """Another content of the name, and the first place at which it differs."""
@@ -272,18 +267,12 @@ class Disk(Tree):
         if node is not None:
             self.call("remove", path)
 
-    def pieces(self, size, *paths, chunk=PIECE):
-        """Reads pieces of files, and answers the place and the room of each once they are read."""
-        for at in range(0, size, chunk):
-            room = min(chunk, size - at)
-            for path in paths:
-                self.call("read", path, at, room)
-            yield at, room
-
     def whole(self, path, most=2**64, chunk=CHUNK):
         """The bytes of a file, in chunks; None where they are more."""
         data = self.call("look", path)[2]
-        return None if len(data) > most else b"".join(data[at : at + room] for at, room in self.pieces(len(data), path, chunk=chunk))
+        for _ in range(0, len(data) if len(data) <= most else 0, chunk):
+            self.call("read", path)
+        return data if len(data) <= most else None
 
     def write(self, path, mode, data, and_sync):
         self.call("append", path, data)
@@ -298,11 +287,17 @@ class Disk(Tree):
         piece up to the first that differs."""
         data = self.whole(source, chunk=PIECE) if data is None else data
         name = namer(data).hex().encode()
-        path, sources = joined(directory, name), [] if source is None else [source]
+        path = joined(directory, name)
         node = self.call("look", path)
         if not is_of(node, "file"):
-            self.call(*(["rename", source, path] if sources else ["append", path, data]))
-        elif any(node[2][at : at + room] != data[at : at + room] for at, room in self.pieces(len(data), path, *sources)) or node[2] != data:
+            self.call(*(["append", path, data] if source is None else ["rename", source, path]))
+            return name
+        for at in range(0, len(data), PIECE):
+            for one in filter(None, (path, source)):
+                self.call("read", one)
+            if node[2][at:][:PIECE] != data[at:][:PIECE]:
+                break
+        if node[2] != data:
             raise Collision(name, difference(node[2], data))
         return name
 
@@ -315,14 +310,6 @@ class Disk(Tree):
 
     def store_get(self, directory, name):
         return self.whole(joined(directory, name)) if self.store_has(directory, name) else None
-
-
-# ---- the journal
-
-
-def staged(mode, place, data):
-    """What a log says of a file: its bytes have a number."""
-    return ("staged", mode, place, len(data), sha(data))
 
 
 class Journal:
@@ -358,7 +345,7 @@ class Journal:
             if is_of(node, "file"):
                 place = next(one for one in itertools.count() if one not in taken)
                 taken.add(place)
-                node = staged(node[1], place, node[2])
+                node = "staged", node[1], place, len(node[2]), sha(node[2])
             found.append((path, node))
         return found
 
@@ -474,12 +461,6 @@ class Journal:
 
     # ---- a recovery
 
-    def may_put(self, tree, paths, path, want):
-        above = parent_of(path)
-        while above in paths:
-            above = parent_of(above)
-        return is_of(tree.look(above), "dir") and (is_of(want, "dir") or self.is_clear_below(tree, paths, path))
-
     def is_clear_below(self, tree, paths, path):
         names = tree.list(path) if is_of(tree.look(path), "dir") else []
         return all(child in paths and self.is_clear_below(tree, paths, child) for child in names)
@@ -508,7 +489,10 @@ class Journal:
                 self.check_staged(tree, *want[2:])
         paths = {path for path, _ in puts}
         for path, want in puts:
-            if not self.may_put(tree, paths, path, want):
+            above = parent_of(path)
+            while above in paths:
+                above = parent_of(above)
+            if not is_of(tree.look(above), "dir") or not is_of(want, "dir") and not self.is_clear_below(tree, paths, path):
                 raise Refused(b"parent " + path)
         return puts
 
