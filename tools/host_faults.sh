@@ -11,4 +11,4 @@ top=$(cd "$(dirname "$0")/.." && pwd)
 choose_program
 alone=
 [ "$(id -u)" -ne 0 ] || alone='unshare -m'
-exec $alone python3 "$top/tools/host/host_faults.py" "$program" "${1:-20}"
+exec $alone sh "$top/tools/host/host_faults.sh" "$program" "${1:-20}"

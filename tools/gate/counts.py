@@ -11,7 +11,7 @@ import pathlib
 import re
 import sys
 
-from crates import edits_inside, edits_outside
+from crates import edits_inside, edits_outside, files_in, text_of
 
 SETS_UP = {"command_lines": {"disks", "root", "repo", "input", "sinks"}}
 
@@ -23,13 +23,12 @@ def calls_of(path):
 
 
 def main():
-    crates = pathlib.Path("crates")
-    programs = {path.parent.name: calls_of(path) for path in sorted(crates.glob("*/stdin"))}
+    programs = {path.parent.name: calls_of(path) for path in sorted(pathlib.Path("crates").glob("*/stdin"))}
     for name, calls in programs.items():
         print(f"{sum(calls.values()):8} {name}")
         for call, count in calls.items() if "--calls" in sys.argv and name.endswith("_lines") else ():
             print(f"{count:16} {call}")
-    tests = sum(len(re.findall(r"^\s*#\[test\]", path.read_text(encoding="utf-8"), re.M)) for path in crates.glob("*/src/**/*.rt"))
+    tests = sum(len(re.findall(r"^\s*#\[test\]", text_of(path), re.M)) for path in files_in("src"))
     print(f"{sum(sum(calls.values()) for calls in programs.values())} cases of {len(programs)} programs, {tests} tests")
     inside, outside = len(edits_inside()), len(edits_outside())
     print(f"{inside + outside} edits: {inside} in the gate, {outside} outside it")

@@ -1,4 +1,6 @@
 """The crates of crates.txt, read at the top of the repository, their root files, and the edits that stand in the gate and outside it."""
+import functools
+import glob
 import pathlib
 
 # Which program shows an edit of the gate, by the lines of which calls.
@@ -15,6 +17,16 @@ def named(keep_all=True):
 def root_file(crate, room="."):
     source = pathlib.Path(room, "crates", crate, "src")
     return next((source / name for name in ("main.rt", "lib.rt") if (source / name).exists()), source / "lib.rt")
+
+
+def files_in(part, crate="*"):
+    """The files of `src`, `specs` or `proofs` of a crate, or of all."""
+    return sorted(glob.glob(f"crates/{crate}/{part}/**/*.{'rt' if part == 'src' else 'antt'}", recursive=True))
+
+
+@functools.cache
+def text_of(path):
+    return pathlib.Path(path).read_text(encoding="utf-8")
 
 
 def edits_inside(crate="*"):

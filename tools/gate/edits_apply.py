@@ -46,8 +46,7 @@ def fault_of(edit, known):
     if not NAME.fullmatch(edit.name):
         return "its name isn't of letters, digits, _, - and . with .edit at its end"
     texts, changes = {}, list(changes_of(edit))
-    faults = (fault_of_change(crate, texts, *change) for change in changes)
-    return next(filter(None, faults), None) if changes else "it changes nothing"
+    return next(filter(None, (fault_of_change(crate, texts, *change) for change in changes)), None) if changes else "it changes nothing"
 
 
 def strays(edits):
@@ -60,9 +59,9 @@ def is_program(name):
     return pathlib.Path("crates", name, "stdout").is_file()
 
 
-def unshown(inside):
-    """What is wrong with edits_shown.txt, where these edits stand in the gate."""
-    shown, names = shown_by(), {name_of(edit) for edit in inside}
+def unshown(names):
+    """What is wrong with edits_shown.txt, where the edits of these names stand in the gate."""
+    shown = shown_by()
     for name in sorted(names - shown.keys()):
         yield f"{SHOWN.name} names no program for {name}"
     for name, (program, _) in shown.items():
@@ -78,19 +77,17 @@ def main():
     known, inside, outside = named(), edits_inside(), edits_outside()
     found = {edit: fault_of(edit, known) for edit in inside + outside}
     faults = [f"{edit}: {fault}" for edit, fault in found.items() if fault]
-    names = {(crate_of(edit), edit.name) for edit in inside}
-    faults += [f"{edit}: an edit of the gate has its name" for edit in outside if (crate_of(edit), edit.name) in names]
+    names = set(map(name_of, inside))
+    faults += [f"{edit}: an edit of the gate has its name" for edit in outside if name_of(edit) in names]
     faults += [f"{path}: it is no edit of a crate" for path in strays(found)]
-    faults += unshown(inside)
-    faults += [f"{edit}: it is by no program with wanted answers" for edit in outside if program_of(edit) and not is_program(program_of(edit))]
-    of_gate, of_others = ({crate_of(edit) for edit in edits} for edits in (inside, outside))
-    if len(inside) > EDITS:
-        faults.append(f"the gate may have {EDITS} edits")
-    if len(of_gate) > CRATES:
-        faults.append(f"the gate may have edits of {CRATES} crates")
-    print("".join(fault + "\n" for fault in faults), end="")
-    print(f"gate: {len(inside)} edits in {len(of_gate)} crates")
-    print(f"outside: {len(outside)} edits in {len(of_others)} crates")
+    faults += unshown(names)
+    by = {edit: program_of(edit) for edit in outside}
+    faults += [f"{edit}: it is by no program with wanted answers" for edit, program in by.items() if program and not is_program(program)]
+    of_gate, of_others = (len(set(map(crate_of, edits))) for edits in (inside, outside))
+    faults += [f"the gate may have {EDITS} edits"] if len(inside) > EDITS else []
+    faults += [f"the gate may have edits of {CRATES} crates"] if of_gate > CRATES else []
+    counts = [f"gate: {len(inside)} edits in {of_gate} crates", f"outside: {len(outside)} edits in {of_others} crates"]
+    print(*faults, *counts, sep="\n")
     sys.exit(1 if faults else 0)
 
 

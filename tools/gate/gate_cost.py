@@ -1,23 +1,17 @@
-"""What the gate costs in processor seconds, from nothing, for one crate or for all (see gate_cost.sh).
-
-It runs the gate in a copy of the repository, samples the prover's processes and prints the table; then it checks each crate once
-more by a single process, whose lines tell when each function is done, and prints the slow ones. What an earlier run of the gate kept isn't used for what is measured:
-with a name the crate gets one more comment line in the copy, without a name the gate proves all anew.
-
-With --here the gate runs in this very checkout, so that what passes is kept as by any other run. Then one run is the verdict and the
-measure: a crate that was kept from an earlier run shows no seconds, and no function is timed.
-"""
+"""What the gate costs in processor seconds, from nothing, for one crate or for all (see gate_cost.sh)."""
+import concurrent.futures
+import contextlib
 import os
 import pathlib
+import queue
 import re
 import shutil
 import subprocess
 import sys
 import tempfile
-import threading
 import time
 
-from crates import edits_inside, named, root_file
+from crates import edits_inside, files_in, named, root_file, text_of
 
 TICK = os.sysconf("SC_CLK_TCK")
 # Above these a function, a test or an edit is named; seconds, as below. And the processor minutes that a crate has for 1,000 lines, and
@@ -53,15 +47,12 @@ def told_of(number):
 def processes(session):
     """The prover's processes of a session: number, words, folder, processor seconds, peak memory in MB."""
     for number in filter(str.isdigit, os.listdir("/proc")):
-        try:
+        with contextlib.suppress(OSError, ValueError, IndexError):
             of_session, seconds = told_of(number)
             words = pathlib.Path(f"/proc/{number}/cmdline").read_text(encoding="utf-8").split("\0")
-            if of_session != session or os.path.basename(words[0]) != "rattle" or "--crate-name" not in words:
-                continue
-            peak = re.search(r"VmHWM:\s+(\d+)", pathlib.Path(f"/proc/{number}/status").read_text(encoding="utf-8"))
-            yield number, words, os.readlink(f"/proc/{number}/cwd"), seconds, int(peak[1]) // 1024 if peak else 0
-        except (OSError, ValueError, IndexError):
-            continue
+            if of_session == session and os.path.basename(words[0]) == "rattle" and "--crate-name" in words:
+                peak = re.search(r"VmHWM:\s+(\d+)", pathlib.Path(f"/proc/{number}/status").read_text(encoding="utf-8"))
+                yield number, words, os.readlink(f"/proc/{number}/cwd"), seconds, int(peak[1]) // 1024 if peak else 0
 
 
 def kind_of(words, folder):
@@ -88,32 +79,25 @@ def run_gate(room, words, log):
         return log.read().rstrip("\n").split("\n")[-3:], found
 
 
-def clock_of(process):
-    try:
-        return told_of(process)[1]
-    except (OSError, ValueError):
-        return None
-
-
 def timed_check(room, crate, flags):
     """Processor seconds of each function of one check, by the lines that it prints."""
     taken, last, prover = {}, 0.0, None
-    pipes = {"stdout": subprocess.PIPE, "stderr": subprocess.STDOUT}
-    check = subprocess.Popen(["rt", "check", "--jobs", "1", *flags], cwd=f"{room}/crates/{crate}", **pipes, text=True, start_new_session=True)
+    how = {"stdout": subprocess.PIPE, "stderr": subprocess.STDOUT, "text": True, "start_new_session": True}
+    check = subprocess.Popen(["rt", "check", "--jobs", "1", *flags], cwd=f"{room}/crates/{crate}", **how)
     for line in check.stdout:
         done = re.match(r"checked (\S+), \d+ of \d+", line)
         if not done:
             continue
         prover = prover or next((number for number, *_ in processes(check.pid)), None)
-        now = clock_of(prover) if prover else None
-        if now is not None:
+        with contextlib.suppress(OSError, ValueError):
+            now = told_of(prover)[1]
             taken[done[1]] = max(now - last, 0.0) if last else 0.0
             last = now
     check.wait()
     return taken
 
 
-def timed_functions(room, crate, kept_in):
+def timed_functions(room, crate):
     """The seconds of the crate's functions and tests, with the limit of each; room is a copy of the repository for this alone."""
     source, folder = root_file(crate, room), pathlib.Path(room, "crates", crate)
     as_it_was = source.read_text(encoding="utf-8")
@@ -126,38 +110,33 @@ def timed_functions(room, crate, kept_in):
     source.write_text(as_it_was, encoding="utf-8")
     taken = [(seconds, FUNCTION, name) for name, seconds in code.items()]
     taken += [(seconds, TEST, name) for name, seconds in tests.items() if name not in code]
-    kept_in[crate] = sorted(taken, reverse=True)
+    return sorted(taken, reverse=True)
 
 
 def all_functions(rooms, names):
     """Checks the crates in turn, one in each copy at a time."""
-    found, left, turn = {}, list(names), threading.Lock()
+    free = queue.SimpleQueue()
+    for room in rooms:
+        free.put(room)
 
-    def lane(room):
-        while True:
-            with turn:
-                if not left:
-                    return
-                crate = left.pop(0)
-            timed_functions(room, crate, found)
+    def timed(crate):
+        room = free.get()
+        taken = timed_functions(room, crate)
+        free.put(room)
+        return taken
 
-    lanes = [threading.Thread(target=lane, args=(room,)) for room in rooms]
-    for it in lanes:
-        it.start()
-    for it in lanes:
-        it.join()
-    return found
+    with concurrent.futures.ThreadPoolExecutor(len(rooms)) as lanes:
+        return dict(zip(names, lanes.map(timed, names)))
 
 
 def lines_of(crate, part):
-    files = (path for path in pathlib.Path("crates", crate, part).glob("**/*") if path.suffix in (".rt", ".antt"))
-    return sum(path.read_text(encoding="utf-8").count("\n") for path in files)
+    return sum(text_of(path).count("\n") for path in files_in(part, crate))
 
 
 def seconds_of(crate, found):
     """Processor seconds of a crate's proof, test build and edits, with the check that the edits begin with."""
-    kinds = {kind: sum(s for (_, name, it), (s, _) in found.items() if name == crate and it == kind) for kind in ("proof", "tests", "seed", "edit")}
-    return kinds["proof"], kinds["tests"], kinds["seed"] + kinds["edit"]
+    of_kind = [(kind, seconds) for (_, name, kind), (seconds, _) in found.items() if name == crate]
+    return tuple(sum(seconds for kind, seconds in of_kind if kind in kinds) for kinds in (["proof"], ["tests"], ["seed", "edit"]))
 
 
 def scale_of(found):
@@ -168,22 +147,23 @@ def scale_of(found):
 
 def report(names, found):
     scale, whole, parts = scale_of(found), 0.0, [0.0, 0.0, 0.0]
-    print("| crate | lines of `src/` | of `specs/` | of `proofs/` | edits | proof, s | tests, s | edits, s | all, min | for 1,000 lines | peak, MB |")
+    over, heads = [], ["proof, s", "tests, s", "edits, s", "all, min", "for 1,000 lines", "peak, MB"]
+    print(f"| crate | lines of `src/` | of `specs/` | of `proofs/` | edits | {' | '.join(heads)} |")
     print("|---|---|---|---|---|---|---|---|---|---|---|")
-    over = []
     for crate in names:
-        proof, tests, edits = (scale * it for it in seconds_of(crate, found))
+        taken = [scale * it for it in seconds_of(crate, found)]
         peak = max([p for (_, name, _), (_, p) in found.items() if name == crate] or [0])
-        minutes, lines = (proof + tests + edits) / 60, lines_of(crate, "src")
+        minutes, lines = sum(taken) / 60, lines_of(crate, "src")
         whole += minutes
-        parts = [it + seconds / 60 for it, seconds in zip(parts, (proof, tests, edits))]
+        parts = [it + seconds / 60 for it, seconds in zip(parts, taken)]
         sizes = " | ".join(f"{lines_of(crate, part):,}" for part in ("src", "specs", "proofs"))
-        print(f"| `{crate}` | {sizes} | {len(edits_inside(crate))} | {proof:.0f} | {tests:.0f} | {edits:.0f} | {minutes:.1f} | {1000 * minutes / lines:.1f} | {peak:,} |")
+        seconds = " | ".join(f"{it:.0f}" for it in taken)
+        print(f"| `{crate}` | {sizes} | {len(edits_inside(crate))} | {seconds} | {minutes:.1f} | {1000 * minutes / lines:.1f} | {peak:,} |")
         if minutes > max(SMALL, MINUTES * lines / 1000):
             over.append(f"over its minutes: {crate}: {minutes:.1f} for {lines:,} lines")
-    print(f"\nall: {whole:.1f} processor minutes, {parts[0]:.1f} of proofs, {parts[1]:.1f} of tests, {parts[2]:.1f} of edits; a second of this machine is told as {scale:.2f}")
-    for it in over:
-        print(it)
+    told = ", ".join(f"{minutes:.1f} of {name}" for minutes, name in zip(parts, ("proofs", "tests", "edits")))
+    print(f"\nall: {whole:.1f} processor minutes, {told}; a second of this machine is told as {scale:.2f}")
+    print("".join(it + "\n" for it in over), end="")
     for (_, crate, kind), (seconds, _) in sorted(found.items(), key=lambda it: -it[1][0]):
         if kind == "edit" and scale * seconds > EDIT and crate in names:
             print(f"slow: an edit of {crate}: {scale * seconds:.0f} s")
@@ -208,8 +188,7 @@ def main():
         said, found = run_gate(room, wanted or ["--anew"], f"{at}/gate.log")
         report(wanted or known, found)
         print("\n".join(said), flush=True)
-        lanes = len(os.sched_getaffinity(0)) if not wanted else 1
-        rooms = [copy_to(f"{at}/{number}") for number in range(lanes)]
+        rooms = [copy_to(f"{at}/{number}") for number in range(1 if wanted else len(os.sched_getaffinity(0)))]
         taken, scale = all_functions(rooms, wanted or known), scale_of(found)
         for crate in wanted or known:
             for seconds, limit, name in taken[crate]:

@@ -10,50 +10,50 @@ is the home, and the others are counted.
     tools/gate/twice.py --list [N]   and the N largest groups (40), with file and line of each
 """
 import collections
-import glob
 import re
 import sys
 
+from crates import files_in, text_of
+
 WORD = re.compile(r"[A-Za-z_◌][\w'◌₁-₉→∙-]*|\d+|\S")
 KEPT = set(
-    "fn let mut match if else for in return loop while break continue as ref move impl struct enum use pub self Self Ok Err Some None true false "
-    "where abbrev unfoldable record data rw subst omega arith grind simp search cc absurd refl sym ap All List Type".split()
+    "fn let mut match if else for in return loop while break continue as ref move impl struct enum use pub self Self Ok Err Some None true "
+    "false where abbrev unfoldable record data rw subst omega arith grind simp search cc absurd refl sym ap All List Type".split()
 )
 LEAST = 4
 
 
+def opens(line, indent):
+    """Whether a line that begins with a head of a `fn` of this indentation, or stands behind it, opens its body."""
+    return line == indent + "{" or line.endswith("{") and not line.strip().startswith(("ensures", "requires"))
+
+
 def bodies(path):
     """Line, lines and words of each function's body."""
-    lines = open(path, encoding="utf-8").read().split("\n")
-    at = 0
+    lines, at = text_of(path).split("\n"), 0
     while at < len(lines):
-        if re.match(r"\s*(pub(\([a-z]+\))? )?(const )?fn \w+", lines[at]):
-            indent = re.match(r"\s*", lines[at])[0]
-            start = next((k for k in range(at, len(lines)) if lines[k] == indent + "{" or lines[k].endswith("{") and not lines[k].strip().startswith(("ensures", "requires"))), None)
-            end = next((k for k in range(start or at, len(lines)) if lines[k] == indent + "}"), None) if start is not None else None
-            if end is not None:
-                body = [it for it in lines[start + 1 : end] if it.strip() and not it.strip().startswith("//")]
-                if len(body) >= LEAST:
-                    yield at + 1, len(body), WORD.findall("\n".join(body))
-                at = end
+        head = re.match(r"(\s*)(pub(\([a-z]+\))? )?(const )?fn \w+", lines[at])
+        start = next((k for k in range(at, len(lines)) if opens(lines[k], head[1])), None) if head else None
+        end = next((k for k in range(start, len(lines)) if lines[k] == head[1] + "}"), None) if start is not None else None
+        if end is not None:
+            body = [it for it in lines[start + 1 : end] if it.strip() and not it.strip().startswith("//")]
+            if len(body) >= LEAST:
+                yield at + 1, len(body), WORD.findall("\n".join(body))
+            at = end
         at += 1
 
 
 def blocks(path):
     """Line, lines and words of each declaration."""
-    lines = open(path, encoding="utf-8").read().split("\n")
     block, first = [], 0
-    for number, line in enumerate([*lines, ""], 1):
-        bare = line.split(" --")[0].rstrip() if not line.startswith("--") else ""
-        if re.match(r"(pub |unfoldable )*(use|mod) ", bare):
-            bare = ""
-        if not bare.strip():
-            if len(block) > 0:
-                yield first, len(block), WORD.findall("\n".join(block))
-            block = []
-        else:
+    for number, line in enumerate([*text_of(path).split("\n"), ""], 1):
+        bare = "" if line.startswith("--") else line.split(" --")[0].rstrip()
+        if bare and not re.match(r"(pub |unfoldable )*(use|mod) ", bare):
             first = first if block else number
             block.append(bare)
+        elif block:
+            yield first, len(block), WORD.findall("\n".join(block))
+            block = []
 
 
 def shape(words):
@@ -70,19 +70,17 @@ def groups(found, key):
 
 def told(name, found, key, most):
     twice = groups(found, key)
-    print(f"{name}: {sum(len(it) - 1 for it in twice)} of {len(found)} stand elsewhere, {sum((len(it) - 1) * it[0][1] for it in twice)} lines, in {len(twice)} groups")
+    others, lines = sum(len(it) - 1 for it in twice), sum((len(it) - 1) * it[0][1] for it in twice)
+    print(f"{name}: {others} of {len(found)} stand elsewhere, {lines} lines, in {len(twice)} groups")
     for group in twice[:most]:
         print(f"  {group[0][1]} lines:", ", ".join(place for place, _ in group[:8]), "…" if len(group) > 8 else "")
 
 
 def main(words):
     most = int(words[1]) if len(words) > 1 else 40 if words else 0
-    code, logic = [], []
-    for path in sorted(glob.glob("crates/*/src/**/*.rt", recursive=True)):
-        code += [(f"{path[7:]}:{line}", size, text) for line, size, text in bodies(path)]
-    for part in ("specs", "proofs"):
-        for path in sorted(glob.glob(f"crates/*/{part}/**/*.antt", recursive=True)):
-            logic += [(f"{path[7:]}:{line}", size, text) for line, size, text in blocks(path)]
+    code = [(f"{path[7:]}:{line}", size, text) for path in files_in("src") for line, size, text in bodies(path)]
+    paths = files_in("specs") + files_in("proofs")
+    logic = [(f"{path[7:]}:{line}", size, text) for path in paths for line, size, text in blocks(path)]
     told("bodies of functions, to the letter", code, tuple, most)
     told("bodies of functions, by shape", code, shape, most)
     told("blocks of specs and proofs, to the letter", logic, tuple, most)
@@ -90,4 +88,4 @@ def main(words):
 
 
 if __name__ == "__main__":
-    main([it for it in sys.argv[1:]])
+    main(sys.argv[1:])

@@ -10,20 +10,15 @@ listed is to be looked at: a name that stands for another in the same file hides
 """
 import collections
 import functools
-import glob
 import os
 import re
 import sys
 
+from crates import files_in, text_of
+
 WORD = re.compile(r"[^\s(){}\[\],;.λ`]+")
 USE = re.compile(r"^ *(?:pub |ghost )*use Rattle\.([\w.'-]+?)(?:\.\{([^}]*)\})?(?: as (\S+?))?;?$", re.M)
 HEAD = re.compile(r"( *)(?:abbrev |pub |unfoldable )*(?:(?:record|data) (?=\S+ [:({])|(?=\S+ : ))([^\s(){}:]+) ")
-
-
-@functools.cache
-def text_of(path):
-    with open(path, encoding="utf-8") as file:
-        return file.read()
 
 
 @functools.cache
@@ -45,13 +40,14 @@ def file_of(words):
 def stripped(path):
     """The lines of a file without comments and imports."""
     comment, cut = ("//", "\n") if path.endswith(".rt") else ("--", " -- ")
-    return ["" if it.strip().startswith(comment) or re.match(r" *(pub |ghost )*use ", it) else it.partition(cut)[0] for it in text_of(path).split("\n")]
+    left_out = re.compile(rf"\s*{comment}| *(pub |ghost )*use ")
+    return ["" if left_out.match(it) else it.partition(cut)[0] for it in text_of(path).split("\n")]
 
 
 def cited():
     """The names that other files take of each file."""
     found = collections.defaultdict(set)
-    for path in glob.glob("crates/*/specs/**/*.antt", recursive=True) + glob.glob("crates/*/proofs/**/*.antt", recursive=True) + glob.glob("crates/*/src/**/*.rt", recursive=True):
+    for path in files_in("specs") + files_in("proofs") + files_in("src"):
         text = text_of(path)
         for whole, names, other in USE.findall(text):
             home = file_of(whole.split("."))
@@ -96,18 +92,18 @@ def declarations(path, taken):
         if re.match(r" *(pub )?(record|data) ", above):
             continue
         clause = re.compile(rf"{head[1]}{re.escape(head[2])} .*(?: = |=$)")
-        own = sum(WORD.findall(it.partition(" = ")[0]).count(head[2]) for it in lines if clause.match(it) and " : " not in it.partition(" = ")[0])
+        heads = [it.partition(" = ")[0] for it in lines if clause.match(it)]
+        own = sum(WORD.findall(it).count(head[2]) for it in heads if " : " not in it)
         if said[head[2]] <= 1 + own:
             yield number, head[2]
 
 
 def main(crates):
-    taken = cited()
-    counts = [0, 0]
+    taken, counts = cited(), [0, 0]
     for crate in crates or sorted(os.listdir("crates")):
-        for path in sorted(it for end in ("specs/**/*.antt", "proofs/**/*.antt", "src/**/*.rt") for it in glob.glob(f"crates/{crate}/{end}", recursive=True)):
-            made = os.path.basename(path) in ("Answers.antt", "Invariants.antt") or path.endswith(".rt")
-            for kind, found in enumerate([list(imports(path)), [] if made or path.endswith("Lib.antt") else list(declarations(path, taken[path]))]):
+        for path in sorted(files_in("specs", crate) + files_in("proofs", crate) + files_in("src", crate)):
+            has_none = path.endswith((".rt", "/Answers.antt", "/Invariants.antt", "Lib.antt"))
+            for kind, found in enumerate([list(imports(path)), [] if has_none else list(declarations(path, taken[path]))]):
                 counts[kind] += len(found)
                 for number, name in found:
                     print(f"{path[7:]}:{number}: {'is declared' if kind else 'is brought in'}: {name}")

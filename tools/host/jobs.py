@@ -1,4 +1,4 @@
-"""Commands of every kind over directories of the host, and what is stored there: what the scripts that kill and fail them share.
+"""Commands of every kind over directories of the host, and what is stored there: what the scripts over such directories share.
 
 A room is a directory with the directories `root` and `repo`.
 """
@@ -7,7 +7,6 @@ import pathlib
 import random
 import re
 import shutil
-import signal
 import subprocess
 import sys
 import tempfile
@@ -17,6 +16,16 @@ NAMES = ("kill-a", "kill-b", "kill-c")
 PRIVATE = re.compile(r"(?:root/var/lib/conarydb|repo/conaryrepo)(?:/([^/]+)|$)")
 # the journal's own names, and what a job or a commit that never came to be may leave
 OWN, LEFT = {None, "gate", "log", "w", "p"}, re.compile(r"repo/conaryrepo/c(/|$)|root/var/lib/conarydb/s\.")
+
+
+def arguments():
+    """The program and the number with which a script is called; a seed may stand behind them."""
+    random.seed(sys.argv[3] if len(sys.argv) > 3 else None)
+    return sys.argv[1], int(sys.argv[2])
+
+
+def counted(counts):
+    return ", ".join(f"{name} {count}" for name, count in counts.items())
 
 
 def version(revision):
@@ -40,51 +49,62 @@ def nodes_of(name, revision, files):
     return nodes
 
 
-def manifest(name, revision, files):
-    lines = [f"manifest 1\npackage {name}\nversion {version(revision)}\n"]
-    for path, node in sorted(nodes_of(name, revision, files).items()):
-        if node[0] == "dir":
-            lines.append(f"dir {node[1]:04o} {path}\n")
-        elif node[0] == "link":
-            lines.append(f"link {path}\ntarget {node[1]}\n")
+def manifest_of(name, of_version, nodes):
+    """The manifest of a package with these nodes."""
+    lines = [f"manifest 1\npackage {name}\nversion {of_version}\n"]
+    for path, (kind, *rest) in sorted(nodes.items()):
+        if kind == "dir":
+            lines.append(f"dir {rest[0]:04o} {path}\n")
+        elif kind == "link":
+            lines.append(f"link {path}\ntarget {rest[0]}\n")
         else:
-            lines.append(f"file {node[1]:04o} {len(node[2])} {path}\n{node[2]}\n")
+            lines.append(f"file {rest[0]:04o} {len(rest[1])} {path}\n{rest[1]}\n")
     return "".join([*lines, "end\n"]).encode()
 
 
+def manifest(name, revision, files):
+    return manifest_of(name, version(revision), nodes_of(name, revision, files))
+
+
+def node_at(path):
+    """What stands at a path: the kind, the mode, and the bytes or the target."""
+    if os.path.islink(path):
+        return "link", 0, os.readlink(path)
+    mode = os.lstat(path).st_mode & 0o7777
+    return ("dir", mode, None) if os.path.isdir(path) else ("file", mode, pathlib.Path(path).read_bytes())
+
+
 def stored(room):
-    """The kind, the mode, and the bytes or the target of all in a room but the journal's own names."""
+    """What stands at each path in a room but the journal's own names."""
     found = {}
     for at, folders, files in os.walk(room):
-        for name in folders + files:
-            path = os.path.join(at, name)
+        for path in (os.path.join(at, name) for name in folders + files):
             inside = os.path.relpath(path, room)
             private = PRIVATE.match(inside)
-            if private and private[1] in OWN:
-                continue
-            mode = os.lstat(path).st_mode & 0o7777
-            if os.path.islink(path):
-                found[inside] = ("link", os.readlink(path))
-            else:
-                found[inside] = ("dir", mode) if os.path.isdir(path) else ("file", mode, pathlib.Path(path).read_bytes())
+            if not private or private[1] not in OWN:
+                found[inside] = node_at(path)
     return found
 
 
-def counts(state, path):
-    """Whether it isn't a content that was saved for a job that was taken back."""
-    saved = re.match(r"(root/var/lib/conarydb)/s\.(\d+)", path)
-    return not saved or f"{saved[1]}/r.{saved[2]}" in state
-
-
 def agrees(found, wanted):
-    """Whether what was found is what is wanted, and beside it only what may be left."""
-    return all(found.get(path) == node for path, node in wanted.items() if counts(wanted, path)) and all(path in wanted or LEFT.match(path) for path in found)
+    """Whether what was found is what is wanted, but for contents that were saved for a job that was taken back, and beside it only what may
+    be left."""
+    def counts(path):
+        saved = re.match(r"(root/var/lib/conarydb)/s\.(\d+)", path)
+        return not saved or f"{saved[1]}/r.{saved[2]}" in wanted
+
+    stand = all(found.get(path) == node for path, node in wanted.items() if counts(path))
+    return stand and all(path in wanted or LEFT.match(path) for path in found)
+
+
+def state_of(found, before, after):
+    """Which of the two states was found."""
+    return "after" if agrees(found, after) else "before" if agrees(found, before) else "neither"
 
 
 def copy(room, to):
     shutil.rmtree(to, ignore_errors=True)
-    shutil.copytree(room, to, symlinks=True)
-    return to
+    return shutil.copytree(room, to, symlinks=True)
 
 
 def new_room(room):
@@ -101,10 +121,11 @@ def run(program, room, words, given=b"", kill_after=None, before=()):
     with tempfile.TemporaryFile() as file:
         file.write(given)
         file.seek(0)
-        child = subprocess.Popen([*before, program, "--disk", room / "root", room / "repo", *words], stdin=file, stdout=subprocess.PIPE, stderr=subprocess.PIPE)
+        command = [*before, program, "--disk", room / "root", room / "repo", *words]
+        child = subprocess.Popen(command, stdin=file, stdout=subprocess.PIPE, stderr=subprocess.PIPE)
         if kill_after is not None:
             time.sleep(kill_after)
-            child.send_signal(signal.SIGKILL)
+            child.kill()
         out, err = child.communicate()
     return child.returncode, out.decode(), err.decode()
 
@@ -121,7 +142,8 @@ class Jobs:
         """What another repository tells of a package, whole."""
         if (name, revision) not in self.sets:
             status, _, err = run(self.program, self.far, ["cook"], manifest(name, revision, self.files))
-            done = subprocess.run([self.program, "--disk", self.far / "root", self.far / "repo", "changeset", f"{name}={version(revision)}"], capture_output=True)
+            command = [self.program, "--disk", self.far / "root", self.far / "repo", "changeset", f"{name}={version(revision)}"]
+            done = subprocess.run(command, capture_output=True)
             if status or done.returncode:
                 sys.exit(f"no change set of {name}: {err}{done.stderr.decode()}")
             self.sets[name, revision] = done.stdout
