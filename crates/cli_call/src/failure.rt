@@ -7,7 +7,7 @@ use std::alloc::{AllocError, AllocFailed};
 use system_core::cny_base::{Fault, OutOfMemory, Path, Refusal};
 
 /// Why a call ends with a status other than 0.
-#[derive(Debug, Drop)]
+#[derive(Drop)]
 pub enum Failure {
     /// The words are no command.
     Usage,

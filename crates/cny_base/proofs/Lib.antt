@@ -28,3 +28,4 @@ pub mod ItemLaws
 pub mod OptionValues
 pub mod Reaching
 pub mod Sorted
+pub mod Words

@@ -1,6 +1,5 @@
 -- Names below names.
 use Rattle.std.specs.Prelude.{ℕ, Bool, true, false, ◌&&◌, List, [], ◌∷◌, ◌++◌, ◌==◌}
-use Rattle.std.proofs.Common.{◌+◌}
 
 abbrev pub begins_with : List ℕ → List ℕ → Bool
 begins_with [] bytes = true

@@ -11,10 +11,18 @@ use Rattle.cny_base.specs.declared.name.NameKind.TheVariants.{Component, Package
 abbrev pub is_word_byte : ℕ → Bool
 is_word_byte b = is_ascii_alphanumeric b || (b == 95 || (b == 45 || (b == 46 || b == 43)))
 
--- one or more of these bytes, the first a letter or digit
+-- it begins with a letter or digit
+abbrev pub begins_alphanumeric : List ℕ → Bool
+begins_alphanumeric [] = false
+begins_alphanumeric (b ∷ bs) = is_ascii_alphanumeric b
+
+-- one or more bytes that pass a test, the first a letter or digit
+abbrev pub is_word_by : (ℕ → Bool) → List ℕ → Bool
+is_word_by test [] = false
+is_word_by test (b ∷ bs) = is_ascii_alphanumeric b && list_all test bs
+
 abbrev pub is_word : List ℕ → Bool
-is_word [] = false
-is_word (b ∷ bs) = is_ascii_alphanumeric b && list_all is_word_byte bs
+is_word bytes = is_word_by is_word_byte bytes
 
 abbrev pub is_colon : ℕ → Bool
 is_colon b = b == 58

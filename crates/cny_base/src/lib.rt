@@ -24,9 +24,9 @@ pub use limits::{
     DATABASE_LIMIT, DEPS_LIMIT, FILES_LIMIT, FORMAT_1_DATABASE_LIMIT, INPUT_LIMIT, JOBS_LIMIT,
     MESSAGE_LIMIT, NAME_LIMIT, PARTS_LIMIT, REFS_LIMIT, STACK_LIMIT, VERSION_LIMIT,
 };
-pub use list::{Copies, Fails, ListOf, Names, Paths};
+pub use list::{Copies, Fails, ListOf, Names, Paths, copies_of};
 pub use mode::{Mode, octal, read_octal};
-pub use name::{Name, NameKind, is_word};
+pub use name::{Name, NameKind, begins_alphanumeric, is_word};
 pub use node::Node;
 pub use number::{decimal, read_decimal};
 pub use options::Options;

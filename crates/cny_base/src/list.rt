@@ -3,6 +3,7 @@ ghost use Rattle.std.specs.Prelude.{◌≡◌, IfOk};
 
 use crate::path::Path;
 use crate::text::{OutOfMemory, Text};
+use std::alloc::Global;
 use std::marker::Model;
 
 /// What can be copied where there is memory.
@@ -61,12 +62,20 @@ impl<T> ListOf<T> {
     }
 }
 
+/// Copies of these items, in their order.
+pub fn copies_of<T: Copies>(alloc: Global, items: &[T]) -> Result<Vec<T>, OutOfMemory>
+    ensures { IfOk result (λ copies. copies.items ≡ items.now) }
+{
+    let mut copies = Vec::new(alloc);
+    for item in items {
+        copies.push(item.copy()?)?;
+    }
+    Ok(copies)
+}
+
 impl<T: Copies> Copies for ListOf<T> {
     fn copy(&self) -> Result<Self, OutOfMemory> {
-        let mut items = Vec::new(*self.items.allocator());
-        for item in &self.items {
-            items.push(item.copy()?)?;
-        }
+        let items = copies_of(*self.items.allocator(), &self.items)?;
         Ok(ListOf { items })
     }
 }

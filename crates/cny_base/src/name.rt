@@ -65,10 +65,7 @@ impl Name {
         ensures ok { OnOk result (IsTrue (is_name bytes.now)) }
         ensures bad { IsErrOf result TextFault.Bad ↔ (is_name bytes.now ≡ false) }
     {
-        match text_of(bytes) {
-            Some(text) => Name::read(alloc, text),
-            None => Err(TextFault::Bad),
-        }
+        Name::read(alloc, text_of(bytes).ok_or(TextFault::Bad)?)
     }
 
     /// The text of the name.
@@ -147,14 +144,22 @@ fn are_word_bytes(bytes: &[u8]) -> bool
     bytes.iter().all(|byte| is_word_byte(*byte))
 }
 
-/// Whether the bytes are a word: letters, digits and `_ - . +`, the first a letter or digit.
-pub fn is_word(bytes: &[u8]) -> bool
-    ensures { result ≡ spec.is_word bytes.now }
+/// Whether the bytes begin with a letter or digit.
+pub fn begins_alphanumeric(bytes: &[u8]) -> bool
+    ensures { result ≡ spec.begins_alphanumeric bytes.now }
 {
     match bytes {
         [] => false,
-        [first, rest @ ..] => first.is_ascii_alphanumeric() && are_word_bytes(rest),
+        [first, ..] => first.is_ascii_alphanumeric(),
     }
+}
+
+/// Whether the bytes are a word: letters, digits and `_ - . +`, the first a letter or digit.
+#[tactic(auto, using(crate::proofs::Words::word))]
+pub fn is_word(bytes: &[u8]) -> bool
+    ensures { result ≡ spec.is_word bytes.now }
+{
+    begins_alphanumeric(bytes) && are_word_bytes(bytes)
 }
 
 // Where the first colon stands.

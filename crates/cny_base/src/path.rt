@@ -54,10 +54,7 @@ impl Path {
         ensures ok { OnOk result (IsTrue (is_path bytes.now)) }
         ensures bad { IsErrOf result TextFault.Bad ↔ (is_path bytes.now ≡ false) }
     {
-        match text_of(bytes) {
-            Some(text) => Path::read(alloc, text),
-            None => Err(TextFault::Bad),
-        }
+        Path::read(alloc, text_of(bytes).ok_or(TextFault::Bad)?)
     }
 
     /// The text of the path.

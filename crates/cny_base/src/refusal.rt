@@ -1,9 +1,7 @@
 //! Why a command is refused.
-ghost use Rattle.std.specs.Prelude.{◌≡◌, IfOk};
+ghost use Rattle.std.specs.Prelude.{◌≡◌};
 ghost use Rattle.cny_base.specs.declared.refusal.Fault.TheVariants as fault;
-ghost use Rattle.cny_base.specs.declared.refusal.Refusal.TheVariants as refusal;
 
-use crate::list::Copies;
 use crate::text::{OutOfMemory, Text};
 use std::alloc::{AllocError, AllocFailed};
 
@@ -37,7 +35,6 @@ pub enum What {
 }
 
 /// Why a command is refused. A refusal leaves everything as it was.
-#[derive(Debug)]
 pub enum Refusal {
     /// The input isn't in its grammar; `at` is the byte at which that shows.
     Malformed {
@@ -170,89 +167,13 @@ impl Drop for Refusal {
     }
 }
 
-impl Copies for Refusal {
-    fn copy(&self) -> Result<Self, OutOfMemory> {
-        Ok(match self {
-            Refusal::Malformed { at } => Refusal::Malformed { at: *at },
-            Refusal::TooLarge { what, size } => Refusal::TooLarge {
-                what: *what,
-                size: *size,
-            },
-            Refusal::Exists { trove } => Refusal::Exists {
-                trove: trove.copy()?,
-            },
-            Refusal::MissingTrove { spec } => Refusal::MissingTrove { spec: spec.copy()? },
-            Refusal::MissingBase { trove } => Refusal::MissingBase {
-                trove: trove.copy()?,
-            },
-            Refusal::MissingContent { name } => Refusal::MissingContent { name: *name },
-            Refusal::Collision { name, at } => Refusal::Collision {
-                name: *name,
-                at: *at,
-            },
-            Refusal::MissingRef { name } => Refusal::MissingRef { name: name.copy()? },
-            Refusal::NotInstalled { name } => Refusal::NotInstalled { name: name.copy()? },
-            Refusal::Unmet { name, dep } => unmet(name, dep)?,
-            Refusal::Owned {
-                path,
-                first,
-                second,
-            } => owned(path, first, second)?,
-            Refusal::Unowned { path } => Refusal::Unowned { path: path.copy()? },
-            Refusal::Edited { path } => Refusal::Edited { path: path.copy()? },
-            Refusal::Parent { path } => Refusal::Parent { path: path.copy()? },
-            Refusal::StackEmpty => Refusal::StackEmpty,
-            Refusal::Reserved { path } => Refusal::Reserved { path: path.copy()? },
-            Refusal::NoLabel => Refusal::NoLabel,
-            Refusal::SameLabel { label } => Refusal::SameLabel {
-                label: label.copy()?,
-            },
-            Refusal::BadConfig { line } => Refusal::BadConfig { line: *line },
-            Refusal::NotBuilt { word } => Refusal::NotBuilt { word: word.copy()? },
-            Refusal::NoJob { number } => Refusal::NoJob { number: *number },
-            Refusal::NoModel => Refusal::NoModel,
-            Refusal::BadModel { line } => Refusal::BadModel { line: *line },
-        })
-    }
-}
-
-fn unmet(name: &Text, dep: &Text) -> Result<Refusal, OutOfMemory>
-    ensures { IfOk result (λ made. made ≡ refusal.Unmet name.now dep.now) }
-{
-    let name = name.copy()?;
-    let dep = dep.copy()?;
-    Ok(Refusal::Unmet { name, dep })
-}
-
-fn owned(path: &Text, first: &Text, second: &Text) -> Result<Refusal, OutOfMemory>
-    ensures { IfOk result (λ made. made ≡ refusal.Owned path.now first.now second.now) }
-{
-    let path = path.copy()?;
-    let first = first.copy()?;
-    let second = second.copy()?;
-    Ok(Refusal::Owned {
-        path,
-        first,
-        second,
-    })
-}
-
 /// A refusal, or want of memory.
-#[derive(Debug, Drop)]
+#[derive(Drop)]
 pub enum Fault {
     /// The command is refused.
     Refused(Refusal),
     /// No memory was left.
     Memory,
-}
-
-impl Copies for Fault {
-    fn copy(&self) -> Result<Self, OutOfMemory> {
-        Ok(match self {
-            Fault::Refused(refusal) => Fault::Refused(refusal.copy()?),
-            Fault::Memory => Fault::Memory,
-        })
-    }
 }
 
 impl From<OutOfMemory> for Fault {

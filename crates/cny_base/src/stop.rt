@@ -3,14 +3,13 @@ ghost use Rattle.std.specs.Prelude.{◌≡◌};
 ghost use Rattle.cny_base.specs.Stop.{stop_of_fault};
 ghost use Rattle.cny_base.specs.declared.stop.Stop.TheVariants as stop;
 
-use crate::list::Copies;
 use crate::path::Path;
 use crate::refusal::{Fault, Refusal};
 use crate::text::OutOfMemory;
 use std::alloc::{AllocError, AllocFailed};
 
 /// Why a call over a disk stops.
-#[derive(Debug, Drop)]
+#[derive(Drop)]
 pub enum Stop {
     /// The command is refused.
     Refused(Refusal),
@@ -24,19 +23,6 @@ pub enum Stop {
     FarFailed,
     /// A file of the contents' disk isn't in its grammar or fails a cross-check.
     FarDamaged { path: Path },
-}
-
-impl Copies for Stop {
-    fn copy(&self) -> Result<Self, OutOfMemory> {
-        Ok(match self {
-            Stop::Refused(refusal) => Stop::Refused(refusal.copy()?),
-            Stop::Memory => Stop::Memory,
-            Stop::Failed => Stop::Failed,
-            Stop::Damaged { path } => Stop::Damaged { path: path.copy()? },
-            Stop::FarFailed => Stop::FarFailed,
-            Stop::FarDamaged { path } => Stop::FarDamaged { path: path.copy()? },
-        })
-    }
 }
 
 impl From<Fault> for Stop {

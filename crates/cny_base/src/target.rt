@@ -50,10 +50,7 @@ impl Target {
         ensures ok { OnOk result (IsTrue (is_target bytes.now)) }
         ensures bad { IsErrOf result TextFault.Bad ↔ (is_target bytes.now ≡ false) }
     {
-        match text_of(bytes) {
-            Some(text) => Target::read(alloc, text),
-            None => Err(TextFault::Bad),
-        }
+        Target::read(alloc, text_of(bytes).ok_or(TextFault::Bad)?)
     }
 
     /// The text of the target.

@@ -100,10 +100,8 @@ impl Text {
         ensures ok { OnOk result (IsTrue (is_utf8 bytes.now)) }
         ensures bad { IsErrOf result TextFault.Bad ↔ (is_utf8 bytes.now ≡ false) }
     {
-        match text_of(bytes) {
-            Some(text) => Ok(Text::new(alloc, text)?),
-            None => Err(TextFault::Bad),
-        }
+        let text = text_of(bytes).ok_or(TextFault::Bad)?;
+        Ok(Text::new(alloc, text)?)
     }
 
     /// The same text; takes no memory.

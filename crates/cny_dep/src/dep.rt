@@ -1,7 +1,8 @@
 //! Dependencies.
-ghost use Rattle.std.specs.Prelude.{◌≡◌, List, ℕ, Option, [], IfOk, Some, IsErrOf, IsTrue, refl};
+ghost use Rattle.std.specs.Prelude.{◌≡◌, ◌↔◌, List, ℕ, Option, [], IfOk, Some, IsErrOf, IsTrue, refl};
 ghost use Rattle.std.specs.Cmp.{partial_equiv_from_equiv};
 ghost use Rattle.std.specs.Cmp.Lexicographic.{nat_list_eq_equiv, nat_list_cmp_total};
+ghost use Rattle.std.specs.declared.cmp.Ordering.TheVariants.{Equal};
 ghost use Rattle.std.proofs.lemmas.Cmp.{on_equiv, on_total};
 ghost use Rattle.cny_dep.specs.declared.class.Class.TheVariants.{Trove};
 ghost use Rattle.cny_dep.specs.Dep.{Dependency, IsDependency, dep_text, with_group};
@@ -151,6 +152,21 @@ impl Dep {
         ensures only { (dep : Dependency) → IsDependency dep → result.now ≡ dep_text dep → self.now ≡ dep }
     {
         self.text.get()
+    }
+
+    /// Which of the two comes first; neither only where they are one.
+    pub fn order(&self, other: &Dep) -> Ordering
+        ensures order { result ≡ dep_cmp self.now other.now }
+        ensures equal { result ≡ Equal → self.now ≡ other.now }
+    {
+        self.text().cmp(other.text())
+    }
+
+    /// Whether the two are equal.
+    pub fn is_same(&self, other: &Dep) -> bool
+        ensures { IsTrue result ↔ (self.now ≡ other.now) }
+    {
+        self.text() == other.text()
     }
 
     /// A copy of the canonical text.

@@ -1,5 +1,5 @@
 //! Refusals as texts.
-use cny_report::cny_base::{Copies, Refusal, Text, What};
+use cny_report::cny_base::{Refusal, Text, What};
 use cny_report::refusal_text;
 use line_words::{Answer, Line};
 
@@ -101,19 +101,12 @@ fn of_texts(answer: &mut Answer, line: &mut Line) -> Option<Refusal> {
     }
 }
 
-// `refusal_text` of a copy.
-fn push_copied(answer: &mut Answer, refusal: &Refusal) {
-    if let Some(copy) = answer.kept(refusal.copy()) {
-        answer.made(refusal_text(answer.alloc(), &copy));
-    }
-}
-
-/// `refusal_text` of a copy of a refusal.
+/// `refusal_text` of a refusal.
 pub fn text(answer: &mut Answer, line: &mut Line) {
     if let Some(refusal) = plain(line) {
-        push_copied(answer, &refusal);
+        answer.made(refusal_text(answer.alloc(), &refusal));
     } else if let Some(refusal) = of_texts(answer, line) {
-        push_copied(answer, &refusal);
+        answer.made(refusal_text(answer.alloc(), &refusal));
     } else {
         line.unreadable();
     }

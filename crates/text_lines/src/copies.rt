@@ -113,13 +113,6 @@ pub fn link(line: &mut Line, answer: &mut Answer) {
 
 // ---- stops
 
-// The stop that comes of a copy of a fault.
-fn of_fault(fault: &Fault, answer: &mut Answer) {
-    if let Some(copy) = answer.kept(fault.copy()) {
-        answer.copied(&Stop::from(copy), told_stop);
-    }
-}
-
 fn told_path(word: &str, path: &Path, answer: &mut Answer) {
     answer.field(word);
     answer.field(path.text());
@@ -139,24 +132,24 @@ fn told_stop(stop: &Stop, answer: &mut Answer) {
 
 fn damaged(line: &mut Line, answer: &mut Answer) {
     if let Some(path) = line.path(1) {
-        answer.copied(&Stop::Damaged { path }, told_stop);
+        told_stop(&Stop::Damaged { path }, answer);
     }
 }
 
 fn far_damaged(line: &mut Line, answer: &mut Answer) {
     if let Some(path) = line.path(1) {
-        answer.copied(&Stop::FarDamaged { path }, told_stop);
+        told_stop(&Stop::FarDamaged { path }, answer);
     }
 }
 
-/// A copy of a stop; that of an empty stack and of want of memory come of a copy of the fault.
+/// A stop; that of an empty stack and of want of memory come of the fault.
 pub fn stop(line: &mut Line, answer: &mut Answer) {
     match line.text(0) {
-        "stack empty" => of_fault(&Fault::Refused(Refusal::StackEmpty), answer),
-        "memory" => of_fault(&Fault::Memory, answer),
-        "failed" => answer.copied(&Stop::Failed, told_stop),
+        "stack empty" => told_stop(&Stop::from(Fault::Refused(Refusal::StackEmpty)), answer),
+        "memory" => told_stop(&Stop::from(Fault::Memory), answer),
+        "failed" => told_stop(&Stop::Failed, answer),
         "damaged" => damaged(line, answer),
-        "far failed" => answer.copied(&Stop::FarFailed, told_stop),
+        "far failed" => told_stop(&Stop::FarFailed, answer),
         "far damaged" => far_damaged(line, answer),
         _ => line.unreadable(),
     }

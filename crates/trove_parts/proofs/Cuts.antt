@@ -5,37 +5,9 @@ use Rattle.std.specs.List.{list_all}
 use Rattle.std.proofs.lemmas.Bool.{false≢true}
 use Rattle.std.proofs.lemmas.Bool.Decides.{nat_tests}
 use Rattle.std.proofs.lemmas.List.{append-nil, append_cancel_right}
+use Rattle.cny_dep.proofs.Cuts.{same_cut, no_cut}
 use Rattle.trove_parts.specs.Id.{in_brackets}
 use Rattle.trove_parts.specs.Parts.{Lacks, IsCutAtBracket}
-
--- a byte that fails a test which all bytes pass
-pub lacks_by : (p : ℕ → Bool) (c : ℕ) → p c ≡ false → (xs : List ℕ) → list_all p xs ≡ true → Lacks c xs
-lacks_by p c fails [] all i within e = absurd (omega arith)
-lacks_by p c fails (x ∷ xs) all zero within e = absurd (false≢true (sym fails ∙ ap p (sym e) ∙ first_so (p x) (list_all p xs) all))
-lacks_by p c fails (x ∷ xs) all (suc i) within e = lacks_by p c fails xs (second_so (p x) (list_all p xs) all) i (omega arith) e
-
-pub first_other : (c x : ℕ) (xs : List ℕ) → Lacks c (x ∷ xs) → x ≡ c → ⊥
-first_other c x xs lacks e = lacks 0 (omega arith) e
-
-pub rest_lacks : (c x : ℕ) (xs : List ℕ) → Lacks c (x ∷ xs) → Lacks c xs
-rest_lacks c x xs lacks i within e = lacks (suc i) (omega arith) e
-
--- one list, cut twice at the first such byte
-pub same_cut : (c : ℕ) (xs ys us vs : List ℕ) → Lacks c xs → Lacks c ys → xs ++ c ∷ us ≡ ys ++ c ∷ vs → (xs ≡ ys) × (us ≡ vs)
-same_cut c [] [] us vs lx ly e = (refl, cc)
-same_cut c [] (y ∷ ys) us vs lx ly e = absurd (first_other c y ys ly (cc))
-same_cut c (x ∷ xs) [] us vs lx ly e = absurd (first_other c x xs lx (cc))
-same_cut c (x ∷ xs) (y ∷ ys) us vs lx ly e =
-    let heads : x ≡ y = cc in
-    let tails : xs ++ c ∷ us ≡ ys ++ c ∷ vs = cc in
-    let more = same_cut c xs ys us vs (rest_lacks c x xs lx) (rest_lacks c y ys ly) tails in
-    (ap (λ (n : ℕ). n ∷ xs) heads ∙ ap (λ l. y ∷ l) more.0, more.1)
-
-pub no_cut : (c : ℕ) (xs ys vs : List ℕ) → Lacks c xs → xs ≡ ys ++ c ∷ vs → ⊥
-no_cut c [] [] vs lx e = absurd (cc)
-no_cut c [] (y ∷ ys) vs lx e = absurd (cc)
-no_cut c (x ∷ xs) [] vs lx e = first_other c x xs lx (cc)
-no_cut c (x ∷ xs) (y ∷ ys) vs lx e = no_cut c xs ys vs (rest_lacks c x xs lx) (cc)
 
 -- ---- a text, and behind it another in brackets
 

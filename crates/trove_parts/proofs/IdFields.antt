@@ -22,7 +22,7 @@ use Rattle.trove_parts.specs.declared.id.TroveId.{TroveId}
 use Rattle.trove_parts.specs.declared.stream.PartSpans.{PartSpans}
 use Rattle.trove_parts.specs.Id.{IsTroveId, id_bytes, IsIdAt}
 use Rattle.trove_parts.specs.Parts.{AreTextsOf, Lacks, three_strs, name_in, version_in, flavor_in, AreStrsAt}
-use Rattle.trove_parts.proofs.Cuts.{lacks_by}
+use Rattle.cny_dep.proofs.Cuts.{lacks_by}
 use Rattle.trove_parts.proofs.FlavorLength.{flavor_short}
 use Rattle.trove_parts.proofs.VersionBytes.{version_utf8}
 use Rattle.cny_version.proofs.cny-base.IdFields.{same_str}

@@ -5,7 +5,8 @@ use Rattle.cny_version.specs.Version.{version_text}
 use Rattle.trove_parts.specs.declared.id.TroveId.{TroveId}
 use Rattle.trove_parts.specs.Id.{IsTroveId, in_brackets, id_text_of}
 use Rattle.trove_parts.specs.Parts.{AreTextsOf, Lacks, IsCutAtBracket}
-use Rattle.trove_parts.proofs.Cuts.{same_cut, no_cut, same_parts}
+use Rattle.cny_dep.proofs.Cuts.{same_cut, no_cut}
+use Rattle.trove_parts.proofs.Cuts.{same_parts}
 use Rattle.trove_parts.proofs.IdFields.{name_lacks}
 use Rattle.trove_parts.proofs.VersionBytes.{version_lacks}
 

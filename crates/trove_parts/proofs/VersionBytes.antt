@@ -17,7 +17,7 @@ use Rattle.cny_version.specs.Label.{LabelParts, label_text, is_label_byte, is_la
 use Rattle.cny_version.specs.Revision.{count_text, build_text, revision_text, is_upstream_byte, is_upstream, fits_32_bits, ends_above_zero, is_count, is_build, is_revision}
 use Rattle.cny_version.specs.Version.{Part, WholeBranch, WholeVersion, labels_text, part_text, branch_text, version_text, depth, AreLabels, ArePartsAfter, IsBranch, IsVersion}
 use Rattle.trove_parts.specs.Parts.{Lacks}
-use Rattle.trove_parts.proofs.Cuts.{lacks_by}
+use Rattle.cny_dep.proofs.Cuts.{lacks_by}
 use Rattle.cny_version.proofs.cny-base.Numbers.{own as numerals}
 
 -- an ASCII letter or digit, or one of `. _ - + ~ @ : /`

@@ -1,6 +1,7 @@
 //! Ids of troves.
-ghost use Rattle.std.specs.Prelude.{◌≡◌, ◌≤◌, ◌++◌, List, ℕ, length, Some, IsTrue, refl};
+ghost use Rattle.std.specs.Prelude.{◌≡◌, ◌↔◌, ◌≤◌, ◌++◌, List, ℕ, length, Some, IsTrue, refl};
 ghost use Rattle.std.specs.Cmp.{partial_equiv_from_equiv};
+ghost use Rattle.std.specs.declared.cmp.Ordering.TheVariants.{Equal};
 ghost use Rattle.trove_parts.specs.declared.id.TroveId.{TroveId};
 ghost use Rattle.trove_parts.specs.Id.{IsTroveId, id_text_of, id_bytes};
 ghost use Rattle.trove_parts.specs.Order.{id_eq, id_cmp, id_equiv, id_total, id_po, id_ties};
@@ -37,6 +38,27 @@ impl TroveId {
         let _name = self.name.text();
         let _version = self.version.text();
         let _flavor = self.flavor.text();
+    }
+
+    /// Which of the two comes first; neither only where they are one.
+    pub fn order(&self, other: &TroveId) -> Ordering
+        ensures order { result ≡ id_cmp self.now other.now }
+        ensures equal { result ≡ Equal → self.now ≡ other.now }
+    {
+        self.is_valid();
+        other.is_valid();
+        distinct_ids();
+        self.cmp(other)
+    }
+
+    /// Whether the two are equal.
+    pub fn is_same(&self, other: &TroveId) -> bool
+        ensures { IsTrue result ↔ (self.now ≡ other.now) }
+    {
+        self.is_valid();
+        other.is_valid();
+        distinct_ids();
+        self == other
     }
 }
 

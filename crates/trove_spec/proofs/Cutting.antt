@@ -3,14 +3,14 @@ use Rattle.std.proofs.Common.{◌≡◌, ℕ, zero, suc, List, [], ◌∷◌, �
 use Rattle.std.proofs.lemmas.List.{append-nil, append_cancel_right}
 use Rattle.trove_spec.specs.Spec.{behind_equals, in_brackets}
 use Rattle.repo_index.specs.trove-parts.Parts.{Lacks}
-use Rattle.repo_index.proofs.trove-parts.Cuts.{no_cut, rest_lacks, same_cut}
+use Rattle.repo_index.proofs.cny-dep.Cuts.{no_cut, same_cut}
 
 -- ---- lists without the byte
 
 pub lacks_both : (c : ℕ) (xs ys : List ℕ) → Lacks c xs → Lacks c ys → Lacks c (xs ++ ys)
 lacks_both c [] ys first second i within e = second i within e
 lacks_both c (x ∷ xs) ys first second zero within e = first zero (omega arith) e
-lacks_both c (x ∷ xs) ys first second (suc i) within e = lacks_both c xs ys (rest_lacks c x xs first) second i (omega arith) e
+lacks_both c (x ∷ xs) ys first second (suc i) within e = lacks_both c xs ys (λ k under is. first (suc k) (omega arith) is) second i (omega arith) e
 
 pub lacks_more : (c x : ℕ) (xs : List ℕ) → (x ≡ c → ⊥) → Lacks c xs → Lacks c (x ∷ xs)
 lacks_more c x xs other lacks zero within e = other e

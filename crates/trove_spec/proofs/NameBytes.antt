@@ -8,7 +8,7 @@ use Rattle.std.proofs.lemmas.List.Quantifiers.{position-Some}
 use Rattle.repo_index.specs.cny-base.Name.{is_word_byte, is_word, is_colon, colon_place, begins_as_group, has_words, is_name}
 use Rattle.repo_index.specs.trove-parts.Parts.{Lacks}
 use Rattle.repo_index.proofs.trove-parts.IdFields.{halves_lack, letter_in_word}
-use Rattle.repo_index.proofs.trove-parts.Cuts.{lacks_by}
+use Rattle.repo_index.proofs.cny-dep.Cuts.{lacks_by}
 
 word_lacks : (c : ℕ) → is_word_byte c ≡ false → (word : List ℕ) → is_word word ≡ true → Lacks c word
 word_lacks c fails [] is = absurd (cc is)

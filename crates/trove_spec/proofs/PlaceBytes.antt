@@ -11,7 +11,7 @@ use Rattle.trove_spec.specs.declared.spec.Place.{Place}
 use Rattle.trove_spec.specs.declared.spec.Place.TheVariants.{Any, OnLabel, At}
 use Rattle.repo_index.proofs.trove-parts.VersionBytes.{Fit, fit_both, fit_more, is_version_byte, label_fits, label_part_fits, revision_fits}
 use Rattle.repo_index.specs.trove-parts.Parts.{Lacks}
-use Rattle.repo_index.proofs.trove-parts.Cuts.{lacks_by}
+use Rattle.repo_index.proofs.cny-dep.Cuts.{lacks_by}
 
 -- ---- labels
 

@@ -4,7 +4,8 @@ use Rattle.std.specs.Str.{bytes_eq}
 use Rattle.cny_flavor.specs.Canonical.{flavor_text}
 use Rattle.cny_version.specs.Version.{version_text}
 use Rattle.trove_parts.specs.Id.{in_brackets}
-use Rattle.trove_parts.proofs.Cuts.{same_cut, same_brackets}
+use Rattle.cny_dep.proofs.Cuts.{same_cut}
+use Rattle.trove_parts.proofs.Cuts.{same_brackets}
 use Rattle.trove_parts.proofs.IdFields.{name_lacks, fields_fit, same_fields, one_id}
 use Rattle.trove_parts.proofs.VersionBytes.{version_lacks}
 use Rattle.cny_version.proofs.cny-base.ByteLists.{bytes_mean as equal_bytes}
