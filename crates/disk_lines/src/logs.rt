@@ -1,6 +1,6 @@
 //! Calls on logs, and on what a log can hold.
 use crate::puts::{items, push_puts, puts};
-use line_words::tree_memory::cny_base::{OutOfMemory, Path};
+use line_words::tree_memory::cny_base::{Copies, OutOfMemory, Path};
 use line_words::{Answer, Line};
 use tree_journal::journal_log::{
     Puts, can_be_named, decode_log, encode_log, keeps_rules, numbered,

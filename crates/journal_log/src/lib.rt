@@ -19,6 +19,7 @@ pub use named::can_be_named;
 pub use numbering::numbered;
 pub use put::{Put, Puts, Want};
 pub use ranges::put_ranges;
+pub use read_put::read_mode;
 pub use rules::keeps_rules;
 pub use staged::{StagedNumbers, is_staged_path, staged_path};
 pub use tree_disk;

@@ -1,15 +1,15 @@
 //! What is to be put into a tree.
-ghost use Rattle.std.specs.Prelude.{◌≡◌, ◌↔◌, IsTrue, IfOk, IfSome, OnSome, IfNone};
+ghost use Rattle.std.specs.Prelude.{◌≡◌, ◌↔◌, IsTrue, IfSome, OnSome, IfNone};
 ghost use Rattle.journal_log.specs.Staged.{is_file_want};
 ghost use Rattle.journal_log.specs.Targets.{is_dir_want, is_target};
 ghost use Rattle.journal_log.specs.WriteSet.{Rises};
 
 use crate::search::place_of;
 use std::marker::Model;
-use tree_disk::cny_base::{Bytes, Copies, Mode, OutOfMemory, Path, Target};
+use tree_disk::cny_base::{Bytes, Copies, ListOf, Mode, OutOfMemory, Path, Target};
 
 /// What is to stand at a path.
-#[derive(Debug, Drop)]
+#[derive(Debug)]
 pub enum Want {
     /// No node is to be there.
     Nothing,
@@ -36,6 +36,27 @@ pub enum Want {
     },
 }
 
+// Written by hand, so that to let a value go is a single call.
+impl Drop for Want {
+    fn drop(self) {
+        match self {
+            Want::Nothing => {}
+            Want::Dir { mode: _ } => {}
+            Want::File {
+                mode: _,
+                bytes: _bytes,
+            } => {}
+            Want::Link { target: _target } => {}
+            Want::Staged {
+                mode: _,
+                number: _,
+                size: _,
+                name: _,
+            } => {}
+        }
+    }
+}
+
 impl Want {
     /// Whether a directory is to stand.
     pub fn is_dir(&self) -> bool
@@ -57,11 +78,10 @@ impl Want {
     {
         matches!(self, Want::File { .. })
     }
+}
 
-    /// An equal value.
-    pub fn copy(&self) -> Result<Self, OutOfMemory>
-        ensures { IfOk result (λ made. made ≡ self.now) }
-    {
+impl Copies for Want {
+    fn copy(&self) -> Result<Self, OutOfMemory> {
         Ok(match self {
             Want::Nothing => Want::Nothing,
             Want::Dir { mode } => Want::Dir { mode: *mode },
@@ -88,17 +108,24 @@ impl Want {
 }
 
 /// What is to stand at one path.
-#[derive(Debug, Drop)]
+#[derive(Debug)]
 pub struct Put {
     pub path: Path,
     pub want: Want,
 }
 
-impl Put {
-    /// An equal value.
-    pub fn copy(&self) -> Result<Self, OutOfMemory>
-        ensures { IfOk result (λ made. made ≡ self.now) }
-    {
+// Written by hand, so that to let a value go is a single call.
+impl Drop for Put {
+    fn drop(self) {
+        let Put {
+            path: _path,
+            want: _want,
+        } = self;
+    }
+}
+
+impl Copies for Put {
+    fn copy(&self) -> Result<Self, OutOfMemory> {
         Ok(Put {
             path: self.path.copy()?,
             want: self.want.copy()?,
@@ -109,7 +136,7 @@ impl Put {
 /// A write set: what is to stand at some paths, which strictly rise.
 #[derive(Debug, Drop)]
 pub struct Puts {
-    items: Vec<Put>,
+    items: ListOf<Put>,
 }
 
 impl Model for Puts {
@@ -119,9 +146,9 @@ impl Model for Puts {
 
     ghost Value = { List Put };
 
-    ghost view = { λ a. a.items.items };
+    ghost view = { λ a. a.items };
 
-    ghost invariant = { λ a. Rises a.items.items };
+    ghost invariant = { λ a. Rises a.items };
 }
 
 impl Puts {
@@ -134,7 +161,9 @@ impl Puts {
         if !items.is_sorted_by(|one, next| one.path < next.path) {
             return None;
         }
-        Some(Puts { items })
+        Some(Puts {
+            items: ListOf::new(items),
+        })
     }
 
     /// The puts in path order.
@@ -142,14 +171,14 @@ impl Puts {
         ensures value { result.now ≡ self.now }
         ensures rises { Rises result.now }
     {
-        self.items.as_slice()
+        self.items.get()
     }
 
     /// Whether one of the puts is at this path; takes no memory.
     pub fn contains(&self, path: &Path) -> bool
         ensures { result ≡ is_target self.now path.now }
     {
-        place_of(self.items.as_slice(), path.text()).is_some()
+        place_of(self.items.get(), path.text()).is_some()
     }
 
     /// The puts as a `Vec`; takes no memory.
@@ -157,17 +186,14 @@ impl Puts {
         ensures value { result.items ≡ self }
         ensures rises { Rises result.items }
     {
-        self.items
+        self.items.into_vec()
     }
+}
 
-    /// An equal write set.
-    pub fn copy(&self) -> Result<Self, OutOfMemory>
-        ensures { IfOk result (λ made. made ≡ self.now) }
-    {
-        let mut items = Vec::new(*self.items.allocator());
-        for item in &self.items {
-            items.push(item.copy()?)?;
-        }
-        Ok(Puts { items })
+impl Copies for Puts {
+    fn copy(&self) -> Result<Self, OutOfMemory> {
+        Ok(Puts {
+            items: self.items.copy()?,
+        })
     }
 }

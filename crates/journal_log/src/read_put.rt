@@ -123,8 +123,8 @@ fn read_tail(value: &[u8]) -> Option<Tail>
     })
 }
 
-// The mode in the first two bytes.
-fn read_mode(value: &[u8]) -> Option<Mode>
+/// The mode in the first two bytes; none where there are fewer, or where it is above 0o7777.
+pub fn read_mode(value: &[u8]) -> Option<Mode>
     ensures some { IfSome result (λ mode. value.now ≡ to_be_bytes w16 mode ++ drop 2 value.now) }
     ensures within { IfSome result (λ mode. mode ≤ 4095) }
     ensures none { IfNone result ((mode : ℕ) (rest : List ℕ) → mode ≤ 4095 → value.now ≡ to_be_bytes w16 mode ++ rest → ⊥) }

@@ -30,12 +30,7 @@ pub fn keeps_rules(base: &Path, puts: &Puts) -> bool
 fn are_logged(base: &Path, puts: &[Put]) -> bool
     ensures { IsTrue result ↔ AreLogged base.now puts.now }
 {
-    for put in puts {
-        if !can_be_logged(base, &put.want) {
-            return false;
-        }
-    }
-    true
+    puts.iter().all(|put| can_be_logged(base, &put.want))
 }
 
 fn can_be_logged(base: &Path, want: &Want) -> bool

@@ -1,12 +1,13 @@
 -- What a look that was seen says of the tree.
-use Rattle.std.specs.Prelude.{◌≡◌, true, Option, Some, None, refl}
+use Rattle.std.specs.Prelude.{◌≡◌, Bool, true, Option, Some, None, refl}
 use Rattle.std.specs.FinMap.{get}
 use Rattle.cny_base.specs.declared.node.Node.{Node}
 use Rattle.cny_base.specs.declared.node.Node.TheVariants.{Dir, File, Link}
 use Rattle.tree_disk.specs.Tree.{Name, Tree, is_dir, is_file}
 use Rattle.tree_disk.specs.Rows.{seen_as, look_of}
+use Rattle.tree_disk.specs.declared.disk.Look.{Look}
 use Rattle.tree_disk.specs.Looks.{sees_nothing, sees_dir}
-use Rattle.std.proofs.Common.{ap, is_some, not, ◌||◌}
+use Rattle.std.proofs.Common.{ap, sym, ◌∙◌, is_some, not, ◌||◌}
 
 -- ---- by what stands there
 
@@ -27,6 +28,10 @@ seen_dir (Some (Link target)) = refl
 
 pub dir_seen : (t : Tree) (p : Name) → sees_dir (look_of t p) ≡ is_dir (get t p)
 dir_seen t p = seen_dir (get t p)
+
+-- by a test of what was seen
+pub dir_told : (t : Tree) (p : Name) (seen : Look) (test b : Bool) → seen ≡ look_of t p → test ≡ sees_dir seen → test ≡ b → is_dir (get t p) ≡ b
+dir_told t p seen test b is tested so = sym (dir_seen t p) ∙ ap sees_dir (sym is) ∙ sym tested ∙ so
 
 pub nothing_grows : (o : Option Node) → o ≡ None → (not (is_some o) || is_file o) ≡ true
 nothing_grows o is = ap (λ (x : Option Node). not (is_some x) || is_file x) is

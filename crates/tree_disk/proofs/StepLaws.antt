@@ -235,6 +235,10 @@ module _ {D : Type 0} {disk : DiskModel D} where
       confined = λ tells. confined_start laws (Among names) d;
     }
 
+    -- want of memory before the first call
+    pub makes_no_memory : {Z : Type 0} {goal : Tree → Tree} {r : Result Z Stop} (names : Name → Bool) (d : D) → IsErrAnd r (λ s. s ≡ Memory) → Makes disk names goal d d r
+    makes_no_memory names d is = makes_memory {X = Unit {0}} {q = Ok tt} (makes_start {goal = λ tree. tree} names d tt (λ tells. refl)) is
+
     -- a test that passed, as a change that changes nothing
     pub makes_from_test : {X Y Z : Type 0} {view : X → Y} {test : Tree → Result Y Refusal} {goal : Tree → Tree} {old new : D} {x : X} (names : Name → Bool) (z : Z)
         → Tests disk view test old new (Ok x) → (IsTrue disk.tells → goal (disk.reads old) ≡ disk.reads old)

@@ -1,6 +1,5 @@
 -- What a look at a path shows.
 use Rattle.std.specs.Prelude.{ℕ, Bool, true, false, Option, Some, None}
-use Rattle.cny_base.specs.declared.node.Node.TheVariants.{Dir, File, Link}
 use Rattle.tree_disk.specs.declared.disk.Look.{Look}
 use Rattle.tree_disk.specs.declared.disk.Look.TheVariants as look
 

@@ -150,6 +150,11 @@ module _ {D : Type 0} {disk : DiskModel D} where
         by tells (Ok z) p = so tells (first.found tells).answer z p
         by tells (Err e) p = tt
 
+    -- a run that stopped, behind one that ended, passed on by `?`
+    pub finds_then_stop : {X Y Z : Type 0} {Q : Tree → X → Type 0} {P : Tree → Y → Type 0} {R : Tree → Z → Type 0} {old mid new : D} {x : X} {e : Stop} {r : Result Z Stop}
+        → Finds disk Q old mid (Ok x) → Finds disk P mid new (Err e) → IsErrAnd r (λ s. s ≡ e) → Finds disk R old new r
+    finds_then_stop {R = R} first then is = finds_then first (finds_stop {P = R} then is) (λ tells q z p. p)
+
     -- a run after a test that passed
     pub finds_after_test : {X Y Z : Type 0} {view : X → Y} {value : Tree → Y} {P R : Tree → Z → Type 0} {old mid new : D} {x : X} {r : Result Z Stop}
         → Tests disk view (λ tree. Ok (value tree)) old mid (Ok x) → Finds disk P mid new r

@@ -191,19 +191,18 @@ module _ (base : Name) (path : is_path base ≡ true) where
   pub log_not_in_gate : is_within (gate base) (log base) ≡ false
   log_not_in_gate = not_longer (gate base) (log base) (omega (arith, log_no_longer)) (longer_differs (gate base) (log base) (omega (arith, log_no_longer)))
 
-  pub gate_not_root : gate base ≢ root
-  gate_not_root is = absurd (omega (arith, gate_long, ap length is, some base path))
+  longer_not_root : (p : Name) → length base < length p → p ≢ root
+  longer_not_root p longer is = absurd (omega (arith, longer, ap length is, some base path))
     where
       some : (p : Name) → is_path p ≡ true → 0 < length p
       some [] path = absurd (cc path)
       some (b ∷ p) path = omega arith
 
+  pub gate_not_root : gate base ≢ root
+  gate_not_root = longer_not_root (gate base) (omega (arith, gate_long))
+
   pub log_not_root : log base ≢ root
-  log_not_root is = absurd (omega (arith, log_long, ap length is, some base path))
-    where
-      some : (p : Name) → is_path p ≡ true → 0 < length p
-      some [] path = absurd (cc path)
-      some (b ∷ p) path = omega arith
+  log_not_root = longer_not_root (log base) (omega (arith, log_long))
 
   not_empty : (p : Name) → 0 < length p → p ≡ [] → ⊥
   not_empty p some is = absurd (omega (arith, ap length is))
@@ -238,18 +237,10 @@ module _ (base : Name) (path : is_path base ≡ true) where
   base_not_in_staged = not_longer (staged base) base (omega (arith, staged_long)) (longer_differs (staged base) base (omega (arith, staged_long)))
 
   pub work_not_root : work base ≢ root
-  work_not_root is = absurd (omega (arith, work_long, ap length is, some base path))
-    where
-      some : (p : Name) → is_path p ≡ true → 0 < length p
-      some [] path = absurd (cc path)
-      some (b ∷ p) path = omega arith
+  work_not_root = longer_not_root (work base) (omega (arith, work_long))
 
   pub staged_not_root : staged base ≢ root
-  staged_not_root is = absurd (omega (arith, staged_long, ap length is, some base path))
-    where
-      some : (p : Name) → is_path p ≡ true → 0 < length p
-      some [] path = absurd (cc path)
-      some (b ∷ p) path = omega arith
+  staged_not_root = longer_not_root (staged base) (omega (arith, staged_long))
 
   -- what is within one of the files isn't within another
   pub gate_apart_work : (q : Name) → is_within (gate base) q ≡ true → is_within (work base) q ≡ false

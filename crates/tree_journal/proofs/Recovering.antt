@@ -24,7 +24,7 @@ use Rattle.journal_log.specs.Own.{gate, log, is_own, StoresSame}
 use Rattle.tree_journal.specs.Staging.{outcome}
 use Rattle.tree_journal.specs.Recovery.{is_flag, is_committed, RecoversTo, at_rest, by_log, RecoversAsThen, IsRecovered, HasPutLog, HasReplayable, HasBlockedLog, IsDamagedAt}
 use Rattle.tree_journal.specs.Recovering.{IsVisibleIn, Recovers, Replays}
-use Rattle.tree_journal.specs.Found.{FindsReplayable, IsFaultOr, StopsSo}
+use Rattle.tree_journal.specs.Found.{Finds, FindsReplayable, IsFaultOr, StopsSo}
 use Rattle.tree_journal.specs.Passes.{all_put}
 use Rattle.tree_journal.specs.Visible.{IsVisible}
 use Rattle.tree_journal.specs.Steps.{is_replay_name, replayed, HasLog, IsCommitted}
@@ -172,6 +172,11 @@ module _ {D : Type 0} (disk : DiskModel D) (laws : IsDisk disk) (base : Name) wh
 
   visible_back : (old mid : D) → Confined disk (Among no_name) old mid → (t : Tree) → IsVisibleIn base (disk.reads mid) t → IsVisibleIn base (disk.reads old) t
   visible_back old mid quiet t seen = subst (λ (u : Tree). IsVisibleIn base u t) (same_at_all disk old mid quiet) seen
+
+  -- a look that stopped
+  pub recovers_find_stopped : {X : Type 0} {P : Tree → X → Type 0} (old new : D) (e : Stop) (r : Result Bool Stop) → Finds disk P old new (Err e) → IsErrAnd r (λ s. s ≡ e) → Recovers disk base old new r
+  recovers_find_stopped old new e r finds is =
+      recovers_stopped old new e r finds.later (λ tells. confined_read laws (Among no_name) (finds.found tells)) is (fault_stops disk base old new e finds.stops)
 
   pub recovers_on : (old mid new : D) (r : Result Bool Stop) → disk.faults old ≤ disk.faults mid → (IsTrue disk.tells → Confined disk (Among no_name) old mid) → Recovers disk base mid new r → Recovers disk base old new r
   recovers_on old mid new r le quiet then = record {

@@ -1,5 +1,5 @@
 -- The bytes of files, staged.
-use Rattle.std.proofs.Common.{◌≡◌, ◌≢◌, ◌⊎◌, inl, inr, ⊎_elim, ℕ, zero, suc, ◌+◌, ◌^◌, ◌<◌, ◌≤◌, Bool, true, false, cond, not, ◌&&◌, ◌||◌, ◌==◌, IsTrue, List, [], ◌∷◌, ◌++◌, map, length, get_or, take, Option, Some, None, refl, sym, ◌∙◌, ap, subst, arith}
+use Rattle.std.proofs.Common.{◌≡◌, ◌≢◌, ◌⊎◌, inl, inr, ⊎_elim, ℕ, zero, suc, ◌+◌, ◌^◌, ◌<◌, ◌≤◌, Bool, true, false, cond, not, ◌||◌, ◌==◌, IsTrue, List, [], ◌∷◌, ◌++◌, map, length, get_or, take, Option, Some, None, refl, sym, ◌∙◌, ap, subst, arith}
 use Rattle.std.proofs.lemmas.Bool.{cases_Bool}
 use Rattle.std.proofs.lemmas.Bool.Decides.{nat_tests}
 use Rattle.std.proofs.lemmas.List.{take_more}
@@ -35,7 +35,7 @@ use Rattle.tree_journal.proofs.OwnNames.{not_above, not_longer, within_below, st
 use Rattle.tree_journal.proofs.OwnFiles.{get-own_file_other, get-own_file_here, get-base_other, base_stands}
 use Rattle.tree_journal.proofs.Staged.{file_within, file_apart, staged_longer, decimal_plain, parent_long, dir_long}
 use Rattle.journal_log.proofs.tree-disk.Names.{same_last as join_same}
-use Rattle.journal_log.proofs.cny-base.Bools.{or_left, or_right}
+use Rattle.journal_log.proofs.cny-base.Bools.{both, or_left, or_right}
 
 -- ---- names that no write names are cleared
 
@@ -372,12 +372,8 @@ module _ (base : Name) (path : is_path base ≡ true) (dir : is_path (staged bas
   pub equal_itself : (n : ℕ) → (n == n) ≡ true
   equal_itself n = grind (arith, nat_tests)
 
-  pub both_so : (x y : Bool) → x ≡ true → y ≡ true → (x && y) ≡ true
-  both_so true y left right = right
-  both_so false y left right = absurd (cc left)
-
   pub content_itself : (mode : ℕ) (bytes : List ℕ) → is_content (Some (node.File mode bytes)) (length bytes) (sha1 bytes) ≡ true
-  content_itself mode bytes = both_so (length bytes == length bytes) (bytes_eq (sha1 bytes) (sha1 bytes)) (equal_itself (length bytes)) ((bytes_eq-Decides (sha1 bytes) (sha1 bytes)).1 refl)
+  content_itself mode bytes = both (length bytes == length bytes) (bytes_eq (sha1 bytes) (sha1 bytes)) (equal_itself (length bytes)) ((bytes_eq-Decides (sha1 bytes) (sha1 bytes)).1 refl)
 
   pub free_rest : (p : Put) (puts : List Put) (n : ℕ) → IsFree (p ∷ puts) n → IsFree puts n
   free_rest p puts n free = ((neither (is_staged_as n p.want) (names_staged puts n) free.0).1, free.1)

@@ -1,7 +1,6 @@
 //! The two passes that put all targets: what obstructs them is removed, the deepest path first, and then they are made,
 //! the shallowest first.
 ghost use Rattle.std.specs.Prelude.{◌≡◌, IsTrue, Some};
-ghost use Rattle.std.specs.List.{All};
 ghost use Rattle.journal_log.specs.cny-base.Path.{is_path};
 ghost use Rattle.journal_log.specs.cny-base.declared.node.Node.TheVariants as node;
 ghost use Rattle.journal_log.specs.tree-disk.Disk.{one_name};

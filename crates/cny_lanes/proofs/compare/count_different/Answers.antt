@@ -1,4 +1,4 @@
-use Rattle.std.proofs.Common.{Bool, true, false, arith, take_all, ap, sym, ◌∙◌}
+use Rattle.std.proofs.Common.{Bool, arith, take_all, ap, sym, ◌∙◌}
 use Rattle.std.specs.List.{count_by}
 use Rattle.cny_lanes.specs.Compare.{differing}
 use Rattle.cny_lanes.proofs.Comparing.{counted_below, one_more, none_more, length-differing}

@@ -1,4 +1,4 @@
-use Rattle.std.proofs.Common.{◌+◌, ◌*◌, ◌<◌, ◌-◌, ℕ, false, arith, sym, subst, ◌∙◌}
+use Rattle.std.proofs.Common.{◌+◌, ◌*◌, ◌<◌, ◌-◌, ℕ, arith, sym, subst, ◌∙◌}
 use lib.Count.{count_trailing_zeros}
 use Rattle.cny_lanes.specs.Compare.{differing, IsFirstDifference}
 use Rattle.cny_lanes.proofs.Comparing.{same_in_run, first_in_run}

@@ -3,7 +3,7 @@ use Rattle.std.proofs.lemmas.List.{get_or_default}
 use Rattle.std.proofs.lemmas.List.Elements.{All-nil}
 use Rattle.journal_log.proofs.tree-disk.StepLaws.{tests_value}
 use Rattle.tree_journal.specs.Found.{AreClear}
-use Rattle.tree_journal.proofs.Finding.{finds_start, finds_then, finds_stop, finds_memory, finds_answer, finds_test_answer, finds_after_test}
+use Rattle.tree_journal.proofs.Finding.{finds_start, finds_then, finds_memory, finds_answer, finds_test_answer, finds_after_test, finds_then_stop}
 use Rattle.tree_journal.proofs.PutTest.{clear_by_look, clear_from_names, not_target_here, not_clear_here, one_more_clear, all_clear}
 use Rattle.journal_log.specs.cny-base.Answer.{IsAnswer}
 use Rattle.journal_log.proofs.cny-base.Faults.{passed_memory}
@@ -35,8 +35,7 @@ are_names_clear-returns-then-not-contains g t c =
     (c.get.ensures ∙ c.last-item.is ∙ get_or_default names i c.last-item.result c.get.result.now c.loop-last-test.true) c.in_ok-child.ensures.child (sym c.contains.ensures ∙ c.if-not-contains.true))
 
 pub are_names_clear-returns-in_err-is_clear_below : goal.are_names_clear-returns-in_err-is_clear_below
-are_names_clear-returns-in_err-is_clear_below g t c =
-    finds_then g.met.D.TreeDisk.laws c.loop-last.invariant (finds_stop {P = λ tree clear. IsAnswer (AreClear c.args.puts.now tree c.args.path.now c.args.names.now) clear} c.in_err-is_clear_below.ensures c.from_residual-in_err-is_clear_below.ensures.1) (λ tells all clear answer. answer)
+are_names_clear-returns-in_err-is_clear_below g t c = finds_then_stop g.met.D.TreeDisk.laws c.loop-last.invariant c.in_err-is_clear_below.ensures c.from_residual-in_err-is_clear_below.ensures.1
 
 pub are_names_clear-returns-then-not-branch : goal.are_names_clear-returns-then-not-branch
 are_names_clear-returns-then-not-branch g t c =

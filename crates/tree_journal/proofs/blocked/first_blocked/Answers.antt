@@ -7,7 +7,7 @@ use Rattle.std.proofs.lemmas.List.Elements.{All-nil}
 use Rattle.journal_log.specs.declared.put.Put.{Put}
 use Rattle.tree_journal.specs.CanBePut.{CanBePut}
 use Rattle.tree_journal.specs.Found.{FindsBlocked}
-use Rattle.tree_journal.proofs.Finding.{finds_start, finds_then, finds_stop, finds_memory, finds_answer}
+use Rattle.tree_journal.proofs.Finding.{finds_start, finds_then, finds_then_stop, finds_memory, finds_answer}
 use Rattle.tree_journal.proofs.PutTest.{one_more_can, first_blocked_at, all_can_at, item_has}
 use Rattle.tree_journal.proofs.blocked.first_blocked.Goals as goal
 
@@ -21,8 +21,7 @@ pub can_be_put-requires-clause-not_root : goal.can_be_put-requires-clause-not_ro
 can_be_put-requires-clause-not_root g c = item_has (λ (p : Put). p.path ≢ root) c.args.puts.now c.get-put-items.result.now c.get-put-items.ensures.value c.loop-put.put-index c.put-item.result c.loop-put-test.true c.put-item.is c.requires.not_root
 
 pub returns-in_err-can_be_put : goal.returns-in_err-can_be_put
-returns-in_err-can_be_put g c =
-    finds_then g.met.D.TreeDisk.laws c.loop-put.invariant (finds_stop {P = FindsBlocked c.args.puts.now} c.in_err-can_be_put.ensures c.from_residual.ensures.1) (λ tells before found is. is)
+returns-in_err-can_be_put g c = finds_then_stop g.met.D.TreeDisk.laws c.loop-put.invariant c.in_err-can_be_put.ensures c.from_residual.ensures.1
 
 pub returns-in_err-copy : goal.returns-in_err-copy
 returns-in_err-copy g c =

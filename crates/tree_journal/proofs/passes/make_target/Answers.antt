@@ -1,6 +1,7 @@
 use Rattle.std.proofs.Common.{◌≡◌, true, IsTrue, Some, sym, ap, subst}
 use Rattle.journal_log.specs.cny-base.declared.node.Node.TheVariants as node
-use Rattle.journal_log.specs.tree-disk.Tree.{Name, same_name, put}
+use Rattle.journal_log.specs.tree-disk.Disk.{DiskModel}
+use Rattle.journal_log.specs.tree-disk.Tree.{Name, Tree, same_name, put}
 use Rattle.journal_log.proofs.tree-disk.StepLaws.{makes_as, makes_start, makes_wider}
 use Rattle.journal_log.specs.tree-disk.Unfailed.{UnlessFailed}
 use Rattle.journal_log.proofs.tree-disk.Unfailed.{unfailed_start, unfailed_weaker}
@@ -15,6 +16,14 @@ use Rattle.tree_journal.proofs.Seen.{between_either}
 use Rattle.tree_journal.proofs.Staged.{content_size}
 use Rattle.journal_log.proofs.cny-base.Bools.{or_right}
 use Rattle.tree_journal.proofs.passes.make_target.Goals as goal
+
+-- what a target comes to
+abbrev target : Name → Name → Tree → Want → Tree
+target base path tree want = put tree path (node_of (resolved base tree want))
+
+seen_as : {D : Type 0} {disk : DiskModel D} {old new : D} {v w : Want} (base path : Name) → v ≡ w → UnlessFailed disk old new (IsBetween base (disk.reads old) (target base path (disk.reads old) w))
+    → UnlessFailed disk old new (IsBetween base (disk.reads old) (target base path (disk.reads old) v))
+seen_as {disk = disk} {old = old} {new = new} base path is seen = subst (λ (w : Want). UnlessFailed disk old new (IsBetween base (disk.reads old) (target base path (disk.reads old) w))) (sym is) seen
 
 pub returns-in-Nothing-clause-makes : goal.returns-in-Nothing-clause-makes
 returns-in-Nothing-clause-makes g c = makes_start g.met.D.TreeDisk.laws (is_work_or_name c.args.base.now c.args.put.now.path) c.args.disk.now tt
@@ -31,29 +40,23 @@ make_dir_at-requires g c = λ tells. may_make_dir _ c.args.put.now (c.requires.t
 
 pub returns-in-Dir-clause-makes : goal.returns-in-Dir-clause-makes
 returns-in-Dir-clause-makes g c = makes_as (makes_wider (name_within c.args.base.now c.args.put.now.path) c.make_dir_at.ensures.makes)
-    (λ tells. sym (ap (λ (w : Want). put (g.D.TreeDisk.disk.reads c.args.disk.now) c.args.put.now.path (node_of (resolved c.args.base.now (g.D.TreeDisk.disk.reads c.args.disk.now) w))) c.in-Dir.is))
+    (λ tells. sym (ap (target c.args.base.now c.args.put.now.path (g.D.TreeDisk.disk.reads c.args.disk.now)) c.in-Dir.is))
 
 pub returns-in-Dir-clause-seen : goal.returns-in-Dir-clause-seen
 returns-in-Dir-clause-seen g c = λ tells.
     let tree = g.D.TreeDisk.disk.reads c.args.disk.now in
     let base = c.args.base.now in
     let path = c.args.put.now.path in
-    subst (λ (w : Want). UnlessFailed g.D.TreeDisk.disk c.args.disk.now c.make_dir_at.new.disk (IsBetween base tree (put tree path (node_of (resolved base tree w))))) (sym c.in-Dir.is)
-    (unfailed_weaker (λ t. between_either base tree (put tree path (Some (node.Dir c.in-Dir.mode))) t) (c.make_dir_at.ensures.seen tells))
+    seen_as base path c.in-Dir.is (unfailed_weaker (λ t. between_either base tree (put tree path (Some (node.Dir c.in-Dir.mode))) t) (c.make_dir_at.ensures.seen tells))
 
 pub put_link-requires-clause-told : goal.put_link-requires-clause-told
 put_link-requires-clause-told g c = λ tells. may_move c.args.base.now _ c.args.put.now (c.requires.told tells) (ap is_dir_want c.in-Link.is) (λ none. absurd (cc (c.in-Link.is, none)))
 
 pub returns-in-Link-clause-makes : goal.returns-in-Link-clause-makes
-returns-in-Link-clause-makes g c = makes_as c.put_link.ensures.makes
-    (λ tells. sym (ap (λ (w : Want). put (g.D.TreeDisk.disk.reads c.args.disk.now) c.args.put.now.path (node_of (resolved c.args.base.now (g.D.TreeDisk.disk.reads c.args.disk.now) w))) c.in-Link.is))
+returns-in-Link-clause-makes g c = makes_as c.put_link.ensures.makes (λ tells. sym (ap (target c.args.base.now c.args.put.now.path (g.D.TreeDisk.disk.reads c.args.disk.now)) c.in-Link.is))
 
 pub returns-in-Link-clause-seen : goal.returns-in-Link-clause-seen
-returns-in-Link-clause-seen g c = λ tells.
-    let tree = g.D.TreeDisk.disk.reads c.args.disk.now in
-    let base = c.args.base.now in
-    let path = c.args.put.now.path in
-    subst (λ (w : Want). UnlessFailed g.D.TreeDisk.disk c.args.disk.now c.put_link.new.disk (IsBetween base tree (put tree path (node_of (resolved base tree w))))) (sym c.in-Link.is) (c.put_link.ensures.seen tells)
+returns-in-Link-clause-seen g c = λ tells. seen_as c.args.base.now c.args.put.now.path c.in-Link.is (c.put_link.ensures.seen tells)
 
 pub put_file-requires-clause-staged : goal.put_file-requires-clause-staged
 put_file-requires-clause-staged g c = subst (CanBeLogged c.args.base.now) c.in-Staged.is c.requires.logged
@@ -65,15 +68,10 @@ pub put_file-requires-clause-told : goal.put_file-requires-clause-told
 put_file-requires-clause-told g c = λ tells. may_move c.args.base.now _ c.args.put.now (c.requires.told tells) (ap is_dir_want c.in-Staged.is) (λ none. absurd (cc (c.in-Staged.is, none)))
 
 pub returns-in-Staged-clause-makes : goal.returns-in-Staged-clause-makes
-returns-in-Staged-clause-makes g c = makes_as c.put_file.ensures.makes
-    (λ tells. sym (ap (λ (w : Want). put (g.D.TreeDisk.disk.reads c.args.disk.now) c.args.put.now.path (node_of (resolved c.args.base.now (g.D.TreeDisk.disk.reads c.args.disk.now) w))) c.in-Staged.is))
+returns-in-Staged-clause-makes g c = makes_as c.put_file.ensures.makes (λ tells. sym (ap (target c.args.base.now c.args.put.now.path (g.D.TreeDisk.disk.reads c.args.disk.now)) c.in-Staged.is))
 
 pub returns-in-Staged-clause-seen : goal.returns-in-Staged-clause-seen
-returns-in-Staged-clause-seen g c = λ tells.
-    let tree = g.D.TreeDisk.disk.reads c.args.disk.now in
-    let base = c.args.base.now in
-    let path = c.args.put.now.path in
-    subst (λ (w : Want). UnlessFailed g.D.TreeDisk.disk c.args.disk.now c.put_file.new.disk (IsBetween base tree (put tree path (node_of (resolved base tree w))))) (sym c.in-Staged.is) (c.put_file.ensures.seen tells)
+returns-in-Staged-clause-seen g c = λ tells. seen_as c.args.base.now c.args.put.now.path c.in-Staged.is (c.put_file.ensures.seen tells)
 
 pub unreachable-requires : goal.unreachable-requires
 unreachable-requires g c = absurd (subst (CanBeLogged c.args.base.now) c.in-File.is c.requires.logged)

@@ -1,6 +1,6 @@
-use Rattle.std.proofs.Common.{◌≡◌, true, IsTrue, List, Ok, refl, sym, ap, subst, ◌∙◌}
+use Rattle.std.proofs.Common.{◌≡◌, true, IsTrue, List, refl, sym, ap, subst, ◌∙◌}
 use Rattle.journal_log.specs.tree-disk.Clear.{is_within, without_tree}
-use Rattle.journal_log.proofs.tree-disk.StepLaws.{makes_memory, makes_start, makes_then, makes_stop, makes_wider}
+use Rattle.journal_log.proofs.tree-disk.StepLaws.{makes_no_memory, makes_then, makes_stop, makes_wider}
 use Rattle.journal_log.specs.tree-disk.Tree.{Name}
 use Rattle.journal_log.proofs.tree-disk.Unfailed.{unfailed_start}
 use Rattle.journal_log.specs.declared.put.Put.{Put}
@@ -26,9 +26,7 @@ pub own_path-requires-clause-short : goal.own_path-requires-clause-short
 own_path-requires-clause-short g c = staged_shorter c.args.base.now (log_shorter c.args.base.now (gate c.args.base.now) refl c.requires.gate)
 
 pub returns-in_err-dir-clause-makes : goal.returns-in_err-dir-clause-makes
-returns-in_err-dir-clause-makes g c =
-    makes_memory {q = Ok (tt {0})} (makes_start g.met.D.TreeDisk.laws {goal = λ tree. tree} (is_work_or_target c.args.base.now c.args.puts.now) c.args.disk.now (tt {0}) (λ tells. refl))
-    (passed_memory _ c.from_residual.result c.from_residual.ensures.1 c.in_err-dir.ensures.memory)
+returns-in_err-dir-clause-makes g c = makes_no_memory g.met.D.TreeDisk.laws (is_work_or_target c.args.base.now c.args.puts.now) c.args.disk.now (passed_memory _ c.from_residual.result c.from_residual.ensures.1 c.in_err-dir.ensures.memory)
 
 pub returns-in_err-dir-clause-seen : goal.returns-in_err-dir-clause-seen
 returns-in_err-dir-clause-seen g c = λ tells. unfailed_start c.args.disk.now _
@@ -40,9 +38,7 @@ pub own_path-requires-2-clause-short : goal.own_path-requires-2-clause-short
 own_path-requires-2-clause-short g c = work_shorter c.args.base.now (gate c.args.base.now) refl c.requires.gate
 
 pub returns-in_err-work_path-clause-makes : goal.returns-in_err-work_path-clause-makes
-returns-in_err-work_path-clause-makes g c =
-    makes_memory {q = Ok (tt {0})} (makes_start g.met.D.TreeDisk.laws {goal = λ tree. tree} (is_work_or_target c.args.base.now c.args.puts.now) c.args.disk.now (tt {0}) (λ tells. refl))
-    (passed_memory _ c.from_residual-in_err-work_path.result c.from_residual-in_err-work_path.ensures.1 c.in_err-work_path.ensures.memory)
+returns-in_err-work_path-clause-makes g c = makes_no_memory g.met.D.TreeDisk.laws (is_work_or_target c.args.base.now c.args.puts.now) c.args.disk.now (passed_memory _ c.from_residual-in_err-work_path.result c.from_residual-in_err-work_path.ensures.1 c.in_err-work_path.ensures.memory)
 
 pub returns-in_err-work_path-clause-seen : goal.returns-in_err-work_path-clause-seen
 returns-in_err-work_path-clause-seen g c = λ tells. unfailed_start c.args.disk.now _

@@ -1,4 +1,4 @@
-use Rattle.tree_journal.proofs.Finding.{finds_test_stop, finds_after_test, finds_then, finds_stop}
+use Rattle.tree_journal.proofs.Finding.{finds_test_stop, finds_after_test, finds_then, finds_then_stop, finds_stop}
 use Rattle.tree_journal.proofs.recovery.look_at_own.Goals as goal
 
 pub returns-in_err-look : goal.returns-in_err-look
@@ -9,7 +9,7 @@ returns-in_err-look_below g c = finds_after_test g.met.D.TreeDisk.laws {P = λ t
 
 pub returns-in_err-look_below-2 : goal.returns-in_err-look_below-2
 returns-in_err-look_below-2 g c = finds_after_test g.met.D.TreeDisk.laws {P = λ tree (x : Unit {0}). Unit {0}} c.in_ok-look.ensures.tests
-    (finds_then g.met.D.TreeDisk.laws {P = λ tree (x : Unit {0}). Unit {0}} c.in_ok-look_below.ensures (finds_stop {P = λ tree (x : Unit {0}). Unit {0}} c.in_err-look_below-2.ensures c.from_residual-in_err-look_below-2.ensures.1) (λ tells q z p. p)) (λ tells is z p. p)
+    (finds_then_stop g.met.D.TreeDisk.laws {R = λ tree (x : Unit {0}). Unit {0}} c.in_ok-look_below.ensures c.in_err-look_below-2.ensures c.from_residual-in_err-look_below-2.ensures.1) (λ tells is z p. p)
 
 pub returns : goal.returns
 returns g c = finds_after_test g.met.D.TreeDisk.laws {P = λ tree (x : Unit {0}). Unit {0}} c.in_ok-look.ensures.tests

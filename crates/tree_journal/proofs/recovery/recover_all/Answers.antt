@@ -2,14 +2,11 @@ use Rattle.std.proofs.Common.{arith}
 use Rattle.journal_log.specs.tree-disk.Confined.{Among}
 use Rattle.journal_log.proofs.tree-disk.ConfinedLaws.{confined_read, confined_then}
 use Rattle.journal_log.specs.tree-disk.Steps.{no_name}
-use Rattle.tree_journal.proofs.Recovering.{fault_stops, made_stop, recovers_on, recovers_stopped}
+use Rattle.tree_journal.proofs.Recovering.{made_stop, recovers_find_stopped, recovers_on, recovers_stopped}
 use Rattle.tree_journal.proofs.recovery.recover_all.Goals as goal
 
 pub returns-in_err-look_at_own : goal.returns-in_err-look_at_own
-returns-in_err-look_at_own g c =
-    let laws = g.met.D.TreeDisk.laws in
-    recovers_stopped _ laws c.args.base.now _ _ _ _ c.in_err-look_at_own.ensures.later (λ tells. confined_read laws (Among no_name) (c.in_err-look_at_own.ensures.found tells))
-    c.from_residual.ensures.1 (fault_stops g.D.TreeDisk.disk c.args.base.now c.args.disk.now c.look_at_own.new.disk _ c.in_err-look_at_own.ensures.stops)
+returns-in_err-look_at_own g c = recovers_find_stopped _ g.met.D.TreeDisk.laws c.args.base.now _ _ _ _ c.in_err-look_at_own.ensures c.from_residual.ensures.1
 
 pub returns-in_err-sync : goal.returns-in_err-sync
 returns-in_err-sync g c =

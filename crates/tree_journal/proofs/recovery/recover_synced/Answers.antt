@@ -5,7 +5,7 @@ use Rattle.journal_log.proofs.tree-disk.ConfinedLaws.{confined_read, confined_st
 use Rattle.journal_log.specs.tree-disk.Steps.{no_name}
 use Rattle.journal_log.specs.tree-disk.Tree.{Name}
 use Rattle.tree_journal.specs.Recovery.{is_committed, is_flag}
-use Rattle.tree_journal.proofs.Recovering.{fault_stops, no_flag, recovers_clear, recovers_on, recovers_replayed, recovers_replay_stopped, recovers_stopped}
+use Rattle.tree_journal.proofs.Recovering.{no_flag, recovers_clear, recovers_find_stopped, recovers_on, recovers_replayed, recovers_replay_stopped, recovers_stopped}
 use Rattle.journal_log.proofs.cny-base.Faults.{passed_memory}
 use Rattle.tree_journal.proofs.recovery.recover_synced.Goals as goal
 
@@ -22,10 +22,7 @@ returns-in_default g c =
     (λ tells. no_flag c.args.base.now _ (laws.reads_well_formed c.args.disk.now) (rw c.in_default.is at c.in_ok-gate_path.ensures.none)) c.requires
 
 pub returns-in_err-is_flag_set : goal.returns-in_err-is_flag_set
-returns-in_err-is_flag_set g c =
-    let laws = g.met.D.TreeDisk.laws in
-    recovers_stopped _ laws c.args.base.now _ _ _ _ c.in_err-is_flag_set.ensures.later (λ tells. confined_read laws (Among no_name) (c.in_err-is_flag_set.ensures.found tells))
-    c.from_residual-in_err-is_flag_set.ensures.1 (fault_stops g.D.TreeDisk.disk c.args.base.now c.args.disk.now c.is_flag_set.new.disk _ c.in_err-is_flag_set.ensures.stops)
+returns-in_err-is_flag_set g c = recovers_find_stopped _ g.met.D.TreeDisk.laws c.args.base.now _ _ _ _ c.in_err-is_flag_set.ensures c.from_residual-in_err-is_flag_set.ensures.1
 
 pub returns-then-not-branch : goal.returns-then-not-branch
 returns-then-not-branch g c =

@@ -1,7 +1,7 @@
-use Rattle.std.proofs.Common.{List, Ok, refl, ap, sym, ◌∙◌}
+use Rattle.std.proofs.Common.{List, refl, ap, sym, ◌∙◌}
 use Rattle.std.proofs.lemmas.List.{get_or_default, take_all}
 use Rattle.journal_log.specs.tree-disk.Clear.{is_within}
-use Rattle.journal_log.proofs.tree-disk.StepLaws.{makes_as, makes_memory, makes_start, makes_then, makes_then_stop}
+use Rattle.journal_log.proofs.tree-disk.StepLaws.{makes_as, makes_memory, makes_start, makes_then, makes_then_stop, makes_no_memory}
 use Rattle.journal_log.specs.tree-disk.Tree.{Name}
 use Rattle.journal_log.specs.Staged.{names_staged_at}
 use Rattle.tree_journal.specs.Steps.{without_strays}
@@ -9,7 +9,7 @@ use Rattle.tree_journal.proofs.StagedBytes.{stray_cleared, stray_kept}
 use Rattle.tree_journal.proofs.staging.clear_strays.Goals as goal
 
 pub returns-in_err-kept : goal.returns-in_err-kept
-returns-in_err-kept g c = makes_memory {q = Ok (tt {0})} (makes_start g.met.D.TreeDisk.laws {goal = λ tree. tree} (is_within c.args.dir.now) c.args.disk.now (tt {0}) (λ tells. refl)) c.from_residual.ensures.1
+returns-in_err-kept g c = makes_no_memory g.met.D.TreeDisk.laws (is_within c.args.dir.now) c.args.disk.now c.from_residual.ensures.1
 
 pub loop-last-init : goal.loop-last-init
 loop-last-init g c = makes_start g.met.D.TreeDisk.laws (is_within c.args.dir.now) c.args.disk.now (tt {0}) (λ tells. refl)

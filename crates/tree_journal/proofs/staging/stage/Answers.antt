@@ -1,9 +1,9 @@
-use Rattle.std.proofs.Common.{◌≡◌, true, IsTrue, List, length, Ok, refl, ap, sym, subst, arith, ◌∙◌}
+use Rattle.std.proofs.Common.{◌≡◌, true, IsTrue, List, length, refl, ap, sym, subst, arith, ◌∙◌}
 use Rattle.std.specs.Prelude.{codes}
 use Rattle.journal_log.specs.cny-base.Path.{parent}
 use Rattle.journal_log.specs.tree-disk.Clear.{is_within}
 use Rattle.journal_log.specs.tree-disk.Rows.{is_dir_at}
-use Rattle.journal_log.proofs.tree-disk.StepLaws.{makes_memory, makes_start, makes_stop, makes_then, makes_wider}
+use Rattle.journal_log.proofs.tree-disk.StepLaws.{makes_no_memory, makes_stop, makes_then, makes_wider}
 use Rattle.journal_log.specs.tree-disk.Tree.{Name}
 use Rattle.journal_log.specs.declared.put.Put.{Put}
 use Rattle.journal_log.specs.Own.{staged}
@@ -25,9 +25,7 @@ pub own_path-requires-clause-short : goal.own_path-requires-clause-short
 own_path-requires-clause-short g c = short_own c.args.base.now (codes "p") c.requires.short (omega arith)
 
 pub returns-in_err-dir-clause-makes : goal.returns-in_err-dir-clause-makes
-returns-in_err-dir-clause-makes g c =
-    makes_memory {q = Ok (tt {0})} (makes_start g.met.D.TreeDisk.laws {goal = λ tree. tree} (is_within (staged c.args.base.now)) c.args.disk.now (tt {0}) (λ tells. refl))
-    (passed_memory _ c.from_residual.result c.from_residual.ensures.1 c.in_err-dir.ensures.memory)
+returns-in_err-dir-clause-makes g c = makes_no_memory g.met.D.TreeDisk.laws (is_within (staged c.args.base.now)) c.args.disk.now (passed_memory _ c.from_residual.result c.from_residual.ensures.1 c.in_err-dir.ensures.memory)
 
 pub clear_stage-requires-clause-not_root : goal.clear_stage-requires-clause-not_root
 clear_stage-requires-clause-not_root g c = λ is. staged_not_root c.args.base.now c.requires.base (sym c.in_ok-dir.ensures.path ∙ is)

@@ -1,11 +1,11 @@
-use Rattle.std.proofs.Common.{Ok, refl, ap, ◌∙◌}
+use Rattle.std.proofs.Common.{ap, ◌∙◌}
 use Rattle.std.specs.FinMap.{get}
 use Rattle.std.specs.Fmt.{decimal}
 use Rattle.journal_log.specs.cny-base.Path.{is_path, join, parent}
 use Rattle.journal_log.specs.tree-disk.Clear.{is_within}
 use Rattle.journal_log.proofs.tree-disk.ClearLaws.{itself_within}
 use Rattle.journal_log.specs.tree-disk.Rows.{is_dir_at}
-use Rattle.journal_log.proofs.tree-disk.StepLaws.{makes_as, makes_memory, makes_start, makes_wider}
+use Rattle.journal_log.proofs.tree-disk.StepLaws.{makes_as, makes_no_memory, makes_wider}
 use Rattle.journal_log.specs.tree-disk.Tree.{Name}
 use Rattle.journal_log.specs.Own.{staged}
 use Rattle.tree_journal.specs.Steps.{with_own_file}
@@ -18,9 +18,7 @@ pub path_of-requires : goal.path_of-requires
 path_of-requires g c = ap (λ (d : Name). is_path (join d (decimal c.args.number))) c.requires.dir ∙ c.requires.path
 
 pub returns-in_err-path : goal.returns-in_err-path
-returns-in_err-path g c =
-    makes_memory {q = Ok (tt {0})} (makes_start g.met.D.TreeDisk.laws {goal = λ tree. tree} (is_within (staged c.args.base.now)) c.args.disk.now (tt {0}) (λ tells. refl))
-    (passed_memory _ c.from_residual.result c.from_residual.ensures.1 c.in_err-path.ensures.memory)
+returns-in_err-path g c = makes_no_memory g.met.D.TreeDisk.laws (is_within (staged c.args.base.now)) c.args.disk.now (passed_memory _ c.from_residual.result c.from_residual.ensures.1 c.in_err-path.ensures.memory)
 
 pub append-requires : goal.append-requires
 append-requires g c = λ tells. may_write_bare _ _

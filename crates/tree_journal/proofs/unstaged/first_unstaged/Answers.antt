@@ -7,7 +7,7 @@ use Rattle.journal_log.specs.declared.put.Put.{Put}
 use Rattle.journal_log.specs.WriteSet.{CanBeLogged}
 use Rattle.tree_journal.specs.Found.{FindsContent, FindsUnstaged}
 use Rattle.tree_journal.specs.Staging.{has_content}
-use Rattle.tree_journal.proofs.Finding.{finds_start, finds_then, finds_stop, finds_answer}
+use Rattle.tree_journal.proofs.Finding.{finds_start, finds_then, finds_then_stop, finds_answer}
 use Rattle.tree_journal.proofs.PutTest.{item_has}
 use Rattle.tree_journal.proofs.FirstUnstaged.{one_more_stands, first_unstaged_here, all_stand}
 use Rattle.tree_journal.proofs.unstaged.first_unstaged.Goals as goal
@@ -19,7 +19,7 @@ pub unstaged_of-requires-clause-logged : goal.unstaged_of-requires-clause-logged
 unstaged_of-requires-clause-logged g c = item_has (λ (p : Put). CanBeLogged c.args.base.now p.want) c.args.puts.now c.get-put-items.result.now c.get-put-items.ensures.value c.loop-put.put-index c.put-item.result c.loop-put-test.true c.put-item.is c.requires.loggable.logged
 
 pub returns-in_err-path : goal.returns-in_err-path
-returns-in_err-path g c = finds_then g.met.D.TreeDisk.laws c.loop-put.invariant (finds_stop {P = FindsUnstaged c.args.base.now c.args.puts.now} c.in_err-path.ensures c.from_residual.ensures.1) (λ tells before found is. is)
+returns-in_err-path g c = finds_then_stop g.met.D.TreeDisk.laws c.loop-put.invariant c.in_err-path.ensures c.from_residual.ensures.1
 
 pub returns-in-Some : goal.returns-in-Some
 returns-in-Some g c =

@@ -1,4 +1,4 @@
-use Rattle.std.proofs.Common.{Bool, List, ◌≡◌, ap, ◌∙◌}
+use Rattle.std.proofs.Common.{Bool, List, refl, ◌≡◌, ap, ◌∙◌}
 use Rattle.tree_disk.specs.Tree.{Name}
 use Rattle.journal_log.specs.declared.put.Put.{Put}
 use Rattle.journal_log.specs.Targets.{is_target}
@@ -10,5 +10,5 @@ same_target a puts b path t e f h = h ∙ ap (λ (l : List Put). is_target l b) 
 
 pub returns : goal.returns
 returns c =
-    same_target c.as_slice.result.now c.args.self.now c.text.result.now c.args.path.now c.is_some.result (c.as_slice.ensures.value ∙ c.self.view_is) c.text.ensures.value
-    (is_found c.as_slice.result.now c.text.result.now c.place_of.result c.is_some.result c.place_of.ensures.some c.place_of.ensures.none c.is_some.ensures)
+    same_target c.get.result.now c.args.self.now c.text.result.now c.args.path.now c.is_some.result (c.get.ensures ∙ c.self.view_is) c.text.ensures.value
+    (is_found (λ (p : Put). p.path) is_target (λ path. refl) (λ p puts path. refl) c.get.result.now c.text.result.now c.place_of.result c.is_some.result c.place_of.ensures.some c.place_of.ensures.none c.is_some.ensures)

@@ -1,4 +1,4 @@
-use Rattle.std.proofs.Common.{rules, List, Bool, true, false, subst, MatchBool, ◌≡◌}
+use Rattle.std.proofs.Common.{rules, List, Bool, true, false, subst, MatchBool, sym, ◌≡◌, ◌∙◌}
 use Rattle.std.specs.List.{IsAllAdjacentAnswer}
 use Rattle.std.proofs.lemmas.List.Sorted.{answers_always}
 use Rattle.journal_log.specs.declared.put.Put.{Put}
@@ -16,7 +16,7 @@ returns-then-not-is_sorted_by-clause-none c =
 
 pub invariant_of-result : goal.invariant_of-result
 invariant_of-result c =
-    answer _ _ _ true c.deref.ensures.value c.if-not-is_sorted_by.false (c.is_sorted_by.ensures.cases is_before (answers_always _ _ _ (λ f a r g k. search rules)))
+    answer _ _ _ true (c.deref.ensures.value ∙ sym c.new.ensures) c.if-not-is_sorted_by.false (c.is_sorted_by.ensures.cases is_before (answers_always _ _ _ (λ f a r g k. search rules)))
 
 pub returns-clause-rises : goal.returns-clause-rises
 returns-clause-rises c =
