@@ -57,7 +57,7 @@ all_plain : (cs : List ℕ) → list_all is_low cs ≡ true → list_all is_plai
 all_plain [] all = refl
 all_plain (c ∷ cs) all = both_true (low_plain c (first_so (is_low c) (list_all is_low cs) all)) (all_plain cs (second_so (is_low c) (list_all is_low cs) all))
 
-none_slash : (cs : List ℕ) → list_all is_low cs ≡ true → has_slash cs ≡ false
+pub none_slash : (cs : List ℕ) → list_all is_low cs ≡ true → has_slash cs ≡ false
 none_slash [] all = refl
 none_slash (c ∷ cs) all = ap (λ b. b || has_slash cs) (low_no_slash c (first_so (is_low c) (list_all is_low cs) all)) ∙ none_slash cs (second_so (is_low c) (list_all is_low cs) all)
 

@@ -1,5 +1,5 @@
 // Files compared with bytes and with each other, in pieces of bounded size.
-ghost use Rattle.std.specs.Prelude.{◌≡◌, ◌≤◌, ◌<◌, IfErr, IfOk, IfSome, IsTrue, Ok, length, drop, min, take};
+ghost use Rattle.std.specs.Prelude.{◌≡◌, ◌≤◌, ◌<◌, IfErr, IfOk, IfSome, IsTrue, Ok, length, drop, take};
 ghost use Rattle.tree_disk.specs.Rows.{bytes_at, is_file_at};
 ghost use Rattle.tree_disk.specs.Steps.{IsDiskStop, Tests};
 ghost use Rattle.content_store.specs.Difference.{first_difference};

@@ -1,5 +1,5 @@
 -- Where an edit leaves a tree.
-use Rattle.std.proofs.Common.{◌≡◌, ◌⊎◌, inl, inr, ⊎_elim, ℕ, Bool, true, false, cond, ◌||◌, ◌&&◌, not, List, [], ◌∷◌, map, length, Option, Some, None, refl, sym, ◌∙◌, ap, subst, ◌==◌}
+use Rattle.std.proofs.Common.{◌≡◌, ◌⊎◌, inl, inr, ⊎_elim, ℕ, Bool, true, false, cond, ◌&&◌, not, List, [], ◌∷◌, map, length, Option, Some, None, refl, sym, ◌∙◌, ap, subst, ◌==◌}
 use Rattle.std.proofs.lemmas.Bool.{cases_Bool}
 use Rattle.std.specs.Option.{is_some}
 use Rattle.std.specs.List.{filter, list_any}
@@ -18,7 +18,7 @@ use Rattle.tree_disk.proofs.Allowed.{put_well_formed, take_well_formed, no_child
 use Rattle.tree_nodes.specs.Edit.{can_edit}
 use Rattle.tree_nodes.proofs.Children.{clash}
 use Rattle.tree_disk.proofs.Nodes.{left_true as and_left}
-use Rattle.tree_disk.proofs.cny-base.Bools.{not_false}
+use Rattle.tree_disk.proofs.cny-base.Bools.{not_false, or_left, or_right}
 use Rattle.tree_disk.proofs.cny-base.Again.{not_true}
 
 and_false : (x y : Bool) → (x && y) ≡ false → (x ≡ false) ⊎ (y ≡ false)
@@ -64,14 +64,6 @@ some_passes : (f : Name → Bool) (g : Name → List ℕ) (names : List Name) �
 some_passes f g [] h = absurd (cc h)
 some_passes f g (n ∷ names) h = at (f n) refl h (some_passes f g names)
   where
-    or_left : (x y : Bool) → x ≡ true → (x || y) ≡ true
-    or_left true y e = refl
-    or_left false y e = absurd (cc e)
-
-    or_right : (x y : Bool) → y ≡ true → (x || y) ≡ true
-    or_right true y e = refl
-    or_right false y e = e
-
     at : (b : Bool) → f n ≡ b → (length (map g (cond b (n ∷ filter f names) (filter f names))) == 0) ≡ false
         → ((length (map g (filter f names)) == 0) ≡ false → (q : Name) × (list_any (eq_by_cmp (slice_cmp nat_cmp) q) names ≡ true) × (f q ≡ true))
         → (q : Name) × (list_any (eq_by_cmp (slice_cmp nat_cmp) q) (n ∷ names) ≡ true) × (f q ≡ true)

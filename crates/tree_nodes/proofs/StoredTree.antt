@@ -1,5 +1,5 @@
 -- A map of texts and the tree that it stands for.
-use Rattle.std.proofs.Common.{◌≡◌, ℕ, Bool, true, false, cond, List, [], ◌∷◌, Option, Some, None, refl, sym, ◌∙◌, ap, subst, T, IsSome, is_some, Result, Ok, Err, OnOk, OnErr, string_bytes, String}
+use Rattle.std.proofs.Common.{◌≡◌, ℕ, Bool, true, false, cond, List, [], ◌∷◌, Option, Some, None, refl, sym, ◌∙◌, ap, subst, IsSome, is_some, Result, Ok, Err, OnOk, OnErr, string_bytes, String}
 use Rattle.std.specs.declared.alloc.Global.{Global}
 use Rattle.std.specs.Ordering.{nat_cmp, eq_by_cmp}
 use Rattle.std.specs.Cmp.Lexicographic.{slice_cmp, nat_list_cmp_total}
@@ -8,12 +8,12 @@ use Rattle.std.specs.BTreeMap.{is_at, insert_entry}
 use Rattle.std.specs.FinMap.{get, find, insert, get-from_entries}
 use Rattle.tree_disk.specs.cny-base.declared.node.Node.{Node}
 use Rattle.tree_disk.specs.Tree.{Name, Tree, put}
+use Rattle.tree_disk.specs.Laws.{same_means}
 use Rattle.tree_disk.proofs.Laws.{get_put_here, put_put}
 use Rattle.std.specs.FinMap.Entries as Entries
 use Rattle.std.specs.FinMap.{same_map, get-insert, get-remove, slice_cmp-IsAntisymmetric, nat_cmp-IsAntisymmetric}
-use Rattle.std.specs.declared.cmp.Ordering.{Ordering}
 use Rattle.std.specs.declared.cmp.Ordering.TheVariants.{Less, Equal, Greater}
-use Rattle.std.specs.Ordering.{match_ordering, is_eq}
+use Rattle.std.specs.Ordering.{match_ordering}
 use Rattle.std.specs.String.{string_cmp}
 use Rattle.tree_disk.specs.Rows.{of_mode, with_mode, grown, with_append}
 use Rattle.tree_nodes.specs.Stored.{by_bytes, tree_of}
@@ -48,15 +48,6 @@ inserted k v old new is =
     ∙ ap (cond (eq_by_cmp R q (string_bytes k)) (Some v)) (sym (get-from_entries nat_list_cmp_total (by_bytes old) q))
     ∙ sym (get-insert nat_list_cmp_total (tree_of old) (string_bytes k) v q))
 
--- ---- names that tie are equal, and others stay apart
-same_from_tie : (o : Ordering) → T (is_eq o) → o ≡ Equal
-same_from_tie Less h = absurd h
-same_from_tie Equal h = refl
-same_from_tie Greater h = absurd h
-
-pub tied : (p q : Name) → eq_by_cmp R p q ≡ true → p ≡ q
-tied p q h = slice_cmp-IsAntisymmetric nat_cmp-IsAntisymmetric p q (same_from_tie (R p q) (subst T (sym h) tt))
-
 abbrev pub at_name : Name → String Global → Bool
 at_name q = is_at (λ k. R q (string_bytes k))
 
@@ -65,7 +56,7 @@ removed_here : (p q : Name) (b : Bool) (e : String Global × Node) (entries : Li
     → find R p (by_bytes (remove_entry (at_name q) entries)) ≡ find R p (by_bytes entries)
     → find R p (by_bytes (cond b entries (e ∷ remove_entry (at_name q) entries))) ≡ cond (eq_by_cmp R p (string_bytes e.0)) (Some e.1) (find R p (by_bytes entries))
 removed_here p q true e entries hit apart rest =
-    ap (λ t. cond t (Some e.1) (find R p (by_bytes entries))) (sym (ap (eq_by_cmp R p) (sym (tied q (string_bytes e.0) hit)) ∙ apart))
+    ap (λ t. cond t (Some e.1) (find R p (by_bytes entries))) (sym (ap (eq_by_cmp R p) (sym (same_means q (string_bytes e.0) hit)) ∙ apart))
 removed_here p q false e entries hit apart rest = ap (cond (eq_by_cmp R p (string_bytes e.0)) (Some e.1)) rest
 
 removed_other : (p q : Name) (entries : List (String Global × Node)) → eq_by_cmp R p q ≡ false → find R p (by_bytes (remove_entry (at_name q) entries)) ≡ find R p (by_bytes entries)
@@ -80,7 +71,7 @@ pub removed : (q : Name) (old new : List (String Global × Node)) → new ≡ re
 removed q old new is none =
     same_map nat_list_cmp_total (slice_cmp-IsAntisymmetric nat_cmp-IsAntisymmetric) _ _ (λ p.
     by_tie (eq_by_cmp R p q) None (get (tree_of old) p) (get (tree_of new) p)
-    (λ h. ap (get (tree_of new)) (tied p q h) ∙ sym (get_stored q new) ∙ none)
+    (λ h. ap (get (tree_of new)) (same_means p q h) ∙ sym (get_stored q new) ∙ none)
     (λ h. get-from_entries nat_list_cmp_total (by_bytes new) p ∙ ap (λ l. find R p (by_bytes l)) is ∙ removed_other p q old h ∙ sym (get-from_entries nat_list_cmp_total (by_bytes old) p))
     ∙ sym (get-remove nat_list_cmp_total (tree_of old) q p))
 
@@ -89,7 +80,7 @@ written_here : (p q : Name) (b : Bool) (w : Node) (e : String Global × Node) (e
     → find R p (by_bytes (set_value (at_name q) entries w)) ≡ find R p (by_bytes entries)
     → find R p (by_bytes (cond b ((e.0, w) ∷ entries) (e ∷ set_value (at_name q) entries w))) ≡ cond (eq_by_cmp R p (string_bytes e.0)) (Some e.1) (find R p (by_bytes entries))
 written_here p q true w e entries hit apart rest =
-    let far : eq_by_cmp R p (string_bytes e.0) ≡ false = ap (eq_by_cmp R p) (sym (tied q (string_bytes e.0) hit)) ∙ apart in
+    let far : eq_by_cmp R p (string_bytes e.0) ≡ false = ap (eq_by_cmp R p) (sym (same_means q (string_bytes e.0) hit)) ∙ apart in
     ap (λ t. cond t (Some w) (find R p (by_bytes entries))) far ∙ ap (λ t. cond t (Some e.1) (find R p (by_bytes entries))) (sym far)
 written_here p q false w e entries hit apart rest = ap (cond (eq_by_cmp R p (string_bytes e.0)) (Some e.1)) rest
 
@@ -112,7 +103,7 @@ pub written : (q : Name) (w : Node) (old new : List (String Global × Node)) →
 written q w old new is some =
     same_map nat_list_cmp_total (slice_cmp-IsAntisymmetric nat_cmp-IsAntisymmetric) _ _ (λ p.
     by_tie (eq_by_cmp R p q) (Some w) (get (tree_of old) p) (get (tree_of new) p)
-    (λ h. ap (get (tree_of new)) (tied p q h) ∙ sym (get_stored q new) ∙ ap (lookup (at_name q)) is ∙ written_at q w old some)
+    (λ h. ap (get (tree_of new)) (same_means p q h) ∙ sym (get_stored q new) ∙ ap (lookup (at_name q)) is ∙ written_at q w old some)
     (λ h. get-from_entries nat_list_cmp_total (by_bytes new) p ∙ ap (λ l. find R p (by_bytes l)) is ∙ written_other p q w old h ∙ sym (get-from_entries nat_list_cmp_total (by_bytes old) p))
     ∙ sym (get-insert nat_list_cmp_total (tree_of old) q w p))
 
@@ -132,10 +123,10 @@ written_some q v w o old new found is to =
 pub put_same : (t : Tree) (p : Name) (o : Option Node) → get t p ≡ o → put t p o ≡ t
 put_same t p None is =
     same_map nat_list_cmp_total (slice_cmp-IsAntisymmetric nat_cmp-IsAntisymmetric) _ _ (λ q.
-    get-remove nat_list_cmp_total t p q ∙ sym (by_tie (eq_by_cmp R q p) None (get t q) (get t q) (λ h. ap (get t) (tied q p h) ∙ is) (λ _. refl)))
+    get-remove nat_list_cmp_total t p q ∙ sym (by_tie (eq_by_cmp R q p) None (get t q) (get t q) (λ h. ap (get t) (same_means q p h) ∙ is) (λ _. refl)))
 put_same t p (Some v) is =
     same_map nat_list_cmp_total (slice_cmp-IsAntisymmetric nat_cmp-IsAntisymmetric) _ _ (λ q.
-    get-insert nat_list_cmp_total t p v q ∙ sym (by_tie (eq_by_cmp R q p) (Some v) (get t q) (get t q) (λ h. ap (get t) (tied q p h) ∙ is) (λ _. refl)))
+    get-insert nat_list_cmp_total t p v q ∙ sym (by_tie (eq_by_cmp R q p) (Some v) (get t q) (get t q) (λ h. ap (get t) (same_means q p h) ∙ is) (λ _. refl)))
 
 pub mode_none : (t : Tree) (p : Name) (mode : ℕ) → get t p ≡ None → with_mode t p mode ≡ t
 mode_none t p mode none = ap (λ o. put t p (of_mode o mode)) none ∙ put_same t p None none

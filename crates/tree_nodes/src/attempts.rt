@@ -10,7 +10,7 @@ ghost use Rattle.tree_nodes.specs.Attempts.{IsTried, can_leave, can_take};
 ghost use Rattle.tree_nodes.specs.Stored.{tree_of};
 
 use crate::conditions::same_name;
-use crate::effects::{new_file, put_grown, replace_at, set_mode_at};
+use crate::effects::{exchange_at, new_file, put_grown, replace_at, set_mode_at};
 use crate::map::NodeMap;
 use std::alloc::{AllocFailed, Global};
 use std::collections::BTreeMap;
@@ -86,18 +86,6 @@ fn lift_at(nodes: &mut BTreeMap<String, Node>, path: &str) -> Option<Node>
     match nodes.get_mut(path) {
         Some(place) => lift(place),
         None => None,
-    }
-}
-
-// Puts a node in the place of the one at a path, and answers that one.
-fn exchange_at(nodes: &mut BTreeMap<String, Node>, path: &str, node: Node) -> Node
-    requires { is_some (get (tree_of nodes.old.entries) path.now) ≡ true }
-    ensures stood { get (tree_of nodes.old.entries) path.now ≡ Some result }
-    ensures stands { tree_of nodes.new.entries ≡ put (tree_of nodes.old.entries) path.now (Some node) }
-{
-    match nodes.get_mut(path) {
-        Some(place) => mem::replace(place, node),
-        None => unreachable!(),
     }
 }
 

@@ -9,6 +9,7 @@ ghost use Rattle.tree_disk.specs.Rows.{can_set_mode, grown, of_mode, with_append
 use crate::map::NodeMap;
 use std::alloc::Global;
 use std::collections::BTreeMap;
+use std::mem;
 use tree_disk::cny_base::{Bytes, Mode, Node, OutOfMemory, Path};
 
 // A file of mode 0600.
@@ -63,20 +64,24 @@ pub(crate) fn set_mode_at(nodes: &mut BTreeMap<String, Node>, path: &str, mode: 
     }
 }
 
-fn overwrite(place: &mut Node, node: Node)
-    ensures { place.new ≡ node }
+// Puts a node in the place of the one at a path, and answers that one.
+pub(crate) fn exchange_at(nodes: &mut BTreeMap<String, Node>, path: &str, node: Node) -> Node
+    requires { is_some (get (tree_of nodes.old.entries) path.now) ≡ true }
+    ensures stood { get (tree_of nodes.old.entries) path.now ≡ Some result }
+    ensures stands { tree_of nodes.new.entries ≡ put (tree_of nodes.old.entries) path.now (Some node) }
 {
-    *place = node;
+    match nodes.get_mut(path) {
+        Some(place) => mem::replace(place, node),
+        None => unreachable!(),
+    }
 }
 
-// Puts a node in the place of the one at a path.
+// The same, where nobody asks for the one that stood there.
 pub(crate) fn replace_at(nodes: &mut BTreeMap<String, Node>, path: &str, node: Node)
     requires { is_some (get (tree_of nodes.old.entries) path.now) ≡ true }
     ensures { tree_of nodes.new.entries ≡ put (tree_of nodes.old.entries) path.now (Some node) }
 {
-    if let Some(place) = nodes.get_mut(path) {
-        overwrite(place, node);
-    }
+    let _ = exchange_at(nodes, path, node);
 }
 
 // Puts a node with more bytes in the place of the one at a path, or as it is where no memory is left.

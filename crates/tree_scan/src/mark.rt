@@ -1,5 +1,5 @@
 //! Fingerprints of what stands at a path.
-ghost use Rattle.std.specs.Prelude.{◌≡◌, Some};
+ghost use Rattle.std.specs.Prelude.{◌≡◌, IfOk, Some};
 ghost use Rattle.tree_disk.specs.cny-base.declared.node.Node.TheVariants as node;
 ghost use Rattle.tree_scan.specs.declared.mark.Mark.TheVariants as mark;
 ghost use Rattle.tree_scan.specs.Marks as spec;
@@ -10,7 +10,7 @@ use sha1::Sha1;
 use tree_disk::cny_base::{Copies, Mode, OutOfMemory, Target};
 
 /// A fingerprint: what stands at a path, a file by its size and the SHA-1 of its bytes. Owners and flags are no part of it.
-#[derive(Debug, Drop)]
+#[derive(Debug)]
 pub enum Mark {
     /// Nothing stands there.
     Nothing,
@@ -28,6 +28,22 @@ pub enum Mark {
     },
 }
 
+// Written by hand, so that to let a value go is a single call.
+impl Drop for Mark {
+    fn drop(self) {
+        match self {
+            Mark::Nothing => {}
+            Mark::Dir { mode: _ } => {}
+            Mark::File {
+                mode: _,
+                size: _,
+                name: _,
+            } => {}
+            Mark::Link { target: _target } => {}
+        }
+    }
+}
+
 /// The fingerprint of a file with these bytes. Takes no memory.
 pub fn mark_file(mode: Mode, bytes: &[u8]) -> Mark
     ensures { result ≡ fingerprint (Some (node.File mode bytes.now)) }
@@ -42,12 +58,7 @@ pub fn mark_file(mode: Mode, bytes: &[u8]) -> Mark
 fn is_same_dir(mode: Mode, other: &Mark) -> bool
     ensures { result ≡ same_mark (mark.Dir mode) other.now }
 {
-    match other {
-        Mark::Dir { mode: of_other } => mode.bits() == of_other.bits(),
-        Mark::Nothing => false,
-        Mark::File { .. } => false,
-        Mark::Link { .. } => false,
-    }
+    matches!(other, Mark::Dir { mode: of_other } if mode.bits() == of_other.bits())
 }
 
 fn is_same_file(mode: Mode, size: u64, name: &[u8; 20], other: &Mark) -> bool
@@ -73,15 +84,32 @@ fn is_same_file(mode: Mode, size: u64, name: &[u8; 20], other: &Mark) -> bool
 fn is_same_link(target: &Target, other: &Mark) -> bool
     ensures { result ≡ same_mark (mark.Link target.now) other.now }
 {
-    match other {
-        Mark::Link { target: of_other } => target.text() == of_other.text(),
-        Mark::Nothing => false,
-        Mark::Dir { .. } => false,
-        Mark::File { .. } => false,
-    }
+    matches!(other, Mark::Link { target: of_other } if target.text() == of_other.text())
 }
 
 impl Mark {
+    /// The fingerprint of what a record describes.
+    pub fn of_record(rec: &FileRec) -> Result<Self, OutOfMemory>
+        ensures { IfOk result (λ mark. mark ≡ fingerprint_of_record rec.now) }
+    {
+        Ok(match rec {
+            FileRec::Dir { mode, .. } => Mark::Dir { mode: *mode },
+            FileRec::File {
+                mode,
+                size,
+                name,
+                ..
+            } => Mark::File {
+                mode: *mode,
+                size: u64::from(*size),
+                name: *name,
+            },
+            FileRec::Link { target } => Mark::Link {
+                target: target.copy()?,
+            },
+        })
+    }
+
     /// Whether nothing stands there.
     pub fn is_nothing(&self) -> bool
         ensures { result ≡ spec.is_nothing self.now }
@@ -132,11 +160,7 @@ impl Mark {
 fn describes_dir(rec: &FileRec, mode: Mode) -> bool
     ensures { result ≡ same_mark (mark.Dir mode) (fingerprint_of_record rec.now) }
 {
-    match rec {
-        FileRec::Dir { mode: of_rec, .. } => mode.bits() == of_rec.bits(),
-        FileRec::File { .. } => false,
-        FileRec::Link { .. } => false,
-    }
+    matches!(rec, FileRec::Dir { mode: of_rec, .. } if mode.bits() == of_rec.bits())
 }
 
 // Whether the record describes a file of this mode and size, whose bytes have this name.
@@ -164,11 +188,7 @@ fn describes_file(rec: &FileRec, mode: Mode, size: u64, name: &[u8; 20]) -> bool
 fn describes_link(rec: &FileRec, target: &Target) -> bool
     ensures { result ≡ same_mark (mark.Link target.now) (fingerprint_of_record rec.now) }
 {
-    match rec {
-        FileRec::Link { target: of_rec } => target.text() == of_rec.text(),
-        FileRec::Dir { .. } => false,
-        FileRec::File { .. } => false,
-    }
+    matches!(rec, FileRec::Link { target: of_rec } if target.text() == of_rec.text())
 }
 
 /// Whether two records have the same fingerprint: they describe the same node.

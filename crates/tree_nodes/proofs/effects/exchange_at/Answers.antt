@@ -1,7 +1,7 @@
 use Rattle.std.proofs.Common.{◌∙◌, sym, ap, is_some, Some}
 use Rattle.std.specs.Option.{option_copied_mut}
 use Rattle.tree_nodes.proofs.StoredTree.{get_at, written_some}
-use Rattle.tree_nodes.proofs.attempts.exchange_at.Goals as goal
+use Rattle.tree_nodes.proofs.effects.exchange_at.Goals as goal
 
 pub unreachable-requires : goal.unreachable-requires
 unreachable-requires c =
