@@ -8,7 +8,6 @@ ghost use Rattle.change_rel.specs.Lists.{AreAmended};
 
 use crate::amending::amended;
 use crate::laws::one_result;
-use crate::same::is_same_id;
 use std::alloc::Global;
 use trove_stream::cny_base::{Copies, Fault, OutOfMemory, Refusal};
 use trove_stream::trove_parts::{TroveId, id_text};
@@ -85,7 +84,7 @@ fn led_to(alloc: Global, old: &Trove, rel: &RelParts) -> Result<Option<Trove>, O
     requires { IsRel rel.now }
     ensures { IfOk result (λ made. MatchOption made (LeadsNowhere rel.now old.now) (Leads rel.now old.now)) }
 {
-    if !is_same_id(old.id(), &rel.old) {
+    if !old.id().is_same(&rel.old) {
         return Ok(None);
     }
     match amended_parts(alloc, old, rel)? {

@@ -11,11 +11,11 @@ ghost use Rattle.trove_stream.specs.trove-parts.Paths.{path_cmp};
 ghost use Rattle.trove_stream.specs.Above.{dep_total};
 ghost use Rattle.change_rel.specs.Leads.{id_key, dep_key};
 
-use crate::same::{is_same_id, is_same_record};
+use crate::same::is_same_record;
 use cny_dep::Dep;
 use std::cmp::Ordering;
 use trove_stream::cny_base::{Copies, OutOfMemory, Path};
-use trove_stream::trove_parts::{FileAt, TroveId, distinct_ids};
+use trove_stream::trove_parts::{FileAt, TroveId};
 
 /// An element of a list that strictly rises by its keys, of type `K`.
 pub(crate) trait Element<K> {
@@ -82,10 +82,7 @@ impl Element<TroveId> for TroveId {
     }
 
     fn meet(&self, other: &Self) -> Ordering {
-        self.is_valid();
-        other.is_valid();
-        distinct_ids();
-        self.cmp(other)
+        self.order(other)
     }
 
     fn meet_key(&self, key: &TroveId) -> Ordering {
@@ -93,7 +90,7 @@ impl Element<TroveId> for TroveId {
     }
 
     fn is_same(&self, other: &Self) -> bool {
-        is_same_id(self, other)
+        TroveId::is_same(self, other)
     }
 
     ghost total = { id_total };
@@ -110,7 +107,7 @@ impl Element<Dep> for Dep {
     }
 
     fn meet(&self, other: &Self) -> Ordering {
-        self.text().cmp(other.text())
+        self.order(other)
     }
 
     fn meet_key(&self, key: &Dep) -> Ordering {
@@ -118,7 +115,7 @@ impl Element<Dep> for Dep {
     }
 
     fn is_same(&self, other: &Self) -> bool {
-        self.text() == other.text()
+        Dep::is_same(self, other)
     }
 
     ghost total = { dep_total };

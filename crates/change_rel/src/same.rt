@@ -1,10 +1,9 @@
-//! Whether two records, or two ids, are one.
+//! Whether two records are one.
 ghost use Rattle.std.specs.Prelude.{◌≡◌, ◌↔◌, IsTrue};
 ghost use Rattle.trove_stream.specs.file-stream.declared.record.FileRec.TheVariants.{Dir, File, Link};
 
 use trove_stream::cny_base::{Mode, Target};
 use trove_stream::file_stream::{FileRec, Flags, Owner};
-use trove_stream::trove_parts::{TroveId, distinct_ids};
 
 fn is_same_owner(one: &Owner, other: &Owner) -> bool
     ensures { IsTrue result ↔ (one.now ≡ other.now) }
@@ -106,14 +105,4 @@ pub(crate) fn is_same_record(one: &FileRec, other: &FileRec) -> bool
         } => is_same_file(*mode, owner, *flags, *size, name, other),
         FileRec::Link { target } => is_same_link(target, other),
     }
-}
-
-/// Whether two ids are equal.
-pub(crate) fn is_same_id(one: &TroveId, other: &TroveId) -> bool
-    ensures { IsTrue result ↔ (one.now ≡ other.now) }
-{
-    one.is_valid();
-    other.is_valid();
-    distinct_ids();
-    one == other
 }

@@ -14,7 +14,9 @@ use Rattle.change_set.specs.trove-parts.declared.files.FileAt.{FileAt}
 use Rattle.change_set.specs.trove-stream.declared.parts.TroveParts.{TroveParts}
 use Rattle.manifest_troves.specs.declared.lines.DepLine.{DepLine}
 use Rattle.manifest_troves.specs.declared.lines.TroveLines.{TroveLines}
-use Rattle.manifest_troves.specs.Shares.{Shared, no_share, plus_file, plus_required, plus_provided, share_at, plus_if, with_files, with_required, with_provided, share_of, named_trove}
+use Rattle.manifest_troves.specs.declared.lines.DepKind.{DepKind}
+use Rattle.manifest_troves.specs.declared.lines.DepKind.TheVariants.{Requires, Provides}
+use Rattle.manifest_troves.specs.Shares.{Shared, no_share, plus_file, plus_dep, share_at, plus_if, with_files, with_deps, share_of, named_trove}
 use Rattle.manifest_troves.specs.Troves.{entry_component, name_of_line, with_names, names_used, component_names, deps_of, falls_to, is_of, component_trove}
 use Rattle.manifest_troves.proofs.Names.{by_bytes, same_test, turned_bytes, names_sorted, none_sorted, has, has_names, has_mapped, or_true}
 use Rattle.manifest_troves.proofs.Alike.{same_entries}
@@ -64,22 +66,19 @@ files_in s (file ∷ files) =
     files_in (plus_file s file) files
     ∙ ap (λ (l : List FileAt). record { files = l; requires_ = s.requires_; provides = s.provides }) (append_assoc s.files (file ∷ []) files)
 
-abbrev plus_required_of : Shared → DepLine → Shared
-plus_required_of s line = plus_required s line.dep
+abbrev plus_line : DepKind → Shared → DepLine → Shared
+plus_line kind s line = plus_dep kind s line.dep
 
-abbrev plus_provided_of : Shared → DepLine → Shared
-plus_provided_of s line = plus_provided s line.dep
-
-required_in : (s : Shared) (lines : List DepLine) → fold plus_required_of s lines ≡ record { files = s.files; requires_ = s.requires_ ++ deps_of lines; provides = s.provides }
+required_in : (s : Shared) (lines : List DepLine) → fold (plus_line Requires) s lines ≡ record { files = s.files; requires_ = s.requires_ ++ deps_of lines; provides = s.provides }
 required_in s [] = ap (λ (l : List Dependency). record { files = s.files; requires_ = l; provides = s.provides }) (sym (append-nil s.requires_))
 required_in s (line ∷ lines) =
-    required_in (plus_required s line.dep) lines
+    required_in (plus_dep Requires s line.dep) lines
     ∙ ap (λ (l : List Dependency). record { files = s.files; requires_ = l; provides = s.provides }) (append_assoc s.requires_ (line.dep ∷ []) (deps_of lines))
 
-provided_in : (s : Shared) (lines : List DepLine) → fold plus_provided_of s lines ≡ record { files = s.files; requires_ = s.requires_; provides = s.provides ++ deps_of lines }
+provided_in : (s : Shared) (lines : List DepLine) → fold (plus_line Provides) s lines ≡ record { files = s.files; requires_ = s.requires_; provides = s.provides ++ deps_of lines }
 provided_in s [] = ap (λ (l : List Dependency). record { files = s.files; requires_ = s.requires_; provides = l }) (sym (append-nil s.provides))
 provided_in s (line ∷ lines) =
-    provided_in (plus_provided s line.dep) lines
+    provided_in (plus_dep Provides s line.dep) lines
     ∙ ap (λ (l : List Dependency). record { files = s.files; requires_ = s.requires_; provides = l }) (append_assoc s.provides (line.dep ∷ []) (deps_of lines))
 
 module _ (whole : List ℕ) (files : List FileAt) (requires_ provides : List DepLine) where
@@ -95,10 +94,10 @@ module _ (whole : List ℕ) (files : List FileAt) (requires_ provides : List Dep
   abbrev pub used : List ℕ → Bool
   used name = (list_any (falls_to whole name) files || list_any (is_of name) requires_) || list_any (is_of name) provides
 
-  shared_is : (name : List ℕ) → fold plus_provided_of (fold plus_required_of (fold plus_file no_share (filter (falls_to whole name) files)) (filter (is_of name) requires_)) (filter (is_of name) provides) ≡ shared name
+  shared_is : (name : List ℕ) → fold (plus_line Provides) (fold (plus_line Requires) (fold plus_file no_share (filter (falls_to whole name) files)) (filter (is_of name) requires_)) (filter (is_of name) provides) ≡ shared name
   shared_is name =
-      ap (λ (s : Shared). fold plus_provided_of (fold plus_required_of s (filter (is_of name) requires_)) (filter (is_of name) provides)) (files_in no_share (filter (falls_to whole name) files))
-      ∙ ap (λ (s : Shared). fold plus_provided_of s (filter (is_of name) provides)) (required_in (record { files = filter (falls_to whole name) files; requires_ = []; provides = [] }) (filter (is_of name) requires_))
+      ap (λ (s : Shared). fold (plus_line Provides) (fold (plus_line Requires) s (filter (is_of name) requires_)) (filter (is_of name) provides)) (files_in no_share (filter (falls_to whole name) files))
+      ∙ ap (λ (s : Shared). fold (plus_line Provides) s (filter (is_of name) provides)) (required_in (record { files = filter (falls_to whole name) files; requires_ = []; provides = [] }) (filter (is_of name) requires_))
       ∙ provided_in (record { files = filter (falls_to whole name) files; requires_ = deps_of (filter (is_of name) requires_); provides = [] }) (filter (is_of name) provides)
 
   share_is : (name : List ℕ) → share_of whole files requires_ provides name ≡ put (used name) (shared name)
@@ -106,12 +105,12 @@ module _ (whole : List ℕ) (files : List FileAt) (requires_ provides : List Dep
       let in_files : Bool = list_any (falls_to whole name) files in
       let in_required : Bool = list_any (is_of name) requires_ in
       let first : Shared = fold plus_file no_share (filter (falls_to whole name) files) in
-      let second : Shared = fold plus_required_of first (filter (is_of name) requires_) in
+      let second : Shared = fold (plus_line Requires) first (filter (is_of name) requires_) in
       let no_first : in_files ≡ false → first ≡ no_share = λ e. kept_none plus_file (falls_to whole name) files false no_share (λ _. refl) e in
-      let no_second : (in_files || in_required) ≡ false → second ≡ no_share = λ e. kept_none plus_required_of (is_of name) requires_ in_files first no_first e in
-      ap (λ (o : Option Shared). with_provided name (with_required name o requires_) provides) (folded plus_file (falls_to whole name) files false no_share (λ _. refl))
-      ∙ ap (λ (o : Option Shared). with_provided name o provides) (folded plus_required_of (is_of name) requires_ in_files first no_first)
-      ∙ folded plus_provided_of (is_of name) provides (in_files || in_required) second no_second
+      let no_second : (in_files || in_required) ≡ false → second ≡ no_share = λ e. kept_none (plus_line Requires) (is_of name) requires_ in_files first no_first e in
+      ap (λ (o : Option Shared). with_deps Provides name (with_deps Requires name o requires_) provides) (folded plus_file (falls_to whole name) files false no_share (λ _. refl))
+      ∙ ap (λ (o : Option Shared). with_deps Provides name o provides) (folded (plus_line Requires) (is_of name) requires_ in_files first no_first)
+      ∙ folded (plus_line Provides) (is_of name) provides (in_files || in_required) second no_second
       ∙ ap (put (used name)) (shared_is name)
 
   -- ---- whose shares there are
@@ -178,13 +177,9 @@ pub files_more : (whole name : List ℕ) (share : Option Shared) (files : List F
     → with_files whole name share (files ++ file ∷ []) ≡ plus_if plus_file (falls_to whole name file) file (with_files whole name share files)
 files_more whole name share files file = fold-append (λ (s : Option Shared) (f : FileAt). plus_if plus_file (falls_to whole name f) f s) share files (file ∷ [])
 
-pub required_more : (name : List ℕ) (share : Option Shared) (lines : List DepLine) (line : DepLine)
-    → with_required name share (lines ++ line ∷ []) ≡ plus_if plus_required (is_of name line) line.dep (with_required name share lines)
-required_more name share lines line = fold-append (λ (s : Option Shared) (l : DepLine). plus_if plus_required (is_of name l) l.dep s) share lines (line ∷ [])
-
-pub provided_more : (name : List ℕ) (share : Option Shared) (lines : List DepLine) (line : DepLine)
-    → with_provided name share (lines ++ line ∷ []) ≡ plus_if plus_provided (is_of name line) line.dep (with_provided name share lines)
-provided_more name share lines line = fold-append (λ (s : Option Shared) (l : DepLine). plus_if plus_provided (is_of name l) l.dep s) share lines (line ∷ [])
+pub deps_more : (kind : DepKind) (name : List ℕ) (share : Option Shared) (lines : List DepLine) (line : DepLine)
+    → with_deps kind name share (lines ++ line ∷ []) ≡ plus_if (plus_dep kind) (is_of name line) line.dep (with_deps kind name share lines)
+deps_more kind name share lines line = fold-append (λ (s : Option Shared) (l : DepLine). plus_if (plus_dep kind) (is_of name l) l.dep s) share lines (line ∷ [])
 
 -- a share that was taken out and put back with one more
 pub put_back : {A : Type 0} (plus : Shared → A → Shared) (name other : List ℕ) (x : A) (after between before own : Option Shared) (s : Shared)

@@ -10,6 +10,10 @@ use Rattle.change_set.specs.trove-parts.declared.id.TroveId.{TroveId}
 use Rattle.change_set.specs.trove-parts.declared.files.FileAt.{FileAt}
 use Rattle.change_set.specs.trove-stream.declared.parts.TroveParts.{TroveParts}
 use Rattle.manifest_troves.specs.declared.lines.DepLine.{DepLine}
+use Rattle.manifest_troves.specs.declared.lines.DepKind.{DepKind}
+use Rattle.manifest_troves.specs.declared.lines.DepKind.TheVariants.{Requires, Provides}
+use Rattle.manifest_troves.specs.declared.lines.Added.{Added}
+use Rattle.manifest_troves.specs.declared.lines.Added.TheVariants as added
 use Rattle.manifest_troves.specs.Troves.{with_name, falls_to, is_of}
 
 -- entries, and what is required and provided
@@ -24,11 +28,13 @@ no_share = record { files = []; requires_ = []; provides = [] }
 abbrev pub plus_file : Shared → FileAt → Shared
 plus_file s file = record { files = s.files ++ file ∷ []; requires_ = s.requires_; provides = s.provides }
 
-abbrev pub plus_required : Shared → Dependency → Shared
-plus_required s dep = record { files = s.files; requires_ = s.requires_ ++ dep ∷ []; provides = s.provides }
+abbrev pub plus_dep : DepKind → Shared → Dependency → Shared
+plus_dep Requires s dep = record { files = s.files; requires_ = s.requires_ ++ dep ∷ []; provides = s.provides }
+plus_dep Provides s dep = record { files = s.files; requires_ = s.requires_; provides = s.provides ++ dep ∷ [] }
 
-abbrev pub plus_provided : Shared → Dependency → Shared
-plus_provided s dep = record { files = s.files; requires_ = s.requires_; provides = s.provides ++ dep ∷ [] }
+abbrev pub plus : Shared → Added → Shared
+plus s (added.File file) = plus_file s file
+plus s (added.Dep kind dep) = plus_dep kind s dep
 
 -- what is kept by this name
 abbrev pub share_at : BTreeMap (List ℕ) Shared → List ℕ → Option Shared
@@ -43,14 +49,11 @@ plus_if plus is x share = if is then Some (plus (unwrap_or share no_share) x) el
 abbrev pub with_files : List ℕ → List ℕ → Option Shared → List FileAt → Option Shared
 with_files whole name share files = fold (λ share file. plus_if plus_file (falls_to whole name file) file share) share files
 
-abbrev pub with_required : List ℕ → Option Shared → List DepLine → Option Shared
-with_required name share lines = fold (λ share line. plus_if plus_required (is_of name line) line.dep share) share lines
-
-abbrev pub with_provided : List ℕ → Option Shared → List DepLine → Option Shared
-with_provided name share lines = fold (λ share line. plus_if plus_provided (is_of name line) line.dep share) share lines
+abbrev pub with_deps : DepKind → List ℕ → Option Shared → List DepLine → Option Shared
+with_deps kind name share lines = fold (λ share line. plus_if (plus_dep kind) (is_of name line) line.dep share) share lines
 
 abbrev pub share_of : List ℕ → List FileAt → List DepLine → List DepLine → List ℕ → Option Shared
-share_of whole files requires_ provides name = with_provided name (with_required name (with_files whole name None files) requires_) provides
+share_of whole files requires_ provides name = with_deps Provides name (with_deps Requires name (with_files whole name None files) requires_) provides
 
 -- ---- a component of a share
 

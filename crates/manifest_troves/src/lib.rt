@@ -12,6 +12,6 @@ mod troves;
 pub use change_set;
 pub use change_set::{cny_base, file_stream, trove_parts, trove_stream};
 pub use contents::contents_of;
-pub use lines::{DepLine, DepLines, TroveLines};
+pub use lines::{DepKind, DepLine, DepLines, TroveLines};
 pub use policy::component_of;
 pub use troves::{Troves, troves_of};

@@ -1,7 +1,21 @@
 //! What the lines of a manifest say.
 use change_set::cny_base::{ListOf, Name};
-use change_set::trove_parts::{Files, Refs, TroveId};
+use change_set::trove_parts::{FileAt, Files, Refs, TroveId};
 use cny_dep::Dep;
+
+/// Whether a dependency is required or provided.
+#[derive(Clone, Copy)]
+pub enum DepKind {
+    Requires,
+    Provides,
+}
+
+/// What a line adds to a component.
+#[derive(Drop)]
+pub(crate) enum Added {
+    File(FileAt),
+    Dep(DepKind, Dep),
+}
 
 /// A trove by its name, and what it requires or provides.
 #[derive(Debug, Drop)]

@@ -6,10 +6,10 @@ ghost use Rattle.std.specs.Option.{unwrap_or};
 ghost use Rattle.std.specs.Ordering.{nat_cmp};
 ghost use Rattle.std.specs.Str.{bytes_eq};
 ghost use Rattle.change_set.specs.cny-base.Name.{is_name};
-ghost use Rattle.manifest_troves.specs.Shares.{no_share, share_at, plus_if, plus_file, plus_required, plus_provided, with_files, with_required, with_provided, share_of};
+ghost use Rattle.manifest_troves.specs.Shares.{no_share, share_at, plus_if, plus, with_files, with_deps, share_of};
 ghost use Rattle.manifest_troves.specs.Troves.{entry_component, HasBadName};
 
-use crate::lines::{DepLine, DepLines};
+use crate::lines::{Added, DepKind, DepLine, DepLines};
 use crate::policy::component_of;
 use change_set::cny_base::{Name, OutOfMemory, TextFault};
 use change_set::trove_parts::{Deps, FileAt, Files, Refs, TroveId};
@@ -66,24 +66,14 @@ impl Share {
         }
     }
 
-    fn push_file(&mut self, file: FileAt) -> Result<(), OutOfMemory>
-        ensures { OnOk result (self.new ≡ spec.plus_file self.old file) }
+    fn push(&mut self, added: Added) -> Result<(), OutOfMemory>
+        ensures { OnOk result (self.new ≡ spec.plus self.old added) }
     {
-        self.files.push(file)?;
-        Ok(())
-    }
-
-    fn push_required(&mut self, dep: Dep) -> Result<(), OutOfMemory>
-        ensures { OnOk result (self.new ≡ spec.plus_required self.old dep) }
-    {
-        self.requires_.push(dep)?;
-        Ok(())
-    }
-
-    fn push_provided(&mut self, dep: Dep) -> Result<(), OutOfMemory>
-        ensures { OnOk result (self.new ≡ spec.plus_provided self.old dep) }
-    {
-        self.provides.push(dep)?;
+        match added {
+            Added::File(file) => self.files.push(file)?,
+            Added::Dep(DepKind::Requires, dep) => self.requires_.push(dep)?,
+            Added::Dep(DepKind::Provides, dep) => self.provides.push(dep)?,
+        }
         Ok(())
     }
 
@@ -125,32 +115,12 @@ fn take_share(alloc: Global, shares: &mut Shares, name: &Name) -> Share
     }
 }
 
-// Adds an entry to the share of a name.
-fn add_file(alloc: Global, shares: &mut Shares, name: Name, file: FileAt) -> Result<(), OutOfMemory>
-    ensures { OnOk result ((other : List ℕ) → share_at shares.new other ≡ plus_if plus_file (bytes_eq name other) file (share_at shares.old other)) }
+// Adds something to the share of a name.
+fn add(alloc: Global, shares: &mut Shares, name: Name, added: Added) -> Result<(), OutOfMemory>
+    ensures { OnOk result ((other : List ℕ) → share_at shares.new other ≡ plus_if plus (bytes_eq name other) added (share_at shares.old other)) }
 {
     let mut share = take_share(alloc, shares, &name);
-    share.push_file(file)?;
-    shares.insert(name, share)?;
-    Ok(())
-}
-
-// Adds what the component of a name requires.
-fn add_required(alloc: Global, shares: &mut Shares, name: Name, dep: Dep) -> Result<(), OutOfMemory>
-    ensures { OnOk result ((other : List ℕ) → share_at shares.new other ≡ plus_if plus_required (bytes_eq name other) dep (share_at shares.old other)) }
-{
-    let mut share = take_share(alloc, shares, &name);
-    share.push_required(dep)?;
-    shares.insert(name, share)?;
-    Ok(())
-}
-
-// Adds what the component of a name provides.
-fn add_provided(alloc: Global, shares: &mut Shares, name: Name, dep: Dep) -> Result<(), OutOfMemory>
-    ensures { OnOk result ((other : List ℕ) → share_at shares.new other ≡ plus_if plus_provided (bytes_eq name other) dep (share_at shares.old other)) }
-{
-    let mut share = take_share(alloc, shares, &name);
-    share.push_provided(dep)?;
+    share.push(added)?;
     shares.insert(name, share)?;
     Ok(())
 }
@@ -178,29 +148,23 @@ fn take_files(
 {
     for file in files {
         let name = entry_name(alloc, whole, &file)?;
-        add_file(alloc, shares, name, file)?;
+        add(alloc, shares, name, Added::File(file))?;
     }
     Ok(())
 }
 
-// Takes what is required.
-fn take_required(alloc: Global, shares: &mut Shares, lines: Vec<DepLine>) -> Result<(), OutOfMemory>
-    ensures { OnOk result ((name : List ℕ) → share_at shares.new name ≡ with_required name (share_at shares.old name) lines.items) }
+// Takes what is required, or what is provided.
+fn take_deps(
+    alloc: Global,
+    shares: &mut Shares,
+    kind: DepKind,
+    lines: Vec<DepLine>,
+) -> Result<(), OutOfMemory>
+    ensures { OnOk result ((name : List ℕ) → share_at shares.new name ≡ with_deps kind name (share_at shares.old name) lines.items) }
 {
     for line in lines {
         let DepLine { name, dep } = line;
-        add_required(alloc, shares, name, dep)?;
-    }
-    Ok(())
-}
-
-// Takes what is provided.
-fn take_provided(alloc: Global, shares: &mut Shares, lines: Vec<DepLine>) -> Result<(), OutOfMemory>
-    ensures { OnOk result ((name : List ℕ) → share_at shares.new name ≡ with_provided name (share_at shares.old name) lines.items) }
-{
-    for line in lines {
-        let DepLine { name, dep } = line;
-        add_provided(alloc, shares, name, dep)?;
+        add(alloc, shares, name, Added::Dep(kind, dep))?;
     }
     Ok(())
 }
@@ -218,7 +182,7 @@ pub(crate) fn shares_of(
 {
     let mut shares = BTreeMap::new(alloc);
     take_files(alloc, &mut shares, whole, files.into_vec())?;
-    take_required(alloc, &mut shares, requires_.into_vec())?;
-    take_provided(alloc, &mut shares, provides.into_vec())?;
+    take_deps(alloc, &mut shares, DepKind::Requires, requires_.into_vec())?;
+    take_deps(alloc, &mut shares, DepKind::Provides, provides.into_vec())?;
     Ok(shares)
 }

@@ -15,7 +15,7 @@ ghost use Rattle.trove_stream.specs.Rel.{IsPathOf, IsSameId, IsSameDep};
 use cny_dep::Dep;
 use std::cmp::Ordering;
 use trove_parts::cny_base::Path;
-use trove_parts::{FileAt, TroveId, distinct_ids};
+use trove_parts::{FileAt, TroveId};
 
 /// An element of one rising list, to be compared with those of another, of type `B`.
 pub(crate) trait Meets<B> {
@@ -74,10 +74,7 @@ impl Meets<TroveId> for TroveId {
     ghost other_order = { id_cmp };
 
     fn meet(&self, other: &TroveId) -> Ordering {
-        self.is_valid();
-        other.is_valid();
-        distinct_ids();
-        self.cmp(other)
+        self.order(other)
     }
 
     ghost tied = { same_tied id_cmp id_total };
@@ -97,7 +94,7 @@ impl Meets<Dep> for Dep {
     ghost other_order = { dep_cmp };
 
     fn meet(&self, other: &Dep) -> Ordering {
-        self.text().cmp(other.text())
+        self.order(other)
     }
 
     ghost tied = { same_tied dep_cmp dep_total };

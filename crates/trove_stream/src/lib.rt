@@ -29,6 +29,7 @@ pub use rel::{RelParts, RelTrove};
 pub use rel_laws::distinct_rels;
 pub use rel_reading::{decode_rel, decode_rel_full};
 pub use rel_writing::{encode_rel, encode_rel_full};
+pub use rules::is_component_of;
 pub use trove::Trove;
 pub use trove_parts;
 pub use trove_parts::{

@@ -56,7 +56,8 @@ fn begins_with_colon(bytes: &[u8]) -> bool
     }
 }
 
-fn is_component_of(whole: &[u8], name: &[u8]) -> bool
+/// Whether the name is the package's, a colon and more.
+pub fn is_component_of(whole: &[u8], name: &[u8]) -> bool
     ensures { result ≡ spec.is_component_of whole.now name.now }
 {
     let Some(rest) = name.strip_prefix(whole) else {

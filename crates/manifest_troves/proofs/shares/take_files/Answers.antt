@@ -22,7 +22,7 @@ returns-in_err-name-clause-bad c = λ is.
 pub loop-file-preserved : goal.loop-file-preserved
 loop-file-preserved c = λ name.
     let whole : List ℕ = c.args.whole.now in
-    c.in_ok-add_file.ensures name
+    c.in_ok-add.ensures name
     ∙ ap (λ (own : List ℕ). plus_if plus_file (bytes_eq own name) c.in-Some.file (share_at c.loop-file.shares name)) c.in_ok-name.ensures.ok
     ∙ ap (plus_if plus_file (falls_to whole name c.in-Some.file) c.in-Some.file) (c.loop-file.invariant name)
     ∙ sym (files_more whole name (share_at c.args.shares.now name) c.loop-file.yielded c.in-Some.file)
