@@ -1,6 +1,7 @@
 -- The plan that is built from the entries, path by path.
 use Rattle.std.proofs.Common.{◌≡◌, ◌≢◌, inl, inr, ⊎_elim, Bool, true, false, cond, List, [], ◌∷◌, map, Option, Some, None, Result, Ok, Err, refl, sym, ◌∙◌, ap, subst}
 use Rattle.std.proofs.lemmas.Bool.{cases_Bool}
+use Rattle.std.specs.Option.{option_or}
 use Rattle.std.specs.declared.cmp.Ordering.TheVariants.{Less}
 use Rattle.trove_stream.specs.cny-base.Path.{is_path, root}
 use Rattle.trove_stream.specs.cny-base.Reserved.{is_pinned}
@@ -18,8 +19,8 @@ use Rattle.conflict_plan.specs.declared.planned.Planned.{Planned}
 use Rattle.conflict_plan.specs.declared.records.Recorded.{Recorded}
 use Rattle.conflict_plan.specs.declared.table.Outcome.{Outcome}
 use Rattle.conflict_plan.specs.declared.table.Outcome.TheVariants.{Stays, Removed, Written, Unowned, Edited}
-use Rattle.conflict_plan.specs.Drafts.{draft_of, drafts_of, then_drafts}
-use Rattle.conflict_plan.specs.Entries.{entry_of, first_refusal, or_later}
+use Rattle.conflict_plan.specs.Drafts.{draft_of, drafts_of, then_drafts, with_some}
+use Rattle.conflict_plan.specs.Entries.{entry_of, first_refusal}
 use Rattle.conflict_plan.specs.Making.{child_remains}
 use Rattle.conflict_plan.specs.Plan.{change_of, planned_at}
 use Rattle.conflict_plan.specs.Settled.{settled, with_settled}
@@ -27,7 +28,7 @@ use Rattle.conflict_plan.specs.Table.{outcome_by, path_outcome}
 use Rattle.conflict_plan.proofs.Entered.{At, AreBehind, AreRising, found_at, found_behind}
 use Rattle.conflict_plan.proofs.Order.{IsUpTo}
 use Rattle.conflict_plan.proofs.Remaining.{AreAfter, ArePaths, RisePlanned, none_after, planned_here, planned_other, remains_on}
-use Rattle.conflict_plan.proofs.Tables.{after_draft, change_at, draft_step, err_of, with_change}
+use Rattle.conflict_plan.proofs.Tables.{after_draft, change_at, draft_step, err_of}
 use Rattle.tree_scan.proofs.tree-disk.Order.{name_cmp, other_way as other_sym}
 
 -- ---- drafts
@@ -35,7 +36,7 @@ use Rattle.tree_scan.proofs.tree-disk.Order.{name_cmp, other_way as other_sym}
 -- the plan of these entries
 abbrev pub plan_of : Options → Tree → List At → List Planned
 plan_of options tree [] = []
-plan_of options tree (e ∷ es) = with_change (change_at options tree (entry_of e) (plan_of options tree es)) (plan_of options tree es)
+plan_of options tree (e ∷ es) = with_some (change_at options tree (entry_of e) (plan_of options tree es)) (plan_of options tree es)
 
 drafts_plan_in : (options : Options) (tree : Tree) (e : At) (es : List At) (drafts : List Draft) (one : Result (Option Draft) Refusal) (rest : Result (List Draft) Refusal)
     → draft_of options tree (entry_of e) ≡ one → (rest_ok : (later : List Draft) → rest ≡ Ok later → settled tree later ≡ plan_of options tree es)
@@ -65,7 +66,7 @@ abbrev pub refusal_by : Options → Tree → Name → Recorded → Option Refusa
 refusal_by options tree path recorded = err_of (draft_of options tree (entry_of (path, recorded)))
 
 refused_in : (one : Result (Option Draft) Refusal) (rest : Result (List Draft) Refusal) (later : Option Refusal) (why : Refusal)
-    → ((w : Refusal) → rest ≡ Err w → later ≡ Some w) → then_drafts one rest ≡ Err why → or_later (err_of one) later ≡ Some why
+    → ((w : Refusal) → rest ≡ Err w → later ≡ Some w) → then_drafts one rest ≡ Err why → option_or (err_of one) later ≡ Some why
 refused_in (Err w) rest later why is_later both =
     let is_w : w ≡ why = cc both in
     ap Some is_w
@@ -81,7 +82,7 @@ drafts_refusal options tree (e ∷ es) why is =
     refused_in (draft_of options tree (entry_of e)) (drafts_of options tree (map entry_of es)) (first_refusal (refusal_by options tree) es) why (drafts_refusal options tree es) is
 
 passed_in : (one : Result (Option Draft) Refusal) (rest : Result (List Draft) Refusal) (later : Option Refusal) (drafts : List Draft)
-    → ((ds : List Draft) → rest ≡ Ok ds → later ≡ None) → then_drafts one rest ≡ Ok drafts → or_later (err_of one) later ≡ None
+    → ((ds : List Draft) → rest ≡ Ok ds → later ≡ None) → then_drafts one rest ≡ Ok drafts → option_or (err_of one) later ≡ None
 passed_in (Err w) rest later drafts is_later both = absurd (cc both)
 passed_in (Ok draft) (Err w) later drafts is_later both = absurd (cc both)
 passed_in (Ok draft) (Ok ds) later drafts is_later both = is_later ds refl
@@ -148,7 +149,7 @@ built options tree [] rising paths = record { after = λ p behind. tt; rise = tt
 built options tree (e ∷ es) rising paths =
     at (change_at options tree (entry_of e) (plan_of options tree es)) (change_at_is options tree (entry_of e) (plan_of options tree es)) (built options tree es rising.1 paths.1)
   where
-    at : (change : Option Planned) → IsChangeAt tree e.0 change → IsBuilt tree es (plan_of options tree es) → IsBuilt tree (e ∷ es) (with_change change (plan_of options tree es))
+    at : (change : Option Planned) → IsChangeAt tree e.0 change → IsBuilt tree es (plan_of options tree es) → IsBuilt tree (e ∷ es) (with_some change (plan_of options tree es))
     at None is later = record {
       after = λ p behind. later.after p behind.1;
       rise = later.rise;
@@ -174,7 +175,7 @@ pub not_found_not_planned : (options : Options) (tree : Tree) (es : List At) (q 
 not_found_not_planned options tree [] q none = refl
 not_found_not_planned options tree (e ∷ es) q none = at (same_name q e.0) refl (not_found_not_planned options tree es q) none
   where
-    with_other : same_name q e.0 ≡ false → (change : Option Planned) → IsChangeAt tree e.0 change → planned_at (with_change change (plan_of options tree es)) q ≡ planned_at (plan_of options tree es) q
+    with_other : same_name q e.0 ≡ false → (change : Option Planned) → IsChangeAt tree e.0 change → planned_at (with_some change (plan_of options tree es)) q ≡ planned_at (plan_of options tree es) q
     with_other other None is = refl
     with_other other (Some x) is = planned_other x (plan_of options tree es) q (ap (λ n. same_name n q) (is.path_is x refl) ∙ other_sym q e.0 other)
 
@@ -213,17 +214,17 @@ found_planned options tree [] q r rising paths found = absurd (cc found)
 found_planned options tree (e ∷ es) q r rising paths found = at (same_name q e.0) refl (found_planned options tree es q r rising.1 paths.1) found
   where
     -- the entry itself
-    own : (change : Option Planned) → IsChangeAt tree e.0 change → planned_at (with_change change (plan_of options tree es)) e.0 ≡ change
+    own : (change : Option Planned) → IsChangeAt tree e.0 change → planned_at (with_some change (plan_of options tree es)) e.0 ≡ change
     own None is = none_after e.0 (plan_of options tree es) ((built options tree es rising.1 paths.1).after e.0 rising.0)
     own (Some x) is = ap (planned_at (x ∷ plan_of options tree es)) (sym (is.path_is x refl)) ∙ planned_here x (plan_of options tree es)
 
     still : (p : Name) → IsUpTo e.0 p → is_path p ≡ true → p ≢ root → (change : Option Planned) → IsChangeAt tree e.0 change
-        → child_remains (plan_of options tree es) tree p ≡ child_remains (with_change change (plan_of options tree es)) tree p
+        → child_remains (plan_of options tree es) tree p ≡ child_remains (with_some change (plan_of options tree es)) tree p
     still p up_to path other None is = refl
     still p up_to path other (Some x) is =
         sym (remains_on x (plan_of options tree es) tree p (ap is_path (is.path_is x refl) ∙ paths.0) path other (subst (λ n. IsUpTo n p) (sym (is.path_is x refl)) up_to))
 
-    others : same_name q e.0 ≡ false → (change : Option Planned) → IsChangeAt tree e.0 change → planned_at (with_change change (plan_of options tree es)) q ≡ planned_at (plan_of options tree es) q
+    others : same_name q e.0 ≡ false → (change : Option Planned) → IsChangeAt tree e.0 change → planned_at (with_some change (plan_of options tree es)) q ≡ planned_at (plan_of options tree es) q
     others other None is = refl
     others other (Some x) is = planned_other x (plan_of options tree es) q (ap (λ n. same_name n q) (is.path_is x refl) ∙ other_sym q e.0 other)
 

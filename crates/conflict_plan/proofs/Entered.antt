@@ -6,6 +6,7 @@ use Rattle.std.specs.BTreeMap.{is_at}
 use Rattle.std.specs.List.{AllByRecursion}
 use Rattle.std.specs.List.Sorted.{IsStrictlySortedBy}
 use Rattle.std.specs.Map.{lookup}
+use Rattle.std.specs.Option.{option_or}
 use Rattle.std.specs.declared.cmp.Ordering.TheVariants.{Less}
 use Rattle.std.specs.Ordering.{nat_cmp}
 use Rattle.std.specs.Cmp.Lexicographic.{slice_cmp}
@@ -14,7 +15,7 @@ use Rattle.tree_scan.specs.tree-disk.Laws.{same_means}
 use Rattle.tree_scan.proofs.tree-disk.Laws.{same_itself}
 use Rattle.tree_scan.specs.tree-disk.Tree.{Name, same_name}
 use Rattle.conflict_plan.specs.declared.records.Recorded.{Recorded}
-use Rattle.conflict_plan.specs.Entries.{first_refusal, or_later}
+use Rattle.conflict_plan.specs.Entries.{first_refusal}
 use Rattle.conflict_plan.proofs.Order.{less_other, less_then}
 use Rattle.tree_scan.proofs.tree-disk.Order.{name_cmp}
 
@@ -90,7 +91,7 @@ pub first_found : (refusal : Name → Recorded → Option Refusal) (es : List At
 first_found refusal [] why rising is = absurd (cc is)
 first_found refusal (e ∷ es) why rising is = at (refusal e.0 e.1) refl (first_found refusal es why rising.1) is
   where
-    at : (o : Option Refusal) → refusal e.0 e.1 ≡ o → (first_refusal refusal es ≡ Some why → IsFirstAt refusal es why) → or_later o (first_refusal refusal es) ≡ Some why → IsFirstAt refusal (e ∷ es) why
+    at : (o : Option Refusal) → refusal e.0 e.1 ≡ o → (first_refusal refusal es ≡ Some why → IsFirstAt refusal es why) → option_or o (first_refusal refusal es) ≡ Some why → IsFirstAt refusal (e ∷ es) why
     at (Some w) here rest is = record {
       path = e.0;
       recorded = e.1;
@@ -118,7 +119,7 @@ pub none_found : (refusal : Name → Recorded → Option Refusal) (es : List At)
 none_found refusal [] is p r found = absurd (cc found)
 none_found refusal (e ∷ es) is p r found = at (refusal e.0 e.1) refl (λ none. none_found refusal es none p r) is (same_name p e.0) refl found
   where
-    at : (o : Option Refusal) → refusal e.0 e.1 ≡ o → (first_refusal refusal es ≡ None → found_at es p ≡ Some r → refusal p r ≡ None) → or_later o (first_refusal refusal es) ≡ None
+    at : (o : Option Refusal) → refusal e.0 e.1 ≡ o → (first_refusal refusal es ≡ None → found_at es p ≡ Some r → refusal p r ≡ None) → option_or o (first_refusal refusal es) ≡ None
         → (b : Bool) → same_name p e.0 ≡ b → cond b (Some e.1) (found_at es p) ≡ Some r → refusal p r ≡ None
     at (Some w) here later is b same found = absurd (cc is)
     at None here later is true same found =

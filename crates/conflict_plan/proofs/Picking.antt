@@ -71,7 +71,7 @@ module _ (all : List Entry) (n : ℕ) (e : Entry) (within : n < length all) (is_
   pub picks_one : (draft : Draft) → IsPickedOf e draft.planned → PicksOn all n made → PicksOn all (n + 1) (made ++ draft ∷ [])
   picks_one draft is on rest picked =
       subst (ArePicked all) (sym (append_assoc (map planned_of made) (draft.planned ∷ []) rest) ∙ ap (λ l. l ++ rest) (sym (map_one made draft)))
-      (on (draft.planned ∷ rest) (subst (λ l. ArePicked l (draft.planned ∷ rest)) (sym split) (inr (record { first = draft.planned; rest = rest; split = refl; picked = is; others = picked }))))
+      (on (draft.planned ∷ rest) (subst (λ l. ArePicked l (draft.planned ∷ rest)) (sym split) (inr (record { first = draft.planned; rest = rest; split = refl; one = is; others = picked }))))
 
 -- ---- the plan, from the last draft to the first
 
@@ -91,7 +91,7 @@ keeps_one all front left draft plan next is step keeps = record {
   where
     at : (next ≡ plan) ⊎ (next ≡ draft.planned ∷ plan) → AreKept (draft ∷ keeps.behind) next
     at (inl same) = inl (subst (AreKept keeps.behind) (sym same) keeps.kept)
-    at (inr more) = inr (record { rest = plan; split = more; others = keeps.kept })
+    at (inr more) = inr (record { first = draft.planned; rest = plan; split = more; one = refl; others = keeps.kept })
 
 -- ---- both together
 
@@ -106,10 +106,10 @@ kept_picked (e ∷ es) (d ∷ ds) plan (inr begins) (inl kept) =
     rest_is : {x : Planned} {rest : List Planned} → d.planned ∷ map planned_of ds ≡ x ∷ rest → map planned_of ds ≡ rest
     rest_is is = cc is
 kept_picked (e ∷ es) (d ∷ ds) plan (inr begins) (inr keeps) = inr (record {
-  first = d.planned;
+  first = keeps.first;
   rest = keeps.rest;
   split = keeps.split;
-  picked = subst (IsPickedOf e) (sym (first_is begins.split)) begins.picked;
+  one = subst (IsPickedOf e) (sym (keeps.one ∙ first_is begins.split)) begins.one;
   others = kept_picked es ds keeps.rest (subst (ArePicked es) (sym (rest_is begins.split)) begins.others) keeps.others;
 })
   where
@@ -136,7 +136,7 @@ picked_behind path [] plan behind picked = subst (AllByRecursion (λ (x : Planne
 picked_behind path (e ∷ es) plan behind (inl picked) = picked_behind path es plan behind.1 picked
 picked_behind path (e ∷ es) plan behind (inr begins) =
     subst (AllByRecursion (λ (x : Planned). name_cmp path x.path ≡ Less)) (sym begins.split)
-    (subst (λ p. name_cmp path p ≡ Less) (sym begins.picked.path) behind.0, picked_behind path es begins.rest behind.1 begins.others)
+    (subst (λ p. name_cmp path p ≡ Less) (sym begins.one.path) behind.0, picked_behind path es begins.rest behind.1 begins.others)
 
 pub picked_rises : (es : List At) (plan : List Planned) → AreRising es → ArePicked (map entry_of es) plan → IsStrictlySortedBy planned_cmp plan
 unfolding IsStrictlySortedBy
@@ -144,7 +144,7 @@ picked_rises [] plan rising picked = subst (IsStrictlySortedBy planned_cmp) (sym
 picked_rises (e ∷ es) plan rising (inl picked) = picked_rises es plan rising.1 picked
 picked_rises (e ∷ es) plan rising (inr begins) =
     subst (IsStrictlySortedBy planned_cmp) (sym begins.split) (
-      subst (λ p. AllByRecursion (λ (x : Planned). name_cmp p x.path ≡ Less) begins.rest) (sym begins.picked.path) (picked_behind e.0 es begins.rest rising.0 begins.others),
+      subst (λ p. AllByRecursion (λ (x : Planned). name_cmp p x.path ≡ Less) begins.rest) (sym begins.one.path) (picked_behind e.0 es begins.rest rising.0 begins.others),
       picked_rises es begins.rest rising.1 begins.others,
     )
 
@@ -172,7 +172,7 @@ module _ (old fresh : List TroveParts) (all : List At) (entries : AreEntries old
   each_plannable [] plan found picked = subst (AllByRecursion (IsPlannable old fresh)) (sym picked) tt
   each_plannable (e ∷ es) plan found (inl picked) = each_plannable es plan found.1 picked
   each_plannable (e ∷ es) plan found (inr begins) =
-      subst (AllByRecursion (IsPlannable old fresh)) (sym begins.split) (plannable e.0 e.1 begins.first found.0 begins.picked, each_plannable es begins.rest found.1 begins.others)
+      subst (AllByRecursion (IsPlannable old fresh)) (sym begins.split) (plannable e.0 e.1 begins.first found.0 begins.one, each_plannable es begins.rest found.1 begins.others)
 
   -- what is planned of the entries of two lists
   pub are_plannable : (made : List Entry) (ds : List Draft) (plan : List Planned) → made ≡ map entry_of all → ArePicked made (map planned_of ds) → AreKept ds plan → ArePlannable old fresh plan

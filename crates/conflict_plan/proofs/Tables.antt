@@ -15,7 +15,7 @@ use Rattle.conflict_plan.specs.declared.entries.Entry.{Entry}
 use Rattle.conflict_plan.specs.declared.planned.Planned.{Planned}
 use Rattle.conflict_plan.specs.declared.table.Outcome.{Outcome}
 use Rattle.conflict_plan.specs.declared.table.Outcome.TheVariants.{Stays, Removed, Written, Unowned, Edited}
-use Rattle.conflict_plan.specs.Drafts.{draft_by, draft_of, drafted, is_left_dir, is_same_in_both, is_settled}
+use Rattle.conflict_plan.specs.Drafts.{draft_by, draft_of, drafted, is_left_dir, is_same_in_both, is_settled, with_some}
 use Rattle.conflict_plan.specs.Making.{child_remains}
 use Rattle.conflict_plan.specs.Plan.{change_of, refusal_of}
 use Rattle.conflict_plan.specs.Settled.{with_settled}
@@ -85,11 +85,6 @@ remains_other (Some old) None was options other remains = ap (λ o. cond (is_not
 
 -- ---- what is drafted
 
--- with a change in front
-abbrev pub with_change : Option Planned → List Planned → List Planned
-with_change None plan = plan
-with_change (Some x) plan = x ∷ plan
-
 abbrev pub after_draft : Tree → Result (Option Draft) Refusal → List Planned → List Planned
 after_draft tree (Ok (Some draft)) plan = with_settled tree draft plan
 after_draft tree (Ok None) plan = plan
@@ -106,7 +101,7 @@ left_was_dir (Some old) (Some fresh) was left = absurd (cc left)
 left_was_dir (Some old) None was left = and_second (is_dir old) (marks.is_dir was) left
 
 drafted_other : (tree : Tree) (o : Outcome) (e : Entry) (was : Mark) (plan : List Planned) → is_left_dir e.old e.fresh was ≡ false
-    → after_draft tree (drafted o e was) plan ≡ with_change (change_of o e.path was e.fresh) plan
+    → after_draft tree (drafted o e was) plan ≡ with_some (change_of o e.path was e.fresh) plan
 drafted_other tree Stays e was plan other = refl
 drafted_other tree Removed e was plan other =
     ap (λ b. cond ((b && marks.is_dir was) && child_remains plan tree e.path) plan (record { path = e.path; was = was; want = None } ∷ plan)) other
@@ -116,40 +111,40 @@ drafted_other tree Unowned e was plan other = refl
 drafted_other tree Edited e was plan other = refl
 
 drafted_left : (tree : Tree) (e : Entry) (was : Mark) (plan : List Planned) → is_left_dir e.old e.fresh was ≡ true → (remains : Bool) → child_remains plan tree e.path ≡ remains
-    → after_draft tree (drafted Removed e was) plan ≡ with_change (change_of (cond remains Stays Removed) e.path was e.fresh) plan
+    → after_draft tree (drafted Removed e was) plan ≡ with_some (change_of (cond remains Stays Removed) e.path was e.fresh) plan
 drafted_left tree e was plan left remains is =
     ap (λ b. cond ((b && marks.is_dir was) && child_remains plan tree e.path) plan (record { path = e.path; was = was; want = None } ∷ plan)) left
     ∙ ap (λ b. cond (b && child_remains plan tree e.path) plan (record { path = e.path; was = was; want = None } ∷ plan)) (left_was_dir e.old e.fresh was left)
     ∙ ap (λ b. cond b plan (record { path = e.path; was = was; want = None } ∷ plan)) is
     ∙ at remains
   where
-    at : (remains : Bool) → cond remains plan (record { path = e.path; was = was; want = None } ∷ plan) ≡ with_change (change_of (cond remains Stays Removed) e.path was e.fresh) plan
+    at : (remains : Bool) → cond remains plan (record { path = e.path; was = was; want = None } ∷ plan) ≡ with_some (change_of (cond remains Stays Removed) e.path was e.fresh) plan
     at true = refl
     at false = refl
 
 drafted_by : (options : Options) (tree : Tree) (e : Entry) (was : Mark) (plan : List Planned) → is_pinned e.path ≡ false → (left : Bool) → is_left_dir e.old e.fresh was ≡ left
-    → after_draft tree (drafted (outcome_by e.old e.fresh was false options) e was) plan ≡ with_change (change_of (outcome_by e.old e.fresh was (child_remains plan tree e.path) options) e.path was e.fresh) plan
+    → after_draft tree (drafted (outcome_by e.old e.fresh was false options) e was) plan ≡ with_some (change_of (outcome_by e.old e.fresh was (child_remains plan tree e.path) options) e.path was e.fresh) plan
 drafted_by options tree e was plan free true left =
     ap (λ o. after_draft tree (drafted o e was) plan) (remains_left e.old e.fresh was options left false)
     ∙ drafted_left tree e was plan left (child_remains plan tree e.path) refl
-    ∙ ap (λ o. with_change (change_of o e.path was e.fresh) plan) (sym (remains_left e.old e.fresh was options left (child_remains plan tree e.path)))
+    ∙ ap (λ o. with_some (change_of o e.path was e.fresh) plan) (sym (remains_left e.old e.fresh was options left (child_remains plan tree e.path)))
 drafted_by options tree e was plan free false other =
     drafted_other tree (outcome_by e.old e.fresh was false options) e was plan other
-    ∙ ap (λ o. with_change (change_of o e.path was e.fresh) plan) (sym (remains_other e.old e.fresh was options other (child_remains plan tree e.path)))
+    ∙ ap (λ o. with_some (change_of o e.path was e.fresh) plan) (sym (remains_other e.old e.fresh was options other (child_remains plan tree e.path)))
 
 -- one entry in front of what is planned behind it
-pub draft_step : (options : Options) (tree : Tree) (e : Entry) (plan : List Planned) → after_draft tree (draft_of options tree e) plan ≡ with_change (change_at options tree e plan) plan
+pub draft_step : (options : Options) (tree : Tree) (e : Entry) (plan : List Planned) → after_draft tree (draft_of options tree e) plan ≡ with_some (change_at options tree e plan) plan
 draft_step options tree e plan = at (is_settled e) refl
   where
-    by_pinned : (b : Bool) → is_pinned e.path ≡ b → is_settled e ≡ false → after_draft tree (draft_by options e (fingerprint_at tree e.path)) plan ≡ with_change (change_at options tree e plan) plan
+    by_pinned : (b : Bool) → is_pinned e.path ≡ b → is_settled e ≡ false → after_draft tree (draft_by options e (fingerprint_at tree e.path)) plan ≡ with_some (change_at options tree e plan) plan
     by_pinned true is settled = absurd (cc (or_first (is_pinned e.path) (is_same_in_both e.old e.fresh) is, settled))
     by_pinned false is settled =
         ap (λ b. after_draft tree (drafted (cond b Stays (outcome_by e.old e.fresh (fingerprint_at tree e.path) false options)) e (fingerprint_at tree e.path)) plan) is
         ∙ drafted_by options tree e (fingerprint_at tree e.path) plan is (is_left_dir e.old e.fresh (fingerprint_at tree e.path)) refl
-        ∙ ap (λ b. with_change (change_of (cond b Stays (outcome_by e.old e.fresh (fingerprint_at tree e.path) (child_remains plan tree e.path) options)) e.path (fingerprint_at tree e.path) e.fresh) plan) (sym is)
+        ∙ ap (λ b. with_some (change_of (cond b Stays (outcome_by e.old e.fresh (fingerprint_at tree e.path) (child_remains plan tree e.path) options)) e.path (fingerprint_at tree e.path) e.fresh) plan) (sym is)
 
-    at : (b : Bool) → is_settled e ≡ b → after_draft tree (cond b (Ok None) (draft_by options e (fingerprint_at tree e.path))) plan ≡ with_change (change_at options tree e plan) plan
-    at true settled = ap (λ o. with_change (change_of o e.path (fingerprint_at tree e.path) e.fresh) plan) (sym (settled_stays e (fingerprint_at tree e.path) (child_remains plan tree e.path) options settled))
+    at : (b : Bool) → is_settled e ≡ b → after_draft tree (cond b (Ok None) (draft_by options e (fingerprint_at tree e.path))) plan ≡ with_some (change_at options tree e plan) plan
+    at true settled = ap (λ o. with_some (change_of o e.path (fingerprint_at tree e.path) e.fresh) plan) (sym (settled_stays e (fingerprint_at tree e.path) (child_remains plan tree e.path) options settled))
     at false settled = by_pinned (is_pinned e.path) refl settled
 
 -- ---- refusals

@@ -45,13 +45,14 @@ draft_by options e was = drafted (path_outcome e.path e.old e.fresh was false op
 abbrev pub draft_of : Options → Tree → Entry → Result (Option Draft) Refusal
 draft_of options tree e = if is_settled e then Ok None else draft_by options e (fingerprint_at tree e.path)
 
-abbrev pub with_draft : Option Draft → List Draft → List Draft
-with_draft None drafts = drafts
-with_draft (Some draft) drafts = draft ∷ drafts
+-- a list with the value in front, where there is one
+abbrev pub with_some : {A : Type 0} → Option A → List A → List A
+with_some None xs = xs
+with_some (Some x) xs = x ∷ xs
 
 -- a list with more in front, or the refusal
 abbrev pub in_front : Option Draft → Result (List Draft) Refusal → Result (List Draft) Refusal
-in_front draft (Ok drafts) = Ok (with_draft draft drafts)
+in_front draft (Ok drafts) = Ok (with_some draft drafts)
 in_front draft (Err why) = Err why
 
 abbrev pub then_drafts : Result (Option Draft) Refusal → Result (List Draft) Refusal → Result (List Draft) Refusal
@@ -79,10 +80,14 @@ IsTableRefusal (refusal.Unowned path) = Unit {0}
 IsTableRefusal (refusal.Edited path) = Unit {0}
 IsTableRefusal _ = ⊥
 
+-- a refusal of which P holds, a fault of the disk or want of memory
+abbrev pub IsRefusalOrDiskStop : (Refusal → Type 0) → Stop → Type 0
+IsRefusalOrDiskStop P (Refused why) = P why
+IsRefusalOrDiskStop P Failed = Unit {0}
+IsRefusalOrDiskStop P Memory = Unit {0}
+IsRefusalOrDiskStop P (Damaged path) = ⊥
+IsRefusalOrDiskStop P FarFailed = ⊥
+IsRefusalOrDiskStop P (FarDamaged path) = ⊥
+
 abbrev pub RefusesAtMost : Stop → Type 0
-RefusesAtMost (Refused why) = IsTableRefusal why
-RefusesAtMost Failed = Unit {0}
-RefusesAtMost Memory = Unit {0}
-RefusesAtMost (Damaged path) = ⊥
-RefusesAtMost FarFailed = ⊥
-RefusesAtMost (FarDamaged path) = ⊥
+RefusesAtMost stop = IsRefusalOrDiskStop IsTableRefusal stop

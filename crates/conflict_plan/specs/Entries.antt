@@ -1,5 +1,6 @@
 -- The paths that two lists record, in their order.
 use Rattle.std.specs.Prelude.{ℕ, List, [], ◌∷◌, Option, Some, None}
+use Rattle.std.specs.Option.{option_or}
 use Rattle.trove_stream.specs.cny-base.declared.refusal.Fault.{Fault}
 use Rattle.trove_stream.specs.cny-base.declared.refusal.Refusal.{Refusal}
 use Rattle.trove_stream.specs.cny-base.declared.refusal.Refusal.TheVariants.{Owned}
@@ -22,14 +23,10 @@ owned_by path (Some second) (Some shared) = Some (Owned path shared.first second
 abbrev pub owned_at : Name → Option Shared → Option Refusal
 owned_at path shared = owned_by path (second_of shared) shared
 
-abbrev pub or_later : Option Refusal → Option Refusal → Option Refusal
-or_later None later = later
-or_later (Some why) later = Some why
-
 -- the refusal of the first path that has one
 abbrev pub first_refusal : (Name → Recorded → Option Refusal) → List (Name × Recorded) → Option Refusal
 first_refusal refusal [] = None
-first_refusal refusal (e ∷ es) = or_later (refusal e.0 e.1) (first_refusal refusal es)
+first_refusal refusal (e ∷ es) = option_or (refusal e.0 e.1) (first_refusal refusal es)
 
 -- the refusal of the first path that two troves can't share
 abbrev pub first_shared : List (Name × Recorded) → Option Refusal

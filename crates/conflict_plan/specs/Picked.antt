@@ -11,29 +11,26 @@ pub record IsPickedOf (e : Entry) (x : Planned) : Type 0 where
   pub loose : is_settled e ≡ false
   pub target : (x.want ≡ None) ⊎ (x.want ≡ e.fresh)
 
--- the first is planned of this entry, and of the others P holds
-pub record BeginsWith (e : Entry) (P : List Planned → Type 0) (plan : List Planned) : Type 0 where
+-- the first is so of this element, and of the others P holds
+pub record BeginsWith {A : Type 0} (Is : A → Planned → Type 0) (x : A) (P : List Planned → Type 0) (plan : List Planned) : Type 0 where
   pub first : Planned
   pub rest : List Planned
   pub split : plan ≡ first ∷ rest
-  pub picked : IsPickedOf e first
+  pub one : Is x first
   pub others : P rest
+
+-- each is so of one of these elements, in their order
+abbrev pub AreOfSome : {A : Type 0} → (A → Planned → Type 0) → List A → List Planned → Type 0
+AreOfSome Is [] plan = plan ≡ []
+AreOfSome Is (x ∷ xs) plan = AreOfSome Is xs plan ⊎ BeginsWith Is x (AreOfSome Is xs) plan
 
 -- planned of some of the entries, in their order
 abbrev pub ArePicked : List Entry → List Planned → Type 0
-ArePicked [] plan = plan ≡ []
-ArePicked (e ∷ es) plan = ArePicked es plan ⊎ BeginsWith e (ArePicked es) plan
-
--- the first is that of the draft, and of the others P holds
-pub record KeepsFirst (draft : Draft) (P : List Planned → Type 0) (plan : List Planned) : Type 0 where
-  pub rest : List Planned
-  pub split : plan ≡ draft.planned ∷ rest
-  pub others : P rest
+ArePicked es plan = AreOfSome IsPickedOf es plan
 
 -- some of the drafts, in their order
 abbrev pub AreKept : List Draft → List Planned → Type 0
-AreKept [] plan = plan ≡ []
-AreKept (d ∷ ds) plan = AreKept ds plan ⊎ KeepsFirst d (AreKept ds) plan
+AreKept ds plan = AreOfSome (λ (d : Draft) x. x ≡ d.planned) ds plan
 
 -- of the draft, where there is one
 abbrev pub IsPickedDraft : Entry → Option Draft → Type 0

@@ -24,6 +24,7 @@ use Rattle.conflict_plan.specs.declared.planned.Planned.{Planned}
 use Rattle.conflict_plan.specs.declared.table.Outcome.{Outcome}
 use Rattle.conflict_plan.specs.declared.table.Outcome.TheVariants.{Stays, Removed, Written, Unowned, Edited}
 use Rattle.conflict_plan.specs.Claims.{record_at, owners_at}
+use Rattle.conflict_plan.specs.Drafts.{IsRefusalOrDiskStop}
 use Rattle.conflict_plan.specs.Table.{path_outcome}
 pub use Rattle.trove_stream.specs.cny-base.Answer.{IsAnswer}
 
@@ -196,9 +197,4 @@ IsPlanRefusal _ = ⊥
 
 -- the stops of planning
 abbrev pub IsPlanStop : Stop → Type 0
-IsPlanStop (Refused why) = IsPlanRefusal why
-IsPlanStop Failed = Unit {0}
-IsPlanStop Memory = Unit {0}
-IsPlanStop (Damaged path) = ⊥
-IsPlanStop FarFailed = ⊥
-IsPlanStop (FarDamaged path) = ⊥
+IsPlanStop stop = IsRefusalOrDiskStop IsPlanRefusal stop

@@ -88,18 +88,7 @@ pub(crate) fn note_requirers(
     Ok(())
 }
 
-// Notes a trove beside the names of what it provides, its own one too.
-fn note_provider(alloc: Global, index: &mut Index, trove: &Trove) -> Result<(), OutOfMemory>
-    ensures noted { OnOk result (IsNoted index.new trove.now.id.name (provides_of trove.now)) }
-    ensures kept { (dep name : List ℕ) → IsTrue (notes index.old dep name) → IsTrue (notes index.new dep name) }
-{
-    let name = &trove.id().name;
-    note(alloc, index, name.text(), name)?;
-    note_deps(alloc, index, trove.provides(), name)?;
-    Ok(())
-}
-
-/// Notes each trove beside the names of what it provides.
+/// Notes each trove beside the names of what it provides, its own one too.
 pub(crate) fn note_providers(
     alloc: Global,
     index: &mut Index,
@@ -109,7 +98,9 @@ pub(crate) fn note_providers(
     ensures kept { (dep name : List ℕ) → IsTrue (notes index.old dep name) → IsTrue (notes index.new dep name) }
 {
     for trove in list {
-        note_provider(alloc, index, trove)?;
+        let name = &trove.id().name;
+        note(alloc, index, name.text(), name)?;
+        note_deps(alloc, index, trove.provides(), name)?;
     }
     Ok(())
 }

@@ -16,7 +16,6 @@ use Rattle.local_db.specs.tree-disk.Laws.{same_means}
 use Rattle.local_db.proofs.tree-disk.Laws.{same_itself}
 use Rattle.local_db.specs.tree-disk.Tree.{Name, Tree, same_name}
 use Rattle.tree_scan.specs.declared.mark.Mark.{Mark}
-use Rattle.tree_scan.specs.declared.mark.Mark.TheVariants as mark
 use Rattle.tree_scan.proofs.MarkLaws.{same_mark_itself, same_mark_means}
 use Rattle.tree_scan.specs.Marks as marks
 use Rattle.tree_scan.specs.Marks.{fingerprint_at, fingerprint_of_record, is_nothing, same_mark}

@@ -6,7 +6,6 @@ use Rattle.local_db.specs.journal-log.declared.put.Want.TheVariants as want
 use Rattle.local_db.specs.MarkBytes.{IsMark}
 use Rattle.local_db.specs.Steps.{want_of}
 use Rattle.local_db.specs.SystemState.{IsSmall, IsTellable}
-use Rattle.tree_scan.specs.declared.mark.Mark.TheVariants.{File}
 use Rattle.tree_scan.specs.Marks.{fingerprint}
 use Rattle.job_targets.specs.Targets.{IsOldWant}
 use Rattle.change_set.proofs.file-stream.Digests.{digest_long}

@@ -7,11 +7,11 @@ use Rattle.std.proofs.lemmas.Option.{slice_get_within}
 use Rattle.std.proofs.lemmas.Map.Views.{Contains-from_any}
 use Rattle.change_set.specs.trove-stream.declared.parts.TroveParts.{TroveParts}
 use Rattle.update_job.specs.Gone.{IsPlace, Leads, LeadsPast, IsReached, IsOutside, IsKept, IsGone, IsLeft}
-use Rattle.update_job.specs.Places.{ArePlacesReached, AreOthers, ArePlaces, ArePlacesLeft}
+use Rattle.update_job.specs.Places.{ArePlacesReached, ArePlacesFrom, AreOthers, ArePlaces, ArePlacesLeft}
 use Rattle.update_job.proofs.Elements.{apart, item_there}
 use Rattle.update_job.proofs.Searching.{reached_also}
 use Rattle.change_rel.specs.cny-base.Reach.{IsReachedIn}
-use Rattle.change_rel.proofs.cny-base.Lists.{nothing_in}
+use Rattle.change_rel.proofs.cny-base.Lists.{contains_cases, contains_first, nothing_in}
 use Rattle.change_rel.proofs.cny-base.Reaching.{reached_later}
 
 -- a place that is reached stands where the roots do
@@ -22,9 +22,26 @@ stands_reached list IsBarred IsRoot stand (suc n) place is = ⊎_elim
     (λ step. (step.2.leads.named.trove, step.2.leads.named.there))
     is
 
+-- ---- from one place
+
+pub one_start : (start place : ℕ) → Contains (start ∷ []) place → place ≡ start
+one_start start place among = ⊎_elim (λ same. sym same) (λ more. absurd (nothing_in place more)) (contains_cases start place [] among)
+
+pub places_from_one : (list : List TroveParts) (start : ℕ) (places : List ℕ) → ArePlacesReached list [] (start ∷ []) places → ArePlacesFrom list start places
+places_from_one list start places are = record {
+  reached = λ place among.
+      reached_also (LeadsPast list (Contains [])) (Leads list) (Contains (start ∷ [])) (λ (p : ℕ). p ≡ start) (λ x y step. step.leads) (one_start start) (length list) place (are.reached place among);
+  all = λ place is.
+      are.all place
+      (reached_also (Leads list) (LeadsPast list (Contains [])) (λ (p : ℕ). p ≡ start) (Contains (start ∷ [])) (λ x y step. record { leads = step; free = λ none. nothing_in y none })
+      (λ p same. subst (Contains (start ∷ [])) (sym same) (contains_first start [])) (length list) place is);
+}
+
+-- ---- from several
+
 -- no root is kept
 pub root_loose : (list : List TroveParts) (IsRoot : ℕ → Type 0) (n place : ℕ) → IsRoot place → IsReachedIn (LeadsPast list IsRoot) (IsOutside list IsRoot) n place → ⊥
-root_loose list IsRoot zero place root is = is.outside (reached_later (Leads list) IsRoot 0 (length list) place (omega arith) root)
+root_loose list IsRoot zero place root is = is.is_not (reached_later (Leads list) IsRoot 0 (length list) place (omega arith) root)
 root_loose list IsRoot (suc n) place root is = ⊎_elim (λ sooner. root_loose list IsRoot n place root sooner) (λ step. step.2.free root) is
 
 pub root_goes : (list : List TroveParts) (IsRoot : ℕ → Type 0) (place : ℕ) → IsRoot place → IsGone list IsRoot place
@@ -44,10 +61,10 @@ module _ (list : List TroveParts) (roots reached outside kept : List ℕ) (stand
       (reached_also (Leads list) (LeadsPast list (Contains [])) (Contains roots) (Contains roots) (λ x y step. record { leads = step; free = λ none. nothing_in y none }) (λ x root. root) (length list) place is)
 
   to_outside : (place : ℕ) → Contains outside place → IsOutside list (Contains roots) place
-  to_outside place among = let other = others.each place among in record { stands = other.0; outside = λ is. other.1 (from_reached place is) }
+  to_outside place among = let other = others.each place among in record { stands = other.0; is_not = λ is. other.1 (from_reached place is) }
 
   from_outside : (place : ℕ) → IsOutside list (Contains roots) place → Contains outside place
-  from_outside place is = others.all place is.stands (λ among. is.outside (to_reached place among))
+  from_outside place is = others.all place is.stands (λ among. is.is_not (to_reached place among))
 
   to_kept : (place : ℕ) → Contains kept place → IsKept list (Contains roots) place
   to_kept place among =
@@ -62,14 +79,14 @@ module _ (list : List TroveParts) (roots reached outside kept : List ℕ) (stand
   places_left_of = record {
     left = λ place among. record {
       stands = stands_reached list (Contains roots) (IsOutside list (Contains roots)) (λ other is. is.stands) (length list) place (to_kept place among);
-      stays = λ gone. gone.loose (to_kept place among);
+      is_not = λ gone. gone.loose (to_kept place among);
     };
     all = λ place is. by place is (list_any (eqb place) kept) refl;
   }
     where
       by : (place : ℕ) → IsLeft list (Contains roots) place → (b : Bool) → list_any (eqb place) kept ≡ b → Contains kept place
       by place is true known = Contains-from_any eqb-true place kept known
-      by place is false unknown = absurd (is.stays (record { reached = in_reached (list_any (eqb place) reached) refl; loose = not_kept }))
+      by place is false unknown = absurd (is.is_not (record { reached = in_reached (list_any (eqb place) reached) refl; loose = not_kept }))
         where
           not_kept : IsKept list (Contains roots) place → ⊥
           not_kept kept_is = apart kept place unknown (from_kept place kept_is)
@@ -78,7 +95,7 @@ module _ (list : List TroveParts) (roots reached outside kept : List ℕ) (stand
           in_reached true among = to_reached place (Contains-from_any eqb-true place reached among)
           in_reached false none =
               absurd (not_kept (reached_later (LeadsPast list (Contains roots)) (IsOutside list (Contains roots)) 0 (length list) place (omega arith)
-              (record { stands = is.stands; outside = λ reached_is. apart reached place none (from_reached place reached_is) })))
+              (record { stands = is.stands; is_not = λ reached_is. apart reached place none (from_reached place reached_is) })))
 
 -- ---- the places that aren't among some others, one after the other
 
@@ -138,10 +155,10 @@ module _ (list : List TroveParts) (R S : ℕ → Type 0) (to : (place : ℕ) →
   kept_to : (place : ℕ) → IsKept list R place → IsKept list S place
   kept_to place is =
       reached_also (LeadsPast list R) (LeadsPast list S) (IsOutside list R) (IsOutside list S) (λ x y step. record { leads = step.leads; free = λ barred. step.free (back y barred) })
-      (λ x other. record { stands = other.stands; outside = λ reached. other.outside (reached_back x reached) }) (length list) place is
+      (λ x other. record { stands = other.stands; is_not = λ reached. other.is_not (reached_back x reached) }) (length list) place is
 
   pub left_also : (place : ℕ) → IsLeft list R place → IsLeft list S place
   left_also place is = record {
     stands = is.stands;
-    stays = λ gone. is.stays (record { reached = reached_back place gone.reached; loose = λ kept. gone.loose (kept_to place kept) });
+    is_not = λ gone. is.is_not (record { reached = reached_back place gone.reached; loose = λ kept. gone.loose (kept_to place kept) });
   }

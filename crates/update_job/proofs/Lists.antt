@@ -93,7 +93,7 @@ module _ (list : List TroveParts) (Named : List ℕ → Type 0) (roots left : Li
   named_goes : (name : List ℕ) (t : TroveParts) → IsAtOne list left name t → Named name → ⊥
   named_goes name t is named =
       let root : Contains roots is.place = of.all is.place (record { name = name; named = named; place_of = record { trove = t; there = is.there; named = is.named } }) in
-      (are.left is.place is.among).stays (root_goes list (Contains roots) is.place root)
+      (are.left is.place is.among).is_not (root_goes list (Contains roots) is.place root)
 
 -- ---- erasure
 

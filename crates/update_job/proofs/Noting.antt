@@ -1,5 +1,5 @@
 -- Changes in a map by the names of their troves, and the list of such a map.
-use Rattle.std.proofs.Common.{◌≡◌, ℕ, zero, suc, ◌+◌, ◌<◌, ◌⊎◌, ⊎_elim, inl, inr, Bool, true, false, cond, List, [], ◌∷◌, length, get_or, take, slice_get, Contains, true≢false, Option, Some, None, refl, sym, ap, subst, ◌∙◌, arith}
+use Rattle.std.proofs.Common.{◌≡◌, ℕ, zero, suc, ◌+◌, ◌<◌, ◌≤◌, ◌⊎◌, ⊎_elim, inl, inr, Bool, true, false, cond, List, [], ◌∷◌, length, get_or, take, slice_get, Contains, true≢false, Option, Some, None, refl, sym, ap, subst, ◌∙◌, arith}
 use Rattle.std.specs.BTreeMap.{IsOrdered, values, is_at}
 use Rattle.std.specs.Cmp.Lexicographic.{slice_cmp, nat_list_cmp_total, bytes_decides}
 use Rattle.std.specs.Str.{bytes_eq}
@@ -8,6 +8,7 @@ use Rattle.std.specs.List.Sorted.{IsStrictlySortedBy}
 use Rattle.std.specs.Map.{lookup, keys_of, values_of}
 use Rattle.std.specs.Ordering.{nat_cmp}
 use Rattle.std.specs.declared.cmp.Ordering.TheVariants.{Less}
+use Rattle.std.proofs.lemmas.List.{take_all}
 use Rattle.std.proofs.lemmas.Map.Entries.{place_from_lookup, btree_map_get_place}
 use Rattle.std.proofs.lemmas.Option.{slice_get-get_or, slice_get_within, same_Some, none-some}
 use Rattle.change_set.specs.trove-stream.Installed.{IsRising, IsNameless, IsPlaceOf, trove_of}
@@ -206,6 +207,11 @@ pub value_at : (es : List (List ℕ × Change)) (i : ℕ) (k : List ℕ) (c : Ch
 value_at [] i k c is = (let within = slice_get_within [] i (k, c) is in absurd (omega (arith, within)))
 value_at (e ∷ es) zero k c is = ap (λ (w : List ℕ × Change). Some w.1) (same_Some e (k, c) is)
 value_at (e ∷ es) (suc i) k c is = value_at es i k c is
+
+-- ---- the end of a list
+
+pub noted_whole : (Is : TroveParts → Change → Type 0) (troves : List TroveParts) (n : ℕ) (old new : Noted) → length troves ≤ n → NotedSoFar Is (take n troves) old new → NotesAll Is troves old new
+noted_whole Is troves n old new past so_far = subst (λ (l : List TroveParts). NotesAll Is l old new) (take_all n troves past) so_far.all
 
 -- ---- all changes
 

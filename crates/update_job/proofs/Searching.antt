@@ -36,6 +36,16 @@ pub record IsGathered (list : List TroveParts) (barred starts keys : List ℕ) (
   pub starts_in : (place : ℕ) → Contains starts place → Contains keys place
   pub next_in : (i : ℕ) → i < done → (next : ℕ) → LeadsPast list (Contains barred) (get_or keys i 0) next → Contains keys next
 
+-- places of the list, no two of them equal, are at most as many as its troves
+pub places_fit : (list : List TroveParts) (keys : List ℕ) → IsDistinct eqb keys → ((i : ℕ) → i < length keys → IsPlace list (get_or keys i 0)) → length keys ≤ length list
+places_fit list keys distinct stand = length-le_from_distinct_below keys (length list) distinct below
+  where
+    below : (q : ℕ) → list_any (eqb q) keys ≡ true → q < length list
+    below q is =
+        let at = number_at keys q (Contains-from_any eqb-true q keys is) in
+        let here = stand at.0 at.1 in
+        subst (λ (n : ℕ). n < length list) at.2 (slice_get_within list (get_or keys at.0 0) here.0 here.1)
+
 module _ (list : List TroveParts) (barred starts : List ℕ) where
   -- a place behind those that were there is one of those that were added
   added_at : (ids : List TroveId) (old new : List ℕ) (i : ℕ) → HasAddedPlaces name_of_id list barred ids old new → length old ≤ i → i < length new → IsPlaceOfItem name_of_id list barred ids (get_or new i 0)
@@ -106,16 +116,6 @@ module _ (list : List TroveParts) (barred starts : List ℕ) where
 
   -- ---- the end of the search
 
-  -- places of the list, no two of them equal, are at most as many as its troves
-  pub places_fit : (keys : List ℕ) → IsDistinct eqb keys → ((i : ℕ) → i < length keys → IsPlace list (get_or keys i 0)) → length keys ≤ length list
-  places_fit keys distinct stand = length-le_from_distinct_below keys (length list) distinct below
-    where
-      below : (q : ℕ) → list_any (eqb q) keys ≡ true → q < length list
-      below q is =
-          let at = number_at keys q (Contains-from_any eqb-true q keys is) in
-          let here = stand at.0 at.1 in
-          subst (λ (n : ℕ). n < length list) at.2 (slice_get_within list (get_or keys at.0 0) here.0 here.1)
-
   -- what is reached is among places that hold the first ones and with each place those to which it leads
   all_steps : (keys : List ℕ) → ((place : ℕ) → Contains starts place → Contains keys place)
       → ((place next : ℕ) → Contains keys place → LeadsPast list (Contains barred) place next → Contains keys next)
@@ -130,7 +130,7 @@ module _ (list : List TroveParts) (barred starts : List ℕ) where
   gathered_all keys done ended distinct gathered = record {
     reached = λ place among. (
         let i = number_at keys place among in
-        let few = places_fit keys distinct gathered.stand in
+        let few = places_fit list keys distinct gathered.stand in
         subst (IsReachedIn (LeadsPast list (Contains barred)) (Contains starts) (length list)) i.2
         (reached_later (LeadsPast list (Contains barred)) (Contains starts) i.0 (length list) (get_or keys i.0 0) (omega (arith, i.1, few)) (gathered.steps i.0 i.1)));
     all = λ place is. all_steps keys gathered.starts_in closed (length list) place is;

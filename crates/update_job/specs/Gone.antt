@@ -26,10 +26,14 @@ pub record LeadsPast (list : List TroveParts) (IsBarred : ℕ → Type 0) (from 
 abbrev pub IsReached : List TroveParts → (ℕ → Type 0) → ℕ → Type 0
 IsReached list IsRoot place = IsReachedIn (Leads list) IsRoot (length list) place
 
--- a trove that the roots don't reach
-pub record IsOutside (list : List TroveParts) (IsRoot : ℕ → Type 0) (place : ℕ) : Type 0 where
+-- a trove stands there, and the place isn't so
+pub record IsPlaceNot (list : List TroveParts) (Is : ℕ → Type 0) (place : ℕ) : Type 0 where
   pub stands : IsPlace list place
-  pub outside : IsReached list IsRoot place → ⊥
+  pub is_not : Is place → ⊥
+
+-- a trove that the roots don't reach
+abbrev pub IsOutside : List TroveParts → (ℕ → Type 0) → ℕ → Type 0
+IsOutside list IsRoot place = IsPlaceNot list (IsReached list IsRoot) place
 
 -- those and what they reach without entering a root
 abbrev pub IsKept : List TroveParts → (ℕ → Type 0) → ℕ → Type 0
@@ -41,6 +45,5 @@ pub record IsGone (list : List TroveParts) (IsRoot : ℕ → Type 0) (place : �
   pub loose : IsKept list IsRoot place → ⊥
 
 -- a trove that doesn't go
-pub record IsLeft (list : List TroveParts) (IsRoot : ℕ → Type 0) (place : ℕ) : Type 0 where
-  pub stands : IsPlace list place
-  pub stays : IsGone list IsRoot place → ⊥
+abbrev pub IsLeft : List TroveParts → (ℕ → Type 0) → ℕ → Type 0
+IsLeft list IsRoot place = IsPlaceNot list (IsGone list IsRoot) place

@@ -3,7 +3,7 @@ use Rattle.std.specs.Prelude.{◌≡◌, ℕ, List, length, slice_get, Some, Con
 use Rattle.change_set.specs.trove-stream.Installed.{IsPlaceOf}
 use Rattle.change_set.specs.trove-parts.declared.id.TroveId.{TroveId}
 use Rattle.change_set.specs.trove-stream.declared.parts.TroveParts.{TroveParts}
-use Rattle.update_job.specs.Gone.{IsPlace, LeadsPast, IsLeft}
+use Rattle.update_job.specs.Gone.{IsPlace, LeadsPast, IsReached, IsLeft}
 use Rattle.update_job.specs.Lists.{IsPlaceOfOne}
 use Rattle.change_rel.specs.cny-base.Reach.{IsReachedIn}
 
@@ -36,6 +36,11 @@ HasAddedRefs list barred place old new = (t : TroveParts) → slice_get list pla
 pub record ArePlacesReached (list : List TroveParts) (barred starts places : List ℕ) : Type 0 where
   pub reached : (place : ℕ) → Contains places place → IsReachedIn (LeadsPast list (Contains barred)) (Contains starts) (length list) place
   pub all : (place : ℕ) → IsReachedIn (LeadsPast list (Contains barred)) (Contains starts) (length list) place → Contains places place
+
+-- just the places that this one reaches
+pub record ArePlacesFrom (list : List TroveParts) (start : ℕ) (places : List ℕ) : Type 0 where
+  pub reached : (place : ℕ) → Contains places place → IsReached list (λ (p : ℕ). p ≡ start) place
+  pub all : (place : ℕ) → IsReached list (λ (p : ℕ). p ≡ start) place → Contains places place
 
 -- the same elements
 pub record HasSame (old new : List ℕ) : Type 0 where

@@ -106,11 +106,7 @@ pub(crate) fn by_name(alloc: Global, list: &[Trove]) -> Result<ByName, Fault>
 fn values_of(alloc: Global, troves: ByName) -> Result<Vec<Trove>, OutOfMemory>
     ensures { IfOk result (λ list. list.items ≡ values troves) }
 {
-    let mut list = Vec::new(alloc);
-    for trove in troves.into_values() {
-        list.push(trove)?;
-    }
-    Ok(list)
+    Ok(troves.into_values().collect(alloc)?)
 }
 
 /// The installed list of the troves of a map, each of which stands under its name.

@@ -132,11 +132,7 @@ fn note_all_fresh(
 fn in_order(alloc: Global, changes: Noted) -> Result<Vec<Change>, OutOfMemory>
     ensures { IfOk result (λ list. list.items ≡ values changes) }
 {
-    let mut list = Vec::new(alloc);
-    for change in changes.into_values() {
-        list.push(change)?;
-    }
-    Ok(list)
+    Ok(changes.into_values().collect(alloc)?)
 }
 
 /// The changes that lead from one installed list to another, in the order of their names. A trove counts as updated exactly

@@ -21,3 +21,4 @@ pub use change_set::{cny_base, file_stream, trove_parts, trove_stream};
 pub use changing::{erased, updated};
 pub use comparing::{Change, Changes, changed};
 pub use laws::{led_from_installed, one_made, one_reserved};
+pub use reaching::places_from;

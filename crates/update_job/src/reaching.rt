@@ -1,7 +1,8 @@
 //! Which installed troves stay when some are taken away.
 ghost use Rattle.std.specs.Prelude.{◌≡◌, [], ◌∷◌, ◌++◌, if◌then◌else◌, eqb, Some, OnOk, IfOk, IfSome, ℕ};
 ghost use Rattle.std.specs.List.{list_any};
-ghost use Rattle.update_job.specs.Places.{IsOpenPlace, HasAddedPlaces, HasAddedRefs, ArePlacesReached, HasSame, AreOthers, ArePlaces, ArePlacesLeft, name_of_id};
+ghost use Rattle.update_job.specs.Gone.{IsPlace};
+ghost use Rattle.update_job.specs.Places.{IsOpenPlace, HasAddedPlaces, HasAddedRefs, ArePlacesReached, ArePlacesFrom, HasSame, AreOthers, ArePlaces, ArePlacesLeft, name_of_id};
 
 use change_set::cny_base::{Name, OutOfMemory};
 use change_set::trove_parts::TroveId;
@@ -82,6 +83,19 @@ fn places_reached(
         done += 1;
     }
     Ok(places)
+}
+
+/// The places that this one reaches by references, itself included, each once.
+pub fn places_from(
+    alloc: Global,
+    installed: &Installed,
+    start: usize,
+) -> Result<IndexSet<usize>, OutOfMemory>
+    requires { IsPlace installed.now start }
+    ensures { IfOk result (λ places. ArePlacesFrom installed.now start places.keys) }
+{
+    let none = IndexSet::new(alloc);
+    places_reached(alloc, installed, &none, &[start])
 }
 
 // Adds a place, unless it is among these.

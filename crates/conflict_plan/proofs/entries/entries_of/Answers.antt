@@ -3,9 +3,10 @@ use Rattle.std.proofs.lemmas.List.{map-append}
 use Rattle.std.proofs.lemmas.List.Elements.{All-push}
 use Rattle.std.proofs.lemmas.Map.Iter.{rest_more, rest_so_far}
 use Rattle.std.specs.List.{All}
+use Rattle.std.specs.Option.{option_or}
 use Rattle.trove_stream.specs.cny-base.Path.{is_path}
 use Rattle.conflict_plan.specs.declared.entries.Entry.{Entry}
-use Rattle.conflict_plan.specs.Entries.{entry_of, first_shared, or_later, owned_by}
+use Rattle.conflict_plan.specs.Entries.{entry_of, first_shared, owned_by}
 use Rattle.conflict_plan.proofs.Entered.{At, entry_turn}
 use Rattle.conflict_plan.proofs.entries.entries_of.Goals as goal
 
@@ -24,6 +25,6 @@ loop-path-preserved c =
           (All-push (λ (e : Entry). IsTrue (is_path e.path)) c.loop-path.entries.items c.in_ok-entry.entry c.loop-path.invariant.paths
           (subst (λ (e : Entry). IsTrue (is_path e.path)) (sym c.in_ok-entry.ensures.entry) c.in_ok-entry.ensures.path));
       rest = c.loop-path.invariant.rest ∙ ap first_shared turn.0
-          ∙ ap (λ o. or_later (owned_by c.in-Some.path o c.in-Some.recorded.fresh) (first_shared c.next.new.self)) c.in_ok-entry.ensures.none
+          ∙ ap (λ o. option_or (owned_by c.in-Some.path o c.in-Some.recorded.fresh) (first_shared c.next.new.self)) c.in_ok-entry.ensures.none
           ∙ sym (ap first_shared turn.1);
     }

@@ -1,8 +1,6 @@
-use Rattle.std.proofs.Common.{List, subst, arith}
-use Rattle.std.proofs.lemmas.List.{take_all}
-use Rattle.change_set.specs.trove-stream.declared.parts.TroveParts.{TroveParts}
-use Rattle.update_job.specs.Changes.{IsFresh, NotesAll}
-use Rattle.update_job.proofs.Noting.{notes_none, note_next, one_fresh}
+use Rattle.std.proofs.Common.{arith}
+use Rattle.update_job.specs.Changes.{IsFresh}
+use Rattle.update_job.proofs.Noting.{notes_none, note_next, noted_whole, one_fresh}
 use Rattle.update_job.proofs.comparing.note_all_fresh.Goals as goal
 
 pub loop-trove-init : goal.loop-trove-init
@@ -14,5 +12,4 @@ loop-trove-preserved c =
     c.loop-trove.invariant c.in_ok-note_fresh.ensures.noted c.in_ok-note_fresh.ensures.ordered
 
 pub returns-clause-noted : goal.returns-clause-noted
-returns-clause-noted c =
-    subst (λ (l : List TroveParts). NotesAll (IsFresh c.args.before.now) l c.args.changes.now c.loop-trove.changes) (take_all c.loop-trove.trove-index c.args.troves.now (omega arith)) c.loop-trove.invariant.all
+returns-clause-noted c = noted_whole (IsFresh c.args.before.now) c.args.troves.now c.loop-trove.trove-index c.args.changes.now c.loop-trove.changes (omega arith) c.loop-trove.invariant

@@ -10,7 +10,7 @@ pub loop-done-smaller : goal.loop-done-smaller
 loop-done-smaller c =
     let list = c.args.installed.now in
     let keys = c.loop-done.places.keys in
-    let few : length keys ≤ length list = places_fit list c.args.barred.now.keys c.args.starts.now keys c.len.ensures.unique c.loop-done.invariant.stand in
+    let few : length keys ≤ length list = places_fit list keys c.len.ensures.unique c.loop-done.invariant.stand in
     let within : c.loop-done.done < length keys = omega (arith, c.loop-done-test.true, c.len.ensures.len) in
     let behind : c.loop-done.done < length list = omega (arith, few, within) in
     omega (arith, behind)

@@ -1,6 +1,0 @@
-use Rattle.std.proofs.Common.{◌≡◌, ◌++◌}
-use Rattle.std.specs.BTreeMap.{values}
-use Rattle.update_job.proofs.by_name.values_of.Given as goal
-
-abbrev pub invariant-loop-trove : goal.invariant-loop-trove
-invariant-loop-trove l = l.list.items ++ l.trove-iterator ≡ values l.fn.troves
