@@ -9,7 +9,7 @@ use Rattle.repo_index.specs.Keys.{places_in, knows, knows_sized}
 pub record IsIndexOf (troves : List TroveParts) (index : Index) : Type 0 where
   pub places : (name : List ℕ) → places_in index.names name ≡ places_of name troves
   pub contents : (name : List ℕ) → knows index.contents name ≡ has_content name troves
-  pub sizes : (name : List ℕ) (size : ℕ) → knows_sized index.sizes name size ≡ records_content name size troves
+  pub sizes : (name : List ℕ) (size : ℕ) → knows_sized index.contents index.others name size ≡ records_content name size troves
 
 -- the index of troves of which no two have one id
 pub record IsIndexed (troves : List TroveParts) (index : Index) : Type 0 where

@@ -1,11 +1,13 @@
 //! The index: where the troves of each name stand, and which contents they name.
-ghost use Rattle.std.specs.Prelude.{◌≡◌, ◌++◌, ◌∷◌, [], ◌||◌, if◌then◌else◌, length, List, ℕ, OnOk, OnErr};
+ghost use Rattle.std.specs.Prelude.{◌≡◌, ◌==◌, ◌++◌, ◌∷◌, [], ◌&&◌, ◌||◌, if◌then◌else◌, length, List, ℕ, OnOk, OnErr};
 ghost use Rattle.std.specs.List.{list_any};
 ghost use Rattle.std.specs.Str.{bytes_eq};
 ghost use Rattle.trove_stream.specs.declared.parts.TroveParts.{TroveParts};
 ghost use Rattle.repo_index.specs.Catalogue.{is_content, is_file_of, is_file_sized};
 ghost use Rattle.trove_stream.specs.file-stream.Record.{has_name_and_size};
-ghost use Rattle.repo_index.specs.Keys.{places_in, knows, knows_sized, Extends};
+ghost use Rattle.indexmap.specs.IndexMap.{get};
+ghost use Rattle.repo_index.specs.Keys as spec;
+ghost use Rattle.repo_index.specs.Keys.{places_in, knows, knows_sized, Extends, ExtendsMap};
 ghost use Rattle.repo_index.specs.Index.{IsIndexOf};
 
 use indexmap::{IndexMap, IndexSet};
@@ -27,10 +29,10 @@ struct Content {
 pub(crate) struct Index {
     // A name may stand here without a place.
     names: IndexMap<String, Vec<usize>>,
-    // The names alone.
-    contents: IndexSet<[u8; 20]>,
-    // One name may have several sizes.
-    sizes: IndexSet<Content>,
+    // Each name of a content, with the size with which it was recorded first.
+    contents: IndexMap<[u8; 20], usize>,
+    // What was recorded with another size of the same name.
+    others: IndexSet<Content>,
 }
 
 impl Index {
@@ -40,8 +42,8 @@ impl Index {
     {
         Index {
             names: IndexMap::new(alloc),
-            contents: IndexSet::new(alloc),
-            sizes: IndexSet::new(alloc),
+            contents: IndexMap::new(alloc),
+            others: IndexSet::new(alloc),
         }
     }
 
@@ -57,10 +59,10 @@ impl Index {
         ensures err { OnErr result ((troves : List TroveParts) → IsIndexOf troves self.old → IsIndexOf troves self.new) }
     {
         let known = self.contents.len();
-        let known_sizes = self.sizes.len();
+        let known_others = self.others.len();
         if let Err(error) = self.add_trove(alloc, trove, place) {
             self.contents.truncate(known);
-            self.sizes.truncate(known_sizes);
+            self.others.truncate(known_others);
             return Err(error);
         }
         Ok(())
@@ -71,11 +73,10 @@ impl Index {
         ensures ok { OnOk result ((troves : List TroveParts) → IsIndexOf troves self.old → place ≡ length troves
             → IsIndexOf (troves ++ trove.now ∷ []) self.new) }
         ensures places { OnErr result ((name : List ℕ) → places_in self.new.names name ≡ places_in self.old.names name) }
-        ensures contents { Extends self.old.contents self.new.contents }
-        ensures sizes { Extends self.old.sizes self.new.sizes }
+        ensures contents { ExtendsMap self.old.contents self.new.contents }
+        ensures others { Extends self.old.others self.new.others }
     {
-        add_contents(&mut self.contents, trove.files())?;
-        add_sizes(&mut self.sizes, trove.files())?;
+        add_contents(&mut self.contents, &mut self.others, trove.files())?;
         add_place(alloc, &mut self.names, trove.id().name.text(), place)?;
         Ok(())
     }
@@ -94,14 +95,16 @@ impl Index {
     pub(crate) fn has(&self, name: &[u8; 20]) -> bool
         ensures { result ≡ knows self.now.contents name.now }
     {
-        self.contents.contains(name)
+        self.contents.contains_key(name)
     }
 
     /// Whether a content of this name and this size is recorded.
     pub(crate) fn has_sized(&self, name: &[u8; 20], size: usize) -> bool
-        ensures { result ≡ knows_sized self.now.sizes name.now size }
+        ensures { result ≡ knows_sized self.now.contents self.now.others name.now size }
     {
-        self.sizes.contains(&Content { size, name: *name })
+        let is_first = is_size(first_size(&self.contents, name), size);
+        let is_other = self.others.contains(&Content { size, name: *name });
+        is_first || is_other
     }
 }
 
@@ -121,51 +124,81 @@ fn add_place(
     Ok(())
 }
 
-// Adds the names of the contents of these files. On want of memory some of them may be there, behind those that were.
-fn add_contents(contents: &mut IndexSet<[u8; 20]>, files: &[FileAt]) -> Result<(), OutOfMemory>
-    ensures ok { OnOk result ((name : List ℕ) → knows contents.new name ≡ (knows contents.old name || list_any (is_file_of name) files.now)) }
-    ensures kept { Extends contents.old contents.new }
+// The size with which a content of this name was recorded first.
+fn first_size(contents: &IndexMap<[u8; 20], usize>, name: &[u8; 20]) -> Option<usize>
+    ensures { result ≡ get bytes_eq contents.now name.now }
 {
-    for file in files {
-        add_content(contents, &file.rec)?;
+    contents.get(name).copied()
+}
+
+// Whether a size that there may be is this one.
+fn is_size(first: Option<usize>, size: usize) -> bool
+    ensures { result ≡ spec.is_size first size }
+{
+    match first {
+        Some(first) => first == size,
+        None => false,
+    }
+}
+
+// Adds a content. On want of memory all is as it was.
+fn add_content(
+    contents: &mut IndexMap<[u8; 20], usize>,
+    others: &mut IndexSet<Content>,
+    name: &[u8; 20],
+    size: usize,
+) -> Result<(), OutOfMemory>
+    ensures names { OnOk result ((other : List ℕ) → knows contents.new other ≡ (knows contents.old other || bytes_eq name.now other)) }
+    ensures sizes { OnOk result ((other : List ℕ) (given : ℕ) → knows_sized contents.new others.new other given
+        ≡ (knows_sized contents.old others.old other given || (size == given && bytes_eq name.now other))) }
+    ensures contents { ExtendsMap contents.old contents.new }
+    ensures others { Extends others.old others.new }
+{
+    match first_size(contents, name) {
+        None => {
+            contents.insert(*name, size)?;
+        }
+        Some(first) => {
+            if first != size {
+                others.insert(Content { size, name: *name })?;
+            }
+        }
     }
     Ok(())
 }
 
-// Adds the name of the contents of a file.
-fn add_content(contents: &mut IndexSet<[u8; 20]>, rec: &FileRec) -> Result<(), OutOfMemory>
-    ensures ok { OnOk result ((name : List ℕ) → knows contents.new name ≡ (knows contents.old name || is_content name rec.now)) }
-    ensures kept { Extends contents.old contents.new }
-{
-    if let FileRec::File { name, .. } = rec {
-        contents.insert(*name)?;
-    }
-    Ok(())
-}
-
-// Adds the contents of these files with their sizes. On want of memory some of them may be there, behind those that were.
-fn add_sizes(sizes: &mut IndexSet<Content>, files: &[FileAt]) -> Result<(), OutOfMemory>
-    ensures ok { OnOk result ((name : List ℕ) (size : ℕ) → knows_sized sizes.new name size
-        ≡ (knows_sized sizes.old name size || list_any (is_file_sized name size) files.now)) }
-    ensures kept { Extends sizes.old sizes.new }
-{
-    for file in files {
-        add_size(sizes, &file.rec)?;
-    }
-    Ok(())
-}
-
-// Adds the contents of a file with their size.
-fn add_size(sizes: &mut IndexSet<Content>, rec: &FileRec) -> Result<(), OutOfMemory>
-    ensures ok { OnOk result ((name : List ℕ) (size : ℕ) → knows_sized sizes.new name size
-        ≡ (knows_sized sizes.old name size || has_name_and_size name size rec.now)) }
-    ensures kept { Extends sizes.old sizes.new }
+// Adds the contents of a file.
+fn add_file(
+    contents: &mut IndexMap<[u8; 20], usize>,
+    others: &mut IndexSet<Content>,
+    rec: &FileRec,
+) -> Result<(), OutOfMemory>
+    ensures names { OnOk result ((name : List ℕ) → knows contents.new name ≡ (knows contents.old name || is_content name rec.now)) }
+    ensures sizes { OnOk result ((name : List ℕ) (size : ℕ) → knows_sized contents.new others.new name size
+        ≡ (knows_sized contents.old others.old name size || has_name_and_size name size rec.now)) }
+    ensures contents { ExtendsMap contents.old contents.new }
+    ensures others { Extends others.old others.new }
 {
     if let FileRec::File { size, name, .. } = rec {
-        sizes.insert(Content {
-            size: *size as usize,
-            name: *name,
-        })?;
+        add_content(contents, others, name, *size as usize)?;
+    }
+    Ok(())
+}
+
+// Adds the contents of these files. On want of memory some of them may be there, behind those that were.
+fn add_contents(
+    contents: &mut IndexMap<[u8; 20], usize>,
+    others: &mut IndexSet<Content>,
+    files: &[FileAt],
+) -> Result<(), OutOfMemory>
+    ensures names { OnOk result ((name : List ℕ) → knows contents.new name ≡ (knows contents.old name || list_any (is_file_of name) files.now)) }
+    ensures sizes { OnOk result ((name : List ℕ) (size : ℕ) → knows_sized contents.new others.new name size
+        ≡ (knows_sized contents.old others.old name size || list_any (is_file_sized name size) files.now)) }
+    ensures contents { ExtendsMap contents.old contents.new }
+    ensures others { Extends others.old others.new }
+{
+    for file in files {
+        add_file(contents, others, &file.rec)?;
     }
     Ok(())
 }

@@ -12,7 +12,7 @@ pub returns-clause-ok : goal.returns-clause-ok
 returns-clause-ok c troves is last =
     let old = c.args.self.now in
     let name_is : c.text.result.now ≡ c.args.trove.now.id.name = c.text.ensures.value ∙ ap (λ (id : TroveId). id.name) c.id.ensures.value in
-    one_more troves c.args.trove.now c.args.place old (record { names = c.add_place.new.names; contents = c.add_contents.new.contents; sizes = c.add_sizes.new.sizes }) is last
+    one_more troves c.args.trove.now c.args.place old (record { names = c.add_place.new.names; contents = c.add_contents.new.contents; others = c.add_contents.new.others }) is last
     (λ name. c.in_ok-add_place.ensures.ok name ∙ ap (λ (own : List ℕ). places_in old.names name ++ cond (bytes_eq own name) (c.args.place ∷ []) []) name_is)
-    (λ name. c.in_ok-add_contents.ensures.ok name ∙ ap (λ (files : List FileAt). knows old.contents name || list_any (is_file_of name) files) c.files.ensures.value)
-    (λ name size. c.in_ok-add_sizes.ensures.ok name size ∙ ap (λ (files : List FileAt). knows_sized old.sizes name size || list_any (is_file_sized name size) files) c.files-2.ensures.value)
+    (λ name. c.in_ok-add_contents.ensures.names name ∙ ap (λ (files : List FileAt). knows old.contents name || list_any (is_file_of name) files) c.files.ensures.value)
+    (λ name size. c.in_ok-add_contents.ensures.sizes name size ∙ ap (λ (files : List FileAt). knows_sized old.contents old.others name size || list_any (is_file_sized name size) files) c.files.ensures.value)
