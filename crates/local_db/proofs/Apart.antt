@@ -101,19 +101,20 @@ module _ (before : List FileAt) (kinds : Kinds) (file : FileAt) (noted : AreNote
             (λ some. subst (λ (n : Name). All (λ f. f.path ≡ n → is_dir f.rec ≡ true) before) at (noted.dirs file.path some))
             prior
 
+-- the elements up to a place, with the one there
+front : {A : Type 0} (xs : List A) (k : ℕ) (x : A) → k < length xs → x ≡ get_or xs k x → take k xs ++ x ∷ [] ≡ take (k + 1) xs
+front {A} xs k x within is = ap (λ (y : A). take k xs ++ y ∷ []) is ∙ sym (take_more xs k x within)
+
 -- ---- the files of one trove
 
 abbrev pub AddedFiles : List FileAt → ℕ → Kinds → Kinds → Type 0
 AddedFiles files count old new = (before : List FileAt) → AreNoted before old → AreNoted (before ++ take count files) new × AreApart before (take count files)
 
 module _ (files : List FileAt) (k : ℕ) (file : FileAt) (within : k < length files) (is : file ≡ get_or files k file) where
-  front : take k files ++ file ∷ [] ≡ take (k + 1) files
-  front = ap (λ (f : FileAt). take k files ++ f ∷ []) is ∙ sym (take_more files k file within)
-
   pub next_added : (before : List FileAt) (new : Kinds) → AreApart before (take k files) → IsApart (before ++ take k files) file → AreNoted ((before ++ take k files) ++ file ∷ []) new
       → AreNoted (before ++ take (k + 1) files) new × AreApart before (take (k + 1) files)
   next_added before new so_far apart noted = (
-    subst (λ (l : List FileAt). AreNoted l new) (append_assoc before (take k files) (file ∷ []) ∙ ap (λ (l : List FileAt). before ++ l) front) noted,
+    subst (λ (l : List FileAt). AreNoted l new) (append_assoc before (take k files) (file ∷ []) ∙ ap (λ (l : List FileAt). before ++ l) (front files k file within is)) noted,
     All-more (IsApart before) files k file within so_far (subst (IsApart before) is (left_all (λ other. IsTrue (are_apart other file)) before (take k files) apart)),
   )
 
@@ -159,13 +160,10 @@ each_apart list u share =
     (all_files (λ other. All (λ (file : FileAt). IsTrue (are_apart other file)) u.files) list share)
 
 module _ (troves : List TroveParts) (k : ℕ) (u : TroveParts) (within : k < length troves) (is : u ≡ get_or troves k u) where
-  front_troves : take k troves ++ u ∷ [] ≡ take (k + 1) troves
-  front_troves = ap (λ (t : TroveParts). take k troves ++ t ∷ []) is ∙ sym (take_more troves k u within)
-
   pub next_trove : (kinds new : Kinds) → AddedTroves troves k kinds → AreApart (files_of (take k troves)) u.files → AreNoted (files_of (take k troves) ++ u.files) new → AddedTroves troves (k + 1) new
   next_trove kinds new so_far apart noted = record {
-    noted = subst (λ (l : List FileAt). AreNoted l new) (flat_map_more (λ (t : TroveParts). t.files) [] (take k troves) u ∙ ap files_of front_troves) noted;
-    share = subst (AllPairs SharesDirsAlone) front_troves
+    noted = subst (λ (l : List FileAt). AreNoted l new) (flat_map_more (λ (t : TroveParts). t.files) [] (take k troves) u ∙ ap files_of (front troves k u within is)) noted;
+    share = subst (AllPairs SharesDirsAlone) (front troves k u within is)
         (all_pairs_push SharesDirsAlone (take k troves) u so_far.share (λ i d lt. apart_each (take k troves) u apart i d lt));
   }
 

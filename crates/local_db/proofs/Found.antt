@@ -9,13 +9,10 @@ use Rattle.local_db.specs.declared.format.Format.{Format}
 use Rattle.local_db.specs.Formats.{trove_text}
 use Rattle.local_db.specs.Reading.{IsNoTroveAt, IsTroveText}
 
-module _ (f : Format) (bytes : List ℕ) (at tag from to : ℕ) (found : IsItemAt bytes at tag from to) where
-  abbrev pub value : List ℕ
-  value = slice_range bytes from to
+module _ (bytes : List ℕ) (at tag from to : ℕ) (found : IsItemAt bytes at tag from to) where
+  pub same_text : (tag' : ℕ) (text rest : List ℕ) → FitsItem text → drop at bytes ≡ item_bytes tag' text ++ rest → SameItem tag tag' (slice_range bytes from to) text (drop to bytes) rest
+  same_text tag' text rest fits e = same_item tag tag' (slice_range bytes from to) text (drop to bytes) rest found.fits fits (sym found.spelled ∙ e)
 
-  pub same_text : (tag' : ℕ) (text rest : List ℕ) → FitsItem text → drop at bytes ≡ item_bytes tag' text ++ rest → SameItem tag tag' value text (drop to bytes) rest
-  same_text tag' text rest fits e = same_item tag tag' value text (drop to bytes) rest found.fits fits (sym found.spelled ∙ e)
-
-  pub no_trove_here : ((t : TroveParts) → IsTroveText f t (slice_range bytes from to) → ⊥) → IsNoTroveAt f bytes at
-  no_trove_here none t rest is told fits e =
+  pub no_trove_here : (f : Format) → ((t : TroveParts) → IsTroveText f t (slice_range bytes from to) → ⊥) → IsNoTroveAt f bytes at
+  no_trove_here f none t rest is told fits e =
       none t (record { trove_is = is; told = told; text = (same_text 0x50 (trove_text f t) rest fits e).values })

@@ -18,13 +18,13 @@ use Rattle.local_db.specs.declared.format.Format.TheVariants.{One, Two}
 use Rattle.local_db.specs.Formats.{AreEnds, database_bytes, database_magic, limit, trove_text}
 use Rattle.local_db.specs.Installed.{IsInstalled}
 use Rattle.local_db.specs.Names.{database}
-use Rattle.local_db.specs.Stores.{HoldsDatabase, HoldsFile, absent, written}
+use Rattle.local_db.specs.Stores.{HoldsDatabase, HoldsFile, SameDatabase, absent, written}
 use Rattle.local_db.specs.declared.db.Db.{Db}
 use Rattle.local_db.specs.declared.loading.Found.TheVariants as found
 use Rattle.local_db.specs.Database.{IsDatabaseFile}
 use Rattle.local_db.specs.Loading.{HoldsDb, HoldsNoDb, IsLoadStop, IsTextStop, found_of}
 use Rattle.local_db.specs.Reading.{FitsTrove, IsDatabaseText, end_bytes}
-use Rattle.local_db.proofs.Texts.{SameText, item_of, items_of, one_text}
+use Rattle.local_db.proofs.Texts.{item_of, items_of, one_text}
 use Rattle.change_rel.proofs.trove-stream.Distinct.{TrovesDiffer}
 use Rattle.change_rel.proofs.cny-base.OptionValues.{same_path as some_bytes}
 
@@ -84,7 +84,7 @@ text_in same f db bytes begins file =
 
 module _ (same : SameLengths) (differ : TrovesDiffer) (f : Format) (bytes : List ℕ) (begins : begins_with (database_magic f) bytes ≡ true)
     (troves : List TroveParts) (oldest newest : ℕ) (read : IsDatabaseText f troves oldest newest bytes) where
-  same_as_read : (db : Db) → IsDatabaseFile db bytes → SameText db.installed troves db.oldest db.newest oldest newest
+  same_as_read : (db : Db) → IsDatabaseFile db bytes → SameDatabase f f db.installed troves db.oldest db.newest oldest newest
   same_as_read db file =
       one_text differ f db.installed troves db.oldest db.newest oldest newest bytes (text_in same f db bytes begins file) read
 

@@ -1,5 +1,5 @@
 mod Texts
-mod Found
+pub mod Found
 mod Numbers
 mod Written
 pub mod Apart

@@ -23,7 +23,7 @@ use Rattle.local_db.specs.Record.{Entry, entries_of, record_bytes}
 use Rattle.local_db.specs.Stores.{IsDatabase, SameDatabase, HoldsFile, HoldsItem, HoldsStack, HoldsDatabase, absent, written, StoresIn, StoresSystem, SameItemAs, SameStack, Alike}
 use Rattle.local_db.proofs.OneResult.{OneLed, one_list_back}
 use Rattle.local_db.proofs.Systems.{four_bytes, low_at_least as at_least_one, numbers_by_length as lengths_by_numbers, numbered_rest as rest_numbered}
-use Rattle.local_db.proofs.Spellings.{Distinct, one_delta_list, one_entry_list, entries_part, one_format, one_database, OneDatabase}
+use Rattle.local_db.proofs.Spellings.{Distinct, one_delta_list, one_entry_list, entries_part, one_format, one_database}
 use Rattle.change_rel.proofs.cny-base.Lists.{contains_cases, nothing_in}
 use Rattle.local_db.proofs.Holding.{low_end as ends_small}
 use Rattle.change_rel.proofs.cny-base.OptionValues.{same_some}
@@ -188,7 +188,7 @@ trees f g x s t h k = same_tree s.tree t.tree
     (cases_Bool (is_reserved q)))
 
 module _ (led : OneLed) (distinct : Distinct) (f : Format) (x : Tree) (s t : SystemState) (h : StoresIn f x s) (k : StoresIn f x t) where
-  by_database : OneDatabase s.installed t.installed (oldest s.stack) (newest s.stack) (oldest t.stack) (newest t.stack) → Alike s t
+  by_database : SameDatabase f f s.installed t.installed (oldest s.stack) (newest s.stack) (oldest t.stack) (newest t.stack) → Alike s t
   by_database same = record {
     tree = trees f f x s t h k;
     list = same.lists;

@@ -25,6 +25,7 @@ use Rattle.local_db.specs.declared.format.Format.{Format}
 use Rattle.local_db.specs.declared.format.Format.TheVariants.{One, Two}
 use Rattle.local_db.specs.Formats.{encoding_of, database_magic, record_magic, trove_text, rel_text, limit, database_bytes, Fits}
 use Rattle.local_db.specs.Record.{Delta, came, was, turned, delta_tag, delta_value, delta_bytes, IsDelta, Entry, IsEntry, entry_value, record_bytes}
+use Rattle.local_db.specs.Stores.{SameDatabase}
 use Rattle.local_db.proofs.Items.{shorter, all_fit, one_items}
 use Rattle.tree_journal.proofs.journal-log.Links.{fits_path, fits_target, same_two}
 use Rattle.change_rel.proofs.cny-base.Below.{equal_test as itself}
@@ -208,13 +209,8 @@ pub fits_long : (f : Format) (list : List TroveParts) (a b : ℕ) → Fits f lis
 fits_long One list a b fits = let short = fits.short in let most : limit One ≡ 268435456 = refl in omega (arith, short, same_room One list a b, most)
 fits_long Two list a b fits = let short = fits.short in let most : limit Two ≡ 536870912 = refl in omega (arith, short, same_room Two list a b, most)
 
-pub record OneDatabase (list other : List TroveParts) (a b c d : ℕ) : Type 0 where
-  pub lists : list ≡ other
-  pub oldest : a ≡ c
-  pub newest : b ≡ d
-
 pub one_database : Distinct → (f : Format) (list other : List TroveParts) (a b c d : ℕ) → All IsTrove list → All IsTrove other → Fits f list → Fits f other → a < 2 ^ 32 → b < 2 ^ 32 → c < 2 ^ 32 → d < 2 ^ 32
-    → database_bytes f list a b ≡ database_bytes f other c d → OneDatabase list other a b c d
+    → database_bytes f list a b ≡ database_bytes f other c d → SameDatabase f f list other a b c d
 unfolding behind_list
 one_database t f list other a b c d is js fits gits a_fits b_fits c_fits d_fits e =
     let rest = without_magic f (items_bytes (trove_text f) 0x50 list ++ behind_list a b) (items_bytes (trove_text f) 0x50 other ++ behind_list c d) e in
@@ -226,4 +222,4 @@ one_database t f list other a b c d is js fits gits a_fits b_fits c_fits d_fits 
     is js fx fy refl refl rest in
     let low = same_four a c (to_be_bytes w32 b ++ item_bytes 0x5F []) (to_be_bytes w32 d ++ item_bytes 0x5F []) a_fits c_fits (ap (drop 5) both.1) in
     let high = same_four b d (item_bytes 0x5F []) (item_bytes 0x5F []) b_fits d_fits low.1 in
-    record { lists = both.0; oldest = low.0; newest = high.0 }
+    record { formats = refl; lists = both.0; oldest = low.0; newest = high.0 }

@@ -14,6 +14,7 @@ use Rattle.change_rel.specs.trove-stream.Trove.{IsTrove}
 use Rattle.local_db.specs.declared.format.Format.{Format}
 use Rattle.local_db.specs.declared.format.Format.TheVariants.{One, Two}
 use Rattle.local_db.specs.Formats.{TroveCanTell, database_magic, encoding_of, trove_text}
+use Rattle.local_db.specs.Stores.{SameDatabase}
 use Rattle.local_db.specs.Reading.{FitsTrove, IsTroveAt, IsNoTroveAt, AreTrovesTo, IsDatabaseText, end_bytes}
 use Rattle.change_rel.proofs.trove-stream.Distinct.{TrovesDiffer}
 
@@ -122,15 +123,10 @@ rest_nil f front all [] a b c d is = (is.split ∙ append-nil front, is.spelled)
 rest_nil f front all (t ∷ rest) a b c d is =
     absurd (not_end f t (items_of f rest ++ end_bytes a b) c d (All-head (FitsTrove f) t rest is.fits) (sym (is.spelled ∙ more f t rest (end_bytes a b))))
 
-pub record SameText (one other : List TroveParts) (a b c d : ℕ) : Type 0 where
-  pub lists : one ≡ other
-  pub oldest : a ≡ c
-  pub newest : b ≡ d
-
-pub one_text : TrovesDiffer → (f : Format) (one other : List TroveParts) (a b c d : ℕ) (bytes : List ℕ) → IsDatabaseText f one a b bytes → IsDatabaseText f other c d bytes → SameText one other a b c d
+pub one_text : TrovesDiffer → (f : Format) (one other : List TroveParts) (a b c d : ℕ) (bytes : List ℕ) → IsDatabaseText f one a b bytes → IsDatabaseText f other c d bytes → SameDatabase f f one other a b c d
 one_text differ f one other a b c d bytes is js =
     let rest = rest_of differ f one other c d (end_bytes a b) is.troves_are is.fits js.troves_are js.told js.fits
     (append_cancel_left (database_magic f) (items_of f one ++ end_bytes a b) (items_of f other ++ end_bytes c d) (sym is.text ∙ js.text)) in
     let same = rest_nil f one other rest.0 c d a b rest.1 in
     let ends = one_end a b c d is.oldest_fits is.newest_fits js.oldest_fits js.newest_fits same.1 in
-    record { lists = sym same.0; oldest = ends.0; newest = ends.1 }
+    record { formats = refl; lists = sym same.0; oldest = ends.0; newest = ends.1 }

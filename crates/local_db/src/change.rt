@@ -6,11 +6,21 @@ use std::marker::Model;
 use tree_scan::Mark;
 
 /// A path that a job changed, with the fingerprints of what stood there before and after it.
-#[derive(Debug, Drop)]
 pub struct Change {
     path: Path,
     before: Mark,
     after: Mark,
+}
+
+// Written by hand, so that to let a value go is a single call.
+impl Drop for Change {
+    fn drop(self) {
+        let Change {
+            path: _path,
+            before: _before,
+            after: _after,
+        } = self;
+    }
 }
 
 impl Model for Change {

@@ -4,7 +4,7 @@ use change_rel::trove_stream::Installed;
 
 /// What the database of a root tells: the installed troves, and the numbers of the oldest and of the newest job of its stack.
 /// Where there is no job both are 0.
-#[derive(Debug, Drop)]
+#[derive(Drop)]
 pub struct Db {
     pub installed: Installed,
     pub oldest: u32,

@@ -12,6 +12,7 @@ mod loading;
 mod names;
 mod reading;
 mod record;
+mod recorded;
 mod sharing;
 mod steps;
 mod writing;
@@ -23,12 +24,13 @@ pub use content_store;
 pub use db::Db;
 pub use format::Format;
 pub use laws::{checked_records, distinct_databases, empty_root, one_system, recovered_system};
-pub use loading::load;
+pub use loading::{decode_file, load};
 pub use names::{base_path, database_path, record_path, saved_path};
-pub use reading::{are_roots, decode, most_bytes};
+pub use reading::{are_allowed, are_roots, decode, is_allowed, most_bytes, read_trove};
 pub use record::{Delta, Deltas, Record, Told, ToldEntries, ToldEntry};
+pub use recorded::mark_of_record;
 pub use steps::{
     migrated_system, prepared_system, puttable_writes, system_after_job, system_after_rollback,
 };
 pub use tree_journal::{journal_log, make_dir, tree_disk};
-pub use writing::encode;
+pub use writing::{encode, encode_within, put_value};

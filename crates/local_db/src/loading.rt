@@ -19,7 +19,7 @@ use std::alloc::Global;
 use tree_journal::tree_disk::{Look, TreeDisk, steps};
 
 /// What stands at the name of the database.
-#[derive(Debug, Drop)]
+#[derive(Drop)]
 enum Found {
     Nothing,
     /// A file of no more bytes than a database has at most.
@@ -79,8 +79,8 @@ fn no_database(alloc: Global) -> Db
     }
 }
 
-// The database that these bytes tell, or that the file of this path is damaged.
-fn decoded(alloc: Global, path: Path, bytes: &[u8]) -> Result<Db, Stop>
+/// The database that these bytes tell, or that the file of this path is damaged.
+pub fn decode_file(alloc: Global, path: Path, bytes: &[u8]) -> Result<Db, Stop>
     ensures value { IfOk result (λ db. IsDatabaseFile db bytes.now) }
     ensures only { IfOk result (λ read. (db : Db) → IsDatabaseFile db bytes.now → read ≡ db) }
     ensures stops { IfErr result (IsTextStop path bytes.now) }
@@ -109,7 +109,7 @@ pub fn load<D: TreeDisk>(alloc: Global, disk: &mut D) -> Result<Db, Stop>
     let path = database_path(alloc)?;
     match read_found(alloc, disk, &path)? {
         Found::Nothing => Ok(no_database(alloc)),
-        Found::File(bytes) => decoded(alloc, path, bytes.get()),
+        Found::File(bytes) => decode_file(alloc, path, bytes.get()),
         Found::Other => Err(Stop::Damaged { path }),
     }
 }

@@ -47,8 +47,8 @@ pub fn are_roots(files: &[FileAt]) -> bool
     files.iter().all(|file| is_roots(&file.rec))
 }
 
-// The trove whose stream in this format the bytes are, all of them.
-fn trove_of(alloc: Global, format: Format, bytes: &[u8]) -> Result<Trove, TextFault>
+/// The trove whose stream in this format the bytes are, all of them.
+pub fn read_trove(alloc: Global, format: Format, bytes: &[u8]) -> Result<Trove, TextFault>
     ensures value { IfOk result (λ trove. IsTroveText format trove bytes.now) }
     ensures bad { IsErrOf result TextFault.Bad → (trove : TroveParts) → IsTroveText format trove bytes.now → ⊥ }
 {
@@ -90,7 +90,7 @@ fn next_trove(
     if item.tag != TROVE {
         return Ok(None);
     }
-    let trove = trove_of(alloc, format, &bytes[item.from..item.to])?;
+    let trove = read_trove(alloc, format, &bytes[item.from..item.to])?;
     Ok(Some(TroveTo { trove, to: item.to }))
 }
 
@@ -194,22 +194,18 @@ fn parts_of(alloc: Global, format: Format, bytes: &[u8]) -> Result<Parts, TextFa
     })
 }
 
-// Whether the trove records no path that no trove may record.
-fn is_allowed(alloc: Global, trove: &Trove) -> bool
+/// Whether the trove records no path that no trove may record.
+pub fn is_allowed(alloc: Global, trove: &Trove) -> bool
     ensures { IsTrue result ↔ (first_forbidden trove.now.files ≡ None) }
 {
     check(alloc, trove).is_ok()
 }
 
-fn are_allowed(alloc: Global, troves: &[Trove]) -> bool
+/// Whether none of the troves records a path that no trove may record.
+pub fn are_allowed(alloc: Global, troves: &[Trove]) -> bool
     ensures { IsTrue result ↔ All (λ t. first_forbidden t.files ≡ None) troves.now }
 {
-    for trove in troves {
-        if !is_allowed(alloc, trove) {
-            return false;
-        }
-    }
-    true
+    troves.iter().all(|trove| is_allowed(alloc, trove))
 }
 
 // Whether a stack of jobs can have these numbers.

@@ -1,11 +1,13 @@
 //! What a rollback record says.
-use change_rel::cny_base::{Copies, ListOf, OutOfMemory, Path};
+ghost use Rattle.std.specs.Prelude.{◌≡◌};
+ghost use Rattle.local_db.specs.RecordText as spec;
+
+use change_rel::cny_base::{Copies, ListOf, Name, OutOfMemory, Path};
 use change_rel::trove_parts::TroveId;
 use change_rel::trove_stream::{RelTrove, Trove};
 use tree_scan::Mark;
 
 /// How the trove of one name is taken back.
-#[derive(Debug, Drop)]
 pub enum Delta {
     /// The trove with this id came; none of its name was installed before.
     Came(TroveId),
@@ -15,11 +17,35 @@ pub enum Delta {
     Turned(RelTrove),
 }
 
+// Written by hand, so that to let a value go is a single call.
+impl Drop for Delta {
+    fn drop(self) {
+        match self {
+            Delta::Came(_id) => {}
+            Delta::Was(_trove) => {}
+            Delta::Turned(_rel) => {}
+        }
+    }
+}
+
+impl Delta {
+    /// The name whose trove it takes back.
+    pub fn name(&self) -> &Name
+        ensures { result.now ≡ spec.name_of self.now }
+    {
+        match self {
+            Delta::Came(id) => &id.name,
+            Delta::Was(trove) => &trove.id().name,
+            Delta::Turned(rel) => &rel.parts().old.name,
+        }
+    }
+}
+
 /// A list of deltas.
 pub type Deltas = ListOf<Delta>;
 
 /// A fingerprint as a record tells it.
-#[derive(Debug, Drop)]
+#[derive(Drop)]
 pub enum Told {
     /// The list of troves records it at the path.
     Listed,
@@ -28,7 +54,7 @@ pub enum Told {
 }
 
 /// A path that a job changed, with the fingerprints before and after it.
-#[derive(Debug, Drop)]
+#[derive(Drop)]
 pub struct ToldEntry {
     pub path: Path,
     pub before: Told,
@@ -40,7 +66,7 @@ pub type ToldEntries = ListOf<ToldEntry>;
 
 /// What a rollback record says: the number of its job, a delta for each name whose trove the job changed, and an entry for each
 /// path that it changed.
-#[derive(Debug, Drop)]
+#[derive(Drop)]
 pub struct Record {
     pub number: u32,
     pub deltas: Deltas,

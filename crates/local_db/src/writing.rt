@@ -1,16 +1,17 @@
 //! The bytes of a database.
 ghost use Rattle.std.specs.Prelude.{◌≡◌, ◌<◌, ◌≤◌, ◌++◌, All, IfErr, IfOk, OnOk, length};
 ghost use Rattle.change_rel.specs.cny-base.declared.limits.TheConstants.{DATABASE_LIMIT};
-ghost use Rattle.cny_stream.specs.Item.{item_bytes};
+ghost use Rattle.cny_stream.specs.Item.{FitsItem, item_bytes};
 ghost use Rattle.change_rel.specs.trove-parts.Items.{items_bytes};
 ghost use Rattle.change_rel.specs.trove-stream.Stream.{full_trove_bytes};
 ghost use Rattle.change_rel.specs.trove-stream.Trove.{IsTrove};
 ghost use Rattle.local_db.specs.declared.format.Format.TheVariants.{Two};
-ghost use Rattle.local_db.specs.Formats.{database_bytes};
+ghost use Rattle.local_db.specs.Formats.{Fits, database_bytes};
 ghost use Rattle.local_db.specs.Writing.{IsTooLargeOrMemory};
 ghost use Rattle.local_db.specs.Reading.{end_bytes};
 
 use crate::db::Db;
+use crate::laws::distinct_databases;
 use change_rel::cny_base::{Bytes, DATABASE_LIMIT, Fault, OutOfMemory, Refusal, What};
 use change_rel::trove_stream::{Trove, encode_full};
 use cny_stream::put_item;
@@ -31,6 +32,17 @@ const END: u8 = 0x5f;
 /// The end item.
 pub(crate) const END_ITEM: &[u8] = &[END, 0, 0, 0, 0];
 
+/// Appends an item. Where the value has no room in one the answer is want of memory.
+pub fn put_value(out: &mut Bytes, tag: u8, value: &[u8]) -> Result<(), OutOfMemory>
+    ensures ok { OnOk result (out.new ≡ out.old ++ item_bytes tag value.now) }
+    ensures fits { OnOk result (FitsItem value.now) }
+{
+    if value.len() > u32::MAX as usize {
+        return Err(OutOfMemory);
+    }
+    put_item(out, tag, value)
+}
+
 // Appends the item of a trove. Where its stream has no room in one the answer is want of memory.
 fn put_trove(alloc: Global, out: &mut Bytes, trove: &Trove) -> Result<(), OutOfMemory>
     ensures value { OnOk result (out.new ≡ out.old ++ item_bytes 0x50 (full_trove_bytes trove.now)) }
@@ -38,10 +50,7 @@ fn put_trove(alloc: Global, out: &mut Bytes, trove: &Trove) -> Result<(), OutOfM
 {
     let mut value = Bytes::new(alloc, b"")?;
     encode_full(alloc, trove, &mut value)?;
-    if value.get().len() > u32::MAX as usize {
-        return Err(OutOfMemory);
-    }
-    put_item(out, TROVE, value.get())
+    put_value(out, TROVE, value.get())
 }
 
 // Appends the items of troves.
@@ -93,4 +102,18 @@ pub fn encode(alloc: Global, db: &Db) -> Result<Bytes, Fault>
         }));
     }
     Ok(bytes)
+}
+
+/// The bytes of a database that has room, in format 2. Want of memory also where the stream of a trove has no room in an item.
+pub fn encode_within(alloc: Global, db: &Db) -> Result<Bytes, OutOfMemory>
+    requires { Fits Two db.now.installed }
+    ensures value { IfOk result (λ bytes. bytes ≡ database_bytes Two db.now.installed db.now.oldest db.now.newest) }
+{
+    // The numbers don't change the length.
+    distinct_databases();
+    match encode(alloc, db) {
+        Ok(bytes) => Ok(bytes),
+        Err(Fault::Memory) => Err(OutOfMemory),
+        Err(Fault::Refused(_)) => unreachable!(),
+    }
 }

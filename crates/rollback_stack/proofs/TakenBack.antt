@@ -39,7 +39,7 @@ use Rattle.past_jobs.specs.Marks.{IsUndoRefusal, is_path_of, marks_of}
 use Rattle.past_jobs.specs.Outcome.{AreUndone, IsUndoKind, IsUndoStop}
 use Rattle.past_jobs.specs.Seen.{FoundMarks}
 use Rattle.past_jobs.proofs.JobLaws.{found_at, not_found, if_some, number_if}
-use Rattle.rollback_stack.specs.Inverse.{AreJobsTo, AreOldNodes, IsAt, IsBackRefusal, IsBackStop, HoldsOld, IsBackTo, IsDamagedJob, IsOldWant, IsOnStack, IsRefusedJob, StaysNothing, no_records}
+use Rattle.rollback_stack.specs.Inverse.{AreJobsTo, AreOldNodes, IsAt, IsBackRefusal, IsBackStop, HoldsOld, IsBackTo, IsOldWant, IsOnStack, IsRefusedJob, StaysNothing, no_records}
 use Rattle.rollback_stack.specs.Taking.{AreTaken, IsJobsStop, IsNoJob, IsNoJobStop, IsNotTaken, IsTakeStop, StopsAt}
 use Rattle.rollback_stack.specs.Wanting.{AreWanted, HasNoRecords, IsFirstDamaged, Wants, puts_in, want_at}
 use Rattle.rollback_stack.proofs.Finding.{in_front}

@@ -1,6 +1,5 @@
 //! The record of one job, as the root's tree holds it.
 ghost use Rattle.std.specs.Prelude.{◌≡◌, ◌≤◌, List, IfOk, IfErr, IsErrOf, Ok};
-ghost use Rattle.std.specs.FinMap.{get};
 ghost use Rattle.local_db.specs.cny-base.Count.{Rose};
 ghost use Rattle.past_jobs.specs.Past.{AreChangedIds};
 ghost use Rattle.local_db.specs.declared.record.Record as declared;

@@ -22,7 +22,7 @@ pub struct Note {
 pub type Notes = ListOf<Note>;
 
 /// The writes that take jobs back, and the database afterwards. (The database's own write isn't among them.)
-#[derive(Debug, Drop)]
+#[derive(Drop)]
 pub struct Back {
     pub puts: Puts,
     pub db: Db,

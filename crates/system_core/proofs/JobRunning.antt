@@ -29,7 +29,7 @@ use Rattle.local_db.specs.Formats.{database_bytes, AreEnds}
 use Rattle.local_db.specs.Names.{database, is_job_place, record_file}
 use Rattle.local_db.specs.Record.{IsRecord}
 use Rattle.local_db.specs.Stores.{StoresIn, IsDatabase}
-use Rattle.local_db.specs.SystemState.{SystemState, newest, IsFree}
+use Rattle.local_db.specs.SystemState.{SystemState, IsFree}
 use Rattle.local_db.specs.Steps.{after_job, old_of, record_put, IsUnion}
 use Rattle.local_db.proofs.Places.{database_reserved, place_not_database, place_reserved, record_reserved}
 use Rattle.local_db.specs.declared.db.Db.{Db}

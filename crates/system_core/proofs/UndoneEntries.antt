@@ -17,7 +17,6 @@ use Rattle.local_db.specs.SystemState.{StackItem, is_listed}
 use Rattle.local_db.specs.Steps.{want_of}
 use Rattle.local_db.proofs.Systems.{node_of_want}
 use Rattle.local_db.proofs.Writes.{with_targets_target}
-use Rattle.job_targets.specs.declared.entry.Entry.{Entry}
 use Rattle.rollback_stack.specs.past-jobs.Marks.{Marks, is_path_of, undone}
 use Rattle.local_db.proofs.cny-base.Lists.{contains_first}
 

@@ -13,6 +13,7 @@ pub mod ClearPass
 pub mod MakePass
 pub mod Seen
 pub mod StagedBytes
+pub mod Preparing
 pub mod Applying
 pub mod InOrder
 pub mod Recovering

@@ -19,4 +19,4 @@ pub returns-in_err-trove-clause-no_trove : goal.returns-in_err-trove-clause-no_t
 returns-in_err-trove-clause-no_trove c h =
     let met = handed_on c.from_residual.result c.in_err-trove.field-0.0 Bad (err_from_is_err_and c.from_residual.result c.from_residual.ensures.1) h in
     let item = c.in-Ok.item in
-    no_trove_here c.args.format c.args.bytes.now c.args.at item.tag item.from item.to c.in-Ok.ensures.found (λ t is. c.in_err-trove.ensures.bad (ap Err met) t is)
+    no_trove_here c.args.bytes.now c.args.at item.tag item.from item.to c.in-Ok.ensures.found c.args.format (λ t is. c.in_err-trove.ensures.bad (ap Err met) t is)
