@@ -9,7 +9,8 @@
 # must lead to those after. The next round begins with these.
 #
 # Usage: tools/kill_host.sh [KILLS [SEED]]
-# It is no part of the gate. It ends with status 1 where it is neither, or where the command doesn't lead there when it is made again.
+# It is no part of the gate. Each 50 kills it prints how many left each state, of all so far. It ends with status 1 where it is neither, or
+# where the command doesn't lead there when it is made again.
 # In all three scripts over directories of the host CONARY may name another program than the proved one of this copy.
 set -eu
 top=$(cd "$(dirname "$0")/.." && pwd)

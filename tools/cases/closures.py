@@ -7,7 +7,7 @@ were made by hand are rows of closures.txt.
 """
 from random import Random
 
-from tools.cases.tables import table
+from tools.cases.rows import table
 from tools.lines.words import digits, rows_of
 from tools.model.lists import by_name, first_unmet, name_of
 from tools.model.streams import trove_bytes, trove_of

@@ -3,10 +3,9 @@ cut off or fail. The troves and most sets are rows of commits.txt: there a set i
 """
 from hashlib import sha1
 
-from tools.cases.manifests import SHATTERED
 from tools.cases.repositories import collection, commit_answer, component, on, tree_of
 from tools.cases.samples import RELATIVE, SET, V1 as F1, V2 as F2, content_at, file
-from tools.cases.tables import table
+from tools.cases.rows import ONE, OTHER, table
 from tools.lines.words import rows_of
 from tools.model.relatives import relative_of
 from tools.model.repository import BASE, CONTENTS, commit_bytes, commit_path
@@ -17,7 +16,6 @@ OLD, NEW, ELSE = b"old\n", b"new\n", b"else\n"
 LINK, JUNK, NARROW = ("link", b"elsewhere"), file(b"junk"), ("dir", 0o700)
 
 # Two contents of 320 bytes with one SHA-1.
-ONE, OTHER = SHATTERED
 TEXTS = {
     "OLD": OLD, "NEW": NEW, "ELSE": ELSE, "ONE": ONE, "OTHER": OTHER, "EMPTY": b"", "A": b"a", "B": b"b", "ABC": b"abc", "ABCD": b"abcd",
 }  # fmt: skip

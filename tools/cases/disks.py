@@ -6,8 +6,11 @@ them as lines, and computes what each answers by the rules of tools/model/trees.
 """
 import re
 
-from tools.cases.reading import node_of, rows, word_of
+from tools.cases.rows import Rows
 from tools.model.trees import DIR
+
+
+TABLE = Rows("disks")
 
 
 class Draws:
@@ -47,17 +50,16 @@ NAMES["LONGER"] = NAMES["LONG"] + "d"
 
 
 def worked(script):
-    for row in rows("disks"):
+    for row in TABLE.rows():
         for some in re.sub("[A-Z][A-Z0-9]*", lambda found: NAMES[found[0]], row).split("; "):
             steps, wanted = some.split(" => ")
             for step in steps.split(", "):
                 front, is_new, nodes = step.partition(": ")
                 name, *words = front.split(" ")
                 if is_new:
-                    nodes = [node.split(" ", 1) for node in nodes.split(" + ") if node]
-                    got = script.new([(word_of(path), node_of(node)) for path, node in nodes], list(map(int, words)))
+                    got = script.new(TABLE.nodes(nodes.replace(" + ", ";")), list(map(int, words)))
                 else:
-                    got = script.add(name, *map(word_of, words))
+                    got = script.add(name, *map(TABLE.word, words))
                 assert got == wanted, f"{step}: {got}, not {wanted}"
 
 
@@ -117,7 +119,7 @@ NAMERS, FILES = [b"byte", b"byte", b"sha1"], [b"/f", b"/g"]
 
 
 def content_words(draws):
-    return [word_of(word) for word in draws.one_of(CONTENTS).decode().split(" ")]
+    return [TABLE.word(word) for word in draws.one_of(CONTENTS).decode().split(" ")]
 
 
 def store_call(draws, kept):

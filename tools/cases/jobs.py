@@ -4,14 +4,14 @@ the stream of each trove.
 import random
 import sys
 
-from tools.cases.reading import rows, trove_in, troves_in, word_of
+from tools.cases.rows import Rows
 from tools.lines.words import digits
 from tools.model.lists import by_name, changed, closed, erased, name_of, updated
 from tools.model.reports import CHANGES
 from tools.model.streams import id_text, sha, trove_bytes, trove_of
 from tools.model.texts import Refused
 
-SEED = 20261128
+TABLE, SEED = Rows("jobs"), 20261128
 
 
 def listed(troves):
@@ -68,14 +68,14 @@ CALLS = {"updated by": update, "erased": erase, "compared with": compare, "close
 def worked(kind):
     """The calls of rows of jobs.txt. Where a row has an answer that was found by hand, it is the model's; `leaves` stands before the troves
     of one."""
-    stream = bytes.fromhex(*rows("jobs", "stream"))
-    for row in rows("jobs", kind):
+    stream = bytes.fromhex(*TABLE.rows("stream"))
+    for row in TABLE.rows(kind):
         given, _, wanted = row.partition(" > ")
         troves, call, more = given.split(" | ")
-        more = [word_of(name) for name in more.split(" ") if name != "-"] if call in ("erased", "closed without") else [troves_in(more)]
-        made = CALLS[call](troves_in(troves), *more)
+        more = [name.encode() for name in more.split(" ") if name != "-"] if call in ("erased", "closed without") else [TABLE.troves(more)]
+        made = CALLS[call](TABLE.troves(troves), *more)
         if wanted.startswith("leaves "):
-            wanted = shown(troves_in(wanted[7:]))
+            wanted = shown(TABLE.troves(wanted[7:]))
         if wanted and made[1] != wanted.replace(", ", "\t").replace("BY_HAND", sha(stream).hex()):
             sys.exit(f"{made!r} and not {wanted!r}")
         yield made
@@ -126,7 +126,7 @@ def list_changes():
 
 def file_cases():
     """Troves of one id that differ in one file alone: by its path, kind, mode, flags, size, content, owner or target."""
-    troves = list(map(trove_in, rows("jobs", "files")))
+    troves = list(map(TABLE.trove, TABLE.rows("files")))
     for mine in troves:
         yield update([mine, component(b"b:lib")], [component(b"b:lib", revision=b"2.0-1-1")])
         yield update([], [mine, troves[2]])

@@ -7,13 +7,14 @@ A tree is a map from paths to nodes; a write set is a list of pairs of a path an
 """
 from tools.cases.disks import Draws
 from tools.cases.logs import held
-from tools.cases.reading import puts_of, rows
+from tools.cases.rows import Rows, from_hex
 from tools.lines import words
 from tools.model.runs import (
     BASE, JOURNAL, PICKS, applied, applied_cuts, calls_until, cuts_found, images_found, recovered, seen_in_apply, seen_in_recovery, stored,
 )  # fmt: skip
 from tools.model.trees import DIR, Tree, is_of, parent_of
 
+TABLE = Rows("journals", data=from_hex)
 GATE = JOURNAL.gate
 
 # All unsynced names are torn.
@@ -26,7 +27,7 @@ def worked(row):
     given, _, wanted = row.partition(" > ")
     tree, *rest = given.split(" | ")
     puts, *more = rest or [""]
-    return wanted, {b"/": DIR, **dict(puts_of(tree))}, puts_of(puts), *more
+    return wanted, {b"/": DIR, **dict(TABLE.nodes(tree))}, TABLE.nodes(puts), *more
 
 
 def whole(data):
@@ -48,12 +49,12 @@ FIRST_CALLS = [("look", BASE), ("look", GATE), ("look", JOURNAL.log), ("look", J
 def by_hand():
     """Write sets over other nodes at the journal's own names, and a file that is copied in pieces. Recoveries of disks that no crash left,
     and with a base below which no flag can stand: four parts of 255 bytes."""
-    for row in rows("journals", "applied"):
+    for row in TABLE.rows("applied"):
         wanted, nodes, puts = worked(row.replace("BYTES", LONG_BYTES.hex()))
         run = applied(nodes, puts)
         held((run.end, shown_tree(run.tree.nodes)), ("ok", wanted))
         yield "apply", nodes, puts, 0
-    for row in rows("journals", "recovered"):
+    for row in TABLE.rows("recovered"):
         wanted, nodes, _ = worked(row)
         run = recovered(Tree(nodes))
         held(run.end + (shown_tree(run.tree.nodes) if run.tree.nodes != nodes else ""), wanted)
@@ -67,18 +68,18 @@ def by_hand():
 def seen():
     """What stands at a path after each call of an application, and of the recovery right after its commit flag was written. Then two
     crashes."""
-    for row in rows("journals", "seen"):
+    for row in TABLE.rows("seen"):
         wanted, nodes, puts, path = worked(row)
         path, calls = path.encode(), calls_until(nodes, puts, GATE) + 1
         both = seen_in_apply(nodes, puts, 0, path), seen_in_recovery(nodes, puts, calls, 0, path)
         there, again = ("".join(words.node_word(node, whole) + "," for node in some) for some in both)
         held(there + (again if again != there else ""), wanted)
         yield from [("see", nodes, puts, 0, path), ("see_again", nodes, puts, calls, 0, path)]
-    wanted, nodes, puts, path = worked(*rows("journals", "torn"))
+    wanted, nodes, puts, path = worked(*TABLE.rows("torn"))
     assert wanted in [words.node_word(node, whole) for node in seen_in_recovery(nodes, puts, 0, ALL_TORN, path.encode())]
     yield "see_again", nodes, puts, 0, ALL_TORN, path.encode()
     # Before the picks stands the path, and how many calls after the one that makes it.
-    for row in rows("journals", "crashed"):
+    for row in TABLE.rows("crashed"):
         wanted, nodes, puts, path, calls, pick = worked(row)
         calls, pick = calls_until(nodes, puts, path.encode()) + int(calls), int(pick)
         cut = applied(nodes, puts, calls)
@@ -94,7 +95,7 @@ def images():
     the staged file and the log, so 256 numbers pick all images by their digits; from it on at most three are, and 64 do. None recovers to
     the tree after up to the write of the flag; a quarter does after it, since the flag's file is the one unsynced name, and one of its four
     digits leaves it as it reads; and all do from its sync on."""
-    wanted, nodes, puts = worked(*rows("journals", "images"))
+    wanted, nodes, puts = worked(*TABLE.rows("images"))
     held(shown_tree(stored(applied(nodes, puts).tree)), wanted)
     flag = calls_until(nodes, puts, GATE)
     for calls, cut in enumerate(applied_cuts(nodes, puts)):
@@ -118,7 +119,7 @@ def checked_cuts(nodes, puts, pick, picks):
 
 def cuts():
     """Three write sets, each with the numbers that pick the crashes of the runs that are cut off."""
-    for row in rows("journals", "cut off"):
+    for row in TABLE.rows("cut off"):
         wanted, nodes, puts = worked(row)
         held(shown_tree(stored(applied(nodes, puts).tree)), wanted)
         yield from (("cuts", nodes, puts, pick, PICKS) for pick in PICKS)
@@ -126,7 +127,7 @@ def cuts():
 
 def failing():
     """Each call of an application failing, and each of a recovery."""
-    for row in rows("journals", "cut off")[::2]:
+    for row in TABLE.rows("cut off")[::2]:
         _, nodes, puts = worked(row)
         yield from (("apply", nodes, puts, call) for call in range(1, applied(nodes, puts).tree.calls + 1))
         set_up = applied(nodes, puts, calls_until(nodes, puts, GATE) + 1).tree.nodes
@@ -150,7 +151,7 @@ def some_case(draws):
     before, after = some_tree(draws), some_tree(draws)
     puts = [(path, after.get(path)) for path in PATHS if before.get(path) != after.get(path) or (path in before and draws.chance(20))]
     if draws.chance(30):
-        before |= dict(puts_of(*rows("journals", "another job")))
+        before |= dict(TABLE.nodes(*TABLE.rows("another job")))
     return before, puts
 
 

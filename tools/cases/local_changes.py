@@ -3,8 +3,7 @@ tools/model/local_changes.py.
 """
 import random
 
-from tools.cases.manifests import SHATTERED
-from tools.cases.reading import puts_of, rows, troves_in, word_of
+from tools.cases.rows import ONE, OTHER, Rows
 from tools.lines.words import Spelled, digits, tree_word
 from tools.model.local_changes import local_changes, local_id
 from tools.model.stacks import file
@@ -34,7 +33,10 @@ def data_of(text):
         count = int(text[2:])
         return Spelled(b"x" * count, f"={count // 64}*0x{'78' * 64}+{count % 64}*0x78")
     word, _, more = text.partition("+")
-    return {"FIRST": SHATTERED[0], "SECOND": SHATTERED[1]}.get(word, word_of(word)) + more.encode()
+    return {"FIRST": ONE, "SECOND": OTHER}.get(word, TABLE.word(word)) + more.encode()
+
+
+TABLE = Rows("local_changes", data=data_of)
 
 
 # ---- cases by chance
@@ -85,8 +87,8 @@ def random_case(choice):
 
 def lines():
     """The rows of local_changes.txt, each a tree, what is installed, a name, and whether a call of the disk fails; and cases by chance."""
-    for row in rows("local_changes"):
+    for row in TABLE.rows():
         tree, troves, name, *words = row.split(" | ")
-        yield line(dict(puts_of(tree, data_of)), troves_in(troves, data_of), name.encode(), *words)
+        yield line(dict(TABLE.nodes(tree)), TABLE.troves(troves), name.encode(), *words)
     choice = random.Random(26)
     yield from (random_case(choice) for _ in range(400))

@@ -9,13 +9,13 @@ A put is a pair: a path, and what is to stand there.
 import itertools
 from random import Random
 
-from tools.cases.reading import puts_of, rows, word_of
+from tools.cases.rows import Rows, from_hex
 from tools.model.records import four
 from tools.model.streams import is_path, item
 from tools.model.texts import of_form
 from tools.model.trees import Journal, joined
 
-BASE = b"/base"
+TABLE, BASE = Rows("logs", data=from_hex), b"/base"
 JOURNAL = Journal(BASE)
 MAGIC, NUMBER_LIMIT = JOURNAL.MAGIC, JOURNAL.MOST
 ABCD = b"ABCDEFGHIJKLMNOPQRST"
@@ -38,15 +38,15 @@ def file_of(place, size=0, name=ABCD, mode=0o600):
 # ---- cases worked by hand: the rows of logs.txt, each with what is wanted behind ` > `
 
 def wanted_of(kind):
-    return [row.split(" > ") for row in rows("logs", kind)]
+    return [row.split(" > ") for row in TABLE.rows(kind)]
 
 
 def words_of(kind):
     """The words of the row of a topic."""
-    return list(map(word_of, rows("logs", kind)[0].split(" ")))
+    return list(map(TABLE.word, TABLE.rows(kind)[0].split(" ")))
 
 
-(KINDS, LOG), (MIXED_PUTS, MIXED) = [(puts_of(puts), word_of(log)) for puts, log in wanted_of("puts and their log")]
+(KINDS, LOG), (MIXED_PUTS, MIXED) = [(TABLE.nodes(puts), TABLE.word(log)) for puts, log in wanted_of("puts and their log")]
 ONE, ABC_FILE = b"\x3f\0\0\0\x04\0\0\0\x01", ("file", 0o644, b"abc")
 is_log = of_form(JOURNAL.read_log)
 
@@ -68,8 +68,8 @@ def by_hand():
         held((logged(puts), JOURNAL.read_log(log)), (log, puts))
         yield from [("encode", puts), ("decode", BASE, log)]
     for data, good in wanted_of("read"):
-        held(is_log(word_of(data)), good == "a log")
-        yield "decode", BASE, word_of(data)
+        held(is_log(TABLE.word(data)), good == "a log")
+        yield "decode", BASE, TABLE.word(data)
     for two, named in wanted_of("named"):
         base, path = map(str.encode, two.split(" "))
         held(Journal(base).can_be_named(path), named == "yes")

@@ -1,6 +1,6 @@
 """The calls of the program text_lines on the lowest libraries, and what they have to answer: comparisons of bytes, and sources and
 sinks that give and take a part, and fail."""
-from tools.cases.reading import rows
+from tools.cases.rows import Rows
 
 
 def compared(first, second):
@@ -26,7 +26,7 @@ def low_lines():
     cases += [(["lanes", first.decode(), second.decode()], compared(first, second)) for first, second in pairs]
     # Calls on sources and sinks, and the answers to them that were found by hand; `,` stands between two fields, and bytes of an answer are
     # shown as a text in quotes. A call of a source gives the number of bytes and the buffer of four bytes, which begins as `....`.
-    for row in rows("low"):
+    for row in Rows("low").rows():
         call, wanted = row.split(" > ")
         # What stands between two quotes is every second piece.
         pieces = [piece.encode().hex() if place % 2 else piece for place, piece in enumerate(wanted.split("'"))]

@@ -2,11 +2,11 @@
 import re
 from urllib.parse import unquote_to_bytes
 
-from tools.cases.reading import repeated, rows
+from tools.cases.rows import ONE, OTHER, Rows, repeated
 from tools.lines.words import Terms
 
 V = b"/conary.example.com@ex:devel/1.0-1-1"
-FRONTS = {b"component": b"foo:runtime", b"package": b"foo", b"group": b"group-all"}
+TABLE, FRONTS = Rows("manifests"), {b"component": b"foo:runtime", b"package": b"foo", b"group": b"group-all"}
 
 
 def text(*lines):
@@ -43,13 +43,11 @@ def of_row(row):
 
 
 def made(topic):
-    return map(of_row, rows("manifests", topic))
+    return map(of_row, TABLE.rows(topic))
 
 
 # Every kind of line, in a package, in a group and in a component.
 EVERY, REFS, M = made("every kind of line")
-
-SHATTERED = [bytes.fromhex(row) for row in rows("manifests", "two contents of 320 bytes with one SHA-1")]
 
 
 def file(path, content, size=None, flags=b""):
@@ -58,7 +56,7 @@ def file(path, content, size=None, flags=b""):
 
 def in_order(make, front, topic):
     """Lines that rise, and of each two that follow one another the second before the first, and the first twice."""
-    rising = [(front + row).encode() for row in rows("manifests", topic)]
+    rising = [(front + row).encode() for row in TABLE.rows(topic)]
     yield make(*rising)
     for one, other in zip(rising, rising[1:]):
         yield from (make(other, one), make(one, one))
@@ -103,7 +101,7 @@ def place_calls():
 def package_calls():
     yield from made("packages")
     yield from (EVERY, REFS)
-    first, second = SHATTERED
+    first, second = ONE, OTHER
     one = front(file(b"/a", first))
     yield from (one + text(file(b"/b", other), b"end") for other in (second, first))
     yield one + text(file(b"/b", b"x"), file(b"/c", first), file(b"/d", second + b"1"), b"end")
@@ -113,7 +111,7 @@ def package_calls():
 
 def large_calls():
     """Numbers of entries, references and dependency lines at their limits, and many components."""
-    for row in rows("manifests", "many lines, with the numbers below a count"):
+    for row in TABLE.rows("many lines, with the numbers below a count"):
         kind, _, parts = row.partition(" of ")
         lines = [(*line.encode().split(b"#"), int(count)) for count, line in (part.split(" times ") for part in parts.split(" and "))]
         yield Terms(front(kind=kind.encode()), *((begin, count, end + b"\n") for begin, end, count in lines), b"end\n")
@@ -121,7 +119,7 @@ def large_calls():
 
 def components():
     topics = "paths of the policy", "ends of the policy", "other paths of the policy"
-    return ((call, path) for topic in topics for path in rows("manifests", topic) for call in ("component", "dir_component"))
+    return ((call, path) for topic in topics for path in TABLE.rows(topic) for call in ("component", "dir_component"))
 
 
 def manifests():

@@ -1,14 +1,13 @@
 """Lines of list_lines on fingerprints, plans, their write sets and verifications, and the answers by tools/model/plans.py; how often a
 plan looks at the disk and reads it, and how often a write set asks for contents and files, from what docs/ARCHITECTURE.md says of their
 cost. In plans.txt there are cases that are told one by one: what stands, and the troves before and, but for verifications, after, as
-tools/cases/notation.py has them, and then what else is given.
+tools/cases/rows.py reads them, and then what else is given.
 """
 import itertools
 import random
 
-from tools.cases.notation import ONE, OTHER, content, node_of, placed, record_of, recorded, troves_of
-from tools.cases.tables import table
-from tools.lines.words import digits, node_word, rows_of, tree_word, word, yes_or_no
+from tools.cases.rows import ONE, OTHER, Rows, content, recorded
+from tools.lines.words import digits, node_word, tree_word, word, yes_or_no
 from tools.model.plans import FIXED, all_paths, owned, plan_changes, record, write_set
 from tools.model.records import mark_of, mark_of_record
 from tools.model.reports import finding_line
@@ -18,8 +17,8 @@ from tools.model.texts import Refused
 from tools.model.trees import parent_of
 
 PIECE = 65_536
-TABLE = table("plans")
-NAMED = dict(row.split(" = ") for row in TABLE["names"])
+TABLE = Rows("plans", data=content)
+TABLE.names.update(row.split(" = ") for row in TABLE.topics["names"])
 
 # ---- nodes, records and texts
 
@@ -37,17 +36,23 @@ def rec(text="x", flags="", mode=0o644):
     return file_of(data(text), mode, flags_of_letters(flags))
 
 
-def each(text, made=node_of):
+def each(text, made=TABLE.node):
     """What is made of each of these words."""
-    return [None if one == "nothing" else made(*one.split()) for one in text.split("; ")]
+    return list(map(made, text.split("; ")))
 
 
 def tree_of(text):
-    return placed(text, node_of, NAMED)
+    return dict(TABLE.nodes(text))
+
+
+def troves_of(text):
+    """The files of troves by their names, with ` & ` between two: those of `a:lib` where no name stands before them."""
+    troves = (one.rpartition(": ") for one in text.split(" & ") if one != "nothing")
+    return {(name or "a:lib").encode(): dict(TABLE.nodes(files, TABLE.record)) for name, _, files in troves}
 
 
 D, LA = each("dir; link a")
-RD, RLB = each("dir; link b", record_of)
+RD, RLB = each("dir; link b", TABLE.record)
 
 
 def at(*nodes):
@@ -95,7 +100,7 @@ def given_in(row, lists):
     """What stands in a row, so many lists of troves, and what else is given, by its first word."""
     stands, *rest = row.split(" | ")
     more = dict(one.partition(" ")[::2] for one in rest[lists:])
-    return tree_of(stands), *(troves_of(one, NAMED) for one in rest[:lists]), more
+    return tree_of(stands), *(troves_of(one) for one in rest[:lists]), more
 
 
 # ---- plans
@@ -147,7 +152,7 @@ EVERY = [[], ["replace"], ["keep"], ["keep", "replace"]]
 
 def plan_lines(topic, choices):
     """The rows of a topic, each with each choice of options."""
-    for row, options in itertools.product(rows_of(TABLE, topic), choices):
+    for row, options in itertools.product(TABLE.rows(topic), choices):
         *case, more = given_in(row, 2)
         yield plan_line(*case, *more, *options)
 
@@ -158,9 +163,9 @@ def of_one(record):
 
 def table_lines():
     """Each record before and after against each thing that may stand, with each choice of options."""
-    olds = each("nothing; dir; file aa; file aa i; file aa t; link a", record_of)
-    news = each("nothing; dir; file aa; file bb; file bb c; file bb i; file bb t; file cc ci; link a; link b", record_of)
-    trees = "nothing | /p dir | /p dir 0700; /p/x file x | /p file aa | /p file aa 0600 | /p file bb | /p link a | /p link b | /p dir 0700"
+    olds = each("nothing; dir; file aa; file aa i; file aa t; link a", TABLE.record)
+    news = each("nothing; dir; file aa; file bb; file bb c; file bb i; file bb t; file cc ci; link a; link b", TABLE.record)
+    trees = "nothing | dir /p | dir 0700 /p; file x /p/x | file aa /p | file 0600 aa /p | file bb /p | link a /p | link b /p | dir 0700 /p"
     for old, new, tree, options in itertools.product(olds, news, map(tree_of, trees.split(" | ")), EVERY):
         if old is not None or new is not None:
             yield plan_line(tree, of_one(old), of_one(new), *options)
@@ -194,7 +199,7 @@ def random_lines(count):
     rng = random.Random(30)
     paths = [path.encode() for path in "/a /a-b /a-b/c /a/b /a/b/c /a/b/d /a/c /b /b/a /b/a/b".split()]
     nodes = each("dir; dir; dir 0700; file x; file y; link a")
-    recs = each("dir; dir; dir; dir 0700; file x; file y; file y c; file y i; file y t; link a; link b", record_of)
+    recs = each("dir; dir; dir; dir 0700; file x; file y; file y c; file y i; file y t; link a; link b", TABLE.record)
 
     def without_clash(made):
         """Of several troves with one path that isn't a directory in all, the first alone has it."""
@@ -252,7 +257,7 @@ def mark_lines():
     yield from (mark_line(one, "/f", "failed", words="fail"), matches_line(one, b"/f", rec("a"), "failed", words="fail"))
     yield call_line("differing", tree_word(one, word), "/f", "a", words="fail"), "failed"
     stand = each("dir; dir 0700; file x; file y; link x; link y; nothing")
-    recs = each("dir; dir 0700; file x; file x c; file yy; link x; link y", record_of)
+    recs = each("dir; dir 0700; file x; file x c; file yy; link x; link y", TABLE.record)
     for one, record in itertools.product(stand, recs):
         yield matches_line(at("/p", one), b"/p", record, yes_or_no(mark_of(one) == mark_of_record(record)))
     for one, other in itertools.product(recs, recs):
@@ -264,7 +269,7 @@ def mark_lines():
 
 
 def differing_lines():
-    for pair in TABLE["differences"]:
+    for pair in TABLE.topics["differences"]:
         one, other = map(data, pair.split())
         yield call_line("differing", tree_word(at("/f", node(one)), word), "/f", word(other)), str(different_bytes(one, other))
 
@@ -293,12 +298,12 @@ def verify_row(row):
 
 
 def verify_lines():
-    yield from map(verify_row, rows_of(TABLE, "verify"))
-    recs = each("dir; file aa; file ab+c c; link a", record_of)
-    nodes = each("nothing; dir; dir 0700; file aa; file aa 0600; file ba; file abc; file -; link a; link b")
+    yield from map(verify_row, TABLE.rows("verify"))
+    recs = each("dir; file aa; file ab+c c; link a", TABLE.record)
+    nodes = each("nothing; dir; dir 0700; file aa; file 0600 aa; file ba; file abc; file -; link a; link b")
     for record, one, known in itertools.product(recs, nodes, ([], ["aa"], ["abc"], ["aa", "abc", "-"])):
         yield verify_line(at("/p", one), lib("/p", record), (), known)
-    yield from map(verify_row, rows_of(TABLE, "verify several"))
+    yield from map(verify_row, TABLE.rows("verify several"))
     rng, paths = random.Random(31), [b"/a", b"/a/b", b"/a/c", b"/b"]
     for _ in range(60):
         made = random_tree(rng, paths, 0.8, lambda: rng.choice(nodes[1:]))
@@ -344,7 +349,7 @@ def targets_line(options, tree, old, fresh, carried=(), far=(), now=None):
 
 def targets_rows(topic, options=(), carried=(), far=()):
     """The rows of a topic, which may have options, contents and what stands later with them."""
-    for row in rows_of(TABLE, topic):
+    for row in TABLE.rows(topic):
         tree, old, fresh, more = given_in(row, 2)
         some, others = (more.pop(name).split() if name in more else given for name, given in (("carried", carried), ("far", far)))
         now = tree_of(more.pop("now")) if "now" in more else None
@@ -359,12 +364,12 @@ def targets_lines():
     for words, carried in itertools.product(([], ["far-fails"], ["far-damaged"], ["fail"]), ([], ["new"], ["new", "n"])):
         yield from targets_rows("contents that fail or are damaged", words, carried)
     # the first missing content, in path order
-    every = troves_of("/a file a; /b file b; /c file c; /d dir; /d/a file a; /e file -", NAMED)
+    every = troves_of("file a /a; file b /b; file c /c; dir /d; file a /d/a; file - /e")
     for carried, far in itertools.product(("", "a", "a b", "a b c", "b c -", "a b c -"), ("", "-", "c b")):
         yield targets_line([], {}, {}, every, carried.split(), far.split())
     # all kinds, before and after
-    stand = each("nothing; dir; dir 0700; file s; file -; file s 0600; link a; link b")
-    news = each("nothing; dir; file s; file n; file -; link a", record_of)
+    stand = each("nothing; dir; dir 0700; file s; file -; file 0600 s; link a; link b")
+    news = each("nothing; dir; file s; file n; file -; link a", TABLE.record)
     for one, new, words in itertools.product(stand, news, (["replace"], ["replace", "fail"])):
         old = lib("/z", rec("z"), "/p", (rec("s") if one != D else RD) if new is None else None)
         yield targets_line(words, at("/p", one, "/z", node("z")), old, lib("/p", new, "/z", rec("zz")), ["n", "zz"], ["-", "s"])

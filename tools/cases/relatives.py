@@ -5,15 +5,16 @@ An argument is bytes or Terms (tools/lines/words.py).
 import functools
 import itertools
 
-from tools.cases.reading import file_in, id_of, rows, trove_in, word_of
+from tools.cases.rows import Rows, id_of
 from tools.lines.words import Terms
 from tools.model.relatives import relative_of
 from tools.model.streams import (
     TAGS, Id, Relative, Trove, file_of, id_bytes, item, record_bytes, relative_bytes, set_bytes, trove_bytes, trove_of,
 )
 
+TABLE = Rows("relatives")
 OLD, NEW = [b"/a@b:c/1-%d-1" % count for count in (1, 2)]
-RECORDS = [file_in("/x " + row)[1] for row in rows("relatives", "records")]
+RECORDS = list(map(TABLE.record, TABLE.rows("records")))
 DIR, FILE, OTHER_FILE, LINK, OTHER_LINK = [RECORDS[place] for place in (0, 4, 11, 12, 13)]
 
 
@@ -52,8 +53,8 @@ def relative_in(text):
     for part in filter(None, parts.split(", ")):
         is_gone, part = part.startswith("gone "), part.removeprefix("gone ")
         word, _, rest = part.partition(" ")
-        tag, read = {"ref": (0x25, id_of), "requires": (0x27, word_of), "provides": (0x29, word_of)}.get(word, (0x23, None))
-        value = read(rest) if read else word_of(part) if is_gone else file_in(part)
+        tag, read = {"ref": (0x25, id_of), "requires": (0x27, TABLE.word), "provides": (0x29, TABLE.word)}.get(word, (0x23, None))
+        value = read(rest) if read else TABLE.word(part) if is_gone else TABLE.file(part)
         made.lists[tag + (not is_gone)].append(value)
     return made
 
@@ -62,7 +63,7 @@ def stream_of(call, text):
     """The stream of a trove, of a relative trove or of a change set without contents; or bytes."""
     if text.startswith("bytes "):
         return bytes.fromhex(text[6:])
-    parts = [relative_in(one) if " to " in one else trove_in(one) for one in text.split(" + ") if one]
+    parts = [relative_in(one) if " to " in one else TABLE.trove(one) for one in text.split(" + ") if one]
     if call in ("allowed", "applied"):
         return set_bytes(parts, [])
     return trove_bytes(*parts) if isinstance(parts[0], Trove) else relative_bytes(*parts)
@@ -70,8 +71,8 @@ def stream_of(call, text):
 
 def written(topic):
     """The calls of a topic of the table, each with the streams of its troves."""
-    for call, *given in (row.split(" | ") for row in rows("relatives", topic)):
-        yield from between(*map(trove_in, given)) if call == "between" else [(call, *(stream_of(call, text) for text in given))]
+    for call, *given in (row.split(" | ") for row in TABLE.rows(topic)):
+        yield from between(*map(TABLE.trove, given)) if call == "between" else [(call, *(stream_of(call, text) for text in given))]
 
 
 def records():

@@ -3,9 +3,11 @@
 A call has its arguments behind it, and its answer is the text, with a tab for each line feed. The calls are the rows of reports.txt. The
 texts come from tools/model/reports.py, and the streams of the troves that are handed in from tools/model/streams.py.
 """
-from tools.cases.reading import id_of, rows, trove_in, troves_in, word_of
+from tools.cases.rows import Rows, id_of
 from tools.model.reports import change_lines, finding_line, id_lines, note_text, or_nothing, trove_text
 from tools.model.streams import id_text, trove_bytes
+
+TABLE = Rows("reports")
 
 
 def streams(troves):
@@ -24,12 +26,12 @@ def fields_of(changes):
 # ---- the calls: of the fields of a row, what stands in the line, and the text
 
 def troves(text):
-    return streams(troves_in(text)), id_lines(one.identity for one in troves_in(text))
+    return streams(TABLE.troves(text)), id_lines(one.identity for one in TABLE.troves(text))
 
 
 def named(name, text):
-    fields, asked = streams(troves_in(text)), name.encode()
-    return [asked, *fields], id_lines(one.identity for one in troves_in(text) if one.identity.name == asked)
+    fields, asked = streams(TABLE.troves(text)), name.encode()
+    return [asked, *fields], id_lines(one.identity for one in TABLE.troves(text) if one.identity.name == asked)
 
 
 def committed(text):
@@ -38,7 +40,7 @@ def committed(text):
 
 
 def trove(text):
-    return streams([trove_in(text)]), trove_text(trove_in(text))
+    return streams([TABLE.trove(text)]), trove_text(TABLE.trove(text))
 
 
 def changes(text):
@@ -59,7 +61,7 @@ def rolled_back(text):
 
 
 def verified(paths, *texts):
-    found = [(word, word_of(path)) for word, path in (text.split(" ") for text in texts)]
+    found = [(word, TABLE.word(path)) for word, path in (text.split(" ") for text in texts)]
     lines = b"".join(finding_line(int(word) if word.isdigit() else word, path) for word, path in found)
     fields = [paths.encode(), *(word.encode() + b" " + path for word, path in found)]
     return fields, lines + b"verified %d paths, %d changed\n" % (int(paths), len(found))
@@ -70,6 +72,6 @@ CALLS = {call.__name__: call for call in (troves, named, committed, trove, chang
 
 def report_lines():
     """The calls, each with its answer."""
-    for call, *given in (row.split(" | ") for row in rows("reports")):
+    for call, *given in (row.split(" | ") for row in TABLE.rows()):
         fields, text = CALLS[call](*given)
         yield b"\t".join([call.encode(), *fields]), text.replace(b"\n", b"\t")

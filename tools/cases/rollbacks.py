@@ -3,7 +3,7 @@
 The roots are laid out as files. What a rollback does is told by tools/model/root.py, which shares nothing with the program that is
 tested.
 """
-from tools.cases.reading import puts_of, rows, word_of
+from tools.cases.rows import Rows
 from tools.cases.stacks import ABCD, ERASE, ETC, FOO, FOO_2, INSTALL, INSTALLED, SAVED, WITH_KINDS, trove
 from tools.lines.system_lines import damaged, fail_line, rollback, run_line, stop_lines
 from tools.model.records import record_path
@@ -28,16 +28,13 @@ IN_PLACE = Root().edit(b"/srv", DIR).job([BAR], {b"/srv/bar": file(b"b")})
 TAKEN = Root().edit(b"/srv", DIR).edit(b"/srv/bar", file(b"b")).job([], {b"/srv/bar": None})
 NAMED = {"INSTALLED": INSTALLED, "REPLACED": REPLACED, "ERASED": ERASED, "WITH_KINDS": WITH_KINDS}
 NAMED |= {"THREE": THREE, "IN_PLACE": IN_PLACE, "TAKEN": TAKEN}
-
-
-def data_of(text):
-    return REPLACED.own[record_path(1)][2] if text == "RECORD" else word_of(text)
+TABLE = Rows("rollbacks", data=lambda text: REPLACED.own[record_path(1)][2] if text == "RECORD" else TABLE.word(text))
 
 
 def edited(kind):
     """The rows of rollbacks.txt: a root, edits, and a number where there is one."""
-    for root, edits, *number in (row.split(" | ") for row in rows("rollbacks", kind)):
-        yield NAMED[root], puts_of(edits, data_of), *map(int, number)
+    for root, edits, *number in (row.split(" | ") for row in TABLE.rows(kind)):
+        yield NAMED[root], TABLE.nodes(edits), *map(int, number)
 
 
 # Roots whose newest job can be taken back, and edits that keep it from that.

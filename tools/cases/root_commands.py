@@ -6,7 +6,7 @@ import hashlib
 import itertools
 
 from tools.cases import samples
-from tools.cases.root_examples import ABX, CLASH, FOO, M, M2, WRONG, Examples
+from tools.cases.root_examples import ABX, CLASHED, CLASHING, FOO, M, M2, WRONG, Examples
 from tools.cases.rows import Rows
 from tools.cases.samples import (
     ABC, BASE, BOTH, COOKED, ETC, F2, GATE, GROUP, LABEL, LONGER_SPEC, LONG_SPEC, NO_VAR, PICKS, SET, V1, V2, carried, component,
@@ -21,7 +21,6 @@ from tools.model.trees import DIR
 NEW_1, NEW_2 = b"1.0-1-1", b"1.0-2-1"
 LONG_LABEL, A_AND_B = b"/" + b"h" * 200 + b"@n:t", [b"file 0644 1 /a", b"1", b"file 0644 1 /b", b"2"]
 LONG_VERSION = manifest(b"foo:runtime", b"1" * 60 + b"-1-1", A_AND_B, label=LONG_LABEL + b"/1.0-1-1" + LONG_LABEL)
-CLASHING, CLASHED = CLASH
 LONG_NAME, GOOD = b"n" * 256, database_bytes(2, [V1], 1, 1)
 DATABASE_LOG = log_of([(DATABASE, file(GOOD, 0o644))])
 TABLE = Rows("root_commands", globals(), samples.TABLE.names)

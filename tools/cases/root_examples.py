@@ -4,8 +4,7 @@ root_examples.txt or here, and compared with the model's answers wherever a scri
 import re
 
 from tools.cases import samples, streams
-from tools.cases.manifests import SHATTERED as CLASH
-from tools.cases.rows import Rows
+from tools.cases.rows import ONE, OTHER, Rows
 from tools.cases.samples import BASE, COMPONENT, GATE, LOG, PICKS, SECOND, STAGE, V2, WORK, carried, file
 from tools.model import program, stacks
 from tools.model.records import DATABASE, database_bytes, read_database
@@ -27,7 +26,7 @@ def numbered(oldest, newest):
 
 
 FULL, LAST_NUMBER = numbered(1, 4096), numbered(2**32 - 1, 2**32 - 1)
-CUT, (CLASHING, CLASHED) = M[:115], CLASH
+CUT, CLASHING, CLASHED = M[:115], ONE, OTHER
 OWNED = M.replace(b"manifest 1", b"manifest 2").replace(b"0755 ", b"0755 root:root ").replace(b"0644 3 ", b"0644 3 daemon:adm ")
 # Change sets of 169, 168, 207 and 181 bytes, all but the first of them spelled by hand in cases/streams.py.
 NEWEST, WHOLE, BETWEEN, OWNED_SET = set_bytes([V2], carried(b"abcd")), streams.WHOLE_SET, streams.RELATIVE_SET, streams.OWNED_SET
@@ -136,7 +135,7 @@ def format_examples(script):
     for number in range(len(trees["root"].made) + 1):
         some.begin("migration_cut_off", nodes)
         script.cut("root", number, PICKS[number % 3], b"q")
-        some.play("rollback > rolled back r.2", "  /etc/foo file 644 abX")
+        some.play("rollback > rolled back r.2", "  file abX /etc/foo")
     some.begin("damaged_in_format_1").play("TWO_JOBS")
     old = one_format(script.trees["root"].nodes)
     for path, node in old:

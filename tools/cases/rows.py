@@ -1,14 +1,69 @@
-"""What the rows of tables (tools/cases/tables.py) say: bytes, nodes, manifests, troves, and steps of a script (tools/lines/script.py)."""
+"""The rows of tables, plain text files beside this one, and what stands in them: bytes, nodes, records, troves, manifests, and steps of a
+script (tools/lines/script.py)."""
+import pathlib
 import re
 from collections import ChainMap
+from urllib.parse import unquote_to_bytes
 
-from tools.cases.tables import table
+from tools.lines.words import rows_of, spelled
 from tools.model import repository
 from tools.model.program import manifest_of
-from tools.model.streams import ChangeSet, Id, Trove, directory, file_of, id_of_text, link
+from tools.model.streams import ChangeSet, Id, Owner, Trove, directory, file_of, flags_of_letters, link, trove_of
 from tools.model.trees import Tree
 
 LABEL, STABLE = b"conary.example.com@ex:devel", b"conary.example.com@ex:stable"
+MODES = {"dir": 0o755, "file": 0o644}
+
+
+def table(name):
+    """The rows of tools/cases/NAME.txt by topic: a line `# TOPIC` begins a topic, each other line that isn't blank is a row."""
+    rows, topic = {}, ""
+    for line in (pathlib.Path(__file__).parent / f"{name}.txt").read_text(encoding="utf-8").split("\n"):
+        if line.startswith("# "):
+            topic = line[2:]
+        elif line:
+            rows.setdefault(topic, []).append(line)
+    return rows
+
+
+# Two contents of 320 bytes with one SHA-1.
+ONE, OTHER = map(bytes.fromhex, rows_of(table("manifests"), "two contents of 320 bytes with one SHA-1"))
+CONTENTS = {"-": b"", "ONE": ONE, "OTHER": OTHER, "NO_DIRECTORY": b"no directory"}
+
+
+def content(text):
+    """One of these, or bytes of pieces."""
+    return CONTENTS[text] if text in CONTENTS else spelled(text)
+
+
+def from_hex(text):
+    return bytes.fromhex(text.strip("-"))
+
+
+def choices(text):
+    """The texts of one with choices in braces, a `;` between two: to each choice of the first brace all of those behind it."""
+    front, brace, rest = text.partition("{")
+    some, _, rest = rest.partition("}")
+    return [front + one + more for one in some.split(";") for more in choices(rest)] if brace else [text]
+
+
+def repeated(text):
+    """Between backticks a byte stands so many times."""
+    return re.sub(r"`(\d+)\*(.)`", lambda found: int(found[1]) * found[2], text)
+
+
+def id_of(text):
+    """`NAME=VERSION[FLAVOR]`; a version without labels is one on LABEL."""
+    name, version, flavor = re.fullmatch(r"(.*?)=([^\[]*)(?:\[(.*)\])?", text).groups("")
+    return Id(name.encode(), (b"" if version.startswith("/") else b"/" + LABEL + b"/") + version.encode(), flavor.encode())
+
+
+def recorded(node, flags=""):
+    """The record of what stands."""
+    kind, *rest = node
+    if kind == "file":
+        return file_of(rest[1], rest[0], flags_of_letters(flags))
+    return directory(*rest) if kind == "dir" else link(*rest)
 
 
 def manifest(name, revision, lines=(), first=b"manifest 1", label=b"/" + LABEL):
@@ -39,13 +94,26 @@ def cooked(*manifests):
 
 class Rows:
     """A table, and what its rows name: the texts, manifests, troves and nodes of these topics, and values of modules, also those that a
-    module has for its rows alone. In bytes `{NAME}` is such a value, `{NONE}` no bytes, and an escape what it is in Python."""
+    module has for its rows alone. In bytes `{NAME}` is such a value, `{NONE}` no bytes, `%` and two digits a byte, and an escape what it is
+    in Python. `data` reads the bytes of files."""
 
-    def __init__(self, name, *modules):
-        self.topics, self.names = table(name), ChainMap({"NONE": b""}, *modules)
+    def __init__(self, name, *modules, data=None):
+        self.topics, self.names, self.data = table(name), ChainMap({"NONE": b"", "nothing": []}, *modules), data or self.word
         for topic, made in (("texts", self.bytes), ("manifests", self.manifest), ("troves", self.trove), ("nodes", self.nodes)):
             for key, *fields in self.fields(topic):
                 self.names[key] = made(*fields)
+
+    def rows(self, kind=None):
+        """The rows of the topics of this kind, which stands alone or before a colon, or of all: those for each choice that a topic gives
+        for `$X`, and for each of their own. What the topic `words` has stands for more, each word before those in it."""
+        found = []
+        for topic, some in self.topics.items():
+            title, _, each = topic.partition(", each $X of ")
+            if topic != "words" and kind in (None, title.partition(": ")[0]):
+                found += [text for one in choices(each) for row in some for text in choices(row.replace("$X", one))]
+        for word in self.topics.get("words", []):
+            found = [text.replace(*word.split(" = ", 1)) for text in found]
+        return found
 
     def fields(self, topic):
         """The fields of each row, with `|` between two."""
@@ -56,7 +124,12 @@ class Rows:
         return [self.names[name] for name in text.split()]
 
     def bytes(self, text):
-        return re.sub(rb"\{(\w+)\}", lambda found: self.names[found[1].decode()], text.encode().decode("unicode_escape").encode("latin-1"))
+        escaped = unquote_to_bytes(text).decode("unicode_escape").encode("latin-1")
+        return re.sub(rb"\{(\w+)\}", lambda found: self.names[found[1].decode()], escaped)
+
+    def word(self, text):
+        """Bytes, `-` for none."""
+        return b"" if text == "-" else self.bytes(text)
 
     def lines(self, texts):
         return list(map(self.bytes, texts))
@@ -74,43 +147,73 @@ class Rows:
     def manifest(self, name, revision, *lines):
         return manifest(self.bytes(name), self.bytes(revision), self.lines(lines))
 
-    def trove(self, name, revision, *parts):
-        """A component with these files, each a path with its record, or another trove with references."""
-        if ":" not in name:
-            return group(name.encode(), revision.encode(), map(id_of_text, self.lines(parts)))
-        files = (part.partition(" ") for part in parts)
-        return component(name.encode(), revision.encode(), [(self.bytes(path), self.record(text)) for path, _, text in files])
-
-    def record(self, text):
-        """`dir`, `dir MODE`, `link TARGET`, or the bytes of a file."""
-        kind, _, rest = text.partition(" ")
-        if kind == "dir":
-            return directory(int(rest or "755", 8))
-        return link(self.bytes(rest)) if kind == "link" else file_of(self.bytes(text))
+    def parsed(self, text):
+        """A node, and the words behind it: `nothing`, `dir`, `file DATA`, `link TARGET` or `staged NUMBER SIZE SHA-1`; a mode of four
+        digits stands behind the kind where it isn't 0755 of a directory or 0644 of a file."""
+        kind, *words = text.split(" ")
+        if kind in ("nothing", "link"):
+            return (None, words) if kind == "nothing" else ((kind, self.word(words[0])), words[1:])
+        mode = int(words.pop(0), 8) if words and re.fullmatch("[0-7]{4}", words[0]) else MODES[kind]
+        if kind == "staged":
+            return (kind, mode, int(words[0]), int(words[1]), bytes.fromhex(words[2])), words[3:]
+        return ((kind, mode), words) if kind == "dir" else ((kind, mode, self.data(words[0])), words[1:])
 
     def node(self, text):
-        """`dir`, `dir MODE`, `file MODE`, `file MODE BYTES`, `link TARGET`, or `nothing`."""
-        kind, _, rest = text.partition(" ")
-        if kind == "file":
-            mode, _, data = rest.partition(" ")
-            return (kind, int(mode, 8), self.bytes(data))
-        if kind == "dir":
-            return (kind, int(rest or "755", 8))
-        return (kind, self.bytes(rest)) if kind == "link" else None
+        return self.parsed(text)[0]
+
+    def record(self, text):
+        """What is recorded: a node, and behind it an owner, flags by letters, or another size than that of the data."""
+        node, more = self.parsed(text)
+        made = node and recorded(node)
+        for word in more:
+            if word.isdigit():
+                made = made._replace(size=int(word))
+            elif ":" in word:
+                made = made._replace(owner=Owner(*word.encode().split(b":")))
+            else:
+                made = made._replace(flags=flags_of_letters(word))
+        return made
+
+    def file(self, text):
+        """A path, and the record before it."""
+        record, _, path = text.rpartition(" ")
+        return self.word(path), self.record(record)
+
+    def nodes(self, text, made=None):
+        """Pairs of a path and the node before it, with `;` between two, or what else is made of its words. A name is that of such pairs, or
+        of their text, and `-/a` leaves that path out. Or the nodes of a repository in which manifests of these names were cooked."""
+        if text.startswith("cooked "):
+            return cooked(*self.named(text.removeprefix("cooked ")))
+        made, found = made or self.node, []
+        for part in filter(None, map(str.strip, text.split(";"))):
+            words, _, path = part.rpartition(" ")
+            if words:
+                found.append((self.word(path), made(words)))
+            elif path.startswith("-"):
+                found = [pair for pair in found if pair[0] != self.word(path[1:])]
+            else:
+                found += self.nodes(self.names[path], made) if isinstance(self.names[path], str) else self.names[path]
+        return found
 
     def all_nodes(self, topic):
         return list(map(self.node, self.topics[topic]))
 
-    def nodes(self, text):
-        """Nodes at paths, with `;` between two, each a path with its node; a name alone is that of a list of them. Or the nodes of a
-        repository in which manifests of these names were cooked."""
-        if text.startswith("cooked "):
-            return cooked(*self.named(text.removeprefix("cooked ")))
-        found = []
-        for part in text.split("; ") if text else []:
-            path, _, node = part.strip().partition(" ")
-            found += [(self.bytes(path), self.node(node))] if node else self.names[path]
-        return found
+    def trove(self, text):
+        """An id, and behind `has` with a comma between two, files, references (`ref ID`), requirements and what is provided."""
+        head, _, parts = repeated(text).partition(" has ")
+        name, version, flavor = id_of(self.bytes(head).decode())
+        files, lists = [], {"ref": [], "requires": [], "provides": []}
+        for part in filter(None, parts.split(", ")):
+            word, _, rest = part.partition(" ")
+            if word in lists:
+                lists[word].append(id_of(self.bytes(rest).decode()) if word == "ref" else self.word(rest))
+            else:
+                files.append(self.file(part))
+        return trove_of(name, version, files, *lists.values(), flavor)
+
+    def troves(self, text):
+        """Troves with ` + ` between two."""
+        return [self.trove(one) for one in text.split(" + ") if one]
 
     def say(self, script, row):
         """A step: `disks` with what is put into the root and into the repository, and the calls of them that fail; an edit of the root; an

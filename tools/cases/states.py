@@ -5,8 +5,7 @@ The answers come from tools/model/records.py and tools/model/stacks.py, readings
 import itertools
 from random import Random
 
-from tools.cases.manifests import SHATTERED
-from tools.cases.rows import LABEL, Rows
+from tools.cases.rows import LABEL, ONE, OTHER as TWO, Rows
 from tools.lines.words import bytes_word, node_word, placed, tree_word
 from tools.model import stacks
 from tools.model.records import (
@@ -48,7 +47,6 @@ OTHER = Owner(b"web", b"www")
 ABC = file_of(b"abc")
 ETC = (b"/etc", directory(0o755))
 # Two contents of one SHA-1.
-ONE, TWO = SHATTERED
 ABC_NAME, CUT_NAME = sha(b"abc"), sha(b"abc")[:-1]
 
 

@@ -6,7 +6,7 @@ and an argument with quotes is bytes. What a call has to answer is said there of
 import itertools
 import re
 
-from tools.cases.tables import table
+from tools.cases.rows import table
 from tools.lines.words import Terms, rows_of
 from tools.model.streams import item, sha
 from tools.model.streams import str_field as field

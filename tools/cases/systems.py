@@ -10,14 +10,13 @@ import itertools
 import random
 
 from tools.cases.jobs import collection, component
-from tools.cases.notation import ONE, OTHER as TWO, content, node_of, placed, record_of
+from tools.cases.rows import ONE, OTHER as TWO, Rows, content
 from tools.cases.stacks import OLD_DATABASE_2_BY_HAND, OLD_RECORD_2_BY_HAND, OLD_RECORD_BY_HAND
-from tools.cases.tables import table
 from tools.lines.system_lines import (
     ROLLBACK, Call, Edit, adopt, damaged, erase, fail_line, rollback, run_line, seen_line, stop_lines, unready_failures, unready_line,
     update, verify,
 )  # fmt: skip
-from tools.lines.words import bytes_word, rows_of
+from tools.lines.words import bytes_word
 from tools.model.lists import name_of
 from tools.model.records import BASE, DATABASE, record_path
 from tools.model.root import Root, cut_off
@@ -26,7 +25,7 @@ from tools.model.stacks import file, in_format_1
 from tools.model.streams import Owner, Trove, directory, file_of, link, trove_bytes
 from tools.model.trees import DIR, is_of, parent_of
 
-TABLE = table("systems")
+TABLE = Rows("systems", data=content)
 
 # ---- troves and roots
 
@@ -55,13 +54,13 @@ def trove_of_row(head, *rest):
     if told["of"]:
         troves = (TROVES[one.decode()] for one in told["of"][0].split())
         return collection(name, *troves, **({"revision": revision[0]} if revision else {}))
-    files = placed("; ".join(one for one in rest if one.startswith("/")) or "nothing", record_of, {})
+    files = TABLE.nodes(";".join(one for one in rest if not one.startswith(("requires", "provides"))), TABLE.record)
     return trove(name, files, *revision, requires=told["requires"], gives=told["provides"])
 
 
-for made, text in (row.split(" = ") for row in rows_of(TABLE, "troves")):
+for made, text in (row.split(" = ") for row in TABLE.rows("troves")):
     TROVES[made] = trove_of_row(*text.split("; "))
-CALLS = dict(row.split(" = ") for row in TABLE["calls"])
+CALLS = dict(row.split(" = ") for row in TABLE.topics["calls"])
 
 
 def call_of(text):
@@ -72,7 +71,7 @@ def call_of(text):
     contents, far = list(map(content, given.pop("carried", "").split())), given.pop("far", "")
     far = far if far in ("fails", "damaged") else list(map(content, far.split()))
     if what == "edit":
-        return Edit(words[0].encode(), node_of(*words[1:]) if words[1:] else None)
+        return Edit(*TABLE.nodes(said[5:])[0])
     if what == "numbered":
         # A stack of jobs of which nothing stands.
         return Call(text, lambda system: (system.numbered(*map(int, words)).with_database(), "numbered"))
@@ -93,12 +92,12 @@ def system_of(text):
 
 
 def rows(topic):
-    for label, system, *calls in (row.split(" | ") for row in rows_of(TABLE, topic)):
+    for label, system, *calls in (row.split(" | ") for row in TABLE.rows(topic)):
         yield label, system_of(system), *map(call_of, calls)
 
 
 SYSTEMS = {"EMPTY": EMPTY}
-for made, text in (row.split(" = ") for row in TABLE["systems"]):
+for made, text in (row.split(" = ") for row in TABLE.topics["systems"]):
     SYSTEMS[made] = system_of(text)
 INSTALLED, EDITED, STARTED = (SYSTEMS[made] for made in ("INSTALLED", "EDITED", "STARTED"))
 M, M2, M3, OTHER = (TROVES[made] for made in ("M", "M2", "M3", "OTHER"))
@@ -117,7 +116,7 @@ BACK_TWICE = (ROLLBACK, ROLLBACK)
 def drafts(topic, counts, first=0):
     """So many of the tests of a topic failing at once: their labels, the root, and what each of them gives, by its first word."""
     tests = []
-    for label, *rest in (row.split(" | ") for row in rows_of(TABLE, topic)[first:]):
+    for label, *rest in (row.split(" | ") for row in TABLE.rows(topic)[first:]):
         given = [one for one in rest if one.startswith(("come", "far", "before", "behind"))]
         tests.append((label, [call_of(one) for one in rest if one not in given], dict(one.split(" ", 1) for one in given)))
     for some in (some for count in counts for some in itertools.combinations(tests, count)):
@@ -167,7 +166,7 @@ def large_rows():
 
 
 def step_lines():
-    for row in rows_of(TABLE, "steps"):
+    for row in TABLE.rows("steps"):
         label, system, call, *more = row.split(" | ")
         system, call = system_of(system), call_of(call)
         yield seen_line(label, system, call)

@@ -3,7 +3,7 @@ byte, place or list, on texts made from good ones by small changes, and on texts
 import itertools
 import re
 
-from tools.cases.tables import table
+from tools.cases.rows import table
 from tools.model.texts import (
     CLASSES, GREATEST, SENSES, dep_of, dep_text, flavor_of, flavor_text, id_bytes, id_of_text, id_text, revision_text, version_of,
 )

@@ -8,7 +8,12 @@ import time
 
 from jobs import Jobs, agrees, arguments, copy, counted, new_room, run, state_of, stored
 
-FILES, ROUNDS_IN_A_ROOM = 60, 40
+FILES, ROUNDS_IN_A_ROOM, TOLD_EACH = 60, 40, 50
+
+
+def say(counts, kinds):
+    """Says at once what was seen so far, so that a run that is ended early has told it."""
+    print(f"{counted(counts)}; killed: {counted(dict(sorted(kinds.items())))}", flush=True)
 
 
 def is_visible(left, before, after):
@@ -65,8 +70,10 @@ def main():
             counts["killed"] += killed
             counts[found] += killed
             kinds[words[0]] = kinds.get(words[0], 0) + killed
+            if killed and counts["killed"] % TOLD_EACH == 0 and counts["killed"] < kills:
+                say(counts, kinds)
             copy(done, now)
-    print(f"{counted(counts)}; killed: {counted(dict(sorted(kinds.items())))}")
+    say(counts, kinds)
 
 
 main()

@@ -51,7 +51,7 @@ def disk_arguments(call, words):
         first = call != "at"
         return [*(word.decode() for word in words[:first]), terms(words[first:])]
     if call == "edit":
-        return [f"{node_term(disks.node_of(b' '.join(words[1:]).decode()))} {term(words[0])}"]
+        return [f"{node_term(disks.TABLE.node(b' '.join(words[1:]).decode()))} {term(words[0])}"]
     if call in ("store put", "store fill"):
         return [*map(term, words[:-3]), term(content_of(*words[-3:]))]
     return [word.decode() if word.isdigit() else term(word) for word in words]
@@ -89,7 +89,7 @@ class Steps:
     # ---- what is told or set without a call
 
     def edit(self, path, *node):
-        return ["ok" if self.disk.edit(path, disks.node_of(b" ".join(node).decode())) else "no tree"]
+        return ["ok" if self.disk.edit(path, disks.TABLE.node(b" ".join(node).decode())) else "no tree"]
 
     def stop(self, calls):
         self.disk.left = int(calls)

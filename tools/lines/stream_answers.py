@@ -6,7 +6,7 @@ docs/FORMATS.md alone, and the texts of refusals from docs/COMMANDS.md; nothing 
 from functools import partial
 from operator import itemgetter
 
-from tools.cases.tables import table
+from tools.cases.rows import table
 from tools.lines.words import yes_or_no
 from tools.model import manifests, relatives, streams
 from tools.model.relatives import Refused
