@@ -7,59 +7,18 @@ ghost use Rattle.local_db.specs.MarkBytes.{IsMark};
 ghost use Rattle.local_db.specs.Steps.{want_of};
 ghost use Rattle.local_db.specs.tree-disk.Rows.{bytes_at, is_file_at};
 ghost use Rattle.local_db.specs.tree-disk.Steps.{Tests};
-ghost use Rattle.tree_scan.specs.declared.mark.Mark.TheVariants as mark;
-ghost use Rattle.tree_scan.specs.Marks.{fingerprint_of_record};
 ghost use Rattle.job_targets.specs.Outcome.{IsGrownStop};
 ghost use Rattle.job_targets.specs.Targets.{entries_at, entry_at, first_large, HasEntry, HaveEntries, IsOldWant, large_size};
 
 use crate::entry::{Entries, Entry};
 use conflict_plan::Planned;
-use local_db::cny_base::{
-    Bytes, CONTENT_LIMIT, Copies, Mode, OutOfMemory, Path, Refusal, Stop, What,
-};
+use local_db::cny_base::{Bytes, CONTENT_LIMIT, Copies, OutOfMemory, Path, Refusal, Stop, What};
 use local_db::file_stream::FileRec;
 use local_db::journal_log::Want;
+use local_db::mark_of_record;
 use local_db::tree_disk::{TreeDisk, steps};
 use std::alloc::Global;
 use tree_scan::Mark;
-
-// The fingerprint of a file.
-fn file_mark(mode: Mode, size: u32, name: &[u8; 20]) -> Mark
-    ensures value { result ≡ mark.File mode size name.now }
-    ensures marked { IsMark result }
-{
-    let _bits = mode.bits();
-    Mark::File {
-        mode,
-        size: u64::from(size),
-        name: *name,
-    }
-}
-
-// The fingerprint of what a record describes.
-fn recorded_mark(rec: &FileRec) -> Result<Mark, OutOfMemory>
-    ensures value { IfOk result (λ mark. mark ≡ fingerprint_of_record rec.now) }
-    ensures marked { IfOk result IsMark }
-{
-    match rec {
-        FileRec::Dir { mode, .. } => {
-            let _bits = mode.bits();
-            Ok(Mark::Dir { mode: *mode })
-        }
-        FileRec::File {
-            mode,
-            size,
-            name,
-            ..
-        } => Ok(file_mark(*mode, *size, name)),
-        FileRec::Link { target } => {
-            let _text = target.text();
-            Ok(Mark::Link {
-                target: target.copy()?,
-            })
-        }
-    }
-}
 
 // The fingerprint of what is to stand.
 fn wanted_mark(want: &Option<FileRec>) -> Result<Mark, OutOfMemory>
@@ -67,7 +26,7 @@ fn wanted_mark(want: &Option<FileRec>) -> Result<Mark, OutOfMemory>
     ensures marked { IfOk result IsMark }
 {
     match want {
-        Some(rec) => recorded_mark(rec),
+        Some(rec) => mark_of_record(rec),
         None => Ok(Mark::Nothing),
     }
 }
