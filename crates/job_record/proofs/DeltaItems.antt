@@ -6,8 +6,7 @@ use Rattle.std.specs.List.{flat_map}
 use Rattle.std.proofs.lemmas.Bool.{eqb-true, or_cases}
 use Rattle.std.proofs.lemmas.List.Concat.{flat_map-append}
 use Rattle.std.proofs.lemmas.List.Elements.{All-nil, All-cons, All-head, All-tail, All-push}
-use Rattle.cny_stream.specs.Item.{FitsItem, IsItemAt, is_expected, item_bytes}
-use Rattle.cny_stream.specs.ItemLaws.{SameItem}
+use Rattle.cny_stream.specs.Item.{IsItemAt, is_expected, item_bytes}
 use Rattle.cny_stream.proofs.ItemLaws.{same_item}
 use Rattle.local_db.specs.declared.format.Format.{Format}
 use Rattle.local_db.specs.Formats.{record_magic}
@@ -20,6 +19,7 @@ use Rattle.job_record.specs.Reading.{IsDeltaText, IsDeltaAt, IsNoDeltaAt, AreDel
 use Rattle.job_record.proofs.EntryItems.{entry_fits}
 use Rattle.job_record.proofs.Items.{last_of}
 use Rattle.job_record.proofs.Once.{delta_once}
+use Rattle.local_db.proofs.Found.{same_text}
 use Rattle.local_db.proofs.Spellings.{Distinct, without_head}
 
 -- ---- one item
@@ -50,22 +50,16 @@ no_delta_before f (x ∷ es) es_are u r is e =
 -- ---- an item that was found
 
 module _ (f : Format) (bytes : List ℕ) (at tag from to : ℕ) (found : IsItemAt bytes at tag from to) where
-  abbrev pub value : List ℕ
-  value = slice_range bytes from to
-
-  pub same_text : (tag' : ℕ) (text rest : List ℕ) → FitsItem text → drop at bytes ≡ item_bytes tag' text ++ rest → SameItem tag tag' value text (drop to bytes) rest
-  same_text tag' text rest fits e = same_item tag tag' value text (drop to bytes) rest found.fits fits (sym found.spelled ∙ e)
-
   pub no_delta_here : ((u : Delta) → IsDeltaText f tag (slice_range bytes from to) u → ⊥) → IsNoDeltaAt f bytes at
   no_delta_here none u rest is fits e =
-      let items = same_text (tag_of u) (delta_value f u) rest fits e in
+      let items = same_text bytes at tag from to found (tag_of u) (delta_value f u) rest fits e in
       none u (record { delta_is = is; tagged = items.tags; text = items.values })
 
   -- where a delta's was
   pub delta_not_entries : tag < 0x67 → (es : List ToldEntry) → All IsToldEntry es → drop at bytes ≡ entries_text es → ⊥
-  delta_not_entries below [] es_are e = let items = same_text 0x6F [] [] (omega arith) e in omega (arith, below, items.tags)
+  delta_not_entries below [] es_are e = let items = same_text bytes at tag from to found 0x6F [] [] (omega arith) e in omega (arith, below, items.tags)
   delta_not_entries below (x ∷ es) es_are e =
-      let items = same_text 0x67 (entry_text x) (entries_text es) (entry_fits x (All-head IsToldEntry x es es_are))
+      let items = same_text bytes at tag from to found 0x67 (entry_text x) (entries_text es) (entry_fits x (All-head IsToldEntry x es es_are))
       (e ∙ append_assoc (item_bytes 0x67 (entry_text x)) (flat_map (λ (d : ToldEntry). item_bytes 0x67 (entry_text d)) es) (item_bytes 0x6F [])) in
       omega (arith, below, items.tags)
 

@@ -6,7 +6,6 @@ use Rattle.std.proofs.lemmas.List.Concat.{flat_map-append}
 use Rattle.std.proofs.lemmas.List.Elements.{All-nil, All-push}
 use Rattle.local_db.specs.cny-base.StrField.{str}
 use Rattle.cny_stream.specs.Item.{FitsItem, IsItemAt, item_bytes}
-use Rattle.cny_stream.specs.ItemLaws.{SameItem}
 use Rattle.cny_stream.proofs.ItemLaws.{same_item}
 use Rattle.local_db.specs.trove-parts.Items.{items_bytes}
 use Rattle.tree_scan.specs.declared.mark.Mark.{Mark}
@@ -19,6 +18,7 @@ use Rattle.local_db.specs.RecordText.{told_text, IsTold, entry_text, IsToldEntry
 use Rattle.job_record.specs.Reading.{IsEntryText, IsEntryAt, IsNoEntryAt, AreEntriesTo}
 use Rattle.job_record.proofs.Items.{last_of}
 use Rattle.job_record.proofs.Once.{entry_once}
+use Rattle.local_db.proofs.Found.{same_text}
 use Rattle.local_db.proofs.journal-log.Links.{fits_target}
 use Rattle.change_rel.proofs.trove-parts.ItemFields.{path_fits as fits_path}
 use Rattle.change_rel.proofs.trove-parts.IdFields.{str_length}
@@ -60,15 +60,9 @@ no_entry_before_end e r is same =
 -- ---- an item that was found
 
 module _ (bytes : List ℕ) (at tag from to : ℕ) (found : IsItemAt bytes at tag from to) where
-  abbrev pub value : List ℕ
-  value = slice_range bytes from to
-
-  pub same_text : (tag' : ℕ) (text rest : List ℕ) → FitsItem text → drop at bytes ≡ item_bytes tag' text ++ rest → SameItem tag tag' value text (drop to bytes) rest
-  same_text tag' text rest fits e = same_item tag tag' value text (drop to bytes) rest found.fits fits (sym found.spelled ∙ e)
-
   pub no_entry_here : ((e : ToldEntry) → IsEntryText (slice_range bytes from to) e → ⊥) → IsNoEntryAt bytes at
   no_entry_here none e rest is same =
-      none e (record { entry_is = is; text = (same_text 0x67 (entry_text e) rest (entry_fits e is) same).values })
+      none e (record { entry_is = is; text = (same_text bytes at tag from to found 0x67 (entry_text e) rest (entry_fits e is) same).values })
 
 -- ---- entries so far
 

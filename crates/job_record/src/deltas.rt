@@ -6,9 +6,7 @@ ghost use Rattle.local_db.specs.trove-parts.declared.id.TroveId as declared_id;
 ghost use Rattle.local_db.specs.trove-parts.Id.{IsTroveId, id_bytes};
 ghost use Rattle.local_db.specs.trove-stream.declared.rel.RelParts.{RelParts};
 ghost use Rattle.local_db.specs.trove-stream.Rel.{IsRel};
-ghost use Rattle.local_db.specs.trove-stream.declared.parts.TroveParts.{TroveParts};
-ghost use Rattle.local_db.specs.trove-stream.Trove.{IsTrove};
-ghost use Rattle.local_db.specs.Formats.{CanTell, TroveCanTell, record_magic, rel_text, trove_text};
+ghost use Rattle.local_db.specs.Formats.{CanTell, record_magic, rel_text};
 ghost use Rattle.local_db.specs.declared.format.Format.TheVariants.{One};
 ghost use Rattle.local_db.specs.declared.record.Delta as declared_delta;
 ghost use Rattle.local_db.specs.declared.record.Record as declared_record;
@@ -16,13 +14,11 @@ ghost use Rattle.job_record.specs.Reading.{AreDeltasTo, IsDeltaAt, IsDeltaText, 
 
 use cny_stream::next_item;
 use local_db::cny_base::TextFault;
-use local_db::file_stream::FileRec;
 use local_db::trove_parts::{TroveId, distinct_ids, next_id};
 use local_db::trove_stream::{
-    RelTrove, Trove, decode as decode_trove, decode_full, decode_rel, decode_rel_full,
-    distinct_rels, distinct_troves,
+    RelTrove, decode_rel, decode_rel_full, distinct_rels, distinct_troves,
 };
-use local_db::{Delta, Format, are_roots};
+use local_db::{Delta, Format, are_roots, read_trove};
 use std::alloc::Global;
 
 /// The tags of the items.
@@ -47,26 +43,6 @@ fn id_of(alloc: Global, value: &[u8]) -> Result<TroveId, TextFault>
         return Err(TextFault::Bad);
     }
     Ok(found.id)
-}
-
-// The trove whose stream in this format the bytes are, all of them.
-fn trove_of(alloc: Global, format: Format, value: &[u8]) -> Result<Trove, TextFault>
-    ensures value { IfOk result (λ trove. value.now ≡ trove_text format trove) }
-    ensures valid { IfOk result IsTrove }
-    ensures told { IfOk result (TroveCanTell format) }
-    ensures bad { IsErrOf result TextFault.Bad
-        → (trove : TroveParts) → IsTrove trove → TroveCanTell format trove → value.now ≡ trove_text format trove → ⊥ }
-{
-    match format {
-        Format::One => {
-            let trove = decode_trove(alloc, value)?;
-            if !are_roots(trove.files()) {
-                return Err(TextFault::Bad);
-            }
-            Ok(trove)
-        }
-        Format::Two => decode_full(alloc, value),
-    }
 }
 
 // Whether format 1 can tell the files that are set.
@@ -103,7 +79,7 @@ fn delta_of(alloc: Global, format: Format, tag: u8, value: &[u8]) -> Result<Delt
 {
     match tag {
         CAME => Ok(Delta::Came(id_of(alloc, value)?)),
-        WAS => Ok(Delta::Was(trove_of(alloc, format, value)?)),
+        WAS => Ok(Delta::Was(read_trove(alloc, format, value)?)),
         TURNED => Ok(Delta::Turned(rel_of(alloc, format, value)?)),
         _ => Err(TextFault::Bad),
     }

@@ -1,21 +1,9 @@
 //! The fields of a fingerprint.
-ghost use Rattle.std.specs.Prelude.{◌≡◌, ◌≤◌, ◌++◌, ℕ, List, drop, IfSome, IfNone};
-ghost use Rattle.std.specs.Int.{to_be_bytes, w16};
+ghost use Rattle.std.specs.Prelude.{ℕ, List, IfSome, IfNone};
 ghost use Rattle.job_record.specs.Reading.{HasFileFields};
 
 use local_db::cny_base::Mode;
-
-// The mode in the first two bytes.
-pub(crate) fn read_mode(value: &[u8]) -> Option<Mode>
-    ensures some { IfSome result (λ mode. value.now ≡ to_be_bytes w16 mode ++ drop 2 value.now) }
-    ensures within { IfSome result (λ mode. mode ≤ 4095) }
-    ensures none { IfNone result ((mode : ℕ) (rest : List ℕ) → mode ≤ 4095 → value.now ≡ to_be_bytes w16 mode ++ rest → ⊥) }
-{
-    if value.len() < 2 {
-        return None;
-    }
-    Mode::new(u16::from_be_bytes([value[0], value[1]]))
-}
+use local_db::journal_log::read_mode;
 
 /// The fields of a file's fingerprint.
 #[derive(Clone, Copy)]

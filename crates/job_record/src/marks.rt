@@ -2,9 +2,10 @@
 ghost use Rattle.std.specs.Prelude.{◌≡◌, ◌∷◌, IfOk, IsErrOf};
 ghost use Rattle.job_record.specs.Reading.{IsNoToldFront, IsToldFront};
 
-use crate::fields::{read_file, read_mode};
+use crate::fields::read_file;
 use local_db::Told;
 use local_db::cny_base::{Target, TextFault, next_str};
+use local_db::journal_log::read_mode;
 use std::alloc::Global;
 use tree_scan::Mark;
 

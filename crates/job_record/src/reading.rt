@@ -7,14 +7,13 @@ ghost use Rattle.cny_stream.specs.Item.{item_bytes};
 ghost use Rattle.local_db.specs.Formats.{record_magic};
 ghost use Rattle.local_db.specs.declared.record.Record as declared;
 ghost use Rattle.local_db.specs.RecordText.{IsRecordText, by_name, by_path};
-ghost use Rattle.local_db.specs.RecordText as spec;
 ghost use Rattle.job_record.specs.Reading.{IsUnordered};
 
 use crate::deltas::{HEAD_LEN, deltas_behind};
 use crate::entries::entries_from;
 use crate::laws::distinct_records;
 use crate::writing::{END_ITEM, MAGIC_1, MAGIC_2, NUMBER_HEAD};
-use local_db::cny_base::{Name, TextFault};
+use local_db::cny_base::TextFault;
 use local_db::trove_parts::distinct_ids;
 use local_db::trove_stream::{distinct_rels, distinct_troves};
 use local_db::{Delta, Deltas, Format, Record, ToldEntries, ToldEntry};
@@ -77,21 +76,10 @@ fn unordered(alloc: Global, format: Format, bytes: &[u8]) -> Result<Record, Text
     })
 }
 
-// The name whose trove a delta takes back.
-fn name_of(delta: &Delta) -> &Name
-    ensures { result.now ≡ spec.name_of delta.now }
-{
-    match delta {
-        Delta::Came(id) => &id.name,
-        Delta::Was(trove) => &trove.id().name,
-        Delta::Turned(rel) => &rel.parts().old.name,
-    }
-}
-
 fn is_below(delta: &Delta, later: &Delta) -> bool
     ensures { result ≡ is_lt (by_name delta.now later.now) }
 {
-    name_of(delta) < name_of(later)
+    delta.name() < later.name()
 }
 
 fn do_deltas_rise(deltas: &[Delta]) -> bool

@@ -1,43 +1,19 @@
 //! What a list of troves records at the paths that a job changed.
 ghost use Rattle.std.specs.Prelude.{◌≡◌, [], ◌∷◌, true, IfOk, OnOk};
 ghost use Rattle.std.specs.List.Sorted.{IsStrictlySortedBy};
-ghost use Rattle.tree_scan.specs.Marks.{fingerprint_of_record};
 ghost use Rattle.local_db.specs.Record.{entry_cmp};
 ghost use Rattle.job_record.specs.Recorded.{AreMarks, HasNoted, HasNotedAll, IsEntryPath};
 
-use local_db::Change;
 use local_db::cny_base::{Copies, OutOfMemory, Path};
-use local_db::file_stream::FileRec;
 use local_db::trove_parts::FileAt;
 use local_db::trove_stream::Trove;
+use local_db::{Change, mark_of_record};
 use std::alloc::Global;
 use std::collections::BTreeMap;
 use tree_scan::Mark;
 
 /// Fingerprints by their paths.
 pub(crate) type Marks = BTreeMap<Path, Mark>;
-
-// The fingerprint of the node that a record describes.
-fn mark_of_record(rec: &FileRec) -> Result<Mark, OutOfMemory>
-    ensures { IfOk result (λ mark. mark ≡ fingerprint_of_record rec.now) }
-{
-    Ok(match rec {
-        FileRec::Dir { mode, .. } => Mark::Dir { mode: *mode },
-        FileRec::File {
-            mode,
-            size,
-            name,
-            ..
-        } => Mark::File {
-            mode: *mode,
-            size: u64::from(*size),
-            name: *name,
-        },
-        FileRec::Link { target } => Mark::Link {
-            target: target.copy()?,
-        },
-    })
-}
 
 // Whether a change is at the path.
 fn has_change(changes: &[Change], path: &Path) -> bool

@@ -1,6 +1,6 @@
 //! The bytes of a record.
 ghost use Rattle.std.specs.Prelude.{◌≡◌, ◌++◌, All, IfOk, OnOk};
-ghost use Rattle.cny_stream.specs.Item.{FitsItem, item_bytes};
+ghost use Rattle.cny_stream.specs.Item.{item_bytes};
 ghost use Rattle.local_db.specs.trove-parts.Items.{items_bytes};
 ghost use Rattle.local_db.specs.MarkBytes.{IsMark, mark_bytes};
 ghost use Rattle.local_db.specs.declared.format.Format.TheVariants.{Two};
@@ -9,11 +9,10 @@ ghost use Rattle.local_db.specs.RecordText as spec;
 ghost use Rattle.tree_scan.specs.declared.mark.Mark.TheVariants as mark;
 
 use crate::deltas::{CAME, END, ENTRY, TURNED, WAS};
-use cny_stream::put_item;
 use local_db::cny_base::{Bytes, Mode, OutOfMemory, put_str};
 use local_db::trove_parts::put_id;
 use local_db::trove_stream::{encode_full, encode_rel_full};
-use local_db::{Delta, Record, Told, ToldEntry};
+use local_db::{Delta, Record, Told, ToldEntry, put_value};
 use std::alloc::Global;
 use tree_scan::Mark;
 
@@ -29,17 +28,6 @@ pub(crate) const NUMBER_HEAD: &[u8] = &[NUMBER, 0, 0, 0, 4];
 
 /// The end item.
 pub(crate) const END_ITEM: &[u8] = &[END, 0, 0, 0, 0];
-
-// Appends an item. Where the value has no room in one the answer is want of memory.
-fn put_value(out: &mut Bytes, tag: u8, value: &[u8]) -> Result<(), OutOfMemory>
-    ensures ok { OnOk result (out.new ≡ out.old ++ item_bytes tag value.now) }
-    ensures fits { OnOk result (FitsItem value.now) }
-{
-    if value.len() > u32::MAX as usize {
-        return Err(OutOfMemory);
-    }
-    put_item(out, tag, value)
-}
 
 fn tag_of(delta: &Delta) -> u8
     ensures { result ≡ spec.tag_of delta.now }

@@ -18,4 +18,4 @@ returns c =
     note_new c.args.changes.now c.args.file.now c.args.marks.now c.insert.new.self (sym c.contains_key.ensures ∙ c.if-contains_key.false)
     (λ q. c.in_ok-insert.ensures.updates.0 q
     ∙ ap (λ (k : Name). cond (same_name k q) (Some c.in_ok-mark.mark) (mark_at c.args.marks.now q)) c.in_ok-path.ensures
-    ∙ ap (λ (m : Mark). cond (same_name c.args.file.now.path q) (Some m) (mark_at c.args.marks.now q)) c.in_ok-mark.ensures)
+    ∙ ap (λ (m : Mark). cond (same_name c.args.file.now.path q) (Some m) (mark_at c.args.marks.now q)) c.in_ok-mark.ensures.value)
