@@ -1,6 +1,10 @@
 -- What is known of a call, with the input of which it is said.
 use Rattle.std.proofs.Common.{◌≡◌, true, List, ℕ, Ok, Err, sym, ap, subst, inl, inr, refl}
+use Rattle.system_core.specs.tree-disk.Clear.{is_within}
+use Rattle.system_core.specs.tree-disk.Confined.{Among, Confined}
 use Rattle.system_core.specs.tree-disk.Disk.{DiskModel, HasRead, IsDisk}
+use Rattle.system_core.proofs.tree-disk.ConfinedLaws.{confined_start}
+use Rattle.repo_load.specs.Files.{repository_base}
 use Rattle.cli_call.specs.declared.opened.Opened.{Opened}
 use Rattle.cli_call.specs.Call.{CallState, AreOpened, StopsReading, RunsWith, RunsOpen, NotOpened, RunsCall}
 use Rattle.cli_call.specs.WholeCall.{CallFrom, FromStates, IsOnRepository, IsOnRoot, Reaches}
@@ -70,6 +74,8 @@ module _ {T P : Type 0} {root_disk : DiskModel T} {repo_disk : DiskModel P} (roo
             opened = opened;
             opens = opens;
             reads = inl (record { failure = stops.failure; is = refl; gives = read.gives; same_root = same_root; same_repo = same_repo; silent = ap (λ (x : Moment T P). x.out) stops.same });
+            repo_left = λ is. same_repo;
+            repo_within = λ told. subst (λ (d : P). Confined repo_disk (Among (is_within repository_base)) repo d) (sym same_repo) (confined_start repo_laws (Among (is_within repository_base)) repo);
             by_lists = λ is. record { same_root = same_root; same_repo = same_repo; ends = λ s has. own_unread m s read.input before.out now.out stops.failure stops.reads read.gives };
             by_tree = λ is. record {
               read = λ told. subst (λ (d : T). HasRead root_disk root d (Unit {0})) (sym same_root) (nothing_done root_laws root);
@@ -102,6 +108,8 @@ module _ {T P : Type 0} {root_disk : DiskModel T} {repo_disk : DiskModel P} (roo
             opened = opened;
             opens = opens;
             reads = inr (record { bytes = runs.bytes; gives = read.gives });
+            repo_left = λ is. (runs.runs.alone is).repo;
+            repo_within = runs.runs.within;
             by_lists = λ is. let by = runs.runs.by_lists is in record { same_root = by.root; same_repo = by.repo; ends = λ s has. own_ends m s read.input runs.bytes read.gives before.out now.out s end (by.ends s has) };
             by_tree = λ is. let by = runs.runs.by_tree is in record { read = by.root; same_repo = by.repo; ends = λ told s has. own_ends m s read.input runs.bytes read.gives before.out now.out s end (by.ends told s has) };
           });

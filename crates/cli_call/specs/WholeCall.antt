@@ -190,6 +190,10 @@ module _ {T P : Type 0} (root_disk : DiskModel T) (repo_disk : DiskModel P) wher
     pub opened : Opened
     pub opens : AreOpened root_disk repo_disk before.root root before.repo repo opened
     pub reads : NotRead m input root repo before now end ⊎ WasGiven m input
+    -- A command that works on the root alone leaves the repository as its opening left it, and any other changes it below its directory
+    -- alone, however the call ends.
+    pub repo_left : scope.of_root ≡ true → now.repo ≡ repo
+    pub repo_within : IsTrue repo_disk.tells → Confined repo_disk (Among (is_within repository_base)) repo now.repo
     pub by_lists : scope.of_lists ≡ true → EndsByLists m input root repo opened before now end
     pub by_tree : scope.of_tree ≡ true → EndsByTree m input root repo opened before now end
 
