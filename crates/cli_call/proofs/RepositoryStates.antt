@@ -18,7 +18,7 @@ use Rattle.cli_call.proofs.StoreLaws.{kept_recovers, never_damaged, none_yet, op
 use Rattle.system_core.proofs.Opened.{never_blocked}
 use Rattle.cli_call.specs.declared.failure.Failure.{Failure}
 use Rattle.cli_call.specs.declared.opened.Opened.{Opened}
-use Rattle.cli_call.proofs.CallEnds.{own_ends, own_unread, no_repo_effect, no_root_effect, no_unread_effect, small}
+use Rattle.cli_call.proofs.CallEnds.{next_any, own_ends, own_unread, no_repo_effect, no_root_effect, no_unread_effect, small}
 use Rattle.cli_call.specs.Stops.{repository_failure, root_failure}
 use Rattle.cli_call.specs.Stores.{repository_store}
 use Rattle.system_core.specs.cny-base.declared.stop.Stop.TheVariants as stop
@@ -41,6 +41,7 @@ module _ {T P : Type 0} {root_disk : DiskModel T} {repo_disk : DiskModel P} (rep
   root_stopped end e is opens same unread = record {
     next = s.repository;
     ends = inl (record { stop = e; is = is; opens = opens; same = same; unread = unread });
+    is_next = inl refl;
     repo = inl (subst (λ (d : P). LeavesOnly repo_disk before.repo d (RecoversAsThen repo_disk repository_store.base before.repo)) (sym same) (none_yet repo_disk_laws repository_store.base before.repo));
     rests = λ h. absurd (no_root_effect e (subst HasEffect is h));
     reads = inl (subst (λ (d : P). Recovers repository_store (repo_disk.reads d) s.repository) (sym same) recovers);
@@ -52,6 +53,7 @@ module _ {T P : Type 0} {root_disk : DiskModel T} {repo_disk : DiskModel P} (rep
   repository_stopped e opens = record {
     next = s.repository;
     ends = inr (stop_ends root_disk repo_laws m before now input repo_told s recovers e opens);
+    is_next = inl refl;
     repo = inl (opens.images repo_told);
     rests = λ h. absurd (no_repo_effect e h);
     reads = inl (kept_recovers repo_laws (repo_disk.reads before.repo) (repo_disk.reads now.repo) s.repository (opens.kept repo_told) recovers);
@@ -82,6 +84,7 @@ module _ {T P : Type 0} {root_disk : DiskModel T} {repo_disk : DiskModel P} (rep
         record {
           next = s.repository;
           ends = inr (own_unread m s input before.out now.out e reads gives);
+          is_next = inl refl;
           repo = inl (subst (λ (d : P). LeavesOnly repo_disk before.repo d (RecoversAsThen repo_disk repository_store.base before.repo)) (sym same_repo) (opens.opens.images repo_told));
           rests = λ h. absurd (no_unread_effect e reads h);
           reads = inl (subst (λ (d : P). Recovers repository_store (repo_disk.reads d) s.repository) (sym same_repo) (rest_reads repo_laws repo s.repository repo_rests));
@@ -91,9 +94,12 @@ module _ {T P : Type 0} {root_disk : DiskModel T} {repo_disk : DiskModel P} (rep
     pub repository_run : (bytes : List ℕ) → given m.takes_input input ≡ Ok bytes → scope.of_repository ≡ true → (end : End) → RunsLine root_disk repo_disk scope m bytes from_ to_ end → CallOnRepository root_disk repo_disk m input s before now end
     repository_run bytes gives is end runs =
         let f = (runs.apart is).told repo_told s repo_rests in
+        let after : State = record { root = s.root; repository = f.next } in
+        let ended : CallEnds (OwnOutcome m s input) s after before.out now.out end = own_ends m s input bytes gives before.out now.out after end f.ends in
         record {
           next = f.next;
-          ends = inr (own_ends m s input bytes gives before.out now.out (record { root = s.root; repository = f.next }) end f.ends);
+          ends = inr ended;
+          is_next = next_any (OwnOutcome m s input) s after before.out now.out end ended;
           repo = inr (record { opened = repo; opening = opens.opens.images repo_told; lives = f.repo.images });
           rests = λ h. f.repo.rests (small end h);
           reads = f.repo.reads;

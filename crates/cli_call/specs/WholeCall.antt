@@ -327,6 +327,7 @@ module _ {T P : Type 0} (root_disk : DiskModel T) (repo_disk : DiskModel P) wher
   pub record CallOnRepository (m : Meaning) (input : List ℕ) (s : State) (before now : CallState T P) (end : End) : Type 0 where
     pub next : RepositoryState
     pub ends : StopsForRoot before now end ⊎ CallEnds (OwnOutcome m s input) s (record { root = s.root; repository = next }) before.out now.out end
+    pub is_next : IsNext (OwnOutcome m s input) s (record { root = s.root; repository = next })
     pub repo : LivesRepository repo_disk s.repository next before.repo now.repo
     pub rests : HasEffect end → RestsAt repository_store repo_disk now.repo next
     pub reads : OneOf repository_store s.repository next (repo_disk.reads now.repo)
