@@ -1,0 +1,4 @@
+pub mod Words
+pub mod Batch
+pub mod FirstFault
+pub mod Reading
