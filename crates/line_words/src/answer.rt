@@ -1,11 +1,15 @@
 //! The answer that is written.
+use crate::first_stop::FirstStop;
 use crate::stop::Stop;
+use cny_report::file_stream::Flags;
 use cny_report::refusal_text;
 use cny_report::trove_parts::{TroveId, id_text};
+use cny_report::trove_stream::Trove;
+use sha1::Sha1;
 use std::alloc::{AllocError, Global};
 use std::cmp::Ordering;
 use tree_memory::cny_base::{
-    self, Copies, Fault, Mode, OutOfMemory, Refusal, Text, TextFault, decimal, octal,
+    self, Bytes, Copies, Mode, OutOfMemory, Refusal, Text, decimal, octal,
 };
 
 /// An answer. It remembers the first failure of those that append to it, which give nothing back.
@@ -13,7 +17,7 @@ pub struct Answer {
     alloc: Global,
     text: String,
     begun: bool,
-    stop: Option<Stop>,
+    stop: FirstStop,
 }
 
 // Written by hand, so that to let a value go is a single call wherever a function ends early.
@@ -35,7 +39,7 @@ impl Answer {
             alloc,
             text: String::new(alloc),
             begun: false,
-            stop: None,
+            stop: FirstStop::none(),
         }
     }
 
@@ -57,9 +61,9 @@ impl Answer {
             begun: _begun,
             stop,
         } = self;
-        match stop {
-            None => Ok(text),
-            Some(stop) => Err(stop),
+        match stop.end() {
+            Ok(()) => Ok(text),
+            Err(stop) => Err(stop),
         }
     }
 
@@ -67,9 +71,7 @@ impl Answer {
 
     /// Remembers why there is no answer, where nothing failed before.
     pub fn note(&mut self, stop: Stop) {
-        if self.stop.is_none() {
-            self.stop = Some(stop);
-        }
+        self.stop.note(stop);
     }
 
     /// No memory was left.
@@ -84,18 +86,12 @@ impl Answer {
 
     /// Whether something failed.
     pub fn failed(&self) -> bool {
-        self.stop.is_some()
+        self.stop.failed()
     }
 
     /// What was made; none where it failed, which is remembered.
     pub fn kept<T: Drop, E: Into<Stop> + Drop>(&mut self, made: Result<T, E>) -> Option<T> {
-        match made {
-            Ok(value) => Some(value),
-            Err(fault) => {
-                self.note(fault.into());
-                None
-            }
-        }
+        self.stop.kept(made)
     }
 
     // ---- texts
@@ -119,6 +115,13 @@ impl Answer {
     pub fn field(&mut self, text: &str) {
         self.tab();
         self.text(text);
+    }
+
+    /// Appends texts, one behind the other.
+    pub fn texts(&mut self, texts: &[&str]) {
+        for text in texts {
+            self.text(text);
+        }
     }
 
     /// Appends a text that takes memory.
@@ -163,6 +166,18 @@ impl Answer {
         self.hex(bytes);
     }
 
+    /// Appends the SHA-1 of bytes.
+    pub fn sha1(&mut self, bytes: &[u8]) {
+        self.hex(&Sha1::digest(bytes));
+    }
+
+    /// Appends the number of bytes, and their SHA-1.
+    pub fn digest(&mut self, bytes: &[u8]) {
+        self.number(bytes.len() as u64);
+        self.text(" ");
+        self.sha1(bytes);
+    }
+
     /// Appends a mode in octal digits.
     pub fn mode(&mut self, mode: Mode) {
         if let Ok(digits) = str::from_utf8(&octal(mode)) {
@@ -176,19 +191,42 @@ impl Answer {
         self.made(text);
     }
 
+    /// Appends the texts of ids, each behind a text.
+    pub fn ids(&mut self, front: &str, ids: &[TroveId]) {
+        for id in ids {
+            self.text(front);
+            self.id(id);
+        }
+    }
+
+    /// Appends the texts of the ids of troves, each behind a text.
+    pub fn trove_ids(&mut self, front: &str, troves: &[Trove]) {
+        for trove in troves {
+            self.text(front);
+            self.id(trove.id());
+        }
+    }
+
+    /// Appends a letter for each flag, or a dash.
+    pub fn flags(&mut self, flags: Flags) {
+        self.text(if flags.config { "c" } else { "-" });
+        self.text(if flags.initial { "i" } else { "-" });
+        self.text(if flags.transient { "t" } else { "-" });
+    }
+
     /// Appends `yes` or `no` as a field.
     pub fn holds(&mut self, holds: bool) {
         self.field(if holds { "yes" } else { "no" });
     }
 
-    /// Appends a text of lines, with a tab for each line feed.
-    pub fn lines(&mut self, text: &str) {
+    /// Appends a text of lines, with a text for each line feed.
+    pub fn lines(&mut self, text: &str, between: &str) {
         let mut lines = text.split('\n');
         if let Some(first) = lines.next() {
             self.text(first);
         }
         for line in lines {
-            self.text("\t");
+            self.text(between);
             self.text(line);
         }
     }
@@ -227,39 +265,24 @@ impl Answer {
         }
     }
 
-    /// Tells what was read, or `bad`.
-    pub fn read<T: Drop, F: FnOnce(&T, &mut Answer)>(&mut self, read: Result<T, TextFault>, tell: F)
-        requires { F.IsAlwaysCallable tell }
-    {
-        match read {
-            Ok(value) => tell(&value, self),
-            Err(fault) => self.fault(fault),
+    /// `ok` and the digits of a content as fields, or a word where there is none.
+    pub fn content(&mut self, found: &Option<Bytes>, none: &str) {
+        match found {
+            Some(bytes) => {
+                self.field("ok");
+                self.field_hex(bytes.get());
+            }
+            None => self.field(none),
         }
     }
 
     // ---- why a call has no value
 
-    /// `bad`, or that no memory was left.
-    pub fn fault(&mut self, fault: TextFault) {
-        match fault {
-            TextFault::Bad => self.field("bad"),
-            TextFault::Memory => self.memory(),
-        }
-    }
-
-    /// The text of a refusal.
+    /// The text of a refusal as a field.
     pub fn refusal(&mut self, refusal: &Refusal) {
         let text = refusal_text(self.alloc, refusal);
         self.tab();
         self.made(text);
-    }
-
-    /// The text of a refusal, or that no memory was left.
-    pub fn refused(&mut self, fault: &Fault) {
-        match fault {
-            Fault::Refused(refusal) => self.refusal(refusal),
-            Fault::Memory => self.memory(),
-        }
     }
 
     // Appends a word and a path.
@@ -300,8 +323,6 @@ impl Answer {
     /// Appends an answer that was made apart, with its failure.
     pub fn add(&mut self, part: &Answer) {
         self.text(part.get());
-        if let Some(stop) = part.stop {
-            self.note(stop);
-        }
+        self.kept(part.stop.end());
     }
 }

@@ -7,7 +7,9 @@
 
 mod answer;
 mod argument;
+mod carried;
 mod far;
+mod first_stop;
 mod line;
 mod listing;
 mod nodes;
@@ -18,9 +20,12 @@ mod stop;
 mod terms;
 mod tree_text;
 mod value;
+mod wants;
+mod why;
 
 pub use answer::Answer;
 pub use argument::{Argument, arguments_of};
+pub use carried::are_in_order;
 pub use cny_report;
 pub use content_store;
 pub use far::Far;
@@ -34,3 +39,4 @@ pub use stop::Stop;
 pub use terms::bytes_of;
 pub use tree_memory;
 pub use value::Value;
+pub use why::Why;

@@ -1,18 +1,20 @@
 //! The line that is read.
 use crate::answer::Answer;
 use crate::argument::Argument;
+use crate::first_stop::FirstStop;
 use crate::stop::Stop;
 use crate::terms::bytes_of;
 use crate::value::Value;
+use cny_report::trove_stream::Installed;
 use std::alloc::Global;
-use tree_memory::cny_base::{Copies, Mode, Name, Path, Target, TextFault};
+use tree_memory::cny_base::{Copies, Mode, Name, Options, Path, Target, TextFault};
 
 /// A line. It remembers the first failure of those that read its arguments, which give any value then and go on.
 pub struct Line<'a> {
     alloc: Global,
     name: &'a str,
     arguments: &'a [Argument],
-    stop: Option<Stop>,
+    stop: FirstStop,
 }
 
 // Written by hand, so that to let a value go is a single call wherever a function ends early.
@@ -38,7 +40,7 @@ impl<'a> Line<'a> {
             alloc,
             name,
             arguments,
-            stop: None,
+            stop: FirstStop::none(),
         }
     }
 
@@ -66,9 +68,7 @@ impl<'a> Line<'a> {
 
     /// Remembers why the line has no answer, where nothing failed before.
     pub fn note(&mut self, stop: Stop) {
-        if self.stop.is_none() {
-            self.stop = Some(stop);
-        }
+        self.stop.note(stop);
     }
 
     /// The line is no call, or an argument isn't what the call takes.
@@ -78,26 +78,25 @@ impl<'a> Line<'a> {
 
     /// Whether something failed.
     pub fn failed(&self) -> bool {
-        self.stop.is_some()
+        self.stop.failed()
     }
 
     /// Whether all was read.
     pub fn end(&self) -> Result<(), Stop> {
-        match self.stop {
-            None => Ok(()),
-            Some(stop) => Err(stop),
-        }
+        self.stop.end()
     }
 
     /// What was made or read; none where it failed, which is remembered.
     pub fn kept<T: Drop, E: Into<Stop> + Drop>(&mut self, made: Result<T, E>) -> Option<T> {
-        match made {
-            Ok(value) => Some(value),
-            Err(fault) => {
-                self.note(fault.into());
-                None
-            }
+        self.stop.kept(made)
+    }
+
+    /// What there has to be: where there is none, the line is no call.
+    pub fn some<T: Drop>(&mut self, found: Option<T>) -> Option<T> {
+        if found.is_none() {
+            self.unreadable();
         }
+        found
     }
 
     // ---- arguments that are borrowed or copied
@@ -206,10 +205,56 @@ impl<'a> Line<'a> {
         self.kept(read)
     }
 
+    // Appends what was read of a part; where that is none, the line is no call.
+    fn push_read<T: Drop>(&mut self, parts: &mut Vec<T>, read: Option<T>) {
+        match read {
+            Some(part) => {
+                self.kept(parts.push(part));
+            }
+            None => self.unreadable(),
+        }
+    }
+
     // Appends the value of a part of an argument.
     fn push_part<T: Value>(&mut self, parts: &mut Vec<T>, raw: &str) {
-        let pushed = push_value(self.alloc, parts, raw);
-        self.kept(pushed);
+        let part = self.part(raw);
+        self.push_read(parts, part);
+    }
+
+    /// What a reader makes of each part of a list, with a semicolon between two; nothing of an empty one. Where it makes none of a
+    /// part, the line is no call.
+    pub fn each<T: Drop, F: Fn(&mut Line, &str) -> Option<T>>(
+        &mut self,
+        raw: &str,
+        reader: F,
+    ) -> Vec<T>
+        requires { F.IsAlwaysCallable reader }
+    {
+        let mut parts = Vec::new(self.alloc);
+        if !raw.is_empty() {
+            for part in raw.split(';') {
+                let read = reader(self, part);
+                self.push_read(&mut parts, read);
+            }
+        }
+        parts
+    }
+
+    /// What a reader makes of each argument from a place on. Where it makes none of one, the line is no call.
+    pub fn each_from<T: Drop, F: Fn(&mut Line, &str) -> Option<T>>(
+        &mut self,
+        first: usize,
+        reader: F,
+    ) -> Vec<T>
+        requires { F.IsAlwaysCallable reader }
+    {
+        let mut parts = Vec::new(self.alloc);
+        for place in first..self.arguments.len() {
+            let raw = self.raw(place);
+            let read = reader(self, raw);
+            self.push_read(&mut parts, read);
+        }
+        parts
     }
 
     /// The values of the list at a place, with a semicolon between two; none of an empty argument.
@@ -234,6 +279,25 @@ impl<'a> Line<'a> {
         parts
     }
 
+    /// The installed list of the troves at a place.
+    pub fn installed(&mut self, place: usize) -> Option<Installed> {
+        let installed = Installed::new(self.list(place));
+        self.some(installed)
+    }
+
+    /// Whether a word stands in the argument at a place.
+    pub fn mentions(&mut self, place: usize, word: &str) -> bool {
+        self.raw(place).contains(word)
+    }
+
+    /// The options of which the argument at a place has the words `replace` and `keep`.
+    pub fn options(&mut self, place: usize) -> Options {
+        Options {
+            replace: self.mentions(place, "replace"),
+            keep: self.mentions(place, "keep"),
+        }
+    }
+
     // ---- calls on values
 
     /// Tells what a reader makes of the text of the first argument, or `bad`.
@@ -247,7 +311,7 @@ impl<'a> Line<'a> {
     {
         let text = self.text(0);
         let read = reader(self.alloc, text);
-        answer.read(read, tell);
+        answer.outcome(read, tell);
     }
 
     /// The same, but tells a copy.
@@ -260,9 +324,8 @@ impl<'a> Line<'a> {
         requires tells { F.IsAlwaysCallable tell }
     {
         let text = self.text(0);
-        match reader(self.alloc, text) {
-            Ok(value) => answer.copied(&value, tell),
-            Err(bad) => answer.fault(bad),
+        if let Some(value) = answer.given(reader(self.alloc, text)) {
+            answer.copied(&value, tell);
         }
     }
 
@@ -277,7 +340,7 @@ impl<'a> Line<'a> {
     {
         let bytes = self.bytes(0);
         let read = reader(self.alloc, bytes);
-        answer.read(read, tell);
+        answer.outcome(read, tell);
     }
 
     /// Calls with the value of the first argument.
@@ -286,6 +349,20 @@ impl<'a> Line<'a> {
     {
         if let Some(first) = self.value(0) {
             call(&first, answer);
+        }
+    }
+
+    /// Calls with the value at a place.
+    pub fn with<A: Value, F: FnOnce(&A, &mut Line, &mut Answer)>(
+        &mut self,
+        place: usize,
+        answer: &mut Answer,
+        call: F,
+    )
+        requires { F.IsAlwaysCallable call }
+    {
+        if let Some(value) = self.value(place) {
+            call(&value, self, answer);
         }
     }
 
@@ -307,9 +384,4 @@ impl<'a> Line<'a> {
 fn part_of<T: Value>(alloc: Global, raw: &str) -> Result<T, Stop> {
     let bytes = bytes_of(alloc, raw)?;
     T::read(alloc, bytes.get())
-}
-
-fn push_value<T: Value>(alloc: Global, parts: &mut Vec<T>, raw: &str) -> Result<(), Stop> {
-    let part = part_of(alloc, raw)?;
-    Ok(parts.push(part)?)
 }

@@ -1,5 +1,6 @@
 //! Nodes and trees of a line. A node is `dir MODE`, `file MODE CONTENTS`, `link TARGET` or `nothing`, its contents bytes as an
 //! argument or a hyphen for none; one that stands in a tree has its path behind it. Nodes have a semicolon between two.
+use crate::answer::Answer;
 use crate::line::Line;
 use crate::quiet::Quiet;
 use crate::stop::Stop;
@@ -137,6 +138,21 @@ impl Line<'_> {
     pub fn disk(&mut self, place: usize, failing: u64) -> Option<Quiet> {
         let tree = self.tree(place, failing)?;
         Some(Quiet::new(tree))
+    }
+
+    /// Calls with that disk.
+    pub fn on_disk<F: FnOnce(&mut Quiet, &mut Line, &mut Answer)>(
+        &mut self,
+        place: usize,
+        failing: u64,
+        answer: &mut Answer,
+        call: F,
+    )
+        requires { F.IsAlwaysCallable call }
+    {
+        if let Some(mut disk) = self.disk(place, failing) {
+            call(&mut disk, self, answer);
+        }
     }
 }
 

@@ -21,12 +21,13 @@ fn answer_to<C: Calls>(alloc: Global, calls: &mut C, text: &str) -> Result<Strin
     answer.end()
 }
 
-// The line that is written. A line that isn't a call, and want of memory, are errors.
-fn line_to<C: Calls>(alloc: Global, calls: &mut C, text: &str) -> io::Result<String> {
-    match answer_to(alloc, calls, text) {
-        Ok(text) => Ok(text),
-        Err(Stop::Unreadable) => Err(io::Error::from(io::ErrorKind::InvalidInput)),
-        Err(Stop::Memory) => Err(io::Error::from(io::ErrorKind::OutOfMemory)),
+// It ends the program.
+impl From<Stop> for io::Error {
+    fn from(stop: Stop) -> Self {
+        match stop {
+            Stop::Unreadable => io::Error::from(io::ErrorKind::InvalidInput),
+            Stop::Memory => io::Error::from(io::ErrorKind::OutOfMemory),
+        }
     }
 }
 
@@ -35,7 +36,7 @@ fn line_to<C: Calls>(alloc: Global, calls: &mut C, text: &str) -> io::Result<Str
 pub fn answer_all<C: Calls>(rt: &HostRuntime, calls: &mut C) -> io::Result<()> {
     let mut out = BufWriter::new(rt.alloc(), io::writer(rt))?;
     for line in BufReader::new(rt.alloc(), rt.reader())?.lines(rt.alloc()) {
-        let text = line_to(rt.alloc(), calls, line?.as_str())?;
+        let text = answer_to(rt.alloc(), calls, line?.as_str())?;
         out.write_all(text.as_str().as_bytes())?;
         out.write_all(b"\n")?;
     }

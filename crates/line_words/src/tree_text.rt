@@ -1,7 +1,6 @@
 //! What stands in a tree, as a text.
 use crate::answer::Answer;
 use crate::listing::paths_of;
-use sha1::Sha1;
 use tree_memory::MemoryTree;
 use tree_memory::cny_base::{Mode, Node, Path};
 use tree_scan::Mark;
@@ -40,7 +39,7 @@ impl Answer {
         self.number(bytes.len() as u64);
         if bytes.len() <= LARGE {
             self.text(":");
-            self.hex(&Sha1::digest(bytes));
+            self.sha1(bytes);
         }
     }
 

@@ -1,11 +1,10 @@
 //! Calls on the catalogue: what is added to it, and its look-ups.
-use crate::closure::tested;
 use cny_version::Version;
 use line_words::{Answer, Line};
 use repo_index::Catalogue;
 use repo_index::cny_base::{COMMITS_LIMIT, Copies, Name};
 use repo_index::trove_parts::TroveId;
-use repo_index::trove_stream::Trove;
+use repo_index::trove_stream::{Trove, Troves};
 use trove_spec::expand;
 
 /// `new`: the catalogue becomes an empty one.
@@ -17,7 +16,7 @@ pub fn new(catalogue: &mut Catalogue, line: &Line, answer: &mut Answer) {
 /// `add TROVE`: `Catalogue::add`.
 pub fn add(catalogue: &mut Catalogue, line: &mut Line, answer: &mut Answer) {
     if let Some(trove) = line.value::<Trove>(0) {
-        tested(&catalogue.add(line.alloc(), trove), answer);
+        answer.done(catalogue.add(line.alloc(), trove));
     }
 }
 
@@ -31,22 +30,16 @@ pub fn count_commit(catalogue: &mut Catalogue, answer: &mut Answer) {
 
 /// `copy`: the catalogue becomes a copy of itself, to which troves can still be added.
 pub fn copy(catalogue: &mut Catalogue, answer: &mut Answer) {
-    match catalogue.copy() {
-        Ok(copy) => {
-            *catalogue = copy;
-            answer.text("ok");
-        }
-        Err(_) => answer.memory(),
+    if let Some(copy) = answer.kept(catalogue.copy()) {
+        *catalogue = copy;
+        answer.text("ok");
     }
 }
 
 // `ok` and the ids of some troves, a field each.
 fn ids(troves: &[Trove], answer: &mut Answer) {
     answer.text("ok");
-    for trove in troves {
-        answer.tab();
-        answer.id(trove.id());
-    }
+    answer.trove_ids("\t", troves);
 }
 
 /// `troves`: the number of commits and the ids of all troves.
@@ -131,11 +124,12 @@ pub fn has_content(catalogue: &Catalogue, line: &mut Line, answer: &mut Answer) 
     answer.holds(catalogue.has_content(&name));
 }
 
+fn reached(troves: &Troves, answer: &mut Answer) {
+    ids(troves.get(), answer);
+}
+
 /// `expand IDS`: the ids of what these troves reach.
 pub fn expanded(catalogue: &Catalogue, line: &mut Line, answer: &mut Answer) {
     let roots = line.list::<TroveId>(0);
-    match expand(line.alloc(), catalogue, roots.as_slice()) {
-        Ok(troves) => ids(troves.get(), answer),
-        Err(fault) => answer.refused(&fault),
-    }
+    answer.outcome(expand(line.alloc(), catalogue, roots.as_slice()), reached);
 }

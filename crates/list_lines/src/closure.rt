@@ -1,5 +1,5 @@
 //! Calls on whole lists of troves and on a closure.
-use dep_closure::cny_base::{Fault, Name};
+use dep_closure::cny_base::Name;
 use dep_closure::trove_stream::{Installed, Trove};
 use dep_closure::{Closure, closed};
 use line_words::{Answer, Line, Stop};
@@ -18,14 +18,6 @@ impl Drop for Closing {
             waiting: _waiting,
             closure: _closure,
         } = self;
-    }
-}
-
-/// `ok`, or why a list isn't closed.
-pub fn tested(outcome: &Result<(), Fault>, answer: &mut Answer) {
-    match outcome {
-        Ok(()) => answer.text("ok"),
-        Err(fault) => answer.refused(fault),
     }
 }
 
@@ -54,42 +46,32 @@ impl Closing {
     /// `trove TROVE`: one trove more waits.
     pub fn wait(&mut self, line: &mut Line, answer: &mut Answer) {
         if let Some(trove) = line.value::<Trove>(0) {
-            match self.waiting.push(trove) {
-                Ok(()) => answer.text("ok"),
-                Err(_) => answer.memory(),
-            }
+            answer.kept(self.waiting.push(trove));
+            answer.text("ok");
         }
     }
 
     /// `closed`: whether the list of the troves that wait is closed.
     pub fn closed(&mut self, alloc: Global, answer: &mut Answer) {
         let troves = self.taken(alloc);
-        tested(&closed(alloc, troves.as_slice()), answer);
+        answer.done(closed(alloc, troves.as_slice()));
     }
 
     /// `of`: `Closure::of` the troves that wait.
     pub fn of(&mut self, line: &mut Line, answer: &mut Answer) {
         let troves = self.taken(line.alloc());
-        match closure_of(line.alloc(), troves) {
-            Ok(closure) => {
-                self.closure = closure;
-                answer.text("ok");
-            }
-            Err(stop) => line.note(stop),
+        if let Some(closure) = line.kept(closure_of(line.alloc(), troves)) {
+            self.closure = closure;
+            answer.text("ok");
         }
     }
 
     /// `change NAMES`: `Closure::change`; the troves of these names go, and those that wait come.
     pub fn change(&mut self, line: &mut Line, answer: &mut Answer) {
-        let gone = line.list::<Name>(0);
-        match Installed::new(self.taken(line.alloc())) {
-            Some(come) => {
-                let outcome = self
-                    .closure
-                    .change(line.alloc(), gone.as_slice(), come.troves());
-                tested(&outcome, answer);
-            }
-            None => line.unreadable(),
+        let come = Installed::new(self.taken(line.alloc()));
+        if let Some(come) = line.some(come) {
+            let gone = line.list::<Name>(0);
+            answer.done(self.closure.change(line.alloc(), &gone, come.troves()));
         }
     }
 }

@@ -1,69 +1,57 @@
 //! What updates and erasures make of installed lists.
-use crate::closure::tested;
 use dep_closure::closed;
-use job_targets::cny_base::{Bytes, Fault, Name, OutOfMemory};
+use job_targets::cny_base::{Bytes, Fault, Name};
 use job_targets::trove_stream::{Installed, Trove, encode_full};
-use line_words::{Answer, Line};
-use sha1::Sha1;
+use line_words::{Answer, Line, Value};
 use std::alloc::Global;
-use update_job::{Change, changed, erased, updated};
+use update_job::{Change, Changes, changed, erased, updated};
 
-/// The installed list of the troves at a place.
-pub fn installed_of(line: &mut Line, place: usize) -> Option<Installed> {
-    let installed = Installed::new(line.list(place));
-    if installed.is_none() {
-        line.unreadable();
-    }
-    installed
-}
-
-// The SHA-1 of a trove's stream in the explicit encoding.
-fn digest_of(alloc: Global, trove: &Trove) -> Result<[u8; 20], OutOfMemory> {
-    let mut stream = Bytes::from_vec(Vec::new(alloc));
-    encode_full(alloc, trove, &mut stream)?;
-    Ok(Sha1::digest(stream.get()))
-}
-
-// The id of a trove, and the digest of all that it holds.
-fn trove(alloc: Global, trove: &Trove, answer: &mut Answer) {
+// The id of a trove, and the digest of its stream in the explicit encoding: of all that it holds.
+fn trove(trove: &Trove, answer: &mut Answer) {
+    let mut stream = Bytes::from_vec(Vec::new(answer.alloc()));
+    answer.kept(encode_full(answer.alloc(), trove, &mut stream));
     answer.tab();
     answer.id(trove.id());
     answer.text(" ");
-    match digest_of(alloc, trove) {
-        Ok(digest) => answer.hex(digest.as_slice()),
-        Err(_) => answer.memory(),
+    answer.sha1(stream.get());
+}
+
+// `ok` and a field for each trove.
+fn listed(list: &Installed, answer: &mut Answer) {
+    answer.each(list.troves(), trove);
+}
+
+// Tells what a call makes of the installed list of the first argument by the list of the second.
+fn made_by<
+    T: Value,
+    C: FnOnce(Global, &Installed, &[T]) -> Result<Installed, Fault>,
+    F: FnOnce(&Installed, &mut Answer),
+>(line: &mut Line, answer: &mut Answer, call: C, tell: F)
+    requires call { C.IsAlwaysCallable call }
+    requires tell { F.IsAlwaysCallable tell }
+{
+    let list = line.list::<T>(1);
+    if let Some(installed) = line.installed(0) {
+        answer.outcome(call(line.alloc(), &installed, &list), tell);
     }
 }
 
-// `ok` and a field for each trove, or why there is no list.
-fn listed(alloc: Global, outcome: &Result<Installed, Fault>, answer: &mut Answer) {
-    match outcome {
-        Ok(list) => {
-            answer.text("ok");
-            for one in list.troves() {
-                trove(alloc, one, answer);
-            }
-        }
-        Err(fault) => answer.refused(fault),
-    }
+fn with(alloc: Global, installed: &Installed, come: &[Trove]) -> Result<Installed, Fault> {
+    updated(alloc, installed, come)
+}
+
+fn without(alloc: Global, installed: &Installed, names: &[Name]) -> Result<Installed, Fault> {
+    erased(alloc, installed, names)
 }
 
 /// `updated TROVES COME`: the list that an update makes of an installed one.
 pub fn update(line: &mut Line, answer: &mut Answer) {
-    let come = line.list::<Trove>(1);
-    if let Some(installed) = installed_of(line, 0) {
-        let outcome = updated(line.alloc(), &installed, come.as_slice());
-        listed(line.alloc(), &outcome, answer);
-    }
+    made_by(line, answer, with, listed);
 }
 
 /// `erased TROVES NAMES`: the list that an erasure makes of an installed one.
 pub fn erase(line: &mut Line, answer: &mut Answer) {
-    let names = line.list::<Name>(1);
-    if let Some(installed) = installed_of(line, 0) {
-        let outcome = erased(line.alloc(), &installed, names.as_slice());
-        listed(line.alloc(), &outcome, answer);
-    }
+    made_by(line, answer, without, listed);
 }
 
 // The word of a change and the text of its id.
@@ -77,33 +65,23 @@ fn change(change: &Change, answer: &mut Answer) {
     answer.id(id);
 }
 
-fn changes(alloc: Global, before: &Installed, after: &Installed, answer: &mut Answer) {
-    match changed(alloc, before, after) {
-        Ok(found) => {
-            answer.text("ok");
-            for one in found.get() {
-                change(one, answer);
-            }
-        }
-        Err(_) => answer.memory(),
-    }
+fn changes(found: &Changes, answer: &mut Answer) {
+    answer.each(found.get(), change);
 }
 
 /// `changed TROVES TROVES`: what changes from one installed list to another.
 pub fn compare(line: &mut Line, answer: &mut Answer) {
-    let before = installed_of(line, 0);
-    if let (Some(before), Some(after)) = (before, installed_of(line, 1)) {
-        changes(line.alloc(), &before, &after, answer);
+    let before = line.installed(0);
+    if let (Some(before), Some(after)) = (before, line.installed(1)) {
+        answer.outcome(changed(line.alloc(), &before, &after), changes);
     }
+}
+
+fn tested(list: &Installed, answer: &mut Answer) {
+    answer.done(closed(answer.alloc(), list.troves()));
 }
 
 /// `closed_without TROVES NAMES`: whether the list that an erasure leaves is closed.
 pub fn close_without(line: &mut Line, answer: &mut Answer) {
-    let names = line.list::<Name>(1);
-    if let Some(installed) = installed_of(line, 0) {
-        match erased(line.alloc(), &installed, names.as_slice()) {
-            Ok(list) => tested(&closed(line.alloc(), list.troves()), answer),
-            Err(fault) => answer.refused(&fault),
-        }
-    }
+    made_by(line, answer, without, tested);
 }

@@ -20,7 +20,6 @@ mod verifying;
 use crate::closure::Closing;
 use line_words::{Answer, Calls, Line, answer_all};
 use repo_index::Catalogue;
-use std::alloc::Global;
 use std::io;
 
 /// What goes on from line to line.
@@ -39,53 +38,32 @@ impl Drop for Lists {
     }
 }
 
-// Calls that only look at the catalogue.
-fn of_catalogue(catalogue: &Catalogue, line: &mut Line, answer: &mut Answer) {
-    match line.name() {
-        "troves" => catalogue::troves(catalogue, answer),
-        "find" => catalogue::find(catalogue, line, answer),
-        "place_of" => catalogue::place_of(catalogue, line, answer),
-        "by_name" => catalogue::by_name(catalogue, line, answer),
-        "latest" => catalogue::latest(catalogue, line, answer),
-        "has_content" => catalogue::has_content(catalogue, line, answer),
-        "expand" => catalogue::expanded(catalogue, line, answer),
-        "resolve" => specs::resolved(catalogue, line, answer),
-        "moved" => shadows::move_onto(catalogue, line, answer),
-        _ => line.unreadable(),
-    }
-}
-
-// Calls that change what goes on.
+// Calls on the catalogue and the closure.
 fn of_lists(lists: &mut Lists, line: &mut Line, answer: &mut Answer) {
     match line.name() {
         "new" => catalogue::new(&mut lists.catalogue, line, answer),
         "add" => catalogue::add(&mut lists.catalogue, line, answer),
         "count_commit" => catalogue::count_commit(&mut lists.catalogue, answer),
         "copy" => catalogue::copy(&mut lists.catalogue, answer),
+        "troves" => catalogue::troves(&lists.catalogue, answer),
+        "find" => catalogue::find(&lists.catalogue, line, answer),
+        "place_of" => catalogue::place_of(&lists.catalogue, line, answer),
+        "by_name" => catalogue::by_name(&lists.catalogue, line, answer),
+        "latest" => catalogue::latest(&lists.catalogue, line, answer),
+        "has_content" => catalogue::has_content(&lists.catalogue, line, answer),
+        "expand" => catalogue::expanded(&lists.catalogue, line, answer),
+        "resolve" => specs::resolved(&lists.catalogue, line, answer),
+        "moved" => shadows::move_onto(&lists.catalogue, line, answer),
         "trove" => lists.closing.wait(line, answer),
         "closed" => lists.closing.closed(line.alloc(), answer),
         "of" => lists.closing.of(line, answer),
         "change" => lists.closing.change(line, answer),
-        _ => of_catalogue(&lists.catalogue, line, answer),
-    }
-}
-
-// Calls on trees.
-fn of_trees(lists: &mut Lists, line: &mut Line, answer: &mut Answer) {
-    match line.name() {
-        "local" => local::edits(line, answer),
-        "mark" => marks::mark(line, answer),
-        "matches" => marks::is_recorded(line, answer),
-        "alike" => marks::alike(line, answer),
-        "differing" => marks::differing_bytes(line, answer),
-        "plan" => plans::planned(line, answer),
-        "targets" => targets::of_plan(line, answer),
-        "verify" => verifying::tree(line, answer),
-        _ => of_lists(lists, line, answer),
+        _ => line.unreadable(),
     }
 }
 
 impl Calls for Lists {
+    // Calls that stand for themselves, and all others.
     fn call(&mut self, line: &mut Line, answer: &mut Answer) {
         match line.name() {
             "spec" => specs::spec(line, answer),
@@ -97,22 +75,23 @@ impl Calls for Lists {
             "mark_file" => marks::file(line, answer),
             "same" => marks::are_same(line, answer),
             "verified" => verifying::copy(line, answer),
-            _ => of_trees(self, line, answer),
+            "local" => local::edits(line, answer),
+            "mark" => marks::mark(line, answer),
+            "matches" => marks::is_recorded(line, answer),
+            "alike" => marks::alike(line, answer),
+            "differing" => marks::differing_bytes(line, answer),
+            "plan" => plans::planned(line, answer),
+            "targets" => targets::of_plan(line, answer),
+            "verify" => verifying::tree(line, answer),
+            _ => of_lists(self, line, answer),
         }
     }
 }
 
-fn start(alloc: Global) -> io::Result<Lists> {
-    match Closing::start(alloc) {
-        Ok(closing) => Ok(Lists {
-            catalogue: Catalogue::new(alloc),
-            closing,
-        }),
-        Err(_) => Err(io::Error::from(io::ErrorKind::OutOfMemory)),
-    }
-}
-
 fn main(rt: HostRuntime) -> io::Result<()> {
-    let mut lists = start(rt.alloc())?;
+    let mut lists = Lists {
+        catalogue: Catalogue::new(rt.alloc()),
+        closing: Closing::start(rt.alloc())?,
+    };
     answer_all(&rt, &mut lists)
 }

@@ -1,5 +1,5 @@
 //! Fingerprints of what stands in a tree and of what records want.
-use crate::plans::disk_of;
+use crate::plans::on_disk;
 use job_targets::cny_base::{Copies, Path, Stop};
 use job_targets::trove_stream::{FileAt, Trove};
 use line_words::{Answer, Line, Quiet};
@@ -11,26 +11,24 @@ use tree_scan::{
 
 // A fingerprint, of which a copy is the same.
 fn copied(found: &Mark, answer: &mut Answer) {
-    match found.copy() {
-        Ok(copy) if found.is_same(&copy) => answer.mark(found),
-        Ok(_) => answer.text("another copy"),
-        Err(_) => answer.memory(),
+    if let Some(copy) = answer.kept(found.copy()) {
+        if found.is_same(&copy) {
+            answer.mark(found);
+        } else {
+            answer.text("another copy");
+        }
     }
 }
 
-fn marked(alloc: Global, disk: &mut Quiet, path: &Path, answer: &mut Answer) {
-    match mark_at(alloc, disk, path) {
-        Ok(found) => copied(&found, answer),
-        Err(stop) => answer.stopped(&stop),
+fn marked(disk: &mut Quiet, line: &mut Line, answer: &mut Answer) {
+    if let Some(path) = line.path(2) {
+        answer.outcome(mark_at(line.alloc(), disk, &path), copied);
     }
 }
 
 /// `mark WORDS NODES PATH`: the fingerprint of what stands there.
 pub fn mark(line: &mut Line, answer: &mut Answer) {
-    let disk = disk_of(line, 1);
-    if let (Some(mut disk), Some(path)) = (disk, line.path(2)) {
-        marked(line.alloc(), &mut disk, &path, answer);
-    }
+    on_disk(line, 1, answer, marked);
 }
 
 /// `mark_file MODE BYTES`: the fingerprint of a file.
@@ -39,11 +37,8 @@ pub fn file(line: &mut Line, answer: &mut Answer) {
     answer.mark(&mark_file(line.mode(0), bytes));
 }
 
-fn holds(outcome: &Result<bool, Stop>, answer: &mut Answer) {
-    match outcome {
-        Ok(holds) => answer.holds(*holds),
-        Err(stop) => answer.stopped(stop),
-    }
+fn told(holds: &bool, answer: &mut Answer) {
+    answer.holds(*holds);
 }
 
 // The first record of a trove.
@@ -54,16 +49,17 @@ fn record(trove: &Option<Trove>) -> Option<&FileAt> {
     }
 }
 
+fn matched(disk: &mut Quiet, line: &mut Line, answer: &mut Answer) {
+    let trove = line.value::<Trove>(2);
+    match record(&trove) {
+        Some(file) => answer.outcome(matches(line.alloc(), disk, &file.path, &file.rec), told),
+        None => line.unreadable(),
+    }
+}
+
 /// `matches WORDS NODES TROVE`: whether what stands is as the trove's first record wants it.
 pub fn is_recorded(line: &mut Line, answer: &mut Answer) {
-    let trove = line.value::<Trove>(2);
-    match (disk_of(line, 1), record(&trove)) {
-        (Some(mut disk), Some(file)) => holds(
-            &matches(line.alloc(), &mut disk, &file.path, &file.rec),
-            answer,
-        ),
-        _ => line.unreadable(),
-    }
+    on_disk(line, 1, answer, matched);
 }
 
 /// `same TROVE TROVE`: whether the first records of both have one fingerprint.
@@ -86,30 +82,30 @@ fn have_same_marks(
     Ok(mark.is_same(&mark_at(alloc, disk, other)?))
 }
 
-/// `alike WORDS NODES PATH PATH`: whether what stands at both paths has one fingerprint.
-pub fn alike(line: &mut Line, answer: &mut Answer) {
+fn compared(disk: &mut Quiet, line: &mut Line, answer: &mut Answer) {
     let one = line.path(2);
-    let other = line.path(3);
-    if let (Some(mut disk), Some(one), Some(other)) = (disk_of(line, 1), one, other) {
-        holds(
-            &have_same_marks(line.alloc(), &mut disk, &one, &other),
-            answer,
-        );
+    if let (Some(one), Some(other)) = (one, line.path(3)) {
+        answer.outcome(have_same_marks(line.alloc(), disk, &one, &other), told);
     }
 }
 
-fn counted(outcome: &Result<u64, Stop>, answer: &mut Answer) {
-    match outcome {
-        Ok(count) => answer.number(*count),
-        Err(stop) => answer.stopped(stop),
+/// `alike WORDS NODES PATH PATH`: whether what stands at both paths has one fingerprint.
+pub fn alike(line: &mut Line, answer: &mut Answer) {
+    on_disk(line, 1, answer, compared);
+}
+
+fn number(count: &u64, answer: &mut Answer) {
+    answer.number(*count);
+}
+
+fn counted(disk: &mut Quiet, line: &mut Line, answer: &mut Answer) {
+    let bytes = line.bytes(3);
+    if let Some(path) = line.path(2) {
+        answer.outcome(differing(line.alloc(), disk, &path, bytes), number);
     }
 }
 
 /// `differing WORDS NODES PATH BYTES`: in how many bytes the file there differs from these.
 pub fn differing_bytes(line: &mut Line, answer: &mut Answer) {
-    let disk = disk_of(line, 1);
-    let bytes = line.bytes(3);
-    if let (Some(mut disk), Some(path)) = (disk, line.path(2)) {
-        counted(&differing(line.alloc(), &mut disk, &path, bytes), answer);
-    }
+    on_disk(line, 1, answer, counted);
 }

@@ -1,34 +1,27 @@
 //! Plans of what stands to what troves want.
 use conflict_plan::{Planned, PlannedList, plan};
-use job_targets::cny_base::{Options, Stop};
-use job_targets::file_stream::{FileRec, Flags};
+use job_targets::file_stream::FileRec;
 use job_targets::trove_stream::Trove;
 use line_words::{Answer, Line, Quiet};
 use tree_scan::Mark;
 
-// Whether a word is one of those of the first argument, with a space between two.
-fn has_word(line: &mut Line, wanted: &str) -> bool {
-    line.raw(0).split(' ').any(|word| word == wanted)
-}
-
 /// The disk at a place. Its first call fails where the first argument has the word `fail`.
 pub fn disk_of(line: &mut Line, place: usize) -> Option<Quiet> {
-    let failing = u64::from(has_word(line, "fail"));
+    let failing = u64::from(line.mentions(0, "fail"));
     line.disk(place, failing)
 }
 
-fn options_of(line: &mut Line) -> Options {
-    Options {
-        replace: has_word(line, "replace"),
-        keep: has_word(line, "keep"),
-    }
-}
-
-fn flags(flags: Flags, answer: &mut Answer) {
-    answer.text(" ");
-    answer.text(if flags.config { "c" } else { "-" });
-    answer.text(if flags.initial { "i" } else { "-" });
-    answer.text(if flags.transient { "t" } else { "-" });
+/// Calls with that disk.
+pub fn on_disk<F: FnOnce(&mut Quiet, &mut Line, &mut Answer)>(
+    line: &mut Line,
+    place: usize,
+    answer: &mut Answer,
+    call: F,
+)
+    requires { F.IsAlwaysCallable call }
+{
+    let failing = u64::from(line.mentions(0, "fail"));
+    line.on_disk(place, failing, answer, call);
 }
 
 fn record(rec: &FileRec, answer: &mut Answer) {
@@ -44,7 +37,8 @@ fn record(rec: &FileRec, answer: &mut Answer) {
         } => {
             let (mode, size, name) = (*mode, u64::from(*size), *name);
             answer.mark(&Mark::File { mode, size, name });
-            flags(*words, answer);
+            answer.text(" ");
+            answer.flags(*words);
         }
     }
 }
@@ -62,10 +56,7 @@ fn change(planned: &Planned, answer: &mut Answer) {
 }
 
 fn changes(list: &PlannedList, answer: &mut Answer) {
-    answer.text("ok");
-    for planned in list.get() {
-        change(planned, answer);
-    }
+    answer.each(list.get(), change);
 }
 
 // How often a disk was asked.
@@ -79,34 +70,24 @@ fn calls(disk: &Quiet, answer: &mut Answer) {
     answer.text(" lists");
 }
 
-/// The plan that leads from some troves of a line to others.
-pub fn plan_of(
-    line: &mut Line,
-    disk: &mut Quiet,
-    old: &[Trove],
-    fresh: &[Trove],
-) -> Result<PlannedList, Stop> {
-    let options = options_of(line);
-    plan(line.alloc(), disk, old, fresh, &options)
+/// The plan that leads from the third to the fourth argument's troves; where there is none, why is told.
+pub fn plan_of(disk: &mut Quiet, line: &mut Line, answer: &mut Answer) -> Option<PlannedList> {
+    let old = line.list::<Trove>(2);
+    let fresh = line.list::<Trove>(3);
+    let options = line.options(0);
+    answer.given(plan(line.alloc(), disk, &old, &fresh, &options))
 }
 
-fn told(line: &mut Line, disk: &mut Quiet, old: &[Trove], fresh: &[Trove], answer: &mut Answer) {
-    match plan_of(line, disk, old, fresh) {
-        Ok(list) => {
-            answer.copied(&list, changes);
-            if has_word(line, "calls") {
-                calls(disk, answer);
-            }
+fn told(disk: &mut Quiet, line: &mut Line, answer: &mut Answer) {
+    if let Some(list) = plan_of(disk, line, answer) {
+        answer.copied(&list, changes);
+        if line.mentions(0, "calls") {
+            calls(disk, answer);
         }
-        Err(stop) => answer.stopped(&stop),
     }
 }
 
 /// `plan WORDS NODES OLD NEW`: the paths that the plan changes, and with the word `calls` how often it asked the disk.
 pub fn planned(line: &mut Line, answer: &mut Answer) {
-    let old = line.list::<Trove>(2);
-    let fresh = line.list::<Trove>(3);
-    if let Some(mut disk) = disk_of(line, 1) {
-        told(line, &mut disk, &old, &fresh, answer);
-    }
+    on_disk(line, 1, answer, told);
 }

@@ -4,7 +4,7 @@ use line_words::{Answer, Line};
 use repo_index::Catalogue;
 use repo_index::file_stream::FileRec;
 use repo_index::trove_parts::TroveId;
-use repo_index::trove_stream::{FileAt, Trove};
+use repo_index::trove_stream::{FileAt, Trove, Troves};
 use repo_shadow::{Way, all_refer_within, moved};
 
 // The first byte of the name of each content, behind a bar.
@@ -21,15 +21,12 @@ fn contents(files: &[FileAt], answer: &mut Answer) {
 fn parts(trove: &Trove, answer: &mut Answer) {
     answer.id(trove.id());
     contents(trove.files(), answer);
-    for id in trove.refs() {
-        answer.text("|");
-        answer.id(id);
-    }
+    answer.ids("|", trove.refs());
 }
 
-fn troves(troves: &[Trove], answer: &mut Answer) {
+fn troves(troves: &Troves, answer: &mut Answer) {
     answer.text("ok");
-    for trove in troves {
+    for trove in troves.get() {
         answer.tab();
         parts(trove, answer);
     }
@@ -54,9 +51,6 @@ pub fn move_onto(catalogue: &Catalogue, line: &mut Line, answer: &mut Answer) {
     if !all_refer_within(catalogue) {
         answer.text("refers outside");
     } else if let (Some(root), Some(label)) = (root, label) {
-        match moved(line.alloc(), catalogue, &root, &label, way) {
-            Ok(made) => troves(made.get(), answer),
-            Err(fault) => answer.refused(&fault),
-        }
+        answer.outcome(moved(line.alloc(), catalogue, &root, &label, way), troves);
     }
 }

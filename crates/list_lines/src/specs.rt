@@ -3,6 +3,7 @@ use cny_flavor::Flavor;
 use line_words::{Answer, Line};
 use repo_index::Catalogue;
 use repo_index::cny_base::CONFIG_LIMIT;
+use repo_index::trove_parts::TroveId;
 use trove_spec::{Config, Labels, Place, Spec, resolve};
 
 // Where a trove is looked for.
@@ -43,6 +44,10 @@ pub fn spec(line: &mut Line, answer: &mut Answer) {
     line.reads_copy(answer, Spec::read, parts);
 }
 
+fn id(id: &TroveId, answer: &mut Answer) {
+    answer.id(id);
+}
+
 // The copy of a configuration of the labels and the flavor of two arguments.
 fn config_of(line: &mut Line) -> Option<Config> {
     let labels = Labels::new(line.list(1));
@@ -55,10 +60,8 @@ fn config_of(line: &mut Line) -> Option<Config> {
 pub fn resolved(catalogue: &Catalogue, line: &mut Line, answer: &mut Answer) {
     let spec = line.read(0, Spec::read);
     if let (Some(spec), Some(config)) = (spec, config_of(line)) {
-        match resolve(line.alloc(), catalogue, &spec, line.text(0), &config) {
-            Ok(id) => answer.id(&id),
-            Err(fault) => answer.refused(&fault),
-        }
+        let text = line.text(0);
+        answer.outcome(resolve(line.alloc(), catalogue, &spec, text, &config), id);
     }
 }
 
@@ -80,8 +83,5 @@ pub fn config(line: &mut Line, answer: &mut Answer) {
     if bytes.len() > CONFIG_LIMIT {
         return line.unreadable();
     }
-    match Config::read(line.alloc(), bytes) {
-        Ok(config) => settings(&config, answer),
-        Err(fault) => answer.refused(&fault),
-    }
+    answer.outcome(Config::read(line.alloc(), bytes), settings);
 }

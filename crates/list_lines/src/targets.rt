@@ -1,19 +1,9 @@
 //! Write sets of plans.
-ghost use Rattle.std.specs.Prelude.{◌≡◌, ◌↔◌, All, IsTrue};
-ghost use Rattle.std.specs.List.Sorted.{IsStrictlySortedBy};
-ghost use Rattle.sha1.specs.Sha1.{sha1};
-ghost use Rattle.job_targets.specs.change-set.declared.change.Carried as declared;
-ghost use Rattle.job_targets.specs.change-set.ChangeSet.{content_cmp};
-
 use crate::plans::{disk_of, plan_of};
 use conflict_plan::{Planned, PlannedList};
-use job_targets::change_set::Carried;
-use job_targets::cny_base::Bytes;
 use job_targets::journal_log::{Put, Want};
-use job_targets::trove_stream::Trove;
 use job_targets::{Entry, Targets, are_rising, mark_of, targets_of};
-use line_words::{Answer, Far, Line, Quiet};
-use sha1::Sha1;
+use line_words::{Answer, Line, Quiet, are_in_order};
 
 // A number of the first 4,096 bytes that other bytes of the same SHA-1 hardly have.
 fn checksum(bytes: &[u8]) -> u32 {
@@ -26,9 +16,8 @@ fn checksum(bytes: &[u8]) -> u32 {
 
 // What stands or is to stand: its fingerprint, and of a file the checksum of its bytes.
 fn want(want: &Want, answer: &mut Answer) {
-    match mark_of(want) {
-        Ok(mark) => answer.mark(&mark),
-        Err(_) => answer.memory(),
+    if let Some(mark) = answer.kept(mark_of(want)) {
+        answer.mark(&mark);
     }
     match want {
         Want::File { bytes, .. } => {
@@ -76,57 +65,30 @@ fn told(made: &Targets, finds: u64, files: u64, answer: &mut Answer) {
     answer.text(" files");
 }
 
-// The contents of an argument under their names.
-fn carried_of(line: &mut Line, place: usize) -> Vec<Carried>
-    ensures { All (λ (content : declared.Carried). content.name ≡ sha1 content.bytes) result.items }
-{
-    let mut carried = Vec::new(line.alloc());
-    for bytes in line.list::<Bytes>(place) {
-        let name = Sha1::digest(bytes.get());
-        line.kept(carried.push(Carried { name, bytes }));
-    }
-    carried
-}
-
-fn are_in_order(carried: &[Carried]) -> bool
-    ensures { IsTrue result ↔ IsStrictlySortedBy content_cmp carried.now }
-{
-    carried.is_sorted_by(|one, next| one.name.cmp(&next.name).is_lt())
-}
-
-fn make(
-    line: &mut Line,
-    disk: &mut Quiet,
-    planned: &[Planned],
-    carried: &[Carried],
-    far: &mut Far,
-    answer: &mut Answer,
-)
-    requires { All (λ (content : declared.Carried). content.name ≡ sha1 content.bytes) carried.now }
-{
-    if !are_rising(planned) || !are_in_order(carried) {
+// The write set of changes, with the contents of the sixth and the seventh argument.
+fn make(disk: &mut Quiet, planned: &[Planned], line: &mut Line, answer: &mut Answer) {
+    let carried = line.carried(5);
+    let mut far = line.far(6);
+    if !are_rising(planned) || !are_in_order(&carried) {
         return line.unreadable();
     }
-    match targets_of(line.alloc(), disk, planned, carried, far) {
-        Ok(made) => told(&made, far.finds, disk.looks, answer),
-        Err(stop) => answer.stopped(&stop),
+    let made = targets_of(line.alloc(), disk, planned, &carried, &mut far);
+    if let Some(made) = answer.given(made) {
+        told(&made, far.finds, disk.looks, answer);
     }
 }
 
 // The write set of a plan, where the tree of the fifth argument stands, or still that of the second one.
-fn made(line: &mut Line, list: &PlannedList, answer: &mut Answer) {
+fn made(list: &PlannedList, line: &mut Line, answer: &mut Answer) {
     let place = if line.raw(4) == "=" { 1 } else { 4 };
-    let carried = carried_of(line, 5);
-    let mut far = line.far(6);
     if let Some(mut disk) = disk_of(line, place) {
-        make(line, &mut disk, list.get(), &carried, &mut far, answer);
+        make(&mut disk, list.get(), line, answer);
     }
 }
 
-fn between(line: &mut Line, disk: &mut Quiet, old: &[Trove], fresh: &[Trove], answer: &mut Answer) {
-    match plan_of(line, disk, old, fresh) {
-        Ok(list) => made(line, &list, answer),
-        Err(stop) => answer.stopped(&stop),
+fn between(disk: &mut Quiet, line: &mut Line, answer: &mut Answer) {
+    if let Some(list) = plan_of(disk, line, answer) {
+        made(&list, line, answer);
     }
 }
 
@@ -134,9 +96,5 @@ fn between(line: &mut Line, disk: &mut Quiet, old: &[Trove], fresh: &[Trove], an
 /// `NOW` stands, or the nodes still for an equals sign. Of the words, `fail` makes the first call of the disk fail that stands now, and
 /// the others are those of `plan`.
 pub fn of_plan(line: &mut Line, answer: &mut Answer) {
-    let old = line.list::<Trove>(2);
-    let fresh = line.list::<Trove>(3);
-    if let Some(mut disk) = line.disk(1, 0) {
-        between(line, &mut disk, &old, &fresh, answer);
-    }
+    line.on_disk(1, 0, answer, between);
 }

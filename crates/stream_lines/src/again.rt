@@ -1,18 +1,8 @@
 //! What calls have in common that read something, show it, and write it again.
-use cny_report::cny_base::{Bytes, Copies, TextFault};
+use cny_report::cny_base::{Bytes, Copies, OutOfMemory, TextFault};
+use cny_report::trove_stream::{RelTrove, Trove, encode, encode_full, encode_rel, encode_rel_full};
 use line_words::Answer;
-use sha1::Sha1;
-
-/// What was read; where it is none, `bad` is the answer.
-pub fn unless_bad<T: Drop>(answer: &mut Answer, read: Result<T, TextFault>) -> Option<T> {
-    match read {
-        Ok(value) => Some(value),
-        Err(fault) => {
-            answer.fault(fault);
-            None
-        }
-    }
-}
+use std::alloc::Global;
 
 /// A copy of what was read.
 pub fn copy_of<T: Copies>(read: Result<T, TextFault>) -> Result<T, TextFault> {
@@ -22,17 +12,10 @@ pub fn copy_of<T: Copies>(read: Result<T, TextFault>) -> Result<T, TextFault> {
     }
 }
 
-/// Appends the number of the bytes, and their SHA-1.
-pub fn push_digest(answer: &mut Answer, bytes: &[u8]) {
-    answer.number(bytes.len() as u64);
-    answer.text(" ");
-    answer.hex(Sha1::digest(bytes).as_slice());
-}
-
 /// Appends the digits of bytes, or of more than so many their digest.
 pub fn push_shown(answer: &mut Answer, bytes: &[u8], most: usize) {
     if bytes.len() > most {
-        push_digest(answer, bytes);
+        answer.digest(bytes);
     } else {
         answer.hex(bytes);
     }
@@ -58,11 +41,65 @@ pub fn push_compared(answer: &mut Answer, written: &[u8], wanted: &[u8]) {
 /// Appends a text of lines on one line: with `|` for each line feed, or its digest where it is long.
 pub fn push_lines(answer: &mut Answer, text: &str) {
     if text.len() > 1_000 {
-        push_digest(answer, text.as_bytes());
-        return;
+        answer.digest(text.as_bytes());
+    } else {
+        answer.lines(text, "|");
     }
-    for (place, line) in text.split('\n').enumerate() {
-        answer.text(if place == 0 { "" } else { "|" });
-        answer.text(line);
+}
+
+// ---- troves and relative troves
+
+/// What has a stream in the compact encoding, and one in the explicit encoding, which is the full one.
+pub trait Stream {
+    /// Appends the stream.
+    fn put(&self, alloc: Global, full: bool, out: &mut Bytes) -> Result<(), OutOfMemory>;
+}
+
+impl Stream for Trove {
+    fn put(&self, alloc: Global, full: bool, out: &mut Bytes) -> Result<(), OutOfMemory> {
+        if full {
+            encode_full(alloc, self, out)
+        } else {
+            encode(alloc, self, out)
+        }
     }
+}
+
+impl Stream for RelTrove {
+    fn put(&self, alloc: Global, full: bool, out: &mut Bytes) -> Result<(), OutOfMemory> {
+        if full {
+            encode_rel_full(alloc, self, out)
+        } else {
+            encode_rel(alloc, self, out)
+        }
+    }
+}
+
+// The stream behind an `x`.
+fn written<S: Stream>(answer: &mut Answer, full: bool, value: &S) -> Bytes {
+    let mut out = behind(answer, b"x");
+    answer.kept(value.put(answer.alloc(), full, &mut out));
+    out
+}
+
+/// Appends a field: whether a value is written as these bytes.
+pub fn push_again<S: Stream>(answer: &mut Answer, full: bool, value: &S, wanted: &[u8]) {
+    let out = written(answer, full, value);
+    push_compared(answer, out.get(), wanted);
+}
+
+/// Appends the digests of both streams, each behind an `x`, as fields.
+pub fn push_digests<S: Stream>(answer: &mut Answer, value: &S) {
+    for full in [false, true] {
+        let out = written(answer, full, value);
+        answer.text("\t");
+        answer.digest(out.get());
+    }
+}
+
+/// Appends a stream in the compact encoding.
+pub fn push_stream<S: Stream>(answer: &mut Answer, value: &S, most: usize) {
+    let mut out = behind(answer, b"");
+    answer.kept(value.put(answer.alloc(), false, &mut out));
+    push_shown(answer, out.get(), most);
 }

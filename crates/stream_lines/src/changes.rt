@@ -1,22 +1,19 @@
 //! Calls of what leads from a trove to another, and of what comes with a change set. Where an argument is no stream of its kind,
 //! or two troves are no such pair, the answer is `unreadable`.
 
-use crate::again::{behind, push_shown};
+use crate::again::{behind, push_shown, push_stream};
 use change_rel::{apply, relative, to_send};
 use cny_report::change_set::{ChangeSet, Part, decode as decode_set};
 use cny_report::cny_base::{Copies, Fault, TextFault};
-use cny_report::trove_stream::{
-    Installed, RelTrove, Trove, Troves, decode, decode_rel, encode, encode_rel,
-};
+use cny_report::trove_stream::{Installed, RelTrove, Trove, Troves, decode, decode_rel};
 use line_words::Answer;
 use update_job::{applied, check_allowed};
 
 // More bytes are answered by their number and their SHA-1.
 const MOST_SHOWN: usize = 400;
 
-// The trove with this stream.
-fn trove_of(answer: &mut Answer, bytes: &[u8]) -> Option<Trove> {
-    let read = decode(answer.alloc(), bytes);
+// What was read.
+fn readable<T: Drop>(answer: &mut Answer, read: Result<T, TextFault>) -> Option<T> {
     if let Err(TextFault::Bad) = read {
         answer.text("unreadable");
         return None;
@@ -24,24 +21,18 @@ fn trove_of(answer: &mut Answer, bytes: &[u8]) -> Option<Trove> {
     answer.kept(read)
 }
 
-fn push_trove(answer: &mut Answer, trove: &Trove) {
-    let mut out = behind(answer, b"");
-    answer.kept(encode(answer.alloc(), trove, &mut out));
-    push_shown(answer, out.get(), MOST_SHOWN);
+// The trove with this stream.
+fn trove_of(answer: &mut Answer, bytes: &[u8]) -> Option<Trove> {
+    readable(answer, decode(answer.alloc(), bytes))
+}
+
+fn push_trove(trove: &Trove, answer: &mut Answer) {
+    push_stream(answer, trove, MOST_SHOWN);
 }
 
 // What a relative trove makes of a trove, or the refusal.
 fn push_applied(answer: &mut Answer, old: &Trove, rel: &RelTrove) {
-    match apply(answer.alloc(), old, rel) {
-        Ok(fresh) => push_trove(answer, &fresh),
-        Err(fault) => answer.refused(&fault),
-    }
-}
-
-fn push_relative(answer: &mut Answer, rel: &RelTrove) {
-    let mut out = behind(answer, b"");
-    answer.kept(encode_rel(answer.alloc(), rel, &mut out));
-    push_shown(answer, out.get(), MOST_SHOWN);
+    answer.outcome(apply(answer.alloc(), old, rel), push_trove);
 }
 
 /// What is asked of two troves.
@@ -84,7 +75,7 @@ fn push_between(answer: &mut Answer, asked: Asked, old: &Trove, fresh: &Trove) {
         push_sent(answer, Some(old), fresh);
     } else if let Some(rel) = between(answer, old, fresh) {
         match asked {
-            Asked::Relative => push_relative(answer, &rel),
+            Asked::Relative => push_stream(answer, &rel, MOST_SHOWN),
             _ => push_applied(answer, old, &rel),
         }
     }
@@ -109,10 +100,8 @@ pub fn of_new(answer: &mut Answer, fresh: &[u8]) {
 /// The stream of what `apply` makes of a trove, or the refusal.
 pub fn of_relative(answer: &mut Answer, old: &[u8], rel: &[u8]) {
     if let Some(old) = trove_of(answer, old) {
-        match decode_rel(answer.alloc(), rel) {
-            Ok(rel) => push_applied(answer, &old, &rel),
-            Err(TextFault::Bad) => answer.text("unreadable"),
-            Err(TextFault::Memory) => answer.memory(),
+        if let Some(rel) = readable(answer, decode_rel(answer.alloc(), rel)) {
+            push_applied(answer, &old, &rel);
         }
     }
 }
@@ -173,18 +162,11 @@ fn installed_of(answer: &mut Answer, bytes: &[u8]) -> Option<Installed> {
 }
 
 // The number of the troves, and the stream of each.
-fn push_troves(answer: &mut Answer, troves: &Troves) {
+fn push_troves(troves: &Troves, answer: &mut Answer) {
     answer.number(troves.get().len() as u64);
     for trove in troves.get() {
         answer.text(" ");
-        push_trove(answer, trove);
-    }
-}
-
-fn push_parts(answer: &mut Answer, installed: &Installed, parts: &[Part]) {
-    match applied(answer.alloc(), installed, parts) {
-        Ok(troves) => push_troves(answer, &troves),
-        Err(fault) => answer.refused(&fault),
+        push_trove(trove, answer);
     }
 }
 
@@ -193,7 +175,8 @@ fn push_parts(answer: &mut Answer, installed: &Installed, parts: &[Part]) {
 pub fn over_installed(answer: &mut Answer, installed: &[u8], change: &[u8]) {
     if let Some(installed) = installed_of(answer, installed) {
         if let Some(change) = set_of(answer, change) {
-            push_parts(answer, &installed, change.parts.get());
+            let parts = change.parts.get();
+            answer.outcome(applied(answer.alloc(), &installed, parts), push_troves);
         }
     }
 }
@@ -201,9 +184,6 @@ pub fn over_installed(answer: &mut Answer, installed: &[u8], change: &[u8]) {
 /// What `check_allowed` answers of the troves of a change set.
 pub fn allowed(answer: &mut Answer, change: &[u8]) {
     if let Some(troves) = wholes_of(answer, change) {
-        match check_allowed(answer.alloc(), troves.as_slice()) {
-            Ok(()) => answer.text("ok"),
-            Err(fault) => answer.refused(&fault),
-        }
+        answer.done(check_allowed(answer.alloc(), troves.as_slice()));
     }
 }

@@ -1,8 +1,6 @@
 //! Damaged bytes: what readers answer for all beginnings of some bytes, and for other values of a byte.
-use crate::again::unless_bad;
 use crate::manifests::manifest;
-use crate::sets;
-use cny_report::cny_base::TextFault;
+use cny_report::change_set;
 use cny_report::file_stream::{Encoding, decode_as};
 use cny_report::trove_stream::{decode, decode_full, decode_rel, decode_rel_full};
 use line_words::Answer;
@@ -11,24 +9,17 @@ use std::alloc::Global;
 // A longer text of a manifest is told by its digest.
 const LONGEST: usize = 40;
 
-// `ok`, or `bad`.
-fn told<T: Drop>(answer: &mut Answer, read: Result<T, TextFault>) {
-    if let Some(_) = unless_bad(answer, read) {
-        answer.text("ok");
-    }
-}
-
 // What the reader of this kind of bytes answers.
 fn answer_of(alloc: Global, kind: &str, bytes: &[u8]) -> Answer {
     let mut answer = Answer::new(alloc);
     match kind {
-        "record" => told(&mut answer, decode_as(alloc, Encoding::Compact, bytes)),
-        "record_full" => told(&mut answer, decode_as(alloc, Encoding::Explicit, bytes)),
-        "trove" => told(&mut answer, decode(alloc, bytes)),
-        "trove_full" => told(&mut answer, decode_full(alloc, bytes)),
-        "relative" => told(&mut answer, decode_rel(alloc, bytes)),
-        "relative_full" => told(&mut answer, decode_rel_full(alloc, bytes)),
-        "set" => sets::read(&mut answer, bytes),
+        "record" => answer.done(decode_as(alloc, Encoding::Compact, bytes)),
+        "record_full" => answer.done(decode_as(alloc, Encoding::Explicit, bytes)),
+        "trove" => answer.done(decode(alloc, bytes)),
+        "trove_full" => answer.done(decode_full(alloc, bytes)),
+        "relative" => answer.done(decode_rel(alloc, bytes)),
+        "relative_full" => answer.done(decode_rel_full(alloc, bytes)),
+        "set" => answer.done(change_set::decode(alloc, bytes)),
         "manifest" => manifest(&mut answer, bytes, LONGEST),
         _ => answer.unreadable(),
     }
@@ -79,13 +70,11 @@ fn add_changed(
     place: usize,
     value: u8,
 ) {
-    if let Ok(mut bytes) = Vec::from_slice(answer.alloc(), bytes) {
+    if let Some(mut bytes) = answer.kept(Vec::from_slice(answer.alloc(), bytes)) {
         if let Some(byte) = bytes.get_mut(place) {
             *byte = value;
         }
         add(answer, given, kind, bytes.as_slice());
-    } else {
-        answer.memory();
     }
 }
 

@@ -5,7 +5,7 @@ ghost use Rattle.cny_stream.specs.Item.{FitsOpen};
 use crate::again::{behind, push_shown};
 use cny_report::cny_base::{Bytes, OutOfMemory};
 use cny_stream::{OpenItem, close_item, next_item, open_item, put_item};
-use line_words::Answer;
+use line_words::{Answer, Line};
 
 // ---- items that are written
 
@@ -86,13 +86,13 @@ impl Writer {
 }
 
 /// Steps behind other bytes: what stands then, and a note of each item that was begun or ended.
-pub fn written(answer: &mut Answer, front: &[u8], steps: &[Bytes]) {
+pub fn written(answer: &mut Answer, line: &mut Line) {
     let mut writer = Writer {
-        out: behind(answer, front),
+        out: behind(answer, line.bytes(0)),
         open: Vec::new(answer.alloc()),
         notes: answer.apart(),
     };
-    for words in steps {
+    for words in &line.rest::<Bytes>(1) {
         writer.step(words.get());
     }
     push_shown(answer, writer.out.get(), 500);

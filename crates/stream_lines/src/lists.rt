@@ -1,7 +1,7 @@
 //! Calls on the lists of a trove.
 ghost use Rattle.std.specs.Prelude.{◌≤◌, length};
 
-use crate::again::{behind, push_compared, unless_bad};
+use crate::again::{behind, push_compared};
 use crate::elements::{Element, elements, push_list};
 use cny_report::cny_base::{Copies, ListOf, Mode, Path};
 use cny_report::file_stream::{Encoding, FileRec, Flags, Owner};
@@ -63,7 +63,7 @@ fn push_copied<T: Element + Copies>(
 fn files(answer: &mut Answer, encoding: Encoding, asked: Asked<'_>) {
     let (alloc, limit) = (answer.alloc(), asked.limit);
     let found = take_files(alloc, encoding, asked.bytes, asked.at, asked.tag, limit);
-    if let Some(found) = unless_bad(answer, found) {
+    if let Some(found) = answer.given(found) {
         push_copied(answer, encoding, asked, found.to, &found.files);
     }
 }
@@ -71,7 +71,7 @@ fn files(answer: &mut Answer, encoding: Encoding, asked: Asked<'_>) {
 fn refs(answer: &mut Answer, asked: Asked<'_>) {
     let alloc = answer.alloc();
     let found = take_refs(alloc, asked.bytes, asked.at, asked.tag, asked.limit);
-    if let Some(found) = unless_bad(answer, found) {
+    if let Some(found) = answer.given(found) {
         push_copied(answer, Encoding::Compact, asked, found.to, &found.refs);
     }
 }
@@ -79,14 +79,14 @@ fn refs(answer: &mut Answer, asked: Asked<'_>) {
 fn deps(answer: &mut Answer, asked: Asked<'_>) {
     let alloc = answer.alloc();
     let found = take_deps(alloc, asked.bytes, asked.at, asked.tag, asked.limit);
-    if let Some(found) = unless_bad(answer, found) {
+    if let Some(found) = answer.given(found) {
         push_copied(answer, Encoding::Compact, asked, found.to, &found.deps);
     }
 }
 
 fn paths(answer: &mut Answer, asked: Asked<'_>) {
     let found = take_paths(answer.alloc(), asked.bytes, asked.at, asked.tag);
-    if let Some(found) = unless_bad(answer, found) {
+    if let Some(found) = answer.given(found) {
         push_copied(answer, Encoding::Compact, asked, found.to, &found.paths);
     }
 }
@@ -104,7 +104,7 @@ fn push_id(answer: &mut Answer, asked: Asked<'_>, to: usize, id: &TroveId) {
 
 fn id_item(answer: &mut Answer, asked: Asked<'_>) {
     let found = take_id_item(answer.alloc(), asked.bytes, asked.at, asked.tag);
-    if let Some(found) = unless_bad(answer, found) {
+    if let Some(found) = answer.given(found) {
         push_id(answer, asked, found.to, &found.id);
     }
 }

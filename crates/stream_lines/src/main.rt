@@ -17,19 +17,14 @@ mod sets;
 mod troves;
 
 use crate::changes::Asked;
-use cny_report::cny_base::Bytes;
 use cny_report::file_stream::Encoding;
-use cny_report::trove_stream::Trove;
 use line_words::{Answer, Calls, Line, answer_all};
 use std::io;
 
-// Calls on items, and on records in one or both encodings.
-fn of_records(line: &mut Line, answer: &mut Answer) {
+// Calls on items, on records in one or both encodings, and on the lists of a trove.
+fn of_parts(line: &mut Line, answer: &mut Answer) {
     match line.name() {
-        "items" => {
-            let steps = line.rest::<Bytes>(1);
-            items::written(answer, line.bytes(0), steps.as_slice());
-        }
+        "items" => items::written(answer, line),
         "next_item" => {
             let at = line.small(1) as usize;
             items::next(answer, line.bytes(0), at, line.bytes(2));
@@ -40,13 +35,6 @@ fn of_records(line: &mut Line, answer: &mut Answer) {
         "make_record" => records::make(answer, line),
         "same_record" => records::same(answer, line.bytes(0), line.bytes(1)),
         "refusal" => refusals::text(answer, line),
-        _ => of_lists(line, answer),
-    }
-}
-
-// Calls on the lists of a trove.
-fn of_lists(line: &mut Line, answer: &mut Answer) {
-    match line.name() {
         "files" | "files_full" | "refs" | "deps" | "paths" | "id_item" => {
             lists::taken(answer, line)
         }
@@ -55,34 +43,11 @@ fn of_lists(line: &mut Line, answer: &mut Answer) {
         "are_deps" => lists::are_deps_of(answer, line.bytes(0)),
         "are_paths" => lists::are_paths_of(answer, line.bytes(0)),
         "sized_file" => lists::sized_file(answer, line.small(0), line.digest(1)),
-        _ => answer.unreadable(),
+        _ => of_changes(line, answer),
     }
 }
 
-// Calls on troves, relative troves and change sets.
-fn of_troves(line: &mut Line, answer: &mut Answer) {
-    match line.name() {
-        "trove" => troves::trove(answer, false, line.bytes(0)),
-        "trove_full" => troves::trove(answer, true, line.bytes(0)),
-        "make_trove" => troves::make(answer, line),
-        "check" => troves::checked(answer, line.bytes(0)),
-        "troves_text" => {
-            let troves = line.rest::<Trove>(0);
-            troves::text(answer, troves.as_slice());
-        }
-        "relative" => relatives::relative(answer, false, line.bytes(0)),
-        "relative_full" => relatives::relative(answer, true, line.bytes(0)),
-        "make_relative" => relatives::make(answer, line),
-        "set" => sets::set(answer, line.bytes(0)),
-        "joined" => {
-            let streams = line.rest::<Bytes>(0);
-            sets::joined(answer, streams.as_slice());
-        }
-        _ => of_records(line, answer),
-    }
-}
-
-// Calls of what leads from a trove to another, and of what comes with a change set.
+// Calls of what leads from a trove to another, of what comes with a change set, and on manifests and damaged bytes.
 fn of_changes(line: &mut Line, answer: &mut Answer) {
     match line.name() {
         "relative_of" => {
@@ -94,13 +59,6 @@ fn of_changes(line: &mut Line, answer: &mut Answer) {
         "apply" => changes::of_relative(answer, line.bytes(0), line.bytes(1)),
         "applied" => changes::over_installed(answer, line.bytes(0), line.bytes(1)),
         "allowed" => changes::allowed(answer, line.bytes(0)),
-        _ => of_troves(line, answer),
-    }
-}
-
-// Calls on manifests, and on damaged bytes.
-fn of_manifests(line: &mut Line, answer: &mut Answer) {
-    match line.name() {
         "manifest" => manifests::manifest(answer, line.bytes(0), manifests::LONGEST),
         "dir_component" => manifests::component(answer, line, true),
         "component" => manifests::component(answer, line, false),
@@ -112,7 +70,7 @@ fn of_manifests(line: &mut Line, answer: &mut Answer) {
         "changes_to" => {
             damages::changes_to(answer, line.text(0), line.bytes(1), line.bytes(2));
         }
-        _ => of_changes(line, answer),
+        _ => line.unreadable(),
     }
 }
 
@@ -120,8 +78,21 @@ fn of_manifests(line: &mut Line, answer: &mut Answer) {
 struct StreamCalls;
 
 impl Calls for StreamCalls {
+    // Calls on troves, relative troves and change sets, and all others.
     fn call(&mut self, line: &mut Line, answer: &mut Answer) {
-        of_manifests(line, answer)
+        match line.name() {
+            "trove" => troves::trove(answer, false, line.bytes(0)),
+            "trove_full" => troves::trove(answer, true, line.bytes(0)),
+            "make_trove" => troves::make(answer, line),
+            "check" => line.one(answer, troves::checked),
+            "troves_text" => troves::text(answer, line),
+            "relative" => relatives::relative(answer, false, line.bytes(0)),
+            "relative_full" => relatives::relative(answer, true, line.bytes(0)),
+            "make_relative" => relatives::make(answer, line),
+            "set" => sets::set(answer, line.bytes(0)),
+            "joined" => sets::joined(answer, line),
+            _ => of_parts(line, answer),
+        }
     }
 }
 

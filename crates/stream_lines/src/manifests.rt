@@ -1,22 +1,15 @@
 //! Calls on manifests: what one makes, as a text.
-use crate::again::push_digest;
-use crate::records::push_flags;
 use cny_dep::Dep;
 use cny_manifest::{Made, component_of, read};
 use cny_report::change_set::Carried;
 use cny_report::cny_base::{Copies, Mode};
 use cny_report::file_stream::{FileRec, Owner};
-use cny_report::trove_parts::{FileAt, TroveId};
+use cny_report::trove_parts::FileAt;
 use cny_report::trove_stream::Trove;
 use line_words::{Answer, Line};
 
 /// A longer text is told by its digest.
 pub const LONGEST: usize = 4_000;
-
-fn push_id(answer: &mut Answer, front: &str, id: &TroveId) {
-    answer.text(front);
-    answer.id(id);
-}
 
 fn push_deps(answer: &mut Answer, front: &str, deps: &[Dep]) {
     for dep in deps {
@@ -47,26 +40,22 @@ fn push_file(answer: &mut Answer, file: &FileAt) {
         } => {
             answer.text("; file ");
             push_owned(answer, *mode, owner);
-            push_flags(answer, *flags);
+            answer.flags(*flags);
             answer.formatted(format!(in answer.alloc(); " {size} "));
             answer.hex(name.as_slice());
             answer.text(" ");
             answer.text(file.path.text());
         }
         FileRec::Link { target } => {
-            answer.text("; link ");
-            answer.text(file.path.text());
-            answer.text(" to ");
-            answer.text(target.text());
+            answer.texts(&["; link ", file.path.text(), " to ", target.text()]);
         }
     }
 }
 
 fn push_trove(answer: &mut Answer, trove: &Trove) {
-    push_id(answer, "; trove ", trove.id());
-    for id in trove.refs() {
-        push_id(answer, "; ref ", id);
-    }
+    answer.text("; trove ");
+    answer.id(trove.id());
+    answer.ids("; ref ", trove.refs());
     push_deps(answer, "; requires ", trove.requires_());
     push_deps(answer, "; provides ", trove.provides());
     for file in trove.files() {
@@ -93,9 +82,8 @@ fn push_made(answer: &mut Answer, made: &Made) {
 
 /// What a manifest makes, as a text or the digest of a longer one, or why it is refused.
 pub fn manifest(answer: &mut Answer, bytes: &[u8], longest: usize) {
-    match read(answer.alloc(), bytes) {
-        Ok(made) => push_copied(answer, &made, longest),
-        Err(fault) => answer.refused(&fault),
+    if let Some(made) = answer.given(read(answer.alloc(), bytes)) {
+        push_copied(answer, &made, longest);
     }
 }
 
@@ -113,7 +101,7 @@ fn push_short(answer: &mut Answer, text: &Answer, longest: usize) {
         answer.add(text);
     } else {
         answer.text("ok ");
-        push_digest(answer, text.get().as_bytes());
+        answer.digest(text.get().as_bytes());
     }
 }
 

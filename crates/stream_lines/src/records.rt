@@ -3,7 +3,7 @@ ghost use Rattle.std.specs.Prelude.{◌↔◌, IsTrue, All};
 ghost use Rattle.cny_report.specs.file-stream.Record.{FitsSize};
 ghost use Rattle.cny_report.specs.trove-parts.Files.{FitsFile};
 
-use crate::again::{behind, copy_of, push_compared, unless_bad};
+use crate::again::{behind, copy_of, push_compared};
 use cny_report::cny_base::{Bytes, CONTENT_LIMIT, Mode};
 use cny_report::file_stream::{
     Encoding, FileRec, Flags, Owner, decode_as, decode_full, encode_as, file_id,
@@ -41,13 +41,6 @@ fn push_owned(answer: &mut Answer, mode: Mode, owner: &Owner) {
     answer.formatted(format!(in answer.alloc(); " {user} {group}"));
 }
 
-/// Appends a letter for each flag, or a dash.
-pub fn push_flags(answer: &mut Answer, flags: Flags) {
-    answer.text(if flags.config { "c" } else { "-" });
-    answer.text(if flags.initial { "i" } else { "-" });
-    answer.text(if flags.transient { "t" } else { "-" });
-}
-
 /// Appends the fields of a record.
 pub fn push_record(answer: &mut Answer, rec: &FileRec) {
     match rec {
@@ -65,13 +58,12 @@ pub fn push_record(answer: &mut Answer, rec: &FileRec) {
             answer.text("file ");
             push_owned(answer, *mode, owner);
             answer.text(" ");
-            push_flags(answer, *flags);
+            answer.flags(*flags);
             answer.formatted(format!(in answer.alloc(); " {size} "));
             answer.hex(name.as_slice());
         }
         FileRec::Link { target } => {
-            answer.text("link ");
-            answer.text(target.text());
+            answer.link(target.text());
         }
     }
 }
@@ -82,9 +74,8 @@ fn push_record_and_id(answer: &mut Answer, rec: &FileRec)
 {
     push_record(answer, rec);
     answer.text("\t");
-    match file_id(answer.alloc(), rec) {
-        Ok(id) => answer.hex(id.as_slice()),
-        Err(_) => answer.memory(),
+    if let Some(id) = answer.kept(file_id(answer.alloc(), rec)) {
+        answer.hex(id.as_slice());
     }
 }
 
@@ -110,7 +101,7 @@ fn push_again(answer: &mut Answer, encoding: Encoding, rec: &FileRec, bytes: &[u
 
 /// `decode_as` of bytes: the record's fields and its id, and how a copy of it is written again.
 pub fn record(answer: &mut Answer, encoding: Encoding, bytes: &[u8]) {
-    if let Some(rec) = unless_bad(answer, copy_of(decode_as(answer.alloc(), encoding, bytes))) {
+    if let Some(rec) = answer.given(copy_of(decode_as(answer.alloc(), encoding, bytes))) {
         push_again(answer, encoding, &rec, bytes);
     }
 }
@@ -169,7 +160,7 @@ pub fn make(answer: &mut Answer, line: &mut Line) {
         make_link(answer, line);
     } else {
         let owner = Owner::new(answer.alloc(), line.text(2), line.text(3));
-        if let Some(owner) = unless_bad(answer, owner) {
+        if let Some(owner) = answer.given(owner) {
             let rec = owned_record(line, owner);
             push_made(answer, &rec);
         }
@@ -185,11 +176,13 @@ pub fn same(answer: &mut Answer, first: &[u8], second: &[u8]) {
     }
 }
 
+fn push_owner(owner: &Owner, answer: &mut Answer) {
+    answer.text(owner.user());
+    answer.field(owner.group());
+    answer.holds(owner.is_root());
+}
+
 /// `Owner::new` of a user and a group: a copy of it, and whether it is root.
 pub fn owner(answer: &mut Answer, user: &str, group: &str) {
-    if let Some(owner) = unless_bad(answer, copy_of(Owner::new(answer.alloc(), user, group))) {
-        answer.text(owner.user());
-        answer.field(owner.group());
-        answer.holds(owner.is_root());
-    }
+    answer.outcome(copy_of(Owner::new(answer.alloc(), user, group)), push_owner);
 }

@@ -1,6 +1,5 @@
 //! Refusals as texts.
 use cny_report::cny_base::{Refusal, Text, What};
-use cny_report::refusal_text;
 use line_words::{Answer, Line};
 
 fn what_of(line: &mut Line, place: usize) -> What {
@@ -73,29 +72,24 @@ fn named(word: &str, text: Text) -> Option<Refusal> {
     })
 }
 
-// A text of its own; an empty one where memory runs out, which the answer remembers.
-fn owned(answer: &mut Answer, text: &str) -> Text {
-    match Text::new(answer.alloc(), text) {
-        Ok(text) => text,
-        Err(_) => {
-            answer.memory();
-            Text::from_string(String::new(answer.alloc()))
-        }
-    }
+// The text at a place; an empty one where there is none.
+fn text_of(line: &mut Line, place: usize) -> Text {
+    let none = Text::from_string(String::new(line.alloc()));
+    line.value(place).unwrap_or(none)
 }
 
 // A refusal of several texts, or of one.
-fn of_texts(answer: &mut Answer, line: &mut Line) -> Option<Refusal> {
-    let first = owned(answer, line.text(1));
+fn of_texts(line: &mut Line) -> Option<Refusal> {
+    let first = text_of(line, 1);
     match line.text(0) {
         "Unmet" => Some(Refusal::Unmet {
             name: first,
-            dep: owned(answer, line.text(2)),
+            dep: text_of(line, 2),
         }),
         "Owned" => Some(Refusal::Owned {
             path: first,
-            first: owned(answer, line.text(2)),
-            second: owned(answer, line.text(3)),
+            first: text_of(line, 2),
+            second: text_of(line, 3),
         }),
         word => named(word, first),
     }
@@ -104,9 +98,9 @@ fn of_texts(answer: &mut Answer, line: &mut Line) -> Option<Refusal> {
 /// `refusal_text` of a refusal.
 pub fn text(answer: &mut Answer, line: &mut Line) {
     if let Some(refusal) = plain(line) {
-        answer.made(refusal_text(answer.alloc(), &refusal));
-    } else if let Some(refusal) = of_texts(answer, line) {
-        answer.made(refusal_text(answer.alloc(), &refusal));
+        answer.refusal(&refusal);
+    } else if let Some(refusal) = of_texts(line) {
+        answer.refusal(&refusal);
     } else {
         line.unreadable();
     }

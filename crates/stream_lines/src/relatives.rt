@@ -1,10 +1,10 @@
 //! Calls on relative troves.
-use crate::again::{behind, copy_of, push_compared, push_digest, unless_bad};
+use crate::again::{copy_of, push_again, push_digests};
 use crate::elements::{elements, push_list};
-use cny_report::cny_base::{Bytes, Paths, TextFault};
-use cny_report::trove_parts::{TroveId, read_id};
+use cny_report::cny_base::{Paths, TextFault};
+use cny_report::trove_parts::TroveId;
 use cny_report::trove_stream::{
-    Deps, Files, Refs, RelParts, RelTrove, decode_rel, decode_rel_full, encode_rel, encode_rel_full,
+    Deps, Files, Refs, RelParts, RelTrove, decode_rel, decode_rel_full,
 };
 use line_words::{Answer, Line};
 
@@ -23,18 +23,6 @@ fn push_relative(answer: &mut Answer, parts: &RelParts) {
     push_list(answer, parts.provides_added.get());
 }
 
-// The stream of a relative trove in one of the two encodings, behind an `x`.
-fn written(answer: &mut Answer, full: bool, rel: &RelTrove) -> Bytes {
-    let mut out = behind(answer, b"x");
-    let put = if full {
-        encode_rel_full(answer.alloc(), rel, &mut out)
-    } else {
-        encode_rel(answer.alloc(), rel, &mut out)
-    };
-    answer.kept(put);
-    out
-}
-
 // What was read, made again of its parts.
 fn made_again(read: Result<RelTrove, TextFault>) -> Result<RelTrove, TextFault> {
     match read {
@@ -50,10 +38,9 @@ pub fn relative(answer: &mut Answer, full: bool, bytes: &[u8]) {
     } else {
         decode_rel(answer.alloc(), bytes)
     };
-    if let Some(rel) = unless_bad(answer, made_again(copy_of(read))) {
+    if let Some(rel) = answer.given(made_again(copy_of(read))) {
         push_relative(answer, rel.parts());
-        let out = written(answer, full, &rel);
-        push_compared(answer, out.get(), bytes);
+        push_again(answer, full, &rel, bytes);
     }
 }
 
@@ -73,25 +60,17 @@ fn parts_of(answer: &mut Answer, old: TroveId, fresh: TroveId, line: &mut Line) 
     }
 }
 
-// The relative trove, and the digests of its two streams behind an `x`.
-fn push_made(answer: &mut Answer, rel: &RelTrove) {
+fn push_made(rel: &RelTrove, answer: &mut Answer) {
     push_relative(answer, rel.parts());
-    for full in [false, true] {
-        let out = written(answer, full, rel);
-        answer.text("\t");
-        push_digest(answer, out.get());
-    }
+    push_digests(answer, rel);
 }
 
 /// `RelTrove::make` of the texts of two ids and of items: the relative trove, and the digests of its two streams behind
 /// an `x`.
 pub fn make(answer: &mut Answer, line: &mut Line) {
-    if let Some(old) = answer.kept(read_id(answer.alloc(), line.text(0))) {
-        if let Some(fresh) = answer.kept(read_id(answer.alloc(), line.text(1))) {
-            let parts = parts_of(answer, old, fresh, line);
-            if let Some(rel) = unless_bad(answer, RelTrove::make(parts)) {
-                push_made(answer, &rel);
-            }
-        }
+    let old = line.value::<TroveId>(0);
+    if let (Some(old), Some(fresh)) = (old, line.value::<TroveId>(1)) {
+        let parts = parts_of(answer, old, fresh, line);
+        answer.outcome(RelTrove::make(parts), push_made);
     }
 }

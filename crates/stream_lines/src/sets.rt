@@ -2,11 +2,11 @@
 ghost use Rattle.std.specs.Prelude.{◌≡◌, [], IfOk};
 ghost use Rattle.cny_report.specs.change-set.ChangeSet.{HasContents};
 
-use crate::again::{behind, push_compared, push_digest, push_lines};
+use crate::again::{behind, push_compared, push_lines};
 use cny_report::change_set::{CarriedList, ChangeSet, Parts, decode, encode};
 use cny_report::change_text;
 use cny_report::cny_base::{Bytes, Copies, Fault};
-use line_words::Answer;
+use line_words::{Answer, Line, Why};
 use std::alloc::Global;
 
 fn copied(alloc: Global, bytes: &[u8]) -> Result<ChangeSet, Fault>
@@ -33,12 +33,9 @@ fn push_again(answer: &mut Answer, again: &Bytes, wanted: &[u8]) {
 fn push_set(answer: &mut Answer, set: &ChangeSet, bytes: &[u8])
     requires { HasContents set.now }
 {
-    match encode(answer.alloc(), set) {
-        Ok(again) => {
-            push_text(answer, set);
-            push_again(answer, &again, bytes);
-        }
-        Err(fault) => answer.refused(&fault),
+    if let Some(again) = answer.given(encode(answer.alloc(), set)) {
+        push_text(answer, set);
+        push_again(answer, &again, bytes);
     }
 }
 
@@ -46,7 +43,7 @@ fn push_set(answer: &mut Answer, set: &ChangeSet, bytes: &[u8])
 pub fn set(answer: &mut Answer, bytes: &[u8]) {
     match copied(answer.alloc(), bytes) {
         Ok(set) => push_set(answer, &set, bytes),
-        Err(fault) => answer.refused(&fault),
+        Err(fault) => fault.tell(answer),
     }
 }
 
@@ -71,18 +68,12 @@ fn joined_bytes(alloc: Global, streams: &[Bytes]) -> Result<Bytes, Fault> {
     encode(alloc, &set)
 }
 
-/// `encode` of the parts of change sets: the digest of the stream, or the refusal.
-pub fn joined(answer: &mut Answer, streams: &[Bytes]) {
-    match joined_bytes(answer.alloc(), streams) {
-        Ok(bytes) => push_digest(answer, bytes.get()),
-        Err(fault) => answer.refused(&fault),
-    }
+fn push_digest(bytes: &Bytes, answer: &mut Answer) {
+    answer.digest(bytes.get());
 }
 
-/// `ok`, or the text of the refusal of these bytes.
-pub fn read(answer: &mut Answer, bytes: &[u8]) {
-    match decode(answer.alloc(), bytes) {
-        Ok(_) => answer.text("ok"),
-        Err(fault) => answer.refused(&fault),
-    }
+/// `encode` of the parts of change sets: the digest of the stream, or the refusal.
+pub fn joined(answer: &mut Answer, line: &mut Line) {
+    let streams = line.rest::<Bytes>(0);
+    answer.outcome(joined_bytes(answer.alloc(), &streams), push_digest);
 }

@@ -3,9 +3,9 @@ ghost use Rattle.std.specs.Prelude.{◌≤◌, ◌+◌, length};
 
 use crate::texts::push_mode;
 use cny_report::cny_base::{
-    Bytes, Copies, Fails, Fault, Mode, Names, Node, OutOfMemory, Path, Paths, Refusal, Stop, Text,
+    Bytes, Copies, Fault, ListOf, Mode, Node, OutOfMemory, Path, Refusal, Stop, Text,
 };
-use line_words::{Answer, Line};
+use line_words::{Answer, Line, Value};
 use std::alloc::Global;
 
 /// A copy of a text, and whether it is equal.
@@ -130,68 +130,66 @@ fn told_stop(stop: &Stop, answer: &mut Answer) {
     }
 }
 
-fn damaged(line: &mut Line, answer: &mut Answer) {
-    if let Some(path) = line.path(1) {
-        told_stop(&Stop::Damaged { path }, answer);
-    }
-}
-
-fn far_damaged(line: &mut Line, answer: &mut Answer) {
-    if let Some(path) = line.path(1) {
-        told_stop(&Stop::FarDamaged { path }, answer);
-    }
-}
-
-/// A stop; that of an empty stack and of want of memory come of the fault.
-pub fn stop(line: &mut Line, answer: &mut Answer) {
+// That of an empty stack and of want of memory come of the fault.
+fn stop_of(line: &mut Line) -> Option<Stop> {
     match line.text(0) {
-        "stack empty" => told_stop(&Stop::from(Fault::Refused(Refusal::StackEmpty)), answer),
-        "memory" => told_stop(&Stop::from(Fault::Memory), answer),
-        "failed" => told_stop(&Stop::Failed, answer),
-        "damaged" => damaged(line, answer),
-        "far failed" => told_stop(&Stop::FarFailed, answer),
-        "far damaged" => far_damaged(line, answer),
-        _ => line.unreadable(),
+        "stack empty" => Some(Stop::from(Fault::Refused(Refusal::StackEmpty))),
+        "memory" => Some(Stop::from(Fault::Memory)),
+        "failed" => Some(Stop::Failed),
+        "damaged" => Some(Stop::Damaged {
+            path: line.path(1)?,
+        }),
+        "far failed" => Some(Stop::FarFailed),
+        "far damaged" => Some(Stop::FarDamaged {
+            path: line.path(1)?,
+        }),
+        _ => None,
+    }
+}
+
+/// A stop.
+pub fn stop(line: &mut Line, answer: &mut Answer) {
+    let stop = stop_of(line);
+    if let Some(stop) = line.some(stop) {
+        told_stop(&stop, answer);
     }
 }
 
 // ---- lists
 
-fn told_names(names: &Names, answer: &mut Answer) {
-    answer.field("ok");
-    for name in names.get() {
-        answer.field(name.get());
+// A copy of the list of the arguments.
+fn list<T: Value + Copies, F: Fn(&T, &mut Answer)>(line: &mut Line, answer: &mut Answer, tell: F)
+    requires { F.IsAlwaysCallable tell }
+{
+    let items = ListOf::new(line.rest::<T>(0)).into_vec();
+    if let Some(copy) = answer.kept(ListOf::new(items).copy()) {
+        answer.each(copy.get(), tell);
     }
+}
+
+fn told_name(name: &Text, answer: &mut Answer) {
+    answer.field(name.get());
 }
 
 /// A copy of a list of texts.
 pub fn names(line: &mut Line, answer: &mut Answer) {
-    let names = Names::new(line.rest(0));
-    answer.copied(&Names::new(names.into_vec()), told_names);
+    list(line, answer, told_name);
 }
 
-fn told_paths(paths: &Paths, answer: &mut Answer) {
-    answer.field("ok");
-    for path in paths.get() {
-        answer.field(path.text());
-    }
+fn told_item(path: &Path, answer: &mut Answer) {
+    answer.field(path.text());
 }
 
 /// A copy of a list of paths.
 pub fn paths(line: &mut Line, answer: &mut Answer) {
-    let paths = Paths::new(line.rest(0));
-    answer.copied(&Paths::new(paths.into_vec()), told_paths);
+    list(line, answer, told_item);
 }
 
-fn told_numbers(numbers: &Fails, answer: &mut Answer) {
-    answer.field("ok");
-    for number in numbers.get() {
-        answer.field_number(*number);
-    }
+fn told_number(number: &u64, answer: &mut Answer) {
+    answer.field_number(*number);
 }
 
 /// A copy of a list of numbers.
 pub fn numbers(line: &mut Line, answer: &mut Answer) {
-    let numbers = Fails::new(line.rest(0));
-    answer.copied(&Fails::new(numbers.into_vec()), told_numbers);
+    list(line, answer, told_number);
 }

@@ -1,6 +1,6 @@
 //! Calls on ids of troves.
 use cny_report::cny_base::{Bytes, OutOfMemory, TextFault};
-use cny_report::trove_parts::{TroveId, next_id, put_id, read_id};
+use cny_report::trove_parts::{IdAt, TroveId, next_id, put_id, read_id};
 use line_words::Answer;
 use std::alloc::Global;
 
@@ -30,19 +30,18 @@ pub fn id(id: &TroveId, answer: &mut Answer) {
     }
 }
 
+fn found(found: &IdAt, answer: &mut Answer) {
+    answer.field("ok");
+    answer.tab();
+    answer.id(&found.id);
+    answer.field_number(found.to as u64);
+}
+
 /// `next_id` of bytes at a place.
 pub fn next(bytes: &[u8], at: u64, answer: &mut Answer) {
     let at = at as usize;
     if at > bytes.len() {
         return answer.unreadable();
     }
-    match next_id(answer.alloc(), bytes, at) {
-        Ok(found) => {
-            answer.field("ok");
-            answer.tab();
-            answer.id(&found.id);
-            answer.field_number(found.to as u64);
-        }
-        Err(bad) => answer.fault(bad),
-    }
+    answer.outcome(next_id(answer.alloc(), bytes, at), found);
 }

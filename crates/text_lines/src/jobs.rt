@@ -17,38 +17,14 @@ fn change_of(line: &mut Line, raw: &str) -> Option<Change> {
     }
     match raw.strip_prefix('-') {
         Some(id) => Some(Change::Erased(line.part(id)?)),
-        None => {
-            line.unreadable();
-            None
-        }
-    }
-}
-
-fn push_change(line: &mut Line, changes: &mut Vec<Change>, raw: &str) {
-    if let Some(change) = change_of(line, raw) {
-        line.kept(changes.push(change));
+        None => None,
     }
 }
 
 /// `changes_text` of changes.
 pub fn changes(line: &mut Line, answer: &mut Answer) {
-    let mut changes = Vec::new(line.alloc());
-    for place in 0..line.len() {
-        let raw = line.raw(place);
-        push_change(line, &mut changes, raw);
-    }
-    told(changes_text(answer.alloc(), changes.as_slice()), answer);
-}
-
-// The changes of a list.
-fn changes_of(line: &mut Line, raw: &str) -> Changes {
-    let mut changes = Vec::new(line.alloc());
-    if !raw.is_empty() {
-        for part in raw.split(';') {
-            push_change(line, &mut changes, part);
-        }
-    }
-    Changes::new(changes)
+    let changes = line.each_from(0, change_of);
+    told(changes_text(answer.alloc(), &changes), answer);
 }
 
 // The job that a part tells: its number, how many paths it changed and its changes, with a bar between two.
@@ -58,27 +34,14 @@ fn note_of(line: &mut Line, raw: &str) -> Option<Note> {
     Some(Note {
         number: line.part(number)?,
         paths: line.part(paths)?,
-        changes: changes_of(line, changes),
+        changes: Changes::new(line.each(changes, change_of)),
     })
-}
-
-fn push_note(line: &mut Line, notes: &mut Vec<Note>, raw: &str) {
-    match note_of(line, raw) {
-        Some(note) => {
-            line.kept(notes.push(note));
-        }
-        None => line.unreadable(),
-    }
 }
 
 /// `undos_text` of jobs.
 pub fn undos(line: &mut Line, answer: &mut Answer) {
-    let mut notes = Vec::new(line.alloc());
-    for place in 0..line.len() {
-        let raw = line.raw(place);
-        push_note(line, &mut notes, raw);
-    }
-    told(undos_text(answer.alloc(), notes.as_slice()), answer);
+    let notes = line.each_from(0, note_of);
+    told(undos_text(answer.alloc(), &notes), answer);
 }
 
 /// `rolled_back_text` of a number and how many jobs were rolled back.
@@ -105,25 +68,11 @@ fn finding_of(line: &mut Line, raw: &str) -> Option<Finding> {
     Some(Finding { what, path })
 }
 
-fn push_finding(line: &mut Line, findings: &mut Vec<Finding>, raw: &str) {
-    match finding_of(line, raw) {
-        Some(finding) => {
-            line.kept(findings.push(finding));
-        }
-        None => line.unreadable(),
-    }
-}
-
 /// `verified_text` of how many paths were looked at, and of findings.
 pub fn verified(line: &mut Line, answer: &mut Answer) {
-    let mut findings = Vec::new(line.alloc());
-    for place in 1..line.len() {
-        let raw = line.raw(place);
-        push_finding(line, &mut findings, raw);
-    }
     let verified = Verified {
         paths: line.number(0),
-        lines: Findings::new(findings),
+        lines: Findings::new(line.each_from(1, finding_of)),
     };
     told(verified_text(answer.alloc(), &verified), answer);
 }

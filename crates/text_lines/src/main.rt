@@ -37,8 +37,8 @@ fn order<T: Value + Ord>(line: &mut Line, answer: &mut Answer) {
     }
 }
 
-// Calls on names, words, paths and targets.
-fn name_call(line: &mut Line, answer: &mut Answer) {
+// Calls on names, words, paths and targets, and on modes, numbers, fields of streams and texts that are read from bytes.
+fn text_call(line: &mut Line, answer: &mut Answer) {
     match line.name() {
         "word" => answer.holds(is_word(line.bytes(0))),
         "name" => line.reads_copy(answer, Name::read, texts::name),
@@ -50,13 +50,6 @@ fn name_call(line: &mut Line, answer: &mut Answer) {
         "join" => texts::join(line, answer),
         "target" => line.reads_copy(answer, Target::read, texts::target),
         "target_equality" => equality::<Target>(line, answer),
-        _ => number_call(line, answer),
-    }
-}
-
-// Calls on modes, numbers, fields of streams and texts that are read from bytes.
-fn number_call(line: &mut Line, answer: &mut Answer) {
-    match line.name() {
         "mode" => texts::mode(read_octal(line.bytes(0)), answer),
         "mode_of_bits" => texts::mode_of_bits(line.number(0), answer),
         "number" => texts::number(line.bytes(0), answer),
@@ -67,12 +60,12 @@ fn number_call(line: &mut Line, answer: &mut Answer) {
         "target_bytes" => line.reads_bytes(answer, Target::read_bytes, texts::target_digits),
         "name_bytes" => line.reads_bytes(answer, Name::read_bytes, texts::name_digits),
         "text_bytes" => line.reads_bytes(answer, Text::read_bytes, texts::text_digits),
-        _ => copy_call(line, answer),
+        _ => low_call(line, answer),
     }
 }
 
-// Calls on values that are copied, on bytes that are written over, and on schedules.
-fn copy_call(line: &mut Line, answer: &mut Answer) {
+// Calls on values that are copied, on bytes that are written over, on schedules, and on the lowest libraries.
+fn low_call(line: &mut Line, answer: &mut Answer) {
     match line.name() {
         "text_copy" => line.one(answer, copies::text),
         "bytes_copy" => line.two(answer, copies::bytes),
@@ -87,7 +80,14 @@ fn copy_call(line: &mut Line, answer: &mut Answer) {
         "write_over" => copies::write_over(line, answer),
         "schedule" => schedules::fresh(line, answer),
         "counted_schedule" => schedules::counted(line, answer),
-        _ => low_call(line, answer),
+        "lanes" => lanes::compared(line.bytes(0), line.bytes(1), answer),
+        "lanes_of_length" => lanes::of_length(line.number(0), answer),
+        "memory_source" => flows::memory_source(line, answer),
+        "one_by_one" => flows::one_by_one(line, answer),
+        "std_source" => flows::std_source(line, answer),
+        "memory_sink" => flows::memory_sink(line, answer),
+        "std_sink" => flows::std_sink(line, answer),
+        _ => line.unreadable(),
     }
 }
 
@@ -104,7 +104,7 @@ fn version_call(line: &mut Line, answer: &mut Answer) {
         "revise" => line.two(answer, versions::revise),
         "next" => line.two(answer, versions::next),
         "first" => versions::first(line, answer),
-        _ => name_call(line, answer),
+        _ => text_call(line, answer),
     }
 }
 
@@ -126,20 +126,6 @@ fn part_call(line: &mut Line, answer: &mut Answer) {
         "next_id" => ids::next(line.bytes(0), line.number(1), answer),
         "id_order" => order::<TroveId>(line, answer),
         _ => version_call(line, answer),
-    }
-}
-
-// Calls on the lowest libraries.
-fn low_call(line: &mut Line, answer: &mut Answer) {
-    match line.name() {
-        "lanes" => lanes::compared(line.bytes(0), line.bytes(1), answer),
-        "lanes_of_length" => lanes::of_length(line.number(0), answer),
-        "memory_source" => flows::memory_source(line, answer),
-        "one_by_one" => flows::one_by_one(line, answer),
-        "std_source" => flows::std_source(line, answer),
-        "memory_sink" => flows::memory_sink(line, answer),
-        "std_sink" => flows::std_sink(line, answer),
-        _ => line.unreadable(),
     }
 }
 

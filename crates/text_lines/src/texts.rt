@@ -56,8 +56,7 @@ fn told_path(path: &Path, answer: &mut Answer) {
 }
 
 fn joined(path: &Path, last: &str, answer: &mut Answer) {
-    let joined = path.join(answer.alloc(), last);
-    answer.read(joined, told_path);
+    answer.outcome(path.join(answer.alloc(), last), told_path);
 }
 
 /// `join` of a path and a last name.

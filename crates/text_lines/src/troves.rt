@@ -8,7 +8,7 @@ use line_words::{Answer, Line};
 /// A text of lines that takes memory.
 pub fn told(text: Result<Text, OutOfMemory>, answer: &mut Answer) {
     if let Some(text) = answer.kept(text) {
-        answer.lines(text.get());
+        answer.lines(text.get(), "\t");
     }
 }
 

@@ -2,7 +2,7 @@
 ghost use Rattle.std.specs.Prelude.{IfSome, IsTrue};
 ghost use Rattle.cny_version.specs.Revision.{is_revision};
 
-use cny_report::cny_base::{Copies, Fault, VERSION_LIMIT};
+use cny_report::cny_base::{Copies, VERSION_LIMIT};
 use cny_version::{Count, Label, Revision, Version, next_revision};
 use line_words::{Answer, Line};
 
@@ -68,21 +68,14 @@ fn parts(version: &Version, answer: &mut Answer) {
     push_revision(version.revision(), answer);
 }
 
-fn made(made: Result<Version, Fault>, answer: &mut Answer) {
-    match made {
-        Ok(made) => parts(&made, answer),
-        Err(why) => answer.refused(&why),
-    }
-}
-
 /// `shadow_onto` of a version and a label.
 pub fn shadow(version: &Version, label: &Label, answer: &mut Answer) {
-    made(version.shadow_onto(answer.alloc(), label), answer);
+    answer.outcome(version.shadow_onto(answer.alloc(), label), parts);
 }
 
 /// `branch_onto` of a version and a label.
 pub fn branch(version: &Version, label: &Label, answer: &mut Answer) {
-    made(version.branch_onto(answer.alloc(), label), answer);
+    answer.outcome(version.branch_onto(answer.alloc(), label), parts);
 }
 
 // The revision of a version, where that has the depth.
@@ -98,20 +91,17 @@ fn revision_at(version: &Version, deep: u32) -> Option<&Revision>
 /// `with_revision` of a version and the revision of another one of its depth.
 pub fn revise(version: &Version, other: &Version, answer: &mut Answer) {
     match revision_at(other, version.depth()) {
-        Some(revision) => made(version.with_revision(answer.alloc(), revision), answer),
+        Some(revision) => {
+            answer.outcome(version.with_revision(answer.alloc(), revision), parts);
+        }
         None => answer.unreadable(),
     }
 }
 
 // A revision that was made.
-fn next_answer(made: Result<Revision, Fault>, answer: &mut Answer) {
-    match made {
-        Ok(revision) => {
-            answer.field("ok");
-            push_revision(&revision, answer);
-        }
-        Err(why) => answer.refused(&why),
-    }
+fn told_next(revision: &Revision, answer: &mut Answer) {
+    answer.field("ok");
+    push_revision(revision, answer);
 }
 
 /// `next_revision` of the revision of a version, at the depth of another one and after its revision.
@@ -122,7 +112,7 @@ pub fn next(wanted: &Version, latest: &Version, answer: &mut Answer) {
         return answer.unreadable();
     }
     let next = next_revision(answer.alloc(), wanted, latest.depth(), Some(revision));
-    next_answer(next, answer);
+    answer.outcome(next, told_next);
 }
 
 fn first_after(wanted: &Version, deep: u32, answer: &mut Answer) {
@@ -131,7 +121,7 @@ fn first_after(wanted: &Version, deep: u32, answer: &mut Answer) {
         return answer.unreadable();
     }
     let next = next_revision(answer.alloc(), wanted.revision(), deep, None);
-    next_answer(next, answer);
+    answer.outcome(next, told_next);
 }
 
 /// `next_revision` of the revision of a version at a depth, with none before it.

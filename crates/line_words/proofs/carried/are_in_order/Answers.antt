@@ -2,10 +2,10 @@ use Rattle.std.proofs.Common.{rules}
 use Rattle.std.specs.Cmp.Lexicographic.{nat_list_cmp_total}
 use Rattle.std.proofs.lemmas.Cmp.{on_total}
 use Rattle.std.proofs.lemmas.List.Sorted.{answers_always}
-use Rattle.job_targets.specs.change-set.declared.change.Carried.{Carried}
-use Rattle.job_targets.specs.change-set.ChangeSet.{content_cmp}
-use Rattle.update_job.proofs.trove-parts.Rising.{is_less, rising_answer}
-use Rattle.list_lines.proofs.targets.are_in_order.Goals as goal
+use Rattle.change_set.specs.declared.change.Carried.{Carried}
+use Rattle.change_set.specs.ChangeSet.{content_cmp}
+use Rattle.change_set.proofs.trove-parts.Rising.{is_less, rising_answer}
+use Rattle.line_words.proofs.carried.are_in_order.Goals as goal
 
 pub returns : goal.returns
 returns c =

@@ -1,0 +1,32 @@
+//! Contents that are carried under their names.
+ghost use Rattle.std.specs.Prelude.{◌≡◌, ◌↔◌, All, IsTrue};
+ghost use Rattle.std.specs.List.Sorted.{IsStrictlySortedBy};
+ghost use Rattle.sha1.specs.Sha1.{sha1};
+ghost use Rattle.change_set.specs.declared.change.Carried as declared;
+ghost use Rattle.change_set.specs.ChangeSet.{content_cmp};
+
+use crate::line::Line;
+use change_set::Carried;
+use sha1::Sha1;
+use tree_memory::cny_base::Bytes;
+
+impl Line<'_> {
+    /// The contents of the list at a place, under their names.
+    pub fn carried(&mut self, place: usize) -> Vec<Carried>
+        ensures { All (λ (content : declared.Carried). content.name ≡ sha1 content.bytes) result.items }
+    {
+        let mut carried = Vec::new(self.alloc());
+        for bytes in self.list::<Bytes>(place) {
+            let name = Sha1::digest(bytes.get());
+            self.kept(carried.push(Carried { name, bytes }));
+        }
+        carried
+    }
+}
+
+/// Whether these contents are in the order of their names.
+pub fn are_in_order(carried: &[Carried]) -> bool
+    ensures { IsTrue result ↔ IsStrictlySortedBy content_cmp carried.now }
+{
+    carried.is_sorted_by(|one, next| one.name.cmp(&next.name).is_lt())
+}

@@ -1,0 +1,35 @@
+//! What is to stand at a path.
+use crate::line::Line;
+use journal_log::Want;
+use tree_memory::cny_base::{Copies, Node, OutOfMemory, Path};
+
+// What is to stand where a node is like this one.
+fn want_of(node: &Node) -> Result<Want, OutOfMemory> {
+    match node {
+        Node::Dir { mode } => Ok(Want::Dir { mode: *mode }),
+        Node::File { mode, bytes } => Ok(Want::File {
+            mode: *mode,
+            bytes: bytes.copy()?,
+        }),
+        Node::Link { target } => Ok(Want::Link {
+            target: target.copy()?,
+        }),
+    }
+}
+
+impl Line<'_> {
+    // What is to stand there. It notes where no memory was left for that.
+    fn wanted(&mut self, node: Option<&Node>) -> Option<Want> {
+        match node {
+            Some(node) => self.kept(want_of(node)),
+            None => Some(Want::Nothing),
+        }
+    }
+
+    /// The path behind a node, and what is to stand there: the node, or nothing.
+    pub fn placed_want(&mut self, raw: &str) -> Option<(Path, Want)> {
+        let (path, node) = self.placed_of(raw)?;
+        let want = self.wanted(node.as_ref())?;
+        Some((path, want))
+    }
+}
