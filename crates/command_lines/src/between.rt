@@ -3,8 +3,7 @@ ghost use Rattle.std.specs.Prelude.{Contains, IfOk};
 ghost use Rattle.repo_index.specs.Catalogue.{AreCommitted};
 ghost use Rattle.repository.specs.change-set.ChangeSet.{HasContents};
 
-use crate::reading::on_repository;
-use line_words::{Answer, Line, Quiet, Stop};
+use line_words::{Answer, Line, Quiet, Stop, Why};
 use repo_index::Catalogue;
 use repository::between;
 use repository::change_set::{ChangeSet, encode};
@@ -61,7 +60,25 @@ fn told_set(set: &ChangeSet, answer: &mut Answer)
     }
 }
 
-// Tells the set between troves of these ids.
+// Tells the set between these troves.
+fn told_between(
+    disk: &mut Quiet,
+    catalogue: &Catalogue,
+    old: &Installed,
+    fresh: &Installed,
+    answer: &mut Answer,
+)
+    requires old { AreCommitted catalogue.now.troves old.now }
+    requires fresh { AreCommitted catalogue.now.troves fresh.now }
+{
+    let (old, fresh) = (old.troves(), fresh.troves());
+    match between(answer.alloc(), disk, catalogue, old, fresh) {
+        Ok(set) => told_set(&set, answer),
+        Err(why) => why.tell(answer),
+    }
+}
+
+// Tells the set between the troves of these ids.
 fn set_of(
     disk: &mut Quiet,
     catalogue: &Catalogue,
@@ -71,30 +88,17 @@ fn set_of(
 ) -> Result<(), Stop> {
     let old = committed(answer.alloc(), catalogue, old)?;
     let fresh = committed(answer.alloc(), catalogue, fresh)?;
-    match between(
-        answer.alloc(),
-        disk,
-        catalogue,
-        old.troves(),
-        fresh.troves(),
-    ) {
-        Ok(set) => told_set(&set, answer),
-        Err(stop) => answer.stopped(&stop),
-    }
+    told_between(disk, catalogue, &old, &fresh, answer);
     Ok(())
 }
 
-fn set_on(_: &mut Quiet, catalogue: &mut Catalogue, line: &mut Line, answer: &mut Answer) {
+/// `between TREE IDS IDS`: the stream of the change set from the troves of some ids to those of others; with a further argument the
+/// first call of the disk fails after the catalogue was loaded.
+pub fn set_between(catalogue: &Catalogue, line: &mut Line, answer: &mut Answer) {
     let failing = u64::from(line.has(3));
     if let Some(mut disk) = line.disk(0, failing) {
         let (old, fresh) = (line.list::<TroveId>(1), line.list::<TroveId>(2));
         let told = set_of(&mut disk, catalogue, &old, &fresh, answer);
         answer.kept(told);
     }
-}
-
-/// The stream of the change set from the troves of some ids to those of others; with a further argument the first call of the disk
-/// fails after the catalogue was loaded.
-pub fn set_between(line: &mut Line, answer: &mut Answer) {
-    on_repository(0, line, answer, set_on);
 }

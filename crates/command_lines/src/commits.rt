@@ -2,57 +2,48 @@
 ghost use Rattle.repository.specs.change-set.ChangeSet.{HasContents};
 
 use crate::held::{told_held, told_sizes};
-use crate::reading::on_repository;
-use line_words::{Answer, Line, Quiet};
+use line_words::{Answer, Line, Quiet, Why};
 use repo_index::Catalogue;
 use repository::change_set::{ChangeSet, decode};
-use repository::cny_base::Fault;
-use repository::commit;
-use repository::trove_parts::TroveId;
+use repository::{TroveIds, commit};
 
 // The private directory of a repository.
 const BASE: &str = "/conaryrepo";
 
 // Ids, with a blank before each.
-fn told_ids(ids: &[TroveId], answer: &mut Answer) {
+fn told_ids(ids: &TroveIds, answer: &mut Answer) {
     answer.field("ok");
-    for id in ids {
-        answer.text(" ");
-        answer.id(id);
-    }
+    answer.ids(" ", ids.get());
 }
 
 fn commit_set(disk: &mut Quiet, catalogue: &mut Catalogue, set: &ChangeSet, answer: &mut Answer)
     requires { HasContents set.now }
 {
-    match commit(answer.alloc(), disk, catalogue, set) {
-        Ok(ids) => told_ids(ids.get(), answer),
-        Err(stop) => answer.stopped(&stop),
-    }
+    answer.outcome(commit(answer.alloc(), disk, catalogue, set), told_ids);
 }
 
 // Commits the change set of a stream, and tells the answer.
 fn commit_bytes(disk: &mut Quiet, catalogue: &mut Catalogue, bytes: &[u8], answer: &mut Answer) {
     match decode(answer.alloc(), bytes) {
         Ok(set) => commit_set(disk, catalogue, &set, answer),
-        Err(Fault::Memory) => answer.memory(),
-        Err(Fault::Refused(_)) => answer.unreadable(),
+        Err(why) => why.tell(answer),
     }
 }
 
-fn committed_on(disk: &mut Quiet, catalogue: &mut Catalogue, line: &mut Line, answer: &mut Answer) {
+/// `commit TREE BYTES..`: commits change sets one after another: the answers, what the catalogue has then, what is loaded again, and
+/// what stands.
+pub fn committed(
+    disk: &mut Quiet,
+    catalogue: &mut Catalogue,
+    line: &mut Line,
+    answer: &mut Answer,
+) {
     for place in 1..line.len() {
         commit_bytes(disk, catalogue, line.bytes(place), answer);
     }
     answer.tab();
     told_sizes(catalogue, answer);
-    answer.tab();
     told_held(disk, answer);
     answer.tab();
     answer.nodes_kept(&disk.tree, BASE);
-}
-
-/// Commits change sets one after another: the answers, what the catalogue has then, what is loaded again, and what stands.
-pub fn committed(line: &mut Line, answer: &mut Answer) {
-    on_repository(0, line, answer, committed_on);
 }

@@ -1,7 +1,7 @@
 //! The two disks of a call.
-use line_words::tree_memory::cny_base::{Copies, Mode, Node, OutOfMemory, Path};
+use line_words::tree_memory::cny_base::{self, Copies, Mode, Node, OutOfMemory, Path};
 use line_words::tree_memory::{MemoryTree, Nodes};
-use line_words::{Answer, Line, Stop, paths_of, tree_with};
+use line_words::{Answer, Line, Quiet, Stop, paths_of, tree_with};
 use std::alloc::Global;
 use tree_journal::recover;
 
@@ -35,57 +35,87 @@ impl Side {
 }
 
 /// The root and the repository.
-#[derive(Drop)]
 pub struct Disks {
-    pub root: MemoryTree,
-    pub repo: MemoryTree,
+    pub root: Quiet,
+    pub repo: Quiet,
 }
 
-// A tree with the same nodes, all synced. The call of this number fails.
-fn copy_of(alloc: Global, tree: &MemoryTree, failing: u64) -> Result<MemoryTree, Stop> {
-    let mode = Mode::new(0o755).ok_or(Stop::Unreadable)?;
-    let root = (Path::read(alloc, "/")?, Node::Dir { mode });
-    let mut copy = tree_with(alloc, Nodes::new(vec![in alloc; root]?), failing)?;
+// Written by hand, so that to let a value go is a single call wherever a function ends early.
+impl Drop for Disks {
+    fn drop(self) {
+        let Disks {
+            root: _root,
+            repo: _repo,
+        } = self;
+    }
+}
+
+// What the crash leaves of a disk that a number picks.
+fn crashed(alloc: Global, disk: &Quiet, pick: u64) -> Result<Quiet, OutOfMemory> {
+    Ok(Quiet::new(disk.tree.crash(alloc, pick)?))
+}
+
+// Puts what stands at a path of a tree into a copy of it.
+fn copy_node(tree: &MemoryTree, copy: &mut Quiet, alloc: Global, path: &Path) -> Result<(), Stop> {
+    if let Some(node) = tree.node(path) {
+        copy.tree.edit(alloc, path, Some(node.copy()?))?;
+    }
+    Ok(())
+}
+
+// A disk with the same nodes, all synced. The call of this number fails.
+fn copy_of(tree: &MemoryTree, alloc: Global, failing: u64) -> Result<Quiet, Stop> {
+    let mode = Mode::owner_only();
+    let root = Path::read(alloc, "/")?;
+    let nodes = Nodes::new(vec![in alloc; (root, Node::Dir { mode })]?);
+    let mut copy = Quiet::new(tree_with(alloc, nodes, failing)?);
     for path in &paths_of(alloc, tree)? {
-        if let Some(node) = tree.node(path) {
-            copy.edit(alloc, path, Some(node.copy()?))?;
-        }
+        copy_node(tree, &mut copy, alloc, path)?;
     }
     Ok(copy)
 }
 
 // Whether a crash leaves just these nodes.
-fn leaves(tree: &MemoryTree, pick: u64, nodes: &str, answer: &mut Answer) -> bool {
+fn leaves(disk: &Quiet, pick: u64, nodes: &str, answer: &mut Answer) -> bool {
     let mut left = answer.apart();
-    if let Some(image) = answer.kept(tree.crash(answer.alloc(), pick)) {
-        left.nodes(&image);
+    if let Some(image) = answer.kept(crashed(answer.alloc(), disk, pick)) {
+        left.nodes(&image.tree);
     }
     left.get() == nodes
 }
 
 /// Appends what stands on a disk, and whether crashes leave just that.
-pub fn push_kept(name: &str, tree: &MemoryTree, answer: &mut Answer) {
+pub fn push_kept(name: &str, disk: &Quiet, answer: &mut Answer) {
     let mut nodes = answer.apart();
-    nodes.nodes(tree);
+    nodes.nodes(&disk.tree);
     // All unsynced names torn, and all as at the last sync.
     let (torn, old) = (u64::MAX, 0x5555_5555_5555_5555);
-    let synced = leaves(tree, torn, nodes.get(), answer) && leaves(tree, old, nodes.get(), answer);
+    let synced = leaves(disk, torn, nodes.get(), answer) && leaves(disk, old, nodes.get(), answer);
     answer.field(name);
     answer.text(if synced { " synced" } else { " unsynced" });
     answer.add(&nodes);
+}
+
+// Whether a recovery found a commit flag that was set.
+fn push_recovery(recovered: Result<bool, cny_base::Stop>, answer: &mut Answer) {
+    answer.field(match recovered {
+        Ok(true) => "committed",
+        Ok(false) => "at rest",
+        Err(_) => "stuck",
+    });
 }
 
 impl Disks {
     /// `ROOT_FAILS REPO_FAILS ROOT REPO`: the trees of a line, of which the calls of these numbers fail where they aren't 0.
     pub fn of(line: &mut Line) -> Option<Self> {
         let (root_fails, repo_fails) = (line.number(0), line.number(1));
-        let root = line.tree(2, root_fails)?;
-        let repo = line.tree(3, repo_fails)?;
+        let root = line.disk(2, root_fails)?;
+        let repo = line.disk(3, repo_fails)?;
         Some(Disks { root, repo })
     }
 
-    /// The tree of a disk.
-    pub fn side(&self, side: Side) -> &MemoryTree {
+    /// One of the disks.
+    pub fn side(&self, side: Side) -> &Quiet {
         match side {
             Side::Root => &self.root,
             Side::Repository => &self.repo,
@@ -93,43 +123,49 @@ impl Disks {
     }
 
     /// The same to be changed.
-    pub fn side_mut(&mut self, side: Side) -> &mut MemoryTree {
+    pub fn side_mut(&mut self, side: Side) -> &mut Quiet {
         match side {
             Side::Root => &mut self.root,
             Side::Repository => &mut self.repo,
         }
     }
 
-    /// What the crash of one disk that the number picks leaves; the other one is left as it reads.
-    pub fn crash(&self, alloc: Global, side: Side, pick: u64) -> Result<Self, OutOfMemory> {
+    // What the crash of one disk that the number picks leaves; the other one is left as it reads.
+    fn left(&self, alloc: Global, side: Side, pick: u64) -> Result<Self, OutOfMemory> {
         let (root_pick, repo_pick) = match side {
             Side::Root => (pick, 0),
             Side::Repository => (0, pick),
         };
-        let root = self.root.crash(alloc, root_pick)?;
-        let repo = self.repo.crash(alloc, repo_pick)?;
+        let root = crashed(alloc, &self.root, root_pick)?;
+        let repo = crashed(alloc, &self.repo, repo_pick)?;
         Ok(Disks { root, repo })
     }
 
-    /// The same nodes, all synced. The call of this number of one disk fails.
-    pub fn failing(&self, alloc: Global, side: Side, number: u64) -> Result<Self, Stop> {
-        let mut copy = self.crash(alloc, side, 0)?;
-        *copy.side_mut(side) = copy_of(alloc, self.side(side), number)?;
+    // The same nodes, all synced. The call of this number of one disk fails.
+    fn copied(&self, alloc: Global, side: Side, failing: u64) -> Result<Self, Stop> {
+        let mut copy = self.left(alloc, side, 0)?;
+        *copy.side_mut(side) = copy_of(&self.side(side).tree, alloc, failing)?;
         Ok(copy)
+    }
+
+    /// What the crash of one disk that the number picks leaves; the other one is left as it reads.
+    pub fn crash(&self, side: Side, pick: u64, answer: &mut Answer) -> Option<Self> {
+        answer.kept(self.left(answer.alloc(), side, pick))
+    }
+
+    /// The same nodes, all synced. The call of this number of one disk fails.
+    pub fn failing(&self, side: Side, number: u64, answer: &mut Answer) -> Option<Self> {
+        answer.kept(self.copied(answer.alloc(), side, number))
     }
 
     /// Whether the recovery of what a crash of a disk leaves found a commit flag that was set, and what then stands but the
     /// journal's own files.
     pub fn push_recovered(&self, side: Side, pick: u64, answer: &mut Answer) {
-        let base = answer.kept(Path::read(answer.alloc(), side.base()));
-        let image = answer.kept(self.side(side).crash(answer.alloc(), pick));
-        if let (Some(base), Some(mut image)) = (base, image) {
-            answer.field(match recover(answer.alloc(), &mut image, &base) {
-                Ok(true) => "committed",
-                Ok(false) => "at rest",
-                Err(_) => "stuck",
-            });
-            answer.nodes_kept(&image, side.base());
+        if let Some(base) = answer.kept(Path::read(answer.alloc(), side.base())) {
+            if let Some(mut image) = answer.kept(crashed(answer.alloc(), self.side(side), pick)) {
+                push_recovery(recover(answer.alloc(), &mut image, &base), answer);
+                answer.nodes_kept(&image.tree, side.base());
+            }
         }
     }
 }

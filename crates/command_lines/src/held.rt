@@ -36,24 +36,20 @@ pub fn told_sizes(catalogue: &Catalogue, answer: &mut Answer) {
 }
 
 fn told_loaded(disk: &mut Quiet, answer: &mut Answer) {
-    match load(answer.alloc(), disk) {
-        Ok(catalogue) => {
-            told_sizes(&catalogue, answer);
-            answer.text(" ");
-            answer.number(count_all(answer.alloc(), disk, &catalogue));
-        }
-        Err(stop) => answer.stop(&stop),
+    if let Some(catalogue) = answer.given(load(answer.alloc(), disk)) {
+        answer.tab();
+        told_sizes(&catalogue, answer);
+        answer.text(" ");
+        answer.number(count_all(answer.alloc(), disk, &catalogue));
     }
 }
 
-/// What a disk holds once it is recovered: how many commits and troves, and how many records of files whose contents stand.
+/// What a disk holds once it is recovered, as a field: how many commits and troves, and how many records of files whose contents stand.
 pub fn told_held(disk: &mut Quiet, answer: &mut Answer) {
-    let base = base_path(answer.alloc());
-    if let Some(base) = answer.kept(base) {
-        if recover(answer.alloc(), disk, &base).is_ok() {
+    if let Some(base) = answer.kept(base_path(answer.alloc())) {
+        let recovered = recover(answer.alloc(), disk, &base);
+        if answer.given(recovered).is_some() {
             told_loaded(disk, answer);
-        } else {
-            answer.text("not recovered");
         }
     }
 }

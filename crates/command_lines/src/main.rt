@@ -30,12 +30,9 @@ impl Calls for Commands {
                 self.setting = Setting::of(line);
                 answer.text("ok");
             }
-            "load" => reading::loaded(line, answer),
-            "counts" => reading::counted(line, answer),
-            "content" => reading::content_of(line, answer),
-            "source" => reading::source_of(line, answer),
-            "between" => between::set_between(line, answer),
-            "commit" => commits::committed(line, answer),
+            "load" | "counts" | "content" | "source" | "between" | "commit" => {
+                reading::call(line, answer);
+            }
             _ => match &mut self.setting {
                 Some(setting) => setting.call(line, answer),
                 None => line.unreadable(),

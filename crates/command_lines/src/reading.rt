@@ -1,29 +1,14 @@
-//! The calls that read a repository. Each loads the catalogue of a disk first.
+//! The calls on repositories. Each loads the catalogue of a disk first.
+use crate::between::set_between;
+use crate::commits::committed;
 use content_store::Contents;
 use line_words::{Answer, Line, Quiet};
 use repo_index::Catalogue;
-use repo_load::{RepoContents, content, counts, load};
+use repo_load::{Counts, RepoContents, content, counts, load};
 use repository::cny_base::{Bytes, Stop};
 
-/// Calls with the disk of the first argument, of which the call of this number fails, and the catalogue that it stores; or tells why
-/// there is none.
-pub fn on_repository<F: FnOnce(&mut Quiet, &mut Catalogue, &mut Line, &mut Answer)>(
-    failing: u64,
-    line: &mut Line,
-    answer: &mut Answer,
-    call: F,
-)
-    requires { F.IsAlwaysCallable call }
-{
-    if let Some(mut disk) = line.disk(0, failing) {
-        match load(answer.alloc(), &mut disk) {
-            Ok(mut catalogue) => call(&mut disk, &mut catalogue, line, answer),
-            Err(stop) => answer.stopped(&stop),
-        }
-    }
-}
-
-fn loaded_on(_: &mut Quiet, catalogue: &mut Catalogue, _: &mut Line, answer: &mut Answer) {
+// How many commits the catalogue has, and the ids of its troves.
+fn told_catalogue(catalogue: &Catalogue, answer: &mut Answer) {
     answer.field("ok");
     answer.field_number(u64::from(catalogue.commits()));
     for trove in catalogue.troves() {
@@ -32,67 +17,51 @@ fn loaded_on(_: &mut Quiet, catalogue: &mut Catalogue, _: &mut Line, answer: &mu
     }
 }
 
-/// How many commits the catalogue of a disk has, and the ids of its troves; with a further argument the first call of the disk fails.
-pub fn loaded(line: &mut Line, answer: &mut Answer) {
-    on_repository(u64::from(line.has(1)), line, answer, loaded_on);
-}
-
-fn counts_on(disk: &mut Quiet, catalogue: &mut Catalogue, _: &mut Line, answer: &mut Answer) {
-    match counts(answer.alloc(), disk, catalogue) {
-        Ok(counts) => {
-            answer.field("ok");
-            for count in counts.get() {
-                answer.field_number(*count);
-            }
-        }
-        Err(stop) => answer.stopped(&stop),
+fn told_counts(counts: &Counts, answer: &mut Answer) {
+    answer.field("ok");
+    for count in counts.get() {
+        answer.field_number(*count);
     }
-}
-
-/// How many troves each commit has.
-pub fn counted(line: &mut Line, answer: &mut Answer) {
-    on_repository(0, line, answer, counts_on);
 }
 
 // A content, or none.
 fn told_content(found: &Option<Bytes>, answer: &mut Answer) {
-    match found {
-        Some(bytes) => {
-            answer.field("ok");
-            answer.field_hex(bytes.get());
-        }
-        None => answer.field("none"),
-    }
+    answer.content(found, "none");
 }
 
-fn content_on(disk: &mut Quiet, catalogue: &mut Catalogue, line: &mut Line, answer: &mut Answer) {
-    match content(answer.alloc(), disk, catalogue, &line.digest(1)) {
-        Ok(found) => told_content(&found, answer),
-        Err(stop) => answer.stopped(&stop),
-    }
-}
-
-/// The content of a name.
-pub fn content_of(line: &mut Line, answer: &mut Answer) {
-    on_repository(0, line, answer, content_on);
-}
-
-fn found_in(disk: &mut Quiet, catalogue: &Catalogue, name: &[u8; 20], answer: &mut Answer) {
-    match RepoContents::new(disk, catalogue).find(answer.alloc(), name) {
-        Ok(found) => told_content(&found, answer),
-        Err(stop) => answer.stopped(&Stop::from(stop)),
-    }
-}
-
-fn source_on(_: &mut Quiet, catalogue: &mut Catalogue, line: &mut Line, answer: &mut Answer) {
+// `source TREE NAME`: the content of a name as a source of contents gives it; with a further argument the first call of the disk fails
+// after the catalogue was loaded.
+fn source(catalogue: &Catalogue, line: &mut Line, answer: &mut Answer) {
     let failing = u64::from(line.has(2));
     if let Some(mut disk) = line.disk(0, failing) {
-        found_in(&mut disk, catalogue, &line.digest(1), answer);
+        let found = RepoContents::new(&mut disk, catalogue).find(line.alloc(), &line.digest(1));
+        answer.outcome(found.map_err(Stop::from), told_content);
     }
 }
 
-/// The content of a name as a source of contents gives it; with a further argument the first call of the disk fails after the
-/// catalogue was loaded.
-pub fn source_of(line: &mut Line, answer: &mut Answer) {
-    on_repository(0, line, answer, source_on);
+// `load TREE`, `counts TREE`, how many troves each commit has, and `content TREE NAME`.
+fn answered(disk: &mut Quiet, catalogue: &mut Catalogue, line: &mut Line, answer: &mut Answer) {
+    let alloc = answer.alloc();
+    match line.name() {
+        "load" => told_catalogue(catalogue, answer),
+        "counts" => answer.outcome(counts(alloc, disk, catalogue), told_counts),
+        "content" => {
+            let found = content(alloc, disk, catalogue, &line.digest(1));
+            answer.outcome(found, told_content);
+        }
+        "source" => source(catalogue, line, answer),
+        "between" => set_between(catalogue, line, answer),
+        _ => committed(disk, catalogue, line, answer),
+    }
+}
+
+/// Answers a call on the repository in the disk of the first argument; of `load` with a further argument the first call of the disk
+/// fails.
+pub fn call(line: &mut Line, answer: &mut Answer) {
+    let failing = u64::from(line.name() == "load" && line.has(1));
+    if let Some(mut disk) = line.disk(0, failing) {
+        if let Some(mut catalogue) = answer.given(load(answer.alloc(), &mut disk)) {
+            answered(&mut disk, &mut catalogue, line, answer);
+        }
+    }
 }

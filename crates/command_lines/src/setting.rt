@@ -2,7 +2,8 @@
 use crate::disks::{Disks, Side};
 use crate::streams::Streams;
 use line_words::tree_memory::MemoryTree;
-use line_words::{Answer, Line, Outcomes, Stop};
+use line_words::tree_memory::cny_base::{Bytes, text_of};
+use line_words::{Answer, Line, Outcomes};
 
 // More calls than any command makes of a disk.
 const MANY: u32 = 1000;
@@ -23,16 +24,11 @@ struct Sweep<'a> {
     pick: Option<u64>,
 }
 
-// The words of a call: the arguments from a place on.
-fn words_from(line: &mut Line, first: usize) -> Vec<String> {
-    let mut words = Vec::new(line.alloc());
-    for place in first..line.len() {
-        let word = String::from_str(line.alloc(), line.text(place));
-        if let Some(word) = line.kept(word) {
-            line.kept(words.push(word));
-        }
-    }
-    words
+// A word of a call.
+fn word_of(line: &mut Line, raw: &str) -> Option<String> {
+    let bytes: Bytes = line.part(raw)?;
+    let text = line.some(text_of(bytes.get()))?;
+    line.kept(String::from_str(line.alloc(), text))
 }
 
 // `root NODES` or `repo NODES`: puts nodes, or takes away what stands; then all of the disk counts as synced.
@@ -57,87 +53,100 @@ impl Setting {
 
     // `run WORD..`: the call, and what stands then.
     fn run(&mut self, line: &mut Line, answer: &mut Answer) {
-        let words = words_from(line, 0);
-        let ran = self.streams.run(&words, &mut self.disks, answer);
-        answer.kept(ran);
+        let words = line.each_from(0, word_of);
+        self.streams.run(&words, &mut self.disks, answer);
     }
 
     // `cut DISK CALLS PICK WORD..`: the call over a disk that stops after so many calls, and what a recovery finds behind the crash
     // that the number picks. What that leaves takes the place of the disks.
     fn cut(&mut self, line: &mut Line, answer: &mut Answer) {
         let (side, calls, pick) = (Side::of(line), line.small(1), line.number(2));
-        let words = words_from(line, 3);
-        self.disks.side_mut(side).stop_after(calls);
-        let status = self.streams.call(&words, &mut self.disks, answer);
-        answer.kept(status);
+        let words = line.each_from(3, word_of);
+        self.disks.side_mut(side).tree.stop_after(calls);
+        self.streams.call(&words, &mut self.disks, answer);
         self.disks.push_recovered(side, pick, answer);
-        if let Some(left) = answer.kept(self.disks.crash(answer.alloc(), side, pick)) {
+        if let Some(left) = self.disks.crash(side, pick, answer) {
             self.disks = left;
         }
     }
 
-    // The call is stopped after so many calls of the disk, and made again over what a crash leaves.
-    fn stopped(&self, sweep: Sweep, pick: u64, calls: u32, said: &mut Answer) -> Result<u8, Stop> {
-        let mut disks = self.disks.crash(said.alloc(), sweep.side, 0)?;
-        disks.side_mut(sweep.side).stop_after(calls);
-        let status = self.streams.call(sweep.words, &mut disks, said)?;
+    // The call is stopped after so many calls of the disk, and made again over what a crash leaves. Answers whether a disk failed.
+    fn stopped(&self, sweep: Sweep, pick: u64, calls: u32, said: &mut Answer) -> bool {
+        let Some(mut disks) = self.disks.crash(sweep.side, 0, said) else {
+            return false;
+        };
+        disks.side_mut(sweep.side).tree.stop_after(calls);
+        let failed = self.streams.call(sweep.words, &mut disks, said);
         disks.push_recovered(sweep.side, pick, said);
-        let mut left = disks.crash(said.alloc(), sweep.side, pick)?;
-        said.field("again ");
-        self.streams.run(sweep.words, &mut left, said)?;
-        Ok(status)
+        if let Some(mut left) = disks.crash(sweep.side, pick, said) {
+            said.field("again ");
+            self.streams.run(sweep.words, &mut left, said);
+        }
+        failed
     }
 
-    // The call is made where one call of the disk fails, and again over what that leaves.
-    fn failed(&self, sweep: Sweep, number: u64, answer: &mut Answer) -> Result<u8, Stop> {
-        let mut disks = self.disks.failing(answer.alloc(), sweep.side, number)?;
-        let status = self.streams.call(sweep.words, &mut disks, answer)?;
-        answer.field("left");
-        answer.nodes(disks.side(sweep.side));
-        disks.push_recovered(sweep.side, 0, answer);
-        answer.field("again ");
-        self.streams.run(sweep.words, &mut disks, answer)?;
-        Ok(status)
+    // The call is made where one call of the disk fails, and again over what that leaves. Answers whether a disk failed.
+    fn failed(&self, sweep: Sweep, number: u64, said: &mut Answer) -> bool {
+        let Some(mut disks) = self.disks.failing(sweep.side, number, said) else {
+            return false;
+        };
+        let failed = self.streams.call(sweep.words, &mut disks, said);
+        said.field("left");
+        said.nodes(&disks.side(sweep.side).tree);
+        disks.push_recovered(sweep.side, 0, said);
+        said.field("again ");
+        self.streams.run(sweep.words, &mut disks, said);
+        failed
     }
 
     // What comes of the call, and whether it came to its end, for no disk failed.
-    fn ends(&self, sweep: Sweep, number: u32, answer: &mut Answer) -> bool {
-        let status = match sweep.pick {
-            Some(pick) => self.stopped(sweep, pick, number, answer),
-            None => self.failed(sweep, u64::from(number) + 1, answer),
-        };
-        !matches!(answer.kept(status), Some(5) | Some(6))
+    fn ends(&self, sweep: Sweep, number: u32, said: &mut Answer) -> bool {
+        match sweep.pick {
+            Some(pick) => !self.stopped(sweep, pick, number, said),
+            None => !self.failed(sweep, u64::from(number) + 1, said),
+        }
+    }
+
+    // Tells what comes of the call, and its number, where that isn't what came last. Answers whether the call came to its end.
+    fn tells_end(
+        &self,
+        sweep: Sweep,
+        number: u32,
+        last: &mut Outcomes,
+        from: &mut Answer,
+        answer: &mut Answer,
+    ) -> bool {
+        let mut part = answer.apart();
+        let is_end = self.ends(sweep, number, &mut part);
+        if last.is_new(answer, part.get()) {
+            answer.tab();
+            answer.add(&part);
+            from.text(" ");
+            from.number(u64::from(number));
+        }
+        is_end
     }
 
     // What comes of the call where the disk fails after no call, after one and so on, until the call comes to its end: each text that
-    // differs from the one before. Answers the numbers from which on they come.
-    fn swept(&self, sweep: Sweep, line: &mut Line, answer: &mut Answer) -> Answer {
-        let (mut outcomes, mut from) = (Outcomes::new(answer.alloc()), answer.apart());
-        from.text("from");
+    // differs from the one before, and the numbers from which on they come.
+    fn swept(&self, sweep: Sweep, from: &mut Answer, line: &mut Line, answer: &mut Answer) {
+        let mut last = Outcomes::new(answer.alloc());
         for number in 0..MANY {
-            let mut part = answer.apart();
-            let is_end = self.ends(sweep, number, &mut part);
-            if outcomes.is_new(answer, part.get()) {
-                answer.tab();
-                answer.add(&part);
-                from.text(" ");
-                from.number(u64::from(number));
-            }
-            answer.kept(part.end());
-            if is_end {
-                return from;
+            if self.tells_end(sweep, number, &mut last, from, answer) {
+                return;
             }
         }
         line.unreadable();
-        from
     }
 
     // `stops DISK PICK WORD..`: what comes of the call, stopped after each number of calls of the disk, with the crash picked. `faults
     // DISK WORD..`: the same with each call of the disk failing in turn.
     fn sweep(&mut self, pick: Option<u64>, first: usize, line: &mut Line, answer: &mut Answer) {
-        let words = words_from(line, first);
+        let words = line.each_from(first, word_of);
         let (words, side) = (words.as_slice(), Side::of(line));
-        let from = self.swept(Sweep { words, side, pick }, line, answer);
+        let mut from = answer.apart();
+        from.text("from");
+        self.swept(Sweep { words, side, pick }, &mut from, line, answer);
         if let Some(from) = answer.kept(from.end()) {
             self.from = from;
         }
@@ -147,8 +156,8 @@ impl Setting {
     fn set(&mut self, line: &mut Line, answer: &mut Answer) {
         answer.text("ok");
         match line.name() {
-            "root" => put(&mut self.disks.root, line),
-            "repo" => put(&mut self.disks.repo, line),
+            "root" => put(&mut self.disks.root.tree, line),
+            "repo" => put(&mut self.disks.repo.tree, line),
             "input" => self.streams.set_input(line),
             "sinks" => self.streams.set_sinks(line),
             _ => line.unreadable(),

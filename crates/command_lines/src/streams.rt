@@ -84,45 +84,67 @@ impl Streams {
         self.err_fails = line.number(1);
     }
 
-    fn source(&self, alloc: Global) -> Result<Metered<MemorySource>, Stop> {
-        let fails = fails_of(alloc, self.input_fails)?;
-        let inner = MemorySource::new(self.input.copy()?, fails);
-        let (most, taken) = (self.most as usize, 0);
-        Ok(Metered { inner, most, taken })
-    }
-
     /// Calls the program once with these words. Tells its status, how many bytes of the input were taken, and the lines of both
-    /// outputs; answers the status.
-    pub fn call(
-        &self,
-        words: &[String],
-        disks: &mut Disks,
-        answer: &mut Answer,
-    ) -> Result<u8, Stop> {
-        let alloc = answer.alloc();
-        let mut input = self.source(alloc)?;
-        let mut out = sink_of(alloc, self.out_fails)?;
-        let mut err = sink_of(alloc, self.err_fails)?;
-        let Disks { root, repo } = disks;
-        let status = run(alloc, words, &mut input, &mut out, &mut err, repo, root);
+    /// outputs; answers whether a disk failed.
+    pub fn call(&self, words: &[String], disks: &mut Disks, answer: &mut Answer) -> bool {
+        let ports = Ports::of(answer.alloc(), self);
+        let Some(mut ports) = answer.kept(ports) else {
+            return false;
+        };
+        let status = ports.run(answer.alloc(), words, disks);
         answer.number(u64::from(status));
-        answer.text(" taken ");
-        answer.number(input.taken);
-        push_written(answer, "out ", out.bytes());
-        push_written(answer, "err ", err.bytes());
-        Ok(status)
+        ports.push(answer);
+        status == 5 || status == 6
     }
 
     /// The same, and what stands then.
-    pub fn run(
-        &self,
-        words: &[String],
-        disks: &mut Disks,
-        answer: &mut Answer,
-    ) -> Result<(), Stop> {
-        self.call(words, disks, answer)?;
+    pub fn run(&self, words: &[String], disks: &mut Disks, answer: &mut Answer) {
+        self.call(words, disks, answer);
         push_kept("root", &disks.root, answer);
         push_kept("repo", &disks.repo, answer);
-        Ok(())
+    }
+}
+
+// What one call reads and writes.
+struct Ports {
+    input: Metered<MemorySource>,
+    out: MemorySink,
+    err: MemorySink,
+}
+
+// Written by hand, so that to let a value go is a single call wherever a function ends early.
+impl Drop for Ports {
+    fn drop(self) {
+        let Ports {
+            input: _input,
+            out: _out,
+            err: _err,
+        } = self;
+    }
+}
+
+impl Ports {
+    fn of(alloc: Global, streams: &Streams) -> Result<Ports, Stop> {
+        let fails = fails_of(alloc, streams.input_fails)?;
+        let inner = MemorySource::new(streams.input.copy()?, fails);
+        let (most, taken) = (streams.most as usize, 0);
+        let out = sink_of(alloc, streams.out_fails)?;
+        let err = sink_of(alloc, streams.err_fails)?;
+        let input = Metered { inner, most, taken };
+        Ok(Ports { input, out, err })
+    }
+
+    // The status of a call of the program with these words.
+    fn run(&mut self, alloc: Global, words: &[String], disks: &mut Disks) -> u8 {
+        let Ports { input, out, err } = self;
+        let Disks { root, repo } = disks;
+        run(alloc, words, input, out, err, repo, root)
+    }
+
+    fn push(&self, answer: &mut Answer) {
+        answer.text(" taken ");
+        answer.number(self.input.taken);
+        push_written(answer, "out ", self.out.bytes());
+        push_written(answer, "err ", self.err.bytes());
     }
 }

@@ -1,7 +1,8 @@
 //! Runs of the journal that are cut off, left as a crash may leave them, and recovered.
 use crate::found::Found;
 use crate::runs::{
-    BASE, Case, MANY, Run, apply_up_to, case_of, cut_of, push_stored, recover_up_to, stored,
+    BASE, Case, MANY, Run, Task, apply_up_to, case_of, crashed, cut_of, push_stored, recover_up_to,
+    stored,
 };
 use line_words::tree_memory::MemoryTree;
 use line_words::tree_memory::cny_base::Path;
@@ -16,19 +17,18 @@ fn push_left(
     outcomes: &mut Outcomes,
     answer: &mut Answer,
 ) -> Result<(), Stop> {
-    let image = tree.crash(answer.alloc(), pick)?;
+    let image = crashed(answer.alloc(), tree, pick)?;
     let mut left = answer.apart();
-    left.placed(path.text(), image.node(path));
+    left.placed(path.text(), image.tree.node(path));
     outcomes.push(answer, &left);
     Ok(())
 }
 
-fn push_seen(case: &Case, pick: u64, path: &Path, answer: &mut Answer) -> Result<(), Stop> {
-    let alloc = answer.alloc();
-    let mut outcomes = Outcomes::new(alloc);
+fn push_seen(task: Task, pick: u64, path: &Path, answer: &mut Answer) -> Result<(), Stop> {
+    let mut outcomes = Outcomes::new(answer.alloc());
     for calls in 0..MANY {
-        let cut = apply_up_to(alloc, case, calls)?;
-        push_left(&cut.tree, pick, path, &mut outcomes, answer)?;
+        let cut = task.up_to(answer.alloc(), calls)?;
+        push_left(&cut.disk.tree, pick, path, &mut outcomes, answer)?;
         if cut.is_done {
             return Ok(());
         }
@@ -39,37 +39,23 @@ fn push_seen(case: &Case, pick: u64, path: &Path, answer: &mut Answer) -> Result
 /// `see TREE PUTS PICK PATH`: what crashes leave at a path after each call of an application.
 pub fn see(line: &mut Line, answer: &mut Answer) {
     let pick = line.number(2);
-    if let (Some(case), Some(path)) = (case_of(line), line.path(3)) {
-        let done = push_seen(&case, pick, &path, answer);
-        answer.kept(done);
-    }
-}
-
-fn push_seen_again(
-    tree: &MemoryTree,
-    pick: u64,
-    path: &Path,
-    answer: &mut Answer,
-) -> Result<(), Stop> {
-    let alloc = answer.alloc();
-    let mut outcomes = Outcomes::new(alloc);
-    for calls in 0..MANY {
-        let cut = recover_up_to(alloc, tree, 0, calls)?;
-        push_left(&cut.tree, pick, path, &mut outcomes, answer)?;
-        if cut.is_done {
-            return Ok(());
+    if let Some(case) = case_of(line) {
+        if let Some(path) = line.path(3) {
+            let done = push_seen(Task::Apply(&case), pick, &path, answer);
+            answer.kept(done);
         }
     }
-    Err(Stop::Unreadable)
 }
 
 /// `see_again TREE PUTS CALLS PICK PATH`: what crashes leave at a path after each call of a recovery, of what an application left that was
 /// cut off.
 pub fn see_again(line: &mut Line, answer: &mut Answer) {
     let pick = line.number(3);
-    if let (Some(cut), Some(path)) = (cut_of(line), line.path(4)) {
-        let done = push_seen_again(&cut.tree, pick, &path, answer);
-        answer.kept(done);
+    if let Some(cut) = cut_of(line) {
+        if let Some(path) = line.path(4) {
+            let done = push_seen(Task::Recover(&cut.disk.tree, 0), pick, &path, answer);
+            answer.kept(done);
+        }
     }
 }
 
@@ -83,11 +69,11 @@ fn push_end(run: &Run, answer: &mut Answer) {
 }
 
 fn push_crash(tree: &MemoryTree, pick: u64, answer: &mut Answer) -> Result<(), Stop> {
-    let image = tree.crash(answer.alloc(), pick)?;
-    push_stored(&image, answer);
-    let ended = recover_up_to(answer.alloc(), &image, 0, MANY)?;
+    let image = crashed(answer.alloc(), tree, pick)?;
+    push_stored(&image.tree, answer);
+    let ended = recover_up_to(answer.alloc(), &image.tree, 0, MANY)?;
     push_end(&ended, answer);
-    push_stored(&ended.tree, answer);
+    push_stored(&ended.disk.tree, answer);
     Ok(())
 }
 
@@ -95,7 +81,7 @@ fn push_crash(tree: &MemoryTree, pick: u64, answer: &mut Answer) -> Result<(), S
 /// set, and what that leaves.
 pub fn crash_in(line: &mut Line, answer: &mut Answer) {
     if let Some(cut) = cut_of(line) {
-        let done = push_crash(&cut.tree, line.number(3), answer);
+        let done = push_crash(&cut.disk.tree, line.number(3), answer);
         answer.kept(done);
     }
 }
@@ -105,7 +91,7 @@ fn push_images(case: &Case, calls: u32, picks: u32, answer: &mut Answer) -> Resu
     let cut = apply_up_to(alloc, case, calls)?;
     let mut found = Found::of(alloc, case)?;
     for pick in 0..picks {
-        found.find(alloc, &cut.tree, u64::from(pick))?;
+        found.find(alloc, &cut.disk.tree, u64::from(pick))?;
     }
     found.push(answer);
     Ok(())
@@ -120,13 +106,19 @@ pub fn images(line: &mut Line, answer: &mut Answer) {
     }
 }
 
+// Whether something stands in the private directory under a name.
+fn has_own(alloc: Global, tree: &MemoryTree, name: &str) -> Result<bool, Stop> {
+    let path = Path::read(alloc, BASE)?.join(alloc, name)?;
+    Ok(tree.node(&path).is_some())
+}
+
 // Whether a crash leaves the tree after, with no flag and nothing at the work name.
 fn is_kept(alloc: Global, tree: &MemoryTree, pick: u64, after: &str) -> Result<bool, Stop> {
-    let image = tree.crash(alloc, pick)?;
-    let base = Path::read(alloc, BASE)?;
-    let has_gate = image.node(&base.join(alloc, "gate")?).is_some();
-    let has_work = image.node(&base.join(alloc, "w")?).is_some();
-    Ok(!has_gate && !has_work && stored(alloc, &image)?.as_str() == after)
+    let image = crashed(alloc, tree, pick)?;
+    if has_own(alloc, &image.tree, "gate")? || has_own(alloc, &image.tree, "w")? {
+        return Ok(false);
+    }
+    Ok(stored(alloc, &image.tree)?.as_str() == after)
 }
 
 // How many of the crashes do.
@@ -146,12 +138,12 @@ fn push_cuts(case: &Case, pick: u64, picks: &[u64], answer: &mut Answer) -> Resu
     let mut again = 0u64;
     for calls in 0..MANY {
         let cut = apply_up_to(alloc, case, calls)?;
-        again = again.saturating_add(found.find_again(alloc, &cut.tree, pick, picks)?);
+        again = again.saturating_add(found.find_again(alloc, &cut.disk.tree, pick, picks)?);
         if cut.is_done {
             answer.field_number(u64::from(calls));
             answer.field_number(again);
             found.push(answer);
-            answer.field_number(count_kept(alloc, &cut.tree, picks, found.after())?);
+            answer.field_number(count_kept(alloc, &cut.disk.tree, picks, found.after())?);
             return Ok(());
         }
     }

@@ -29,9 +29,9 @@ impl Drop for Found {
 impl Found {
     /// Nothing yet.
     pub fn of(alloc: Global, case: &Case) -> Result<Found, Stop> {
-        let before = stored(alloc, &case.start)?;
+        let before = stored(alloc, &case.start.tree)?;
         let whole = apply_up_to(alloc, case, MANY)?;
-        let after = stored(alloc, &whole.tree)?;
+        let after = stored(alloc, &whole.disk.tree)?;
         Ok(Found {
             before,
             after,
@@ -63,7 +63,7 @@ impl Found {
     /// Recovers what a crash leaves of a tree, and counts which tree that leaves.
     pub fn find(&mut self, alloc: Global, tree: &MemoryTree, pick: u64) -> Result<(), Stop> {
         let ended = recover_up_to(alloc, tree, pick, MANY)?;
-        let left = stored(alloc, &ended.tree)?;
+        let left = stored(alloc, &ended.disk.tree)?;
         self.count(&ended, left.as_str());
         Ok(())
     }
@@ -86,7 +86,7 @@ impl Found {
     ) -> Result<u64, Stop> {
         for calls in 0..MANY {
             let cut = recover_up_to(alloc, tree, pick, calls)?;
-            self.find_each(alloc, &cut.tree, picks)?;
+            self.find_each(alloc, &cut.disk.tree, picks)?;
             if cut.is_done {
                 return Ok(u64::from(calls));
             }

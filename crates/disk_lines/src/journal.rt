@@ -1,4 +1,5 @@
 //! Whole runs of the journal, with each call that they make of the disk.
+use crate::disk::told_holds;
 use crate::puts::puts;
 use crate::runs::base_path;
 use crate::traced::Traced;
@@ -10,7 +11,8 @@ use tree_journal::{apply, recover};
 
 // The calls that were made of the disk, and what it reads after them.
 fn push_disk(disk: &Traced, answer: &mut Answer) {
-    answer.field(disk.calls.as_str());
+    answer.tab();
+    answer.add(&disk.calls);
     answer.tab();
     answer.nodes(&disk.inner.tree);
 }
@@ -29,31 +31,31 @@ fn apply_to(alloc: Global, disk: &mut Traced, puts: &Puts) -> Result<Result<(), 
 
 fn push_applied(disk: &mut Traced, puts: &Puts, answer: &mut Answer) {
     let done = apply_to(answer.alloc(), disk, puts);
-    match answer.kept(done) {
-        Some(Err(stop)) => answer.stopped(&stop),
-        _ => answer.field("ok"),
+    if let Some(done) = answer.kept(done) {
+        answer.done(done);
     }
     push_disk(disk, answer);
 }
 
 /// `apply TREE PUTS CALL`: the application of a write set; the call of this number fails.
 pub fn applied(line: &mut Line, answer: &mut Answer) {
-    if let (Some(mut disk), Some(puts)) = (disk_of(line), puts(line, 1)) {
-        push_applied(&mut disk, &puts, answer);
+    if let Some(mut disk) = disk_of(line) {
+        if let Some(puts) = puts(line, 1) {
+            push_applied(&mut disk, &puts, answer);
+        }
     }
 }
 
 fn push_recovered(disk: &mut Traced, base: &Path, answer: &mut Answer) {
-    match recover(answer.alloc(), disk, base) {
-        Ok(was_committed) => answer.holds(was_committed),
-        Err(stop) => answer.stopped(&stop),
-    }
+    answer.outcome(recover(answer.alloc(), disk, base), told_holds);
     push_disk(disk, answer);
 }
 
 /// `recover TREE BASE CALL`: a recovery, and whether it found the commit flag set; the call of this number fails.
 pub fn recovered(line: &mut Line, answer: &mut Answer) {
-    if let (Some(mut disk), Some(base)) = (disk_of(line), line.path(1)) {
-        push_recovered(&mut disk, &base, answer);
+    if let Some(mut disk) = disk_of(line) {
+        if let Some(base) = line.path(1) {
+            push_recovered(&mut disk, &base, answer);
+        }
     }
 }

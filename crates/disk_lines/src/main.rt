@@ -23,19 +23,13 @@ use line_words::{Answer, Calls, Line, Quiet, answer_all};
 use std::io;
 
 /// The disk that goes on from line to line.
+#[derive(Drop)]
 struct Disks {
     disk: Quiet,
 }
 
-// Written by hand, so that to let a value go is a single call.
-impl Drop for Disks {
-    fn drop(self) {
-        let Disks { disk: _disk } = self;
-    }
-}
-
-// Calls that stand for themselves.
-fn alone(line: &mut Line, answer: &mut Answer) {
+// Calls that stand for themselves, and steps of the script.
+fn call(disk: &mut Quiet, line: &mut Line, answer: &mut Answer) {
     match line.name() {
         "encode" => logs::encode(line, answer),
         "decode" => logs::decode(line, answer),
@@ -53,26 +47,21 @@ fn alone(line: &mut Line, answer: &mut Answer) {
         "crash_in" => cuts::crash_in(line, answer),
         "images" => cuts::images(line, answer),
         "cuts" => cuts::cuts(line, answer),
-        _ => line.unreadable(),
+        _ => script::call(disk, line, answer),
     }
 }
 
 impl Calls for Disks {
     fn call(&mut self, line: &mut Line, answer: &mut Answer) {
-        let name = line.name();
-        match name.split_once(' ') {
+        match line.name().split_once(' ') {
             Some(("any", step)) => steps::call(&mut self.disk, step, line, answer),
             Some(("store", step)) => store::call(&mut self.disk, step, line, answer),
-            _ if script::has(name) => script::call(&mut self.disk, line, answer),
-            _ if disk::has(name) => disk::call(&mut self.disk.tree, line, answer),
-            _ => alone(line, answer),
+            _ => call(&mut self.disk, line, answer),
         }
     }
 }
 
 fn main(rt: HostRuntime) -> io::Result<()> {
-    match script::first_disk(rt.alloc()) {
-        Ok(disk) => answer_all(&rt, &mut Disks { disk }),
-        Err(_) => Err(io::Error::from(io::ErrorKind::OutOfMemory)),
-    }
+    let disk = script::first_disk(rt.alloc())?;
+    answer_all(&rt, &mut Disks { disk })
 }

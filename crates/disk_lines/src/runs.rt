@@ -3,7 +3,7 @@ ghost use Rattle.std.specs.Prelude.{◌≤◌, IfOk, length};
 
 use crate::puts::puts;
 use line_words::tree_memory::MemoryTree;
-use line_words::tree_memory::cny_base::{Path, Stop as DiskEnd};
+use line_words::tree_memory::cny_base::{OutOfMemory, Path, Stop as DiskEnd};
 use line_words::{Answer, Line, Quiet, Stop};
 use std::alloc::Global;
 use tree_journal::journal_log::Puts;
@@ -26,9 +26,9 @@ pub fn base_path(alloc: Global) -> Result<Path, Stop>
     Ok(base)
 }
 
-/// A tree that a run left, whether the run came to its end, and whether it was a recovery that found the commit flag set.
+/// The disk that a run left, whether the run came to its end, and whether it was a recovery that found the commit flag set.
 pub struct Run {
-    pub tree: MemoryTree,
+    pub disk: Quiet,
     pub is_done: bool,
     pub was_committed: bool,
 }
@@ -37,7 +37,7 @@ pub struct Run {
 impl Drop for Run {
     fn drop(self) {
         let Run {
-            tree: _tree,
+            disk: _disk,
             is_done: _is_done,
             was_committed: _was_committed,
         } = self;
@@ -53,15 +53,19 @@ fn end_of<T: Drop>(done: Result<T, DiskEnd>) -> Result<Option<T>, Stop> {
     }
 }
 
+/// What the crash leaves of a tree that a number picks.
+pub fn crashed(alloc: Global, tree: &MemoryTree, pick: u64) -> Result<Quiet, OutOfMemory> {
+    Ok(Quiet::new(tree.crash(alloc, pick)?))
+}
+
 /// Recovers the tree that a crash leaves of this one, and stops after so many calls.
 pub fn recover_up_to(alloc: Global, tree: &MemoryTree, pick: u64, calls: u32) -> Result<Run, Stop> {
-    let mut image = tree.crash(alloc, pick)?;
-    image.stop_after(calls);
-    let mut disk = Quiet::new(image);
-    let done = recover(alloc, &mut disk, &base_path(alloc)?);
-    let ended = end_of(done)?;
+    let base = base_path(alloc)?;
+    let mut disk = crashed(alloc, tree, pick)?;
+    disk.tree.stop_after(calls);
+    let ended = end_of(recover(alloc, &mut disk, &base))?;
     Ok(Run {
-        tree: disk.into_tree(),
+        disk,
         is_done: ended.is_some(),
         was_committed: ended == Some(true),
     })
@@ -69,7 +73,7 @@ pub fn recover_up_to(alloc: Global, tree: &MemoryTree, pick: u64, calls: u32) ->
 
 /// A tree and a write set.
 pub struct Case {
-    pub start: MemoryTree,
+    pub start: Quiet,
     pub puts: Puts,
 }
 
@@ -85,25 +89,41 @@ impl Drop for Case {
 /// The case of the first two arguments.
 pub fn case_of(line: &mut Line) -> Option<Case> {
     let puts = puts(line, 1)?;
-    let start = line.tree(0, 0)?;
+    let start = line.disk(0, 0)?;
     Some(Case { start, puts })
 }
 
 /// Applies the write set to a copy of the tree, and stops after so many calls.
 pub fn apply_up_to(alloc: Global, case: &Case, calls: u32) -> Result<Run, Stop> {
-    let mut tree = case.start.crash(alloc, 0)?;
-    tree.stop_after(calls);
-    let mut disk = Quiet::new(tree);
-    let done = apply(alloc, &mut disk, &base_path(alloc)?, &case.puts);
-    let is_done = end_of(done)?.is_some();
+    let base = base_path(alloc)?;
+    let mut disk = crashed(alloc, &case.start.tree, 0)?;
+    disk.tree.stop_after(calls);
+    let ended = end_of(apply(alloc, &mut disk, &base, &case.puts))?;
     Ok(Run {
-        tree: disk.into_tree(),
-        is_done,
+        disk,
+        is_done: ended.is_some(),
         was_committed: false,
     })
 }
 
-/// The tree that an application of the first two arguments left, which was cut off after as many calls as the third tells.
+/// What is cut off: the application of a case, or the recovery of what the crash leaves of a tree that a number picks.
+#[derive(Clone, Copy)]
+pub enum Task<'a> {
+    Apply(&'a Case),
+    Recover(&'a MemoryTree, u64),
+}
+
+impl Task<'_> {
+    /// Runs it, and stops after so many calls.
+    pub fn up_to(self, alloc: Global, calls: u32) -> Result<Run, Stop> {
+        match self {
+            Task::Apply(case) => apply_up_to(alloc, case, calls),
+            Task::Recover(tree, pick) => recover_up_to(alloc, tree, pick, calls),
+        }
+    }
+}
+
+/// The disk that an application of the first two arguments left, which was cut off after as many calls as the third tells.
 pub fn cut_of(line: &mut Line) -> Option<Run> {
     let case = case_of(line)?;
     let calls = line.small(2);

@@ -1,6 +1,8 @@
 //! The steps of a script that are no calls of the disk.
+use crate::disk;
+use crate::runs::crashed;
 use line_words::tree_memory::cny_base::{Fails, Mode, Node, Path};
-use line_words::tree_memory::{MemoryTree, Nodes, TreeFault};
+use line_words::tree_memory::{MemoryTree, Nodes};
 use line_words::{Answer, Line, Quiet, Stop, tree_with};
 use std::alloc::Global;
 
@@ -12,24 +14,13 @@ pub fn first_disk(alloc: Global) -> Result<Quiet, Stop> {
     Ok(Quiet::new(tree_with(alloc, nodes, 0)?))
 }
 
-fn said(answer: &mut Answer, done: Result<(), TreeFault>) {
-    match done {
-        Ok(()) => answer.field("ok"),
-        Err(TreeFault::NotATree) => answer.field("no tree"),
-        Err(TreeFault::Memory) => answer.memory(),
-    }
-}
-
 // `new NODES CALLS`: a disk of these nodes, whose calls of these numbers fail.
 fn make_disk(disk: &mut Quiet, line: &mut Line, answer: &mut Answer) {
     let nodes = line.nodes(0);
     let fails = Fails::new(line.list(1));
-    match MemoryTree::new(line.alloc(), nodes, fails) {
-        Ok(tree) => {
-            *disk = Quiet::new(tree);
-            answer.field("ok");
-        }
-        Err(fault) => said(answer, Err(fault)),
+    if let Some(tree) = answer.given(MemoryTree::new(line.alloc(), nodes, fails)) {
+        *disk = Quiet::new(tree);
+        answer.field("ok");
     }
 }
 
@@ -37,7 +28,7 @@ fn make_disk(disk: &mut Quiet, line: &mut Line, answer: &mut Answer) {
 fn edit(tree: &mut MemoryTree, line: &mut Line, answer: &mut Answer) {
     let raw = line.raw(0);
     if let Some((path, node)) = line.placed_of(raw) {
-        said(answer, tree.edit(line.alloc(), &path, node));
+        answer.done(tree.edit(line.alloc(), &path, node));
     }
 }
 
@@ -69,17 +60,17 @@ fn push_seen(tree: &MemoryTree, line: &mut Line, answer: &mut Answer) {
 
 // `left PICK PATHS`: what a crash now leaves at these paths.
 fn push_left(tree: &MemoryTree, line: &mut Line, answer: &mut Answer) {
-    let image = tree.crash(line.alloc(), line.number(0));
-    if let Some(image) = line.kept(image) {
-        push_nodes(&image, line, 1, answer);
+    let left = crashed(line.alloc(), tree, line.number(0));
+    if let Some(left) = line.kept(left) {
+        push_nodes(&left.tree, line, 1, answer);
     }
 }
 
 // `crash PICK`: it comes.
 fn crash(disk: &mut Quiet, line: &mut Line, answer: &mut Answer) {
-    let image = disk.tree.crash(line.alloc(), line.number(0));
-    if let Some(image) = line.kept(image) {
-        *disk = Quiet::new(image);
+    let left = crashed(line.alloc(), &disk.tree, line.number(0));
+    if let Some(left) = line.kept(left) {
+        *disk = left;
         answer.field("ok");
     }
 }
@@ -90,15 +81,7 @@ fn stop(tree: &mut MemoryTree, line: &mut Line, answer: &mut Answer) {
     answer.field("ok");
 }
 
-/// Whether a step has this name.
-pub fn has(name: &str) -> bool {
-    matches!(
-        name,
-        "new" | "edit" | "at" | "seen" | "left" | "crash" | "stop" | "moment"
-    )
-}
-
-/// Makes a step that is no call of the disk.
+/// Makes a step of a script.
 pub fn call(disk: &mut Quiet, line: &mut Line, answer: &mut Answer) {
     match line.name() {
         "new" => make_disk(disk, line, answer),
@@ -108,6 +91,7 @@ pub fn call(disk: &mut Quiet, line: &mut Line, answer: &mut Answer) {
         "left" => push_left(&disk.tree, line, answer),
         "crash" => crash(disk, line, answer),
         "stop" => stop(&mut disk.tree, line, answer),
-        _ => answer.field_number(disk.tree.moment() as u64),
+        "moment" => answer.field_number(disk.tree.moment() as u64),
+        _ => disk::call(&mut disk.tree, line, answer),
     }
 }

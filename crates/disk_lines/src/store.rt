@@ -1,7 +1,7 @@
 //! The steps of a content store, over any disk.
-use crate::steps::said;
+use crate::disk::told_holds;
 use line_words::content_store::{
-    ByteNamer, Contents, FarStop, Namer, NoContents, Sha1Namer, clear, get, has, put, put_file,
+    ByteNamer, Contents, Namer, NoContents, Sha1Namer, clear, get, has, put, put_file,
 };
 use line_words::tree_memory::cny_base::{Bytes, Path, Refusal, Stop};
 use line_words::tree_memory::tree_disk::steps;
@@ -10,59 +10,34 @@ use line_words::{Answer, Line, Quiet};
 // The longest directory that a content is put into.
 const LONGEST_DIR: usize = 983;
 
-// Why a step of the store stops.
-fn stopped(stop: &Stop, answer: &mut Answer) {
-    match stop {
-        Stop::Refused(Refusal::Collision { name, at }) => {
-            answer.field("collision ");
-            answer.hex(name);
-            answer.field_number(*at);
-        }
-        _ => answer.stopped(stop),
-    }
+fn told_name(name: &[u8; 20], answer: &mut Answer) {
+    answer.field("ok ");
+    answer.hex(name);
 }
 
+// What was put, or why it wasn't: two contents of one name by the name and the place of the first difference.
 fn said_name(done: Result<[u8; 20], Stop>, answer: &mut Answer) {
-    match done {
-        Ok(name) => {
-            answer.field("ok ");
-            answer.hex(&name);
-        }
-        Err(stop) => stopped(&stop, answer),
+    if let Err(Stop::Refused(Refusal::Collision { name, at })) = &done {
+        answer.field("collision ");
+        answer.hex(name);
+        return answer.field_number(*at);
     }
+    answer.outcome(done, told_name);
 }
 
-fn push_found(found: &Option<Bytes>, answer: &mut Answer) {
-    match found {
-        Some(bytes) => {
-            answer.field("ok ");
-            answer.contents(bytes.get());
-        }
-        None => answer.field("none"),
-    }
+fn told_found(found: &Option<Bytes>, answer: &mut Answer) {
+    let Some(bytes) = found else {
+        return answer.field("none");
+    };
+    answer.field("ok ");
+    answer.contents(bytes.get());
 }
 
-fn said_found(done: Result<Option<Bytes>, Stop>, answer: &mut Answer) {
-    match done {
-        Ok(found) => push_found(&found, answer),
-        Err(stop) => stopped(&stop, answer),
-    }
-}
-
-// What a source without contents finds.
+// What a source without contents finds, which never fails.
 fn find(content: &[u8; 20], answer: &mut Answer) {
-    let mut source = NoContents;
-    match source.find(answer.alloc(), content) {
-        Ok(found) => push_found(&found, answer),
-        Err(FarStop::Memory) => answer.memory(),
-        Err(_) => answer.field("another end"),
-    }
-}
-
-fn said_has(done: Result<bool, Stop>, answer: &mut Answer) {
-    match done {
-        Ok(has) => answer.holds(has),
-        Err(stop) => stopped(&stop, answer),
+    match NoContents.find(answer.alloc(), content) {
+        Ok(found) => told_found(&found, answer),
+        Err(_) => answer.unreadable(),
     }
 }
 
@@ -91,10 +66,10 @@ fn at_path(disk: &mut Quiet, step: &str, path: &Path, line: &mut Line, answer: &
     let alloc = line.alloc();
     match step {
         "put" | "put_file" => put_named(disk, path, line, answer),
-        "fill" => said(steps::append(alloc, disk, path, line.bytes(1)), answer),
-        "get" => said_found(get(alloc, disk, path, &line.digest(1)), answer),
-        "has" => said_has(has(alloc, disk, path, &line.digest(1)), answer),
-        "clear" => said(clear(alloc, disk, path, &line.digest(1)), answer),
+        "fill" => answer.done(steps::append(alloc, disk, path, line.bytes(1))),
+        "get" => answer.outcome(get(alloc, disk, path, &line.digest(1)), told_found),
+        "has" => answer.outcome(has(alloc, disk, path, &line.digest(1)), told_holds),
+        "clear" => answer.done(clear(alloc, disk, path, &line.digest(1))),
         "find" => find(&line.digest(1), answer),
         _ => line.unreadable(),
     }

@@ -1,9 +1,8 @@
 //! A disk that tells which calls were made of it.
-ghost use Rattle.std.specs.Prelude.{◌≡◌, OnErr};
-ghost use Rattle.tree_journal.specs.tree-disk.declared.disk.DiskStop.TheVariants.{Memory};
+ghost use Rattle.std.specs.Prelude.{◌≡◌};
 ghost use Rattle.tree_journal.specs.tree-disk.Untold.{untold, untold_laws};
 
-use line_words::Quiet;
+use line_words::{Answer, Quiet};
 use std::alloc::Global;
 use tree_journal::cny_base::{Mode, Names, Path, Target};
 use tree_journal::tree_disk::{DiskStop, Look, TreeDisk};
@@ -11,7 +10,7 @@ use tree_journal::tree_disk::{DiskStop, Look, TreeDisk};
 /// A disk, and each call of it with the path that it is made at, with `;` behind it.
 pub struct Traced {
     pub inner: Quiet,
-    pub calls: String,
+    pub calls: Answer,
 }
 
 // Written by hand, so that to let a value go is a single call wherever a function ends early.
@@ -29,27 +28,17 @@ impl Traced {
     pub fn new(alloc: Global, inner: Quiet) -> Self {
         Traced {
             inner,
-            calls: String::new(alloc),
+            calls: Answer::new(alloc),
         }
     }
 
-    fn note(&mut self, call: &str, path: &Path) -> Result<(), DiskStop>
-        ensures inner { self.new.inner ≡ self.old.inner }
-        ensures memory { OnErr result (result ≡ Err Memory) }
+    // Tells a call.
+    fn note(&mut self, call: &str, path: &str)
+        ensures { self.new.inner ≡ self.old.inner }
     {
-        self.calls.push_str(call)?;
-        self.calls.push(' ')?;
-        self.calls.push_str(path.text())?;
-        self.calls.push(';')?;
-        Ok(())
-    }
-
-    fn note_sync(&mut self) -> Result<(), DiskStop>
-        ensures inner { self.new.inner ≡ self.old.inner }
-        ensures memory { OnErr result (result ≡ Err Memory) }
-    {
-        self.calls.push_str("sync;")?;
-        Ok(())
+        self.calls.text(call);
+        self.calls.text(path);
+        self.calls.text(";");
     }
 }
 
@@ -57,7 +46,7 @@ impl TreeDisk for Traced {
     ghost disk = { untold (λ d. d.inner.faults) };
 
     fn look(&mut self, alloc: Global, path: &Path) -> Result<Look, DiskStop> {
-        self.note("look", path)?;
+        self.note("look ", path.text());
         self.inner.look(alloc, path)
     }
 
@@ -68,47 +57,47 @@ impl TreeDisk for Traced {
         at: u64,
         buf: &mut [u8],
     ) -> Result<usize, DiskStop> {
-        self.note("read", path)?;
+        self.note("read ", path.text());
         self.inner.read_at(alloc, path, at, buf)
     }
 
     fn list(&mut self, alloc: Global, path: &Path) -> Result<Names, DiskStop> {
-        self.note("list", path)?;
+        self.note("list ", path.text());
         self.inner.list(alloc, path)
     }
 
     fn append(&mut self, alloc: Global, path: &Path, bytes: &[u8]) -> Result<(), DiskStop> {
-        self.note("append", path)?;
+        self.note("append ", path.text());
         self.inner.append(alloc, path, bytes)
     }
 
     fn make_dir(&mut self, alloc: Global, path: &Path, mode: Mode) -> Result<(), DiskStop> {
-        self.note("make", path)?;
+        self.note("make ", path.text());
         self.inner.make_dir(alloc, path, mode)
     }
 
     fn make_link(&mut self, alloc: Global, path: &Path, target: &Target) -> Result<(), DiskStop> {
-        self.note("make", path)?;
+        self.note("make ", path.text());
         self.inner.make_link(alloc, path, target)
     }
 
     fn set_mode(&mut self, alloc: Global, path: &Path, mode: Mode) -> Result<(), DiskStop> {
-        self.note("set mode", path)?;
+        self.note("set mode ", path.text());
         self.inner.set_mode(alloc, path, mode)
     }
 
     fn remove(&mut self, alloc: Global, path: &Path) -> Result<(), DiskStop> {
-        self.note("remove", path)?;
+        self.note("remove ", path.text());
         self.inner.remove(alloc, path)
     }
 
     fn rename(&mut self, alloc: Global, from: &Path, to: &Path) -> Result<(), DiskStop> {
-        self.note("rename", to)?;
+        self.note("rename ", to.text());
         self.inner.rename(alloc, from, to)
     }
 
     fn sync(&mut self, alloc: Global) -> Result<(), DiskStop> {
-        self.note_sync()?;
+        self.note("sync", "");
         self.inner.sync(alloc)
     }
 

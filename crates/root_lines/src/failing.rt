@@ -1,8 +1,7 @@
 //! Calls on roots that are cut off, and calls over disks that fail.
 use crate::jobs::make;
 use line_words::{Answer, Argument, Line, Outcomes, Quiet, Stop, arguments_of};
-use root_words::{PRIVATE, push_db, readied};
-use sha1::Sha1;
+use root_words::{PRIVATE, crashed, push_db, readied};
 use std::alloc::Global;
 
 // More calls of the disk than any of the calls makes.
@@ -67,7 +66,7 @@ impl Call {
 pub fn push_ready(disk: &mut Quiet, answer: &mut Answer) {
     let mut ready = answer.apart();
     if let Some(db) = readied(disk, &mut ready) {
-        push_db(&mut ready, &db);
+        push_db(&db, &mut ready);
     }
     answer.add(&ready);
 }
@@ -77,7 +76,7 @@ fn push_name(disk: &Quiet, answer: &mut Answer) {
     let mut outer = answer.apart();
     outer.nodes_but(&disk.tree, |path| path.starts_with(PRIVATE));
     if let Some(nodes) = answer.kept(outer.end()) {
-        answer.hex(&Sha1::digest(nodes.as_bytes()));
+        answer.sha1(nodes.as_bytes());
     }
 }
 
@@ -101,8 +100,7 @@ impl Left {
     fn by(call: &Call, disk: &mut Quiet, pick: u64, answer: &mut Answer) -> Option<Left> {
         let said = call.made(disk, answer);
         let said = answer.kept(said.end())?;
-        let tree = answer.kept(disk.tree.crash(answer.alloc(), pick))?;
-        let disk = Quiet::new(tree);
+        let disk = answer.kept(crashed(answer.alloc(), disk, pick))?;
         Some(Left { said, disk })
     }
 
@@ -170,46 +168,40 @@ impl Told {
     // Tells what comes of what a call left on a disk, and answers whether that was the last one: it came to its end, or there is
     // no answer. Where as much was left as the last time, nothing else can come of it.
     fn ends(&mut self, disk: &mut Quiet, pick: u64, call: &Call, answer: &mut Answer) -> bool {
-        let Some(mut left) = Left::by(call, disk, pick, answer) else {
-            return true;
-        };
-        let Some(whole) = left.whole(answer) else {
-            return true;
-        };
-        if self.left.is_new(answer, whole.as_str()) {
-            self.push(&mut left, call, answer);
+        if let Some(mut left) = Left::by(call, disk, pick, answer) {
+            if let Some(whole) = left.whole(answer) {
+                if self.left.is_new(answer, whole.as_str()) {
+                    self.push(&mut left, call, answer);
+                }
+                return left.is_end();
+            }
         }
-        left.is_end()
+        true
     }
+}
+
+// The disk of the second argument, which stops after so many calls or, where it doesn't stop, of which the next one fails.
+fn disk_after(calls: u32, stops: bool, line: &mut Line) -> Option<Quiet> {
+    let failing = if stops { 0 } else { u64::from(calls) + 1 };
+    let mut disk = line.disk(1, failing)?;
+    if stops {
+        disk.tree.stop_after(calls);
+    }
+    Some(disk)
 }
 
 /// What comes of a call that is cut off after no call of the disk, after one and so on, until it ends, and then of the same call
-/// made again: each text that differs from the one before.
-pub fn push_all_stopped(line: &mut Line, call: &Call, answer: &mut Answer) {
-    answer.text("stopped");
-    let pick = line.number(2);
-    let mut told = Told::new(answer.alloc(), false);
+/// made again: each text that differs from the one before. Or the same of a call of which the first call of the disk fails, the second
+/// and so on, behind the answer that comes then.
+pub fn push_all(call: &Call, stops: bool, line: &mut Line, answer: &mut Answer) {
+    answer.text(if stops { "stopped" } else { "failed" });
+    let pick = if stops { line.number(2) } else { 0 };
+    let mut told = Told::new(answer.alloc(), !stops);
     for calls in 0..MANY {
-        let Some(mut disk) = line.disk(1, 0) else {
+        let Some(mut disk) = disk_after(calls, stops, line) else {
             return;
         };
-        disk.tree.stop_after(calls);
         if told.ends(&mut disk, pick, call, answer) {
-            return;
-        }
-    }
-    line.unreadable();
-}
-
-/// The same of a call of which the first call of the disk fails, the second and so on, behind the answer that comes then.
-pub fn push_all_failed(line: &mut Line, call: &Call, answer: &mut Answer) {
-    answer.text("failed");
-    let mut told = Told::new(answer.alloc(), true);
-    for number in 1..u64::from(MANY) {
-        let Some(mut disk) = line.disk(1, number) else {
-            return;
-        };
-        if told.ends(&mut disk, 0, call, answer) {
             return;
         }
     }

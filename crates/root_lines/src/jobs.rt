@@ -7,59 +7,35 @@ ghost use Rattle.local_db.specs.declared.format.Format.TheVariants.{Two};
 ghost use Rattle.local_db.specs.Stores.{IsDatabase};
 
 use line_words::cny_report::{changes_text, verified_text};
-use line_words::{Answer, Line, Quiet};
+use line_words::{Answer, Line, Quiet, are_in_order};
 use local_db::Db;
-use root_words::{are_allowed, are_in_order, carried_of, list_of, push_db, readied, troves_of};
+use root_words::{are_allowed, list_of, push_db, readied, troves_of};
 use system_core::change_set::Carried;
-use system_core::cny_base::{Name, Options, Stop};
+use system_core::cny_base::{Name, OutOfMemory, Text};
 use system_core::trove_stream::{Installed, Trove};
 use system_core::{Done, adopt, erase, rollback, rollback_to, update, verify};
 
-fn options_in(line: &mut Line) -> Options {
-    let text = line.raw(0);
-    Options {
-        replace: text.contains("replace"),
-        keep: text.contains("keep"),
-    }
-}
-
 // The lines of a text, with a comma and a space between two.
-fn push_lines(answer: &mut Answer, text: &str) {
-    let mut lines = text.trim_end().split('\n');
-    if let Some(first) = lines.next() {
-        answer.text(first);
-    }
-    for line in lines {
-        answer.text(", ");
-        answer.text(line);
+fn push_lines(text: Result<Text, OutOfMemory>, answer: &mut Answer) {
+    if let Some(text) = answer.kept(text) {
+        answer.lines(text.get().trim_end(), ", ");
     }
 }
 
 // The job of this number.
-fn push_job(answer: &mut Answer, number: u32) {
+fn push_job(number: u32, answer: &mut Answer) {
     answer.text("r.");
     answer.number(u64::from(number));
 }
 
 // `r.N: CHANGES` or `no job: CHANGES`.
-fn push_done(answer: &mut Answer, done: &Done) {
+fn told_job(done: &Done, answer: &mut Answer) {
     match done.number {
-        Some(number) => push_job(answer, number),
+        Some(number) => push_job(number, answer),
         None => answer.text("no job"),
     }
     answer.text(": ");
-    let changes = changes_text(answer.alloc(), done.changes.get());
-    if let Some(changes) = answer.kept(changes) {
-        push_lines(answer, changes.get());
-    }
-}
-
-// What a job did, or why it ended.
-fn told(answer: &mut Answer, outcome: Result<Done, Stop>) {
-    match outcome {
-        Ok(done) => push_done(answer, &done),
-        Err(end) => answer.stopped(&end),
-    }
+    push_lines(changes_text(answer.alloc(), done.changes.get()), answer);
 }
 
 // The update to these troves with these contents.
@@ -74,13 +50,13 @@ fn update_to(
     requires db { IsDatabase Two db.old.installed db.old.oldest db.old.newest }
     requires hash { All (λ (content : declared.Carried). content.name ≡ sha1 content.bytes) carried.now }
 {
-    let options = options_in(line);
+    let options = line.options(0);
     if !are_allowed(answer.alloc(), come) || !are_in_order(carried) {
         return line.unreadable();
     }
     let mut far = line.far(3);
-    let outcome = update(answer.alloc(), disk, db, come, carried, &mut far, &options);
-    told(answer, outcome);
+    let done = update(answer.alloc(), disk, db, come, carried, &mut far, &options);
+    answer.outcome(done, told_job);
 }
 
 // `update OPTIONS TROVES CARRIED FAR`.
@@ -88,22 +64,21 @@ fn updated(disk: &mut Quiet, db: &mut Db, line: &mut Line, answer: &mut Answer)
     requires { IsDatabase Two db.old.installed db.old.oldest db.old.newest }
 {
     let come = troves_of(line, 1);
-    if let Some(carried) = carried_of(line, 2) {
-        update_to(disk, db, &come, &carried, line, answer);
-    }
+    let carried = line.carried(2);
+    update_to(disk, db, &come, &carried, line, answer);
 }
 
 // The whole list becomes this one.
 fn adopt_list(disk: &mut Quiet, db: &mut Db, list: Installed, line: &mut Line, answer: &mut Answer)
     requires { IsDatabase Two db.old.installed db.old.oldest db.old.newest }
 {
-    let options = options_in(line);
+    let options = line.options(0);
     if !are_allowed(answer.alloc(), list.troves()) {
         return line.unreadable();
     }
     let mut far = line.far(2);
-    let outcome = adopt(answer.alloc(), disk, db, list, &mut far, &options);
-    told(answer, outcome);
+    let done = adopt(answer.alloc(), disk, db, list, &mut far, &options);
+    answer.outcome(done, told_job);
 }
 
 // `adopt OPTIONS TROVES FAR`.
@@ -119,22 +94,19 @@ fn adopted(disk: &mut Quiet, db: &mut Db, line: &mut Line, answer: &mut Answer)
 fn erased(disk: &mut Quiet, db: &mut Db, line: &mut Line, answer: &mut Answer)
     requires { IsDatabase Two db.old.installed db.old.oldest db.old.newest }
 {
-    let options = options_in(line);
+    let options = line.options(0);
     let names = line.list::<Name>(1);
-    let outcome = erase(answer.alloc(), disk, db, &names, &options);
-    told(answer, outcome);
+    let done = erase(answer.alloc(), disk, db, &names, &options);
+    answer.outcome(done, told_job);
 }
 
 // `rollback`.
 fn taken_back(disk: &mut Quiet, db: &mut Db, answer: &mut Answer)
     requires { IsDatabase Two db.old.installed db.old.oldest db.old.newest }
 {
-    match rollback(answer.alloc(), disk, db) {
-        Ok(number) => {
-            push_job(answer, number);
-            answer.text(" taken back");
-        }
-        Err(end) => answer.stopped(&end),
+    if let Some(number) = answer.given(rollback(answer.alloc(), disk, db)) {
+        push_job(number, answer);
+        answer.text(" taken back");
     }
 }
 
@@ -143,12 +115,9 @@ fn all_taken_back(disk: &mut Quiet, db: &mut Db, line: &mut Line, answer: &mut A
     requires { IsDatabase Two db.old.installed db.old.oldest db.old.newest }
 {
     let number = line.small(0);
-    match rollback_to(answer.alloc(), disk, db, number) {
-        Ok(count) => {
-            answer.number(u64::from(count));
-            answer.text(" taken back");
-        }
-        Err(end) => answer.stopped(&end),
+    if let Some(count) = answer.given(rollback_to(answer.alloc(), disk, db, number)) {
+        answer.number(u64::from(count));
+        answer.text(" taken back");
     }
 }
 
@@ -156,14 +125,9 @@ fn all_taken_back(disk: &mut Quiet, db: &mut Db, line: &mut Line, answer: &mut A
 fn verified(disk: &mut Quiet, db: &Db, line: &mut Line, answer: &mut Answer) {
     let names = line.list::<Name>(0);
     let mut far = line.far(1);
-    match verify(answer.alloc(), disk, &db.installed, &names, &mut far) {
-        Ok(found) => {
-            let text = verified_text(answer.alloc(), &found);
-            if let Some(text) = answer.kept(text) {
-                push_lines(answer, text.get());
-            }
-        }
-        Err(end) => answer.stopped(&end),
+    let found = verify(answer.alloc(), disk, &db.installed, &names, &mut far);
+    if let Some(found) = answer.given(found) {
+        push_lines(verified_text(answer.alloc(), &found), answer);
     }
 }
 
@@ -197,7 +161,7 @@ fn made_with(disk: &mut Quiet, db: &mut Db, line: &mut Line, answer: &mut Answer
 {
     made_on(disk, db, line, answer);
     answer.text(" [");
-    push_db(answer, db);
+    push_db(db, answer);
     answer.text("]");
 }
 

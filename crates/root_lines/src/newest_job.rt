@@ -3,6 +3,7 @@ ghost use Rattle.std.specs.Prelude.{◌≡◌, ◌≤◌, false, All, IfOk, OnOk
 ghost use Rattle.rollback_stack.specs.JobEntries as records;
 ghost use Rattle.job_targets.specs.Old.{is_staged};
 ghost use Rattle.job_targets.specs.declared.entry.Entry as declared;
+ghost use Rattle.local_db.specs.Installed.{IsInstalled};
 ghost use Rattle.local_db.specs.Stores.{IsDatabase};
 ghost use Rattle.local_db.specs.declared.format.Format.TheVariants.{Two};
 ghost use Rattle.job_record.specs.Changed.{AreChangedNames};
@@ -16,7 +17,7 @@ use past_jobs::PastList;
 use rollback_stack::{Change, Job, read_job};
 use std::alloc::Global;
 use system_core::changed_names;
-use system_core::cny_base::{Name, Refusal, Stop};
+use system_core::cny_base::{Name, OutOfMemory, Refusal, Stop};
 use system_core::trove_stream::Installed;
 use update_job::changed;
 
@@ -59,6 +60,16 @@ fn entries_of(
     Ok(entries)
 }
 
+// The names whose trove changed since this list.
+fn names_of(alloc: Global, before: &Installed, db: &Db) -> Result<Vec<Name>, OutOfMemory>
+    requires before { IsInstalled before.now }
+    requires after { IsInstalled db.now.installed }
+    ensures { IfOk result (λ names. AreChangedNames before.now db.now.installed names.items) }
+{
+    let changes = changed(alloc, before, &db.installed)?;
+    changed_names(alloc, before, &db.installed, changes.get())
+}
+
 /// The newest job, by its record.
 pub fn newest_job(alloc: Global, root: &mut Quiet, db: &Db) -> Result<NewestJob, Stop>
     requires { IsDatabase Two db.now.installed db.now.oldest db.now.newest }
@@ -72,11 +83,10 @@ pub fn newest_job(alloc: Global, root: &mut Quiet, db: &Db) -> Result<NewestJob,
     let mut list = PastList::of(alloc, Format::Two, &db.installed)?;
     let job = read_job(alloc, root, Format::Two, &mut list, db.newest)?;
     let Job { changes, .. } = job;
+    let before = list.into_installed()?;
+    let names = names_of(alloc, &before, db)?;
     let entries = entries_of(alloc, root, db.newest, changes)?;
     let entries = Entries::new(entries);
-    let before = list.into_installed()?;
-    let changes = changed(alloc, &before, &db.installed)?;
-    let names = changed_names(alloc, &before, &db.installed, changes.get())?;
     Ok(NewestJob {
         before,
         names,

@@ -3,24 +3,24 @@ use job_record::{decode, encode};
 use line_words::{Answer, Line, Stop};
 use local_db::{Delta, Format, Record, Told, ToldEntry};
 use std::alloc::Global;
-use system_core::cny_base::{Bytes, Copies};
+use system_core::cny_base::Bytes;
 
-fn push_told(answer: &mut Answer, told: &Told) {
+fn push_told(told: &Told, answer: &mut Answer) {
     match told {
         Told::Listed => answer.text("="),
         Told::Own(mark) => answer.mark(mark),
     }
 }
 
-fn push_entry(answer: &mut Answer, entry: &ToldEntry) {
+fn told_entry(entry: &ToldEntry, answer: &mut Answer) {
     answer.field(entry.path.text());
     answer.text(" from ");
-    push_told(answer, &entry.before);
+    push_told(&entry.before, answer);
     answer.text(" to ");
-    push_told(answer, &entry.after);
+    push_told(&entry.after, answer);
 }
 
-fn push_delta(answer: &mut Answer, delta: &Delta) {
+fn told_delta(delta: &Delta, answer: &mut Answer) {
     match delta {
         Delta::Came(id) => {
             answer.field("came ");
@@ -40,27 +40,23 @@ fn push_delta(answer: &mut Answer, delta: &Delta) {
 }
 
 // Copies of the deltas.
-fn push_deltas(answer: &mut Answer, deltas: &[Delta]) {
+fn push_deltas(deltas: &[Delta], answer: &mut Answer) {
     for delta in deltas {
-        if let Some(copy) = answer.kept(delta.copy()) {
-            push_delta(answer, &copy);
-        }
+        answer.copied(delta, told_delta);
     }
 }
 
 // Copies of the entries.
-fn push_entries(answer: &mut Answer, entries: &[ToldEntry]) {
+fn push_entries(entries: &[ToldEntry], answer: &mut Answer) {
     for entry in entries {
-        if let Some(copy) = answer.kept(entry.copy()) {
-            push_entry(answer, &copy);
-        }
+        answer.copied(entry, told_entry);
     }
 }
 
-fn push_record(answer: &mut Answer, found: &Record) {
+fn told_record(found: &Record, answer: &mut Answer) {
     answer.number(u64::from(found.number));
-    push_deltas(answer, found.deltas.get());
-    push_entries(answer, found.entries.get());
+    push_deltas(found.deltas.get(), answer);
+    push_entries(found.entries.get(), answer);
 }
 
 fn format_in(line: &mut Line) -> Format {
@@ -77,10 +73,7 @@ fn format_in(line: &mut Line) -> Format {
 /// `record FORMAT BYTES`: what the record of these bytes says: its number, deltas and entries.
 pub fn record_told(line: &mut Line, answer: &mut Answer) {
     let format = format_in(line);
-    match decode(answer.alloc(), format, line.bytes(1)) {
-        Ok(found) => push_record(answer, &found),
-        Err(fault) => answer.fault(fault),
-    }
+    answer.outcome(decode(answer.alloc(), format, line.bytes(1)), told_record);
 }
 
 // The bytes in format 2 of the record that these bytes are.

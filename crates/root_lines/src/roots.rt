@@ -1,6 +1,6 @@
 //! Lines of calls on roots. LABEL says what a line shows. A CALL is an argument: the name of a call and what it takes, with a `|`
 //! between two.
-use crate::failing::{Call, push_all_failed, push_all_stopped, push_ready};
+use crate::failing::{Call, push_all, push_ready};
 use line_words::tree_memory::MemoryTree;
 use line_words::{Answer, Line, Outcomes};
 use root_words::PRIVATE;
@@ -28,14 +28,14 @@ pub fn run(line: &mut Line, answer: &mut Answer) {
 /// ready, and the call is made again.
 pub fn cut_off(line: &mut Line, answer: &mut Answer) {
     if let Some(call) = Call::of(line, 3) {
-        push_all_stopped(line, &call, answer);
+        push_all(&call, true, line, answer);
     }
 }
 
 /// `fail LABEL TREE CALL`: each call of the disk fails in turn.
 pub fn failing(line: &mut Line, answer: &mut Answer) {
     if let Some(call) = Call::of(line, 2) {
-        push_all_failed(line, &call, answer);
+        push_all(&call, false, line, answer);
     }
 }
 
@@ -73,11 +73,13 @@ fn push_seen(tree: &MemoryTree, path: &Path, answer: &mut Answer) {
 /// `seen LABEL TREE PATHS CALL`: the call's answer, and what others read at each of the paths meanwhile.
 pub fn seen(line: &mut Line, answer: &mut Answer) {
     let paths = line.list::<Path>(2);
-    if let (Some(mut disk), Some(call)) = (line.disk(1, 0), Call::of(line, 3)) {
-        let said = call.made(&mut disk, answer);
-        answer.add(&said);
-        for path in &paths {
-            push_seen(&disk.tree, path, answer);
+    if let Some(mut disk) = line.disk(1, 0) {
+        if let Some(call) = Call::of(line, 3) {
+            let said = call.made(&mut disk, answer);
+            answer.add(&said);
+            for path in &paths {
+                push_seen(&disk.tree, path, answer);
+            }
         }
     }
 }

@@ -1,15 +1,14 @@
 //! Jobs that are taken back one after the other, on the fingerprints of a tree.
-use line_words::tree_memory::MemoryTree;
-use line_words::{Answer, Line};
+use line_words::{Answer, Line, Quiet, Why};
 use local_db::Change;
 use past_jobs::{FoundMarks, are_rising, check_undo, take_back};
 use rollback_stack::changes_of;
-use root_words::entries_of;
+use root_words::{disk_of, entries_of};
 use std::collections::BTreeMap;
 
-// What jobs that were taken back found, over the tree on which they are.
+// What jobs that were taken back found, over the disk on which they are.
 struct Taken {
-    tree: MemoryTree,
+    disk: Quiet,
     found: FoundMarks,
 }
 
@@ -17,7 +16,7 @@ struct Taken {
 impl Drop for Taken {
     fn drop(self) {
         let Taken {
-            tree: _tree,
+            disk: _disk,
             found: _found,
         } = self;
     }
@@ -30,13 +29,13 @@ impl Taken {
             answer.unreadable();
             return false;
         }
-        match check_undo(answer.alloc(), &mut self.tree, &self.found, changes) {
+        match check_undo(answer.alloc(), &mut self.disk, &self.found, changes) {
             Ok(()) => answer
                 .kept(take_back(&mut self.found, number, changes))
                 .is_some(),
             Err(end) => {
                 answer.number(u64::from(number));
-                answer.stopped(&end);
+                end.tell(answer);
                 false
             }
         }
@@ -80,9 +79,8 @@ impl Taken {
 /// each of their paths the oldest job that has it, and the fingerprint of what that found; or which of them can't be, and why. The
 /// call of the disk of the number FAILS fails; none for 0.
 pub fn undo_all(line: &mut Line, answer: &mut Answer) {
-    let fails = line.number(0);
-    if let Some(tree) = line.tree(1, fails) {
+    if let Some(disk) = disk_of(line) {
         let found = BTreeMap::new(answer.alloc());
-        Taken { tree, found }.undo_jobs(line, answer);
+        Taken { disk, found }.undo_jobs(line, answer);
     }
 }

@@ -4,15 +4,25 @@ ghost use Rattle.local_db.specs.Database.{IsDb};
 ghost use Rattle.local_db.specs.declared.format.Format.TheVariants.{Two};
 ghost use Rattle.local_db.specs.Stores.{IsDatabase};
 
-use line_words::{Answer, Quiet};
+use line_words::{Answer, Line, Quiet, Why};
 use local_db::{Db, distinct_databases, encode, load};
 use std::alloc::Global;
-use system_core::cny_base::{Fault, Stop};
+use system_core::cny_base::{OutOfMemory, Stop};
 use system_core::ready;
-use system_core::trove_stream::Trove;
 
 /// The private directory of a root.
 pub const PRIVATE: &str = "/var/lib/conarydb";
+
+/// `FAILS TREE`: the tree of the second argument as a disk. Its call of the number FAILS fails; none does where it is 0.
+pub fn disk_of(line: &mut Line) -> Option<Quiet> {
+    let fails = line.number(0);
+    line.disk(1, fails)
+}
+
+/// What the crash leaves of a disk that a number picks.
+pub fn crashed(alloc: Global, disk: &Quiet, pick: u64) -> Result<Quiet, OutOfMemory> {
+    Ok(Quiet::new(disk.tree.crash(alloc, pick)?))
+}
 
 // Nothing, where the database fits format 2: that of each line does.
 fn check_room(alloc: Global, db: &Db) -> Result<(), Stop>
@@ -20,11 +30,8 @@ fn check_room(alloc: Global, db: &Db) -> Result<(), Stop>
     ensures { IfOk result (λ done. IsDatabase Two db.now.installed db.now.oldest db.now.newest) }
 {
     distinct_databases();
-    match encode(alloc, db) {
-        Ok(_) => Ok(()),
-        Err(Fault::Memory) => Err(Stop::Memory),
-        Err(Fault::Refused(why)) => Err(Stop::Refused(why)),
-    }
+    encode(alloc, db)?;
+    Ok(())
 }
 
 /// The database of a root of format 2, which isn't made ready.
@@ -42,25 +49,17 @@ pub fn readied(disk: &mut Quiet, answer: &mut Answer) -> Option<Db>
 {
     match ready(answer.alloc(), disk) {
         Ok(db) => Some(db),
-        Err(end) => {
-            answer.stopped(&end);
+        Err(why) => {
+            why.tell(answer);
             None
         }
     }
 }
 
-// Appends the ids of troves, a space before each.
-fn push_troves(answer: &mut Answer, troves: &[Trove]) {
-    for trove in troves {
-        answer.text(" ");
-        answer.id(trove.id());
-    }
-}
-
 /// Appends the numbers of the stack, and the ids of the troves.
-pub fn push_db(answer: &mut Answer, db: &Db) {
+pub fn push_db(db: &Db, answer: &mut Answer) {
     answer.number(u64::from(db.oldest));
     answer.text(" ");
     answer.number(u64::from(db.newest));
-    push_troves(answer, db.installed.troves());
+    answer.trove_ids(" ", db.installed.troves());
 }

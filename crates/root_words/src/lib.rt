@@ -2,12 +2,10 @@
 //! root, and the writes of a job. What the programs share that make calls on roots.
 #![tactic(auto)]
 
-mod carried;
 mod databases;
 mod entries;
 mod troves;
 
-pub use carried::{are_in_order, carried_of};
-pub use databases::{PRIVATE, database_of, push_db, readied};
-pub use entries::{entries_of, push_puts_text, push_want};
+pub use databases::{PRIVATE, crashed, database_of, disk_of, push_db, readied};
+pub use entries::{entries_of, told_puts, told_want};
 pub use troves::{are_allowed, list_of, troves_of};

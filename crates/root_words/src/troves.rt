@@ -7,9 +7,11 @@ use std::alloc::Global;
 use system_core::cny_base::Bytes;
 use system_core::trove_stream::{Installed, Trove, check, decode_full};
 
-fn push_trove(alloc: Global, troves: &mut Vec<Trove>, stream: &[u8]) -> Result<(), Stop> {
-    let trove = decode_full(alloc, stream)?;
-    Ok(troves.push(trove)?)
+fn push_trove(line: &mut Line, troves: &mut Vec<Trove>, stream: &[u8]) {
+    let trove = decode_full(line.alloc(), stream);
+    if let Some(trove) = line.kept(trove) {
+        line.kept(troves.push(trove));
+    }
 }
 
 // The stream of these bytes with the digits of a number between them.
@@ -30,25 +32,23 @@ fn push_numbered(
 ) {
     let stream = stream_of(line.alloc(), before, number, after);
     if let Some(stream) = line.kept(stream) {
-        let pushed = push_trove(line.alloc(), troves, stream.get());
-        line.kept(pushed);
+        push_trove(line, troves, stream.get());
     }
 }
+
+// The first number.
+const FIRST: u32 = 10_000;
 
 // `COUNT BYTES BYTES`: so many troves, whose streams are the two with a number between them, from 10,000 on.
 fn push_many(line: &mut Line, troves: &mut Vec<Trove>, raw: &str) {
     let (count, streams) = raw.split_once(' ').unwrap_or((raw, ""));
     let (before, after) = streams.split_once(' ').unwrap_or((streams, ""));
-    let count = line.part::<u32>(count).unwrap_or(0);
-    if let (Some(before), Some(after)) = (line.part::<Bytes>(before), line.part::<Bytes>(after)) {
-        for number in 0..count {
-            push_numbered(
-                line,
-                troves,
-                number.saturating_add(10_000),
-                before.get(),
-                after.get(),
-            );
+    let last = line.part::<u32>(count).unwrap_or(0).saturating_add(FIRST);
+    if let Some(before) = line.part::<Bytes>(before) {
+        if let Some(after) = line.part::<Bytes>(after) {
+            for number in FIRST..last {
+                push_numbered(line, troves, number, before.get(), after.get());
+            }
         }
     }
 }
@@ -57,8 +57,7 @@ fn push_troves(line: &mut Line, troves: &mut Vec<Trove>, raw: &str) {
     if let Some(rest) = raw.strip_prefix("numbered ") {
         push_many(line, troves, rest);
     } else if let Some(stream) = line.part::<Bytes>(raw) {
-        let pushed = push_trove(line.alloc(), troves, stream.get());
-        line.kept(pushed);
+        push_trove(line, troves, stream.get());
     }
 }
 
@@ -78,10 +77,7 @@ pub fn troves_of(line: &mut Line, place: usize) -> Vec<Trove> {
 /// The troves of the list at a place, whose names rise.
 pub fn list_of(line: &mut Line, place: usize) -> Option<Installed> {
     let list = Installed::new(troves_of(line, place));
-    if list.is_none() {
-        line.unreadable();
-    }
-    list
+    line.some(list)
 }
 
 // Whether the trove records no path that no trove may record.

@@ -8,20 +8,16 @@ use Rattle.local_db.specs.Formats.{AreEnds}
 use Rattle.local_db.specs.Installed.{IsInstalled}
 use Rattle.local_db.specs.Record as state
 use Rattle.rollback_stack.specs.Entries as spec
-use Rattle.update_job.specs.Changes.{AreChanges}
 use Rattle.root_lines.proofs.newest_job.newest_job.Goals as goal
 
 one_at_least : (oldest newest : ℕ) → AreEnds oldest newest → newest ≢ 0 → 1 ≤ newest
 one_at_least oldest newest ends some = ⊎_elim (λ none. absurd (some none.1)) (λ job. omega (arith, job.0, job.1)) ends
 
-pub changed_names-requires-clause-before : goal.changed_names-requires-clause-before
-changed_names-requires-clause-before c = subst IsInstalled (sym c.in_ok-before.ensures) c.in_ok-job.ensures.job.checks.list
+pub names_of-requires-clause-before : goal.names_of-requires-clause-before
+names_of-requires-clause-before c = subst IsInstalled (sym c.in_ok-before.ensures) c.in_ok-job.ensures.job.checks.list
 
-pub changed_names-requires-clause-after : goal.changed_names-requires-clause-after
-changed_names-requires-clause-after c = c.requires.installed
-
-pub changed_names-requires-clause-changes : goal.changed_names-requires-clause-changes
-changed_names-requires-clause-changes c = subst (AreChanges c.in_ok-before.before c.args.db.now.installed) (sym c.get.ensures) c.in_ok-changes.ensures
+pub names_of-requires-clause-after : goal.names_of-requires-clause-after
+names_of-requires-clause-after c = c.requires.installed
 
 pub returns-clause-number : goal.returns-clause-number
 returns-clause-number c = one_at_least c.args.db.now.oldest c.args.db.now.newest c.requires.ends c.if-db-eq0.false
