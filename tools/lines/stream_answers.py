@@ -1,7 +1,7 @@
 """What the calls of the program stream_lines have to answer, by name.
 
-The answers come from tools/model/streams.py, tools/model/relatives.py and tools/model/manifests.py, which are made from
-docs/FORMATS.md alone, and the texts of refusals from docs/COMMANDS.md; nothing is shared with the program.
+The answers come from tools/model/streams.py, tools/model/relatives.py, tools/model/manifests.py and tools/model/batches.py, which are
+made from docs/FORMATS.md alone, and the texts of refusals from docs/COMMANDS.md; nothing is shared with the program.
 """
 from functools import partial
 from operator import itemgetter
@@ -9,6 +9,7 @@ from operator import itemgetter
 from tools.cases.rows import table
 from tools.lines.words import yes_or_no
 from tools.model import manifests, relatives, streams
+from tools.model.batches import read_batch
 from tools.model.relatives import Refused
 from tools.model.streams import (
     TAGS, Fault, NotOfForm, Owner, Relative, Trove, directory, flag_letters, flags_of_letters, id_bytes, id_of_text, id_text, inner_items,
@@ -342,6 +343,23 @@ def manifest(text, longest=4_000):
     return manifests.answer(text, longest).decode()
 
 
+# ---- batches
+
+
+def word_text(word):
+    return word.decode() if len(word) <= MOST_OF_STREAM else digest(word)
+
+
+def line_text(words, given):
+    told = ["; " + str(len(words)), *("|" + word_text(word) for word in words[:SHOWN])]
+    return "".join(told) + (" < " + short(given) if given else "")
+
+
+def batch(text):
+    lines = read_batch(text)
+    return "".join([str(len(lines)), *(line_text(*line) for line in lines[:SHOWN])])
+
+
 UNREADABLE = {
     "relative_of": lambda one, other: short(relative_bytes(between(one, other)[1])),
     "round": lambda one, other: applied_text(*between(one, other)),
@@ -376,6 +394,7 @@ CALLS = {
     "manifest": manifest,
     "dir_component": lambda path: manifests.component_of(path, True).decode(),
     "component": lambda path: manifests.component_of(path, False).decode(),
+    "batch": batch,
 }
 
 

@@ -6,17 +6,17 @@ answer. Usage, at the top:
     python3 -m tools.lines.stream_lines stdout  >crates/stream_lines/stdout    what each has to answer
     python3 -m tools.lines.stream_lines count                                  how many lines and answers there are, by topic
 
-The calls are those of tools/cases/streams.py, tools/cases/relatives.py and tools/cases/manifests.py;
+The calls are those of tools/cases/streams.py, tools/cases/relatives.py, tools/cases/manifests.py and tools/cases/batches.py;
 tools/lines/stream_answers.py says what each has to answer.
 """
 import re
 import sys
 
-from tools.cases import manifests, relatives, streams
+from tools.cases import batches, manifests, relatives, streams
 from tools.lines.stream_answers import answer, answers_in
 from tools.lines.words import Terms, digits, value_bytes
 
-CASES = streams.CASES + relatives.CASES + manifests.CASES
+CASES = streams.CASES + relatives.CASES + manifests.CASES + batches.CASES
 
 
 def argument_text(argument):

@@ -1,9 +1,10 @@
-//! Answers vectors of streams, of what relative troves and change sets do, and of manifests. Each line of standard input has a
+//! Answers vectors of streams, of what relative troves and change sets do, of manifests, and of batches. Each line of standard input has a
 //! call and its arguments, with a tab between two; the line of standard output with its number is what the call answers. Both
 //! come from tools/lines/stream_lines.py, which is made from the rules of the formats alone.
 #![tactic(auto)]
 
 mod again;
+mod batches;
 mod changes;
 mod damages;
 mod elements;
@@ -62,6 +63,7 @@ fn of_changes(line: &mut Line, answer: &mut Answer) {
         "manifest" => manifests::manifest(answer, line.bytes(0), manifests::LONGEST),
         "dir_component" => manifests::component(answer, line, true),
         "component" => manifests::component(answer, line, false),
+        "batch" => batches::batch(answer, line.bytes(0)),
         "beginnings" => damages::beginnings(answer, line.text(0), line.bytes(1)),
         "changes" => {
             let place = line.small(2) as usize;
