@@ -83,12 +83,22 @@ some_words root_laws repo_laws store_laws words before now err err' status end (
   reports = inr (subst (λ (x : End). Reports x err err' status) none.1 reports);
 })
 
+-- ---- statuses
+
 small_status : (e : Failure) → status_of (Err e) ≤ 8
 small_status failure.Usage = omega arith
 small_status _ = omega arith
 
--- no status is above 8
-pub known_status : (end : End) (err err' : SinkState) (status : ℕ) → Reports end err err' status → status ≤ 8
+known_status : (end : End) (err err' : SinkState) (status : ℕ) → Reports end err err' status → status ≤ 8
 known_status (Ok x) err err' status h = let is : status ≡ 0 = h.0 in omega (arith, is)
 known_status (Err e) err err' status (inl tells) = let is : status ≡ status_of (Err e) = tells.answered in omega (arith, is, small_status e)
 known_status (Err e) err err' status (inr want) = let is : status ≡ 7 = want.1.answered in omega (arith, is)
+
+whole_status : {T P : Type 0} (root_disk : DiskModel T) (repo_disk : DiskModel P) (words : Result Command Failure) (before now : CallState T P) (err err' : SinkState) (status : ℕ) → IsWholeCall root_disk repo_disk words before now err err' status → status ≤ 8
+whole_status root_disk repo_disk (Ok c) before now err err' status is = known_status is.call.end err err' status is.call.reports
+whole_status root_disk repo_disk (Err e) before now err err' status is = ⊎_elim (known_status (Err e) err err' status) (known_status (Err failure.Memory) err err' status) is.reports
+
+-- no status is above 8
+pub some_status : {T P : Type 0} (root_disk : DiskModel T) (repo_disk : DiskModel P) (words : List (List ℕ)) (before now : CallState T P) (err err' : SinkState) (status : ℕ) → IsSomeCall root_disk repo_disk words before now err err' status → status ≤ 8
+some_status root_disk repo_disk words before now err err' status (inl some) = whole_status root_disk repo_disk some.0 before now err err' status some.2
+some_status root_disk repo_disk words before now err err' status (inr none) = whole_status root_disk repo_disk (Err failure.Memory) before now err err' status none

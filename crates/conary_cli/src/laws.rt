@@ -9,7 +9,7 @@ ghost use Rattle.cli_call.specs.ByStatus.{IsCallOf};
 ghost use Rattle.cli_call.specs.Call.{CallState};
 ghost use Rattle.conary_cli.specs.declared.words.Command.{Command};
 ghost use Rattle.conary_cli.specs.Blocked.{IsBlocked};
-ghost use Rattle.conary_cli.specs.Commands.{meaning, is_of_root, IsCommandCall};
+ghost use Rattle.conary_cli.specs.Commands.{meaning, is_of_root, IsCommandCall, IsSomeCall};
 ghost use Rattle.conary_cli.specs.FormDecides.{FormDecides};
 ghost use Rattle.conary_cli.specs.Records.{RecordsAreWhole};
 
@@ -19,6 +19,8 @@ use cny_manifest::one_manifest;
 
 /// What a call promises by how it ended, said by its status, by the form of its input, and of the records that it read.
 pub fn call_laws<T: TreeDisk, P: TreeDisk>()
+    // Whatever the words are, and however the call ends, no status is above 8.
+    ensures statuses { (words : List (List ℕ)) (before now : CallState T P) (err err' : SinkState) (status : ℕ) → IsSomeCall T.disk P.disk words before now err err' status → status ≤ 8 }
     // What each status says.
     ensures status { (c : Command) (before now : CallState T P) (err err' : SinkState) (status : ℕ) (call : IsCommandCall T.disk P.disk c before now err err' status)
         → IsCallOf T.disk P.disk (is_of_root c) (meaning c) call.call.input before now err err' status }

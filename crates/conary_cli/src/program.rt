@@ -1,5 +1,5 @@
 //! A whole call of the program.
-ghost use Rattle.std.specs.Prelude.{◌≤◌, string_bytes, map, IsTrue, Result};
+ghost use Rattle.std.specs.Prelude.{string_bytes, map, IsTrue, Result};
 ghost use Rattle.cli_call.specs.declared.failure.Failure.{Failure};
 ghost use Rattle.conary_cli.specs.declared.words.Command.{Command};
 ghost use Rattle.cny_flow.specs.Flow.{sink_state, source_state};
@@ -103,8 +103,6 @@ pub fn run<I: Source, O: Sink, E: Sink, P: TreeDisk, T: TreeDisk>(
     // was done.
     ensures some { IsSomeCall T.disk P.disk (map string_bytes words.now) (call_state I.source O.sink input.old out.old root.old repo.old)
         (call_state I.source O.sink input.new out.new root.new repo.new) (sink_state E.sink err.old) (sink_state E.sink err.new) result }
-    // Whatever the words are, and however the call ends.
-    ensures statuses { result ≤ 8 }
     // All that a call promises, by the command that the words are.
     ensures call { (expected : Result Command Failure) → AreWords (map string_bytes words.now) expected → IsWholeCall T.disk P.disk expected
         (call_state I.source O.sink input.old out.old root.old repo.old) (call_state I.source O.sink input.new out.new root.new repo.new)

@@ -1,9 +1,13 @@
 use Rattle.cli_call.proofs.CallByStatus.{by_status}
 use Rattle.conary_cli.specs.Commands.{meaning, scope_of}
+use Rattle.conary_cli.proofs.Calls.{some_status}
 use Rattle.conary_cli.proofs.BlockedEnds.{blocked_call}
 use Rattle.conary_cli.proofs.FormEnds.{form_decides}
 use Rattle.conary_cli.proofs.RecordEnds.{records_whole}
 use Rattle.conary_cli.proofs.laws.call_laws.Goals as goal
+
+pub returns-clause-statuses : goal.returns-clause-statuses
+returns-clause-statuses g c words before now err err' status is = some_status g.T.TreeDisk.disk g.P.TreeDisk.disk words before now err err' status is
 
 pub returns-clause-status : goal.returns-clause-status
 returns-clause-status g c k before now err err' status call = by_status (scope_of k) (meaning k) before now err err' status call.call

@@ -2,7 +2,7 @@ use Rattle.std.proofs.Common.{map}
 use Rattle.std.specs.Prelude.{string_bytes}
 use Rattle.cny_flow.specs.Flow.{sink_state}
 use Rattle.cli_call.specs.Call.{call_state}
-use Rattle.conary_cli.proofs.Calls.{known_status, some_words, whole_words}
+use Rattle.conary_cli.proofs.Calls.{some_words, whole_words}
 use Rattle.conary_cli.proofs.program.run.Goals as goal
 
 pub returns-clause-call : goal.returns-clause-call
@@ -18,6 +18,3 @@ returns-clause-some g c =
     let now = call_state g.I.Source.source g.O.Sink.sink c.run_words-end.new.input c.run_words-end.new.out c.run_words-end.new.root c.run_words-end.new.repo in
     some_words g.met.T.TreeDisk.laws g.met.P.TreeDisk.laws c.store_laws.ensures (map string_bytes c.args.words.now) before now (sink_state g.E.Sink.sink c.args.err.now) (sink_state g.E.Sink.sink c.report.new.err) c.report.result c.run_words-end.result
     c.run_words-end.ensures.some c.report.ensures
-
-pub returns-clause-statuses : goal.returns-clause-statuses
-returns-clause-statuses g c = known_status c.run_words-end.result (sink_state g.E.Sink.sink c.args.err.now) (sink_state g.E.Sink.sink c.report.new.err) c.report.result c.report.ensures
