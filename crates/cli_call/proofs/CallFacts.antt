@@ -1,5 +1,5 @@
 -- What is known of a call by how it ended, whatever the disks store.
-use Rattle.std.proofs.Common.{◌≡◌, ◌≤◌, ℕ, Bool, true, false, List, Result, Ok, Err, refl, sym, ap, ◌∙◌, subst, inl, inr, ⊎_elim, arith}
+use Rattle.std.proofs.Common.{◌≡◌, ℕ, false, List, Result, Ok, Err, sym, ap, ◌∙◌, subst, ⊎_elim}
 use Rattle.std.specs.Prelude.{◌⊎◌, IsTrue}
 use Rattle.system_core.specs.cny-base.declared.refusal.Refusal.{Refusal}
 use Rattle.system_core.specs.cny-base.declared.stop.Stop.{Stop}
@@ -21,22 +21,16 @@ use Rattle.cli_call.specs.Line.{Moment, LineCause, RunsLine}
 use Rattle.cli_call.proofs.LineLaws.{keeps_still}
 use Rattle.cli_call.specs.Reading.{ReadsGiven}
 use Rattle.system_core.specs.tree-journal.Recovered.{RecoversToNone, IsKept}
-use Rattle.cli_call.specs.Report.{End, status_of}
+use Rattle.cli_call.specs.Report.{End}
 use Rattle.cli_call.specs.RootOpening.{IsRootKept}
 use Rattle.cli_call.specs.State.{Meaning, Scope}
 use Rattle.cli_call.specs.Stops.{root_failure, repository_failure}
-use Rattle.cli_call.specs.Store.{IsSettled}
 use Rattle.cli_call.specs.Stores.{root_store, repository_store}
 use Rattle.local_db.specs.declared.db.Db.{Db}
-use Rattle.cli_call.specs.WholeCall.{RecoversToCatalogue, RestOpened, OnlyRead, CallCause, CallFacts, SettlesSo}
+use Rattle.cli_call.specs.WholeCall.{OnlyRead, CallCause, CallFacts}
 use Rattle.system_core.proofs.Opened.{kept_so}
 use Rattle.system_core.specs.cny-base.declared.stop.Stop.TheVariants as stop
 use Rattle.cli_call.specs.declared.failure.Failure.TheVariants as failure
-
--- of two causes that are known where a disk is told, the first, or the second by itself
-pub by_told : {A B : Type 0} (told : Bool) → (IsTrue told → A ⊎ B) → (IsTrue told → A) ⊎ B
-by_told true h = ⊎_elim (λ a. inl (λ is. a)) (λ b. inr b) (h refl)
-by_told false h = inl (λ is. absurd (cc is))
 
 never_fixed : {r : Refusal} {d : Result (Unit {0}) Refusal} → d ≡ Ok tt → d ≡ Err r → ⊥
 never_fixed a b = cc (a, b)
@@ -44,24 +38,13 @@ never_fixed a b = cc (a, b)
 module _ {T P : Type 0} {root_disk : DiskModel T} {repo_disk : DiskModel P} (root_laws : IsDisk root_disk) (repo_laws : IsDisk repo_disk) (before now : CallState T P) where
   -- ---- the root wasn't opened
 
-  root_cause : (e : Stop) → OpensRoot root_disk repo_disk before.root now.root (Err e) → now.input ≡ before.input → now.out ≡ before.out → CallCause root_disk repo_disk before now (Err (root_failure e))
-  root_cause stop.Failed opens unread silent = (opens.stops, keeps_still before.out now.out silent)
-  root_cause stop.Memory opens unread silent = keeps_still before.out now.out silent
-  root_cause (stop.Refused r) opens unread silent = keeps_still before.out now.out silent
-  root_cause (stop.Damaged path) opens unread silent = (inl (unread, inl opens.stops), keeps_still before.out now.out silent)
-  root_cause stop.FarFailed opens unread silent = absurd opens.stops
-  root_cause (stop.FarDamaged path) opens unread silent = absurd opens.stops
-
-  root_settles : (e : Stop) → OpensRoot root_disk repo_disk before.root now.root (Err e) → now.input ≡ before.input → status_of (Err (root_failure e)) ≤ 4 → SettlesSo root_disk repo_disk before now (Err (root_failure e))
-  root_settles (stop.Refused r) opens unread le = ⊎_elim
-      (λ log. inr (inl (record { refusal = r; is = refl; of_path = opens.stops.of_path; log = inl log; unread = unread })))
-      (λ dir. inr (inr (record { refusal = r; is = refl; missing = dir; unread = unread })))
-      (by_told root_disk.tells (λ told. (opens.stops.told told).cause))
-  root_settles stop.Failed opens unread le = absurd (omega (arith, le))
-  root_settles stop.Memory opens unread le = absurd (omega (arith, le))
-  root_settles (stop.Damaged path) opens unread le = absurd (omega (arith, le))
-  root_settles stop.FarFailed opens unread le = absurd opens.stops
-  root_settles (stop.FarDamaged path) opens unread le = absurd opens.stops
+  root_cause : (e : Stop) → OpensRoot root_disk repo_disk before.root now.root (Err e) → now.out ≡ before.out → CallCause root_disk repo_disk before now (Err (root_failure e))
+  root_cause stop.Failed opens silent = (opens.stops, keeps_still before.out now.out silent)
+  root_cause stop.Memory opens silent = keeps_still before.out now.out silent
+  root_cause (stop.Refused r) opens silent = keeps_still before.out now.out silent
+  root_cause (stop.Damaged path) opens silent = keeps_still before.out now.out silent
+  root_cause stop.FarFailed opens silent = absurd opens.stops
+  root_cause (stop.FarDamaged path) opens silent = absurd opens.stops
 
   same_repo : now.repo ≡ before.repo → IsKept repository_store.base (repo_disk.reads before.repo) (repo_disk.reads now.repo)
   same_repo same = subst (λ (d : P). IsKept repository_store.base (repo_disk.reads before.repo) (repo_disk.reads d)) (sym same) (kept_so repository_store.base (repo_disk.reads before.repo))
@@ -76,9 +59,8 @@ module _ {T P : Type 0} {root_disk : DiskModel T} {repo_disk : DiskModel P} (roo
 
   at_root : (e : Stop) → OpensRoot root_disk repo_disk before.root now.root (Err e) → now.repo ≡ before.repo → now.input ≡ before.input → now.out ≡ before.out → CallFacts root_disk repo_disk before now (Err (root_failure e))
   at_root e opens same unread silent = record {
-    cause = root_cause e opens unread silent;
+    cause = root_cause e opens silent;
     kept = λ none. record { root = λ told. root_kept e opens told none; repo = λ told. same_repo same };
-    settles = root_settles e opens unread;
     root_untouched = opens.untouched;
     repo_untouched = λ told none. subst (λ (d : P). Confined repo_disk (Among no_name) before.repo d) (sym same) (confined_start repo_laws (Among no_name) before.repo);
     repo_within = λ told off. subst (λ (d : P). Confined repo_disk (Among (is_within repository_base)) before.repo d) (sym same) (confined_start repo_laws (Among (is_within repository_base)) before.repo);
@@ -87,33 +69,18 @@ module _ {T P : Type 0} {root_disk : DiskModel T} {repo_disk : DiskModel P} (roo
 
   -- ---- the root was opened, and the repository wasn't
 
-  repo_cause : (e : Stop) → OpensRepository root_disk repo_disk before.repo now.repo (Err e) → now.input ≡ before.input → now.out ≡ before.out → CallCause root_disk repo_disk before now (Err (repository_failure e))
-  repo_cause stop.Failed opens unread silent = (opens.stops, keeps_still before.out now.out silent)
-  repo_cause stop.Memory opens unread silent = keeps_still before.out now.out silent
-  repo_cause (stop.Refused r) opens unread silent = keeps_still before.out now.out silent
-  repo_cause (stop.Damaged path) opens unread silent = (inl (unread, inr opens.stops), keeps_still before.out now.out silent)
-  repo_cause stop.FarFailed opens unread silent = absurd opens.stops
-  repo_cause (stop.FarDamaged path) opens unread silent = absurd opens.stops
+  repo_cause : (e : Stop) → OpensRepository root_disk repo_disk before.repo now.repo (Err e) → now.out ≡ before.out → CallCause root_disk repo_disk before now (Err (repository_failure e))
+  repo_cause stop.Failed opens silent = (opens.stops, keeps_still before.out now.out silent)
+  repo_cause stop.Memory opens silent = keeps_still before.out now.out silent
+  repo_cause (stop.Refused r) opens silent = keeps_still before.out now.out silent
+  repo_cause (stop.Damaged path) opens silent = keeps_still before.out now.out silent
+  repo_cause stop.FarFailed opens silent = absurd opens.stops
+  repo_cause (stop.FarDamaged path) opens silent = absurd opens.stops
 
-  repo_settles : (e : Stop) → OpensRepository root_disk repo_disk before.repo now.repo (Err e) → now.input ≡ before.input → status_of (Err (repository_failure e)) ≤ 4 → SettlesSo root_disk repo_disk before now (Err (repository_failure e))
-  repo_settles (stop.Refused r) opens unread le = inr (inl (record {
-    refusal = r;
-    is = refl;
-    of_path = opens.stops.of_path;
-    log = inr (λ told. ⊎_elim (λ log. log) (λ is. absurd (cc is)) (opens.stops.told told).cause);
-    unread = unread;
-  }))
-  repo_settles stop.Failed opens unread le = absurd (omega (arith, le))
-  repo_settles stop.Memory opens unread le = absurd (omega (arith, le))
-  repo_settles (stop.Damaged path) opens unread le = absurd (omega (arith, le))
-  repo_settles stop.FarFailed opens unread le = absurd opens.stops
-  repo_settles (stop.FarDamaged path) opens unread le = absurd opens.stops
-
-  at_repository : (e : Stop) (db : Db) → OpensRoot root_disk repo_disk before.root now.root (Ok db) → OpensRepository root_disk repo_disk before.repo now.repo (Err e) → now.input ≡ before.input → now.out ≡ before.out → CallFacts root_disk repo_disk before now (Err (repository_failure e))
-  at_repository e db opens_root opens unread silent = record {
-    cause = repo_cause e opens unread silent;
+  at_repository : (e : Stop) (db : Db) → OpensRoot root_disk repo_disk before.root now.root (Ok db) → OpensRepository root_disk repo_disk before.repo now.repo (Err e) → now.out ≡ before.out → CallFacts root_disk repo_disk before now (Err (repository_failure e))
+  at_repository e db opens_root opens silent = record {
+    cause = repo_cause e opens silent;
     kept = λ none. record { root = λ told. opens_root.kept told tt; repo = opens.kept };
-    settles = repo_settles e opens unread;
     root_untouched = λ told none. absurd (none (opens_root.opened told).reached.recovered (opens_root.opened told).reached.recovers);
     repo_untouched = opens.untouched;
     repo_within = λ told off. confined_wider (λ p none. absurd cc) (opens.clear told off);
@@ -123,7 +90,7 @@ module _ {T P : Type 0} {root_disk : DiskModel T} {repo_disk : DiskModel P} (roo
   pub not_opened : (end : End) → NotOpened root_disk repo_disk before now end → CallFacts root_disk repo_disk before now end
   not_opened end stops = ⊎_elim
       (λ at. subst (λ (x : End). CallFacts root_disk repo_disk before now x) (sym (stops.is ∙ ap Err at.is)) (at_root at.stop at.opens at.same stops.unread stops.silent))
-      (λ at. subst (λ (x : End). CallFacts root_disk repo_disk before now x) (sym (stops.is ∙ ap Err at.is)) (at_repository at.stop at.db at.opens_root at.opens stops.unread stops.silent))
+      (λ at. subst (λ (x : End). CallFacts root_disk repo_disk before now x) (sym (stops.is ∙ ap Err at.is)) (at_repository at.stop at.db at.opens_root at.opens stops.silent))
       stops.stops
 
   -- ---- both were opened
@@ -161,25 +128,6 @@ module _ {T P : Type 0} {root_disk : DiskModel T} {repo_disk : DiskModel P} (roo
     unread_cause m failure.Memory reads silent = keeps_still before.out now.out silent
     unread_cause m _ reads silent = absurd reads.cause
 
-    loaded_repo : IsTrue repo_disk.tells → RecoversToCatalogue (repo_disk.reads before.repo)
-    loaded_repo told = let is = opens.opens.opened told in record {
-      tree = repo_disk.reads repo;
-      recovers = is.recovers;
-      only = is.stores;
-      catalogue = opened.catalogue;
-      holds = is.value_is;
-      rules = opens.rules;
-    }
-
-    rest_unread : now.root ≡ root → now.repo ≡ repo → RestOpened root_disk repo_disk before now
-    rest_unread same_root same_repo' = record {
-      fixed = λ told. (opens.opens_root.opened told).fixed;
-      root = λ told. subst (λ (d : T). IsSettled root_disk root_store.base d) (sym same_root) (opens.opens_root.opened told).settled;
-      repo = λ told. subst (λ (d : P). IsSettled repo_disk repository_store.base d) (sym same_repo') (opens.opens.opened told).settled;
-      database = λ told. (opened.db, (opens.opens_root.opened told).database);
-      loaded = loaded_repo;
-    }
-
     unread_facts : (m : Meaning) (e : Failure) → ReadsGiven m.takes_input before.input now.input (Err e) → last ≡ mid → CallFacts root_disk repo_disk before now (Err e)
     unread_facts m e reads same =
         let silent : now.out ≡ before.out = ap (λ (x : Moment T P). x.out) same in
@@ -188,7 +136,6 @@ module _ {T P : Type 0} {root_disk : DiskModel T} {repo_disk : DiskModel P} (roo
         record {
           cause = unread_cause m e reads silent;
           kept = λ none. record { root = kept_root (ap root_disk.reads same_root); repo = kept_repo (ap repo_disk.reads same_repo') };
-          settles = λ le. inl (rest_unread same_root same_repo');
           root_untouched = open_root_untouched;
           repo_untouched = open_repo_untouched;
           repo_within = λ told off. subst (λ (d : P). Confined repo_disk (Among (is_within repository_base)) before.repo d) (sym same_repo') (opened_within told off);
@@ -201,7 +148,7 @@ module _ {T P : Type 0} {root_disk : DiskModel T} {repo_disk : DiskModel P} (roo
     run_cause (Ok x) h = tt
     run_cause (Err failure.RootFault) h = (rose_before (root_disk.faults before.root) (root_disk.faults root) (root_disk.faults now.root) opens.opens_root.later h.0, h.1)
     run_cause (Err failure.RepositoryFault) h = (rose_before (repo_disk.faults before.repo) (repo_disk.faults repo) (repo_disk.faults now.repo) opens.opens.later h.0, h.1)
-    run_cause (Err (failure.Damaged path)) h = (inr h.0, h.1)
+    run_cause (Err (failure.Damaged path)) h = h.1
     run_cause (Err failure.InputFault) h = absurd h
     run_cause _ h = h
 
@@ -209,7 +156,6 @@ module _ {T P : Type 0} {root_disk : DiskModel T} {repo_disk : DiskModel P} (roo
     run_facts scope m bytes end runs = record {
       cause = run_cause end runs.cause;
       kept = λ none. record { root = λ told. kept_root ((runs.same none).root told) told; repo = λ told. kept_repo ((runs.same none).repo told) told };
-      settles = λ le. inl (record { fixed = λ told. (opens.opens_root.opened told).fixed; root = (runs.rest le).root; repo = (runs.rest le).repo; database = λ told. (opened.db, (opens.opens_root.opened told).database); loaded = loaded_repo });
       root_untouched = open_root_untouched;
       repo_untouched = open_repo_untouched;
       repo_within = λ told off. confined_then (opened_within told off) (runs.within told);

@@ -1,10 +1,14 @@
 -- What is known of a call, with the input of which it is said.
-use Rattle.std.proofs.Common.{◌≡◌, true, List, ℕ, Ok, Err, sym, ap, subst, inl, inr, refl}
+use Rattle.std.proofs.Common.{◌≡◌, Bool, true, List, ℕ, Ok, Err, sym, ap, subst, inl, inr, refl}
 use Rattle.system_core.specs.tree-disk.Clear.{is_within}
 use Rattle.system_core.specs.tree-disk.Confined.{Among, Confined}
+use Rattle.cny_flow.specs.Flow.{SourceState}
+use Rattle.system_core.specs.tree-disk.Tree.{Name}
 use Rattle.system_core.specs.tree-disk.Disk.{DiskModel, HasRead, IsDisk}
 use Rattle.system_core.proofs.tree-disk.ConfinedLaws.{confined_start}
 use Rattle.repo_load.specs.Files.{repository_base}
+use Rattle.cli_call.specs.declared.failure.Failure.{Failure}
+use Rattle.cli_call.specs.declared.failure.Failure.TheVariants as failure
 use Rattle.cli_call.specs.declared.opened.Opened.{Opened}
 use Rattle.cli_call.specs.Call.{CallState, AreOpened, StopsReading, RunsWith, RunsOpen, NotOpened, RunsCall}
 use Rattle.cli_call.specs.WholeCall.{CallFrom, FromStates, IsOnRepository, IsOnRoot, Reaches}
@@ -12,15 +16,15 @@ use Rattle.cli_call.proofs.CallEnds.{own_ends, own_unread}
 use Rattle.cli_call.proofs.CallStates.{from_unopened, from_unread, from_run}
 use Rattle.cli_call.specs.Command.{disks}
 use Rattle.cli_call.proofs.InputLaws.{any_input, read_input_of}
-use Rattle.cli_call.specs.Line.{Moment}
-use Rattle.cli_call.specs.Reading.{IsInput}
+use Rattle.cli_call.specs.Line.{LineCause, Moment}
+use Rattle.cli_call.specs.Reading.{IsInput, ReadsGiven}
 use Rattle.cli_call.specs.Report.{End}
 use Rattle.cli_call.proofs.RepositoryStates.{opened_root, repository_run, repository_unopened, repository_unread, unopened_root}
 use Rattle.cli_call.proofs.RootStates.{root_unopened, root_unread, root_run, unopened_only, opened_only}
 use Rattle.cli_call.specs.State.{Meaning, Scope}
-use Rattle.cli_call.specs.Store.{IsStore}
+use Rattle.cli_call.specs.Store.{IsSettled, IsStore}
 use Rattle.cli_call.proofs.StoreLaws.{nothing_done}
-use Rattle.cli_call.specs.Stores.{repository_store}
+use Rattle.cli_call.specs.Stores.{repository_store, root_store}
 
 module _ {T P : Type 0} (root_disk : DiskModel T) (repo_disk : DiskModel P) where
   pub record CallKnown (scope : Scope) (m : Meaning) (before now : CallState T P) (end : End) : Type 0 where
@@ -30,6 +34,10 @@ module _ {T P : Type 0} (root_disk : DiskModel T) (repo_disk : DiskModel P) wher
     pub from : FromStates root_disk repo_disk before (λ s. CallFrom root_disk repo_disk m input s before now end)
     pub on_root : scope.of_root ≡ true → IsOnRoot root_disk repo_disk m input before now end
     pub on_repository : scope.of_repository ≡ true → IsOnRepository root_disk repo_disk m input before now end
+
+-- no damaged file is met where the input is read
+not_damaged : (takes : Bool) (before now : SourceState) (e : Failure) (path : Name) → ReadsGiven takes before now (Err e) → ◌≡◌ {A = End} (Err e) (Err (failure.Damaged path)) → ⊥
+not_damaged takes before now e path reads is = let same : e ≡ failure.Damaged path = cc is in (subst (λ (f : Failure). ReadsGiven takes before now (Err f)) same reads).cause
 
 module _ {T P : Type 0} {root_disk : DiskModel T} {repo_disk : DiskModel P} (root_laws : IsDisk root_disk) (repo_laws : IsDisk repo_disk) (store_laws : IsStore repository_store) (scope : Scope) (m : Meaning) (before now : CallState T P) where
   known_unopened : (end : End) → NotOpened root_disk repo_disk before now end → CallKnown root_disk repo_disk scope m before now end
@@ -76,6 +84,9 @@ module _ {T P : Type 0} {root_disk : DiskModel T} {repo_disk : DiskModel P} (roo
             reads = inl (record { failure = stops.failure; is = refl; gives = read.gives; same_root = same_root; same_repo = same_repo; silent = ap (λ (x : Moment T P). x.out) stops.same });
             repo_left = λ is. same_repo;
             repo_within = λ told. subst (λ (d : P). Confined repo_disk (Among (is_within repository_base)) repo d) (sym same_repo) (confined_start repo_laws (Among (is_within repository_base)) repo);
+            root_rests = λ small told. subst (λ (d : T). IsSettled root_disk root_store.base d) (sym same_root) (opens.opens_root.opened told).settled;
+            repo_rests = λ small told. subst (λ (d : P). IsSettled repo_disk repository_store.base d) (sym same_repo) (opens.opens.opened told).settled;
+            damaged = λ path is. absurd (not_damaged m.takes_input before.input now.input stops.failure path stops.reads is);
             by_lists = λ is. record { same_root = same_root; same_repo = same_repo; ends = λ s has. own_unread m s read.input before.out now.out stops.failure stops.reads read.gives };
             by_tree = λ is. record {
               read = λ told. subst (λ (d : T). HasRead root_disk root d (Unit {0})) (sym same_root) (nothing_done root_laws root);
@@ -110,6 +121,9 @@ module _ {T P : Type 0} {root_disk : DiskModel T} {repo_disk : DiskModel P} (roo
             reads = inr (record { bytes = runs.bytes; gives = read.gives });
             repo_left = λ is. (runs.runs.alone is).repo;
             repo_within = runs.runs.within;
+            root_rests = λ small. (runs.runs.rest small).root;
+            repo_rests = λ small. (runs.runs.rest small).repo;
+            damaged = λ path is. (subst (λ (x : End). LineCause root_disk repo_disk begun ended x) is runs.runs.cause).0;
             by_lists = λ is. let by = runs.runs.by_lists is in record { same_root = by.root; same_repo = by.repo; ends = λ s has. own_ends m s read.input runs.bytes read.gives before.out now.out s end (by.ends s has) };
             by_tree = λ is. let by = runs.runs.by_tree is in record { read = by.root; same_repo = by.repo; ends = λ told s has. own_ends m s read.input runs.bytes read.gives before.out now.out s end (by.ends told s has) };
           });

@@ -66,23 +66,27 @@ module _ {T P : Type 0} (root_disk : DiskModel T) (repo_disk : DiskModel P) (m :
 
 -- ---- the whole
 
+-- (with how it ended)
 pub whole_call : {T P : Type 0} {root_disk : DiskModel T} {repo_disk : DiskModel P} → IsDisk root_disk → IsDisk repo_disk → IsStore repository_store → (scope : Scope) (m : Meaning) (before now : CallState T P) (err err' : SinkState) (status : ℕ) (end : End)
-    → RunsCall root_disk repo_disk scope m before now end → Reports end err err' status → IsCall root_disk repo_disk scope m before now err err' status
+    → RunsCall root_disk repo_disk scope m before now end → Reports end err err' status → (call : IsCall root_disk repo_disk scope m before now err err' status) × (call.end ≡ end)
 whole_call {root_disk = root_disk} {repo_disk = repo_disk} root_laws repo_laws store_laws scope m before now err err' status end runs reports =
     let known = call_known root_laws repo_laws store_laws scope m before now end runs in
-    record {
-      end = end;
-      reports = reports;
-      input = known.input;
-      is_input = known.is;
-      unread = λ off. unread_call root_disk repo_disk m before now scope off end runs;
-      read_to_end = λ ok on. read_whole root_disk repo_disk m before now scope on end ok runs;
-      reaches = known.reaches;
-      facts = call_facts root_laws repo_laws before now scope m end runs;
-      from = known.from;
-      on_root = known.on_root;
-      on_repository = known.on_repository;
-    }
+    let facts = call_facts root_laws repo_laws before now scope m end runs in (
+      record {
+        end = end;
+        reports = reports;
+        input = known.input;
+        is_input = known.is;
+        unread = λ off. unread_call root_disk repo_disk m before now scope off end runs;
+        read_to_end = λ ok on. read_whole root_disk repo_disk m before now scope on end ok runs;
+        reaches = known.reaches;
+        facts = facts;
+        from = known.from;
+        on_root = known.on_root;
+        on_repository = known.on_repository;
+      },
+      refl,
+    )
 
 -- Memory ran out before anything was done: the root wasn't opened.
 pub memory_call : {T P : Type 0} {root_disk : DiskModel T} {repo_disk : DiskModel P} → IsDisk root_disk → (scope : Scope) (m : Meaning) (before : CallState T P) → RunsCall root_disk repo_disk scope m before before (Err failure.Memory)

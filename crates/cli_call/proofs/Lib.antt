@@ -15,8 +15,6 @@ pub mod RootStates
 pub mod CallStates
 pub mod RepositoryStates
 pub mod CallKnown
-pub mod RootCallLaws
-pub mod CallByStatus
 pub mod CallLaws
 pub mod InputBytes
 pub mod OpeningDisks

@@ -14,7 +14,6 @@ pub mod Alone
 pub mod Line
 pub mod Call
 pub mod WholeCall
-pub mod ByStatus
 pub use Rattle.system_core.specs.change-rel
 pub use Rattle.system_core.specs.change-set
 pub use Rattle.system_core.specs.cny-base

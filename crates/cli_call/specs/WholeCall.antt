@@ -10,24 +10,20 @@ use Rattle.system_core.specs.tree-disk.Clear.{is_within}
 use Rattle.system_core.specs.tree-disk.Confined.{Among, Confined, LeavesOnly}
 use Rattle.system_core.specs.tree-disk.Steps.{no_name}
 use Rattle.system_core.specs.tree-disk.Unfailed.{UnlessFailed}
-use Rattle.system_core.specs.journal-log.Own.{StoresSame}
-use Rattle.system_core.specs.tree-journal.Recovery.{is_committed, RecoversTo, RecoversAsThen}
-use Rattle.repo_index.specs.Catalogue.{CatalogueParts}
+use Rattle.system_core.specs.tree-journal.Recovery.{is_committed, RecoversAsThen}
 use Rattle.local_db.specs.declared.db.Db.{Db}
-use Rattle.repo_load.specs.Files.{repository_base, HoldsCatalogue}
+use Rattle.repo_load.specs.Files.{repository_base}
 use Rattle.repo_load.specs.State.{RepositoryState}
-use Rattle.repo_load.specs.Loading.{IsCatalogue}
 use Rattle.cli_call.specs.declared.failure.Failure.{Failure}
 use Rattle.cli_call.specs.declared.opened.Opened.{Opened}
 use Rattle.cli_call.specs.Alone.{HasLists, HasTree}
 use Rattle.cli_call.specs.Call.{CallState, AreOpened, NotOpened, OpensRepository, OpensRoot}
 use Rattle.cli_call.specs.Command.{KeepsOthers, IsShown, ChangesNothing}
 use Rattle.system_core.specs.FixedDirs.{fixed_dirs}
-use Rattle.cli_call.specs.Opening.{MeetsDamage}
 use Rattle.cli_call.specs.Reading.{given, left_by, Gives, IsInput}
-use Rattle.system_core.specs.tree-journal.Recovered.{RecoversToNone, IsKept, IsPathRefusal, RefusesLog}
+use Rattle.system_core.specs.tree-journal.Recovered.{RecoversToNone, IsKept}
 use Rattle.cli_call.specs.Report.{End, Reports, status_of}
-use Rattle.cli_call.specs.RootOpening.{IsRootKept, RecoversOutside, RecoversToDatabase, ShowsBetween}
+use Rattle.cli_call.specs.RootOpening.{IsRootKept, RecoversOutside, ShowsBetween}
 use Rattle.cli_call.specs.State.{RootState, State, Effect, Meaning, tree_of, IsNext, OneDisk, Then, Scope, Takes}
 use Rattle.cli_call.specs.Store.{Store, Recovers, OneOf, IsEntryOr, HasDamagedFile, IsSettled, RestsAt}
 use Rattle.cli_call.specs.Stores.{root_store, repository_store}
@@ -75,15 +71,6 @@ LivesRoot disk x y old new = LivesCall root_store disk (IsEntryOr root_store dis
 -- recovers to.
 abbrev pub LivesRepository : {D : Type 0} → DiskModel D → RepositoryState → RepositoryState → D → D → Type 0
 LivesRepository disk x y old new = LivesCall repository_store disk (RecoversAsThen disk repository_store.base old) x y old new
-
--- The tree of a repository recovers to one that holds this catalogue, and to none that doesn't store the same.
-pub record RecoversToCatalogue (image : Tree) : Type 0 where
-  pub tree : Tree
-  pub recovers : RecoversTo repository_store.base image tree
-  pub only : (other : Tree) → RecoversTo repository_store.base image other → StoresSame repository_store.base tree other
-  pub catalogue : CatalogueParts
-  pub holds : HoldsCatalogue tree catalogue
-  pub rules : IsCatalogue catalogue
 
 -- ---- how it ended
 
@@ -138,15 +125,6 @@ module _ {T P : Type 0} (root_disk : DiskModel T) (repo_disk : DiskModel P) wher
     pub root : IsTrue root_disk.tells → IsRootKept (root_disk.reads before.root) (root_disk.reads now.root)
     pub repo : IsTrue repo_disk.tells → IsKept repository_store.base (repo_disk.reads before.repo) (repo_disk.reads now.repo)
 
-  -- Both disks were opened: each that is told rests, and a crash leaves just what it reads; the root was one that recovers to a
-  -- database, and the repository one that recovers to a catalogue, so that neither the database nor a commit's file was damaged.
-  pub record RestOpened (before now : CallState T P) : Type 0 where
-    pub fixed : IsTrue root_disk.tells → fixed_dirs (root_disk.reads before.root) ≡ Ok tt
-    pub root : IsTrue root_disk.tells → IsSettled root_disk root_store.base now.root
-    pub repo : IsTrue repo_disk.tells → IsSettled repo_disk repository_store.base now.repo
-    pub database : IsTrue root_disk.tells → (db : Db) × RecoversToDatabase (root_disk.reads before.root) db
-    pub loaded : IsTrue repo_disk.tells → RecoversToCatalogue (repo_disk.reads before.repo)
-
   -- the root was only read, and the repository and the input weren't touched
   pub record OnlyRead (before now : CallState T P) : Type 0 where
     pub root : HasRead root_disk before.root now.root (Unit {0})
@@ -194,6 +172,11 @@ module _ {T P : Type 0} (root_disk : DiskModel T) (repo_disk : DiskModel P) wher
     -- alone, however the call ends.
     pub repo_left : scope.of_root ≡ true → now.repo ≡ repo
     pub repo_within : IsTrue repo_disk.tells → Confined repo_disk (Among (is_within repository_base)) repo now.repo
+    -- After a status up to 4 each disk that is told is at rest, and a crash leaves just what it reads.
+    pub root_rests : status_of end ≤ 4 → IsTrue root_disk.tells → IsSettled root_disk root_store.base now.root
+    pub repo_rests : status_of end ≤ 4 → IsTrue repo_disk.tells → IsSettled repo_disk repository_store.base now.repo
+    -- the damaged file that the line names
+    pub damaged : (path : Name) → end ≡ Err (failure.Damaged path) → (IsTrue root_disk.tells → HasDamagedFile root_store (root_disk.reads now.root) path) ⊎ (IsTrue repo_disk.tells → HasDamagedFile repository_store (repo_disk.reads now.repo) path)
     pub by_lists : scope.of_lists ≡ true → EndsByLists m input root repo opened before now end
     pub by_tree : scope.of_tree ≡ true → EndsByTree m input root repo opened before now end
 
@@ -202,13 +185,6 @@ module _ {T P : Type 0} (root_disk : DiskModel T) (repo_disk : DiskModel P) wher
   Reaches scope m input before now end = NotOpened root_disk repo_disk before now end ⊎ WasOpened scope m input before now end
 
   -- ---- why it ended so, and what stands then, whatever the disks store
-
-  -- A file is damaged: one that is read when the disks are opened, before anything of the input was read; or one that the command
-  -- read.
-  abbrev pub IsDamage : CallState T P → CallState T P → Name → Type 0
-  IsDamage before now path =
-      ((now.input ≡ before.input) × (MeetsDamage root_store root_disk before.root now.root path ⊎ MeetsDamage repository_store repo_disk before.repo now.repo path))
-      ⊎ ((IsTrue root_disk.tells → HasDamagedFile root_store (root_disk.reads now.root) path) ⊎ (IsTrue repo_disk.tells → HasDamagedFile repository_store (repo_disk.reads now.repo) path))
 
   -- why a call ended so, and what was written
   abbrev pub CallCause : CallState T P → CallState T P → End → Type 0
@@ -219,34 +195,14 @@ module _ {T P : Type 0} (root_disk : DiskModel T) (repo_disk : DiskModel P) wher
   CallCause before now (Err failure.RootFault) = Rose (root_disk.faults before.root) (root_disk.faults now.root) × Keeps before.out.written now.out.written
   CallCause before now (Err failure.RepositoryFault) = Rose (repo_disk.faults before.repo) (repo_disk.faults now.repo) × Keeps before.out.written now.out.written
   CallCause before now (Err failure.Memory) = Keeps before.out.written now.out.written
-  CallCause before now (Err (failure.Damaged path)) = IsDamage before now path × Keeps before.out.written now.out.written
+  CallCause before now (Err (failure.Damaged path)) = Keeps before.out.written now.out.written
   CallCause before now (Err failure.Usage) = ⊥
-
-  -- opening was refused, for the log of a disk, or for a fixed directory
-  pub record RefusedLog (before now : CallState T P) (end : End) : Type 0 where
-    pub refusal : Refusal
-    pub is : end ≡ Err (failure.Refused refusal)
-    pub of_path : IsPathRefusal refusal
-    pub log : (IsTrue root_disk.tells → RefusesLog root_store.base (root_disk.reads before.root) refusal)
-        ⊎ (IsTrue repo_disk.tells → RefusesLog repository_store.base (repo_disk.reads before.repo) refusal)
-    pub unread : now.input ≡ before.input
-
-  pub record RefusedDir (before now : CallState T P) (end : End) : Type 0 where
-    pub refusal : Refusal
-    pub is : end ≡ Err (failure.Refused refusal)
-    pub missing : fixed_dirs (root_disk.reads before.root) ≡ Err refusal
-    pub unread : now.input ≡ before.input
-
-  abbrev pub SettlesSo : CallState T P → CallState T P → End → Type 0
-  SettlesSo before now end = RestOpened before now ⊎ RefusedLog before now end ⊎ RefusedDir before now end
 
   -- Whatever the disks store.
   pub record CallFacts (before now : CallState T P) (end : End) : Type 0 where
     pub cause : CallCause before now end
     -- where it was refused, the input failed or a file is damaged, both disks recover to what they recovered to
     pub kept : ChangesNothing end → AreKept before now
-    -- After a status up to 4 both disks are at rest, unless the log of one can't be put, or a fixed directory isn't one.
-    pub settles : status_of end ≤ 4 → SettlesSo before now end
     -- A disk that recovers to no tree is left as it stands, and a root of which a fixed directory isn't one is only read.
     pub root_untouched : IsTrue root_disk.tells → RecoversToNone root_store.base (root_disk.reads before.root) → Confined root_disk (Among no_name) before.root now.root
     pub repo_untouched : IsTrue repo_disk.tells → RecoversToNone repository_store.base (repo_disk.reads before.repo) → Confined repo_disk (Among no_name) before.repo now.repo

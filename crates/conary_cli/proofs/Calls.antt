@@ -14,6 +14,7 @@ use Rattle.cli_call.specs.Store.{IsStore}
 use Rattle.cli_call.specs.Stores.{repository_store}
 use Rattle.conary_cli.specs.declared.words.Command.{Command}
 use Rattle.conary_cli.specs.Commands.{meaning, scope_of, RunsWords, RunsSome, IsWholeCall, IsSomeCall}
+use Rattle.conary_cli.specs.Records.{EndsOpened}
 use Rattle.conary_cli.specs.Words.{AreWords, OrMemory, ReadsWords}
 use Rattle.conary_cli.proofs.RecordEnds.{memory_whole}
 use Rattle.conary_cli.proofs.RestoreEnds.{rollback_restores}
@@ -48,11 +49,11 @@ no_words repo_disk root_laws before words _ reads = absurd reads
 pub whole_words : {T P : Type 0} {root_disk : DiskModel T} {repo_disk : DiskModel P} → IsDisk root_disk → IsDisk repo_disk → IsStore repository_store → (before now : CallState T P) (err err' : SinkState) (status : ℕ) (end : End) (words : Result Command Failure)
     → RunsWords root_disk repo_disk words before now end → Reports end err err' status → IsWholeCall root_disk repo_disk words before now err err' status
 whole_words {root_disk = root_disk} {repo_disk = repo_disk} root_laws repo_laws store_laws before now err err' status end (Ok c) runs reports =
-    let call = whole_call root_laws repo_laws store_laws (scope_of c) (meaning c) before now err err' status end runs.0 reports in
+    let whole = whole_call root_laws repo_laws store_laws (scope_of c) (meaning c) before now err err' status end runs.0 reports in
     record {
-      call = call;
-      records = record { end = end; reports = reports; whole = runs.1 };
-      restores = rollback_restores root_disk repo_disk before now err err' status c call;
+      call = whole.0;
+      records = subst (λ (x : End). EndsOpened root_disk repo_disk c before now x) (sym whole.1) runs.1;
+      restores = rollback_restores root_disk repo_disk before now err err' status c whole.0;
     }
 whole_words root_laws repo_laws store_laws before now err err' status end (Err e) runs reports = record {
   same = runs.0;

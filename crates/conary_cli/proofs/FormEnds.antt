@@ -1,5 +1,6 @@
 -- The form of the input decides how a command ends.
-use Rattle.std.proofs.Common.{◌≡◌, ℕ, ◌+◌, ◌≤◌, Bool, true, cond, List, length, Result, Ok, Err, refl, ap, ◌∙◌, subst, inl, inr, ⊎_elim}
+use Rattle.std.proofs.Common.{◌≡◌, ℕ, ◌+◌, ◌≤◌, Bool, true, cond, List, length, Result, Ok, Err, refl, sym, ap, ◌∙◌, subst, inl, inr, ⊎_elim, arith}
+use Rattle.std.specs.Prelude.{◌⊎◌}
 use Rattle.std.proofs.lemmas.Bool.{le-ltb}
 use Rattle.cli_call.specs.cny-base.declared.options.Options.{Options}
 use Rattle.cli_call.specs.cny-base.declared.refusal.Refusal.{Refusal}
@@ -17,12 +18,15 @@ use Rattle.cli_call.specs.system-core.FixedDirs.{fixed_dirs}
 use Rattle.cli_call.specs.Input.{input_limit, within_limit}
 use Rattle.cli_call.specs.Reading.{given}
 use Rattle.cli_call.specs.State.{State, Effect, Meaning, tree_of, Then}
-use Rattle.cli_call.specs.ByStatus.{IsAnswered, IsAnsweredOnRoot, IsCallOf}
-use Rattle.cli_call.specs.WholeCall.{Outcome}
+use Rattle.cli_call.specs.Report.{End, status_of}
+use Rattle.cli_call.specs.Store.{RestsAt}
+use Rattle.cli_call.specs.Stores.{root_store}
+use Rattle.cli_call.specs.WholeCall.{CallEnds, FromRoots, FromStates, HasEffect, IsCall, Outcome, RestBoth, StopsForRepository}
+use Rattle.cli_call.specs.declared.failure.Failure.TheVariants as failure
 use Rattle.conary_cli.specs.declared.words.Command.{Command}
 use Rattle.conary_cli.specs.declared.words.Command.TheVariants as command
-use Rattle.conary_cli.specs.Commands.{meaning, is_of_root}
-use Rattle.conary_cli.specs.FormDecides.{HasEnd, DecidesForm, DecidesSet, DecidesUpdate, FormDecides}
+use Rattle.conary_cli.specs.Commands.{meaning, is_of_root, scope_of}
+use Rattle.conary_cli.specs.FormDecides.{HasEnd, DecidesForm, DecidesSet, DecidesUpdate, FormDecides, IsAnswered, IsAnsweredOnRoot}
 use Rattle.root_commands.specs.Install.{first_reserved, InstallsMade, UnlessReserved, install}
 use Rattle.root_commands.specs.Update.{UpdatesBy, update_input}
 use Rattle.repo_commands.specs.ManifestInput.{OfManifest}
@@ -82,16 +86,43 @@ shown_as laws Ended input (Err r) is ended = record {
   refused = λ none. (r, is.0, ended);
 }
 
-module _ {T P : Type 0} (root_disk : DiskModel T) (repo_disk : DiskModel P) (before now : CallState T P) (err err' : SinkState) (status : ℕ) where
+module _ {T P : Type 0} (root_disk : DiskModel T) (repo_disk : DiskModel P) (before now : CallState T P) where
+  -- an outcome by which the call was done or refused
+  answered : (IsOutcome : Result Effect Refusal → Type 0) (s next : State) (end : End) → status_of end ≤ 2 → CallEnds IsOutcome s next before.out now.out end → (HasEffect end → RestBoth root_disk repo_disk now next)
+      → HasEnd IsOutcome (λ o. IsAnswered root_disk repo_disk s o before now end)
+  answered IsOutcome s next (Ok x) small t rests = (Ok t.effect, t.is, record { ended = refl; rests = subst (λ (y : State). RestBoth root_disk repo_disk now y) t.leads (rests tt); out = t.bytes })
+  answered IsOutcome s next (Err (failure.Refused r)) small h rests = (Err r, h.0, refl)
+  answered IsOutcome s next (Err failure.InputFault) small h rests = absurd (omega (arith, small))
+  answered IsOutcome s next (Err failure.OutputFault) small h rests = absurd (omega (arith, small))
+  answered IsOutcome s next (Err failure.RootFault) small h rests = absurd (omega (arith, small))
+  answered IsOutcome s next (Err failure.RepositoryFault) small h rests = absurd (omega (arith, small))
+  answered IsOutcome s next (Err failure.Memory) small h rests = absurd (omega (arith, small))
+  answered IsOutcome s next _ small h rests = absurd h
+
+  -- the same of the root alone
+  answered_on_root : (IsOutcome : Result Effect Refusal → Type 0) (s next : State) (end : End) → status_of end ≤ 2 → CallEnds IsOutcome s next before.out now.out end → (HasEffect end → RestsAt root_store root_disk now.root next.root) → next.repository ≡ s.repository
+      → HasEnd IsOutcome (λ o. IsAnsweredOnRoot root_disk repo_disk s o before now end)
+  answered_on_root IsOutcome s next (Ok x) small t rests stays = (
+    Ok t.effect,
+    t.is,
+    record {
+      ended = refl;
+      rests = subst (λ (y : State). RestsAt root_store root_disk now.root y.root) t.leads (rests tt);
+      stays = ap (λ (y : State). y.repository) (sym t.leads) ∙ stays;
+      out = t.bytes;
+    },
+  )
+  answered_on_root IsOutcome s next (Err (failure.Refused r)) small h rests stays = (Err r, h.0, refl)
+  answered_on_root IsOutcome s next (Err failure.InputFault) small h rests stays = absurd (omega (arith, small))
+  answered_on_root IsOutcome s next (Err failure.OutputFault) small h rests stays = absurd (omega (arith, small))
+  answered_on_root IsOutcome s next (Err failure.RootFault) small h rests stays = absurd (omega (arith, small))
+  answered_on_root IsOutcome s next (Err failure.RepositoryFault) small h rests stays = absurd (omega (arith, small))
+  answered_on_root IsOutcome s next (Err failure.Memory) small h rests stays = absurd (omega (arith, small))
+  answered_on_root IsOutcome s next _ small h rests stays = absurd h
+
   -- an outcome of the command, by which it ended
   abbrev HasCommandEnd : State → List ℕ → (Result Effect Refusal → Type 0) → Command → Type 0
   HasCommandEnd s input Ended c = HasEnd (Outcome (meaning c) s input) Ended
-
-  abbrev Answered : State → Result Effect Refusal → Type 0
-  Answered s = λ o. IsAnswered root_disk repo_disk s o before now err err' status
-
-  abbrev OnRoot : State → Result Effect Refusal → Type 0
-  OnRoot s = λ o. IsAnsweredOnRoot root_disk repo_disk s o before now err err' status
 
   as_form : InputLaws → (options : Options) (Ended : Result Effect Refusal → Type 0) (input : List ℕ) (s : State) → HasCommandEnd s input Ended (command.Install options) → fixed_dirs (tree_of s.root) ≡ Ok tt → length input ≤ input_limit → DecidesForm options input s Ended
   as_form laws options Ended input s a dirs le = installed_as laws options Ended input s a.0 (own_outcome (install options) s input a.0 refl dirs le a.1) a.2
@@ -102,17 +133,41 @@ module _ {T P : Type 0} (root_disk : DiskModel T) (repo_disk : DiskModel P) (bef
   as_update : InputLaws → (options : Options) (Ended : Result Effect Refusal → Type 0) (input : List ℕ) (s : State) → HasCommandEnd s input Ended (command.UpdateByInput options) → fixed_dirs (tree_of s.root) ≡ Ok tt → length input ≤ input_limit → DecidesUpdate options input s Ended
   as_update laws options Ended input s a dirs le = updated_as laws options Ended input s a.0 (own_outcome (update_input options) s input a.0 refl dirs le a.1) a.2
 
-  pub form_decides : InputLaws → (c : Command) (input : List ℕ) → IsCallOf root_disk repo_disk (is_of_root c) (meaning c) input before now err err' status → FormDecides root_disk repo_disk c input before now err err' status
-  form_decides laws c input call = record {
-    manifest = λ options is root repo s recovers dirs le small. as_form laws options (Answered s) input s (subst (HasCommandEnd s input (Answered s)) is (call.answers small root repo s recovers)) dirs le;
-    set = λ is root repo s recovers dirs le small. as_set laws (Answered s) input s (subst (HasCommandEnd s input (Answered s)) is (call.answers small root repo s recovers)) dirs le;
-    update = λ options is root repo s recovers dirs le small. as_update laws options (Answered s) input s (subst (HasCommandEnd s input (Answered s)) is (call.answers small root repo s recovers)) dirs le;
-    manifest_alone = λ options is root s recovers dirs le small. ⊎_elim
-        (λ refused. inl refused)
-        (λ a. inr (as_form laws options (OnRoot s) input s (subst (HasCommandEnd s input (OnRoot s)) is a) dirs le))
-        ((call.alone (ap is_of_root is)).answers small root s recovers);
-    set_alone = λ is root s recovers dirs le small. ⊎_elim
-        (λ refused. inl refused)
-        (λ a. inr (as_set laws (OnRoot s) input s (subst (HasCommandEnd s input (OnRoot s)) is a) dirs le))
-        ((call.alone (ap is_of_root is)).answers small root s recovers);
-  }
+  module _ (c : Command) (err err' : SinkState) (status : ℕ) (call : IsCall root_disk repo_disk (scope_of c) (meaning c) before now err err' status) where
+    abbrev Answered : State → Result Effect Refusal → Type 0
+    Answered s = λ o. IsAnswered root_disk repo_disk s o before now call.end
+
+    abbrev OnRoot : State → Result Effect Refusal → Type 0
+    OnRoot s = λ o. IsAnsweredOnRoot root_disk repo_disk s o before now call.end
+
+    abbrev Ends : State → Command → Type 0
+    Ends s d = HasCommandEnd s call.input (Answered s) d
+
+    abbrev EndsOnRoot : State → Command → Type 0
+    EndsOnRoot s d = HasCommandEnd s call.input (OnRoot s) d
+
+    -- from a state to which both disks recover
+    ends : status_of call.end ≤ 2 → FromStates root_disk repo_disk before (λ s. Ends s c)
+    ends small root repo s recovers = let f = call.from root repo s recovers in answered (Outcome (meaning c) s call.input) s f.next call.end small f.ends f.rests
+
+    -- from a state whose root the root recovers to
+    ends_on_root : is_of_root c ≡ true → status_of call.end ≤ 2 → FromRoots root_disk repo_disk before (λ s. StopsForRepository root_disk repo_disk before now call.end ⊎ EndsOnRoot s c)
+    ends_on_root is small root s recovers = let f = (call.on_root is).from root s recovers in ⊎_elim
+        (λ stops. inl stops)
+        (λ how. inr (answered_on_root (Outcome (meaning c) s call.input) s f.next call.end small how f.rests f.stays))
+        f.ends
+
+    pub form_decides : InputLaws → FormDecides root_disk repo_disk c call.input before now call.end
+    form_decides laws = record {
+      manifest = λ options is root repo s recovers dirs le small. as_form laws options (Answered s) call.input s (subst (Ends s) is (ends small root repo s recovers)) dirs le;
+      set = λ is root repo s recovers dirs le small. as_set laws (Answered s) call.input s (subst (Ends s) is (ends small root repo s recovers)) dirs le;
+      update = λ options is root repo s recovers dirs le small. as_update laws options (Answered s) call.input s (subst (Ends s) is (ends small root repo s recovers)) dirs le;
+      manifest_alone = λ options is root s recovers dirs le small. ⊎_elim
+          (λ stops. inl stops)
+          (λ a. inr (as_form laws options (OnRoot s) call.input s (subst (EndsOnRoot s) is a) dirs le))
+          (ends_on_root (ap is_of_root is) small root s recovers);
+      set_alone = λ is root s recovers dirs le small. ⊎_elim
+          (λ stops. inl stops)
+          (λ a. inr (as_set laws (OnRoot s) call.input s (subst (EndsOnRoot s) is a) dirs le))
+          (ends_on_root (ap is_of_root is) small root s recovers);
+    }

@@ -28,7 +28,7 @@ use Rattle.repo_commands.specs.Moving.{move}
 use Rattle.conary_cli.specs.declared.words.Command.{Command}
 use Rattle.conary_cli.specs.declared.words.Command.TheVariants as command
 use Rattle.conary_cli.specs.Words.{AreWords}
-use Rattle.conary_cli.specs.Records.{EndsOpened, EndsWhole, EndsWithWhole}
+use Rattle.conary_cli.specs.Records.{EndsOpened, EndsWhole}
 use Rattle.conary_cli.specs.Restores.{RollbackRestores}
 use Rattle.repo_commands.specs.ShowChangeSet.{show_change_set}
 
@@ -117,7 +117,7 @@ module _ {T P : Type 0} (root_disk : DiskModel T) (repo_disk : DiskModel P) wher
   -- restores
   pub record IsCommandCall (c : Command) (before now : CallState T P) (err err' : SinkState) (status : ℕ) : Type 0 where
     pub call : IsCall root_disk repo_disk (scope_of c) (meaning c) before now err err' status
-    pub records : EndsWithWhole root_disk repo_disk c before now err err' status
+    pub records : EndsOpened root_disk repo_disk c before now call.end
     pub restores : RollbackRestores root_disk repo_disk c before now call.end
 
   -- what a whole call promises: as its command means, or nothing was done

@@ -1,8 +1,8 @@
 -- The form of the input decides how a command ends.
 use Rattle.std.specs.Prelude.{◌≡◌, ◌⊎◌, ℕ, ◌≤◌, List, length, Result, Ok, Err}
+use Rattle.std.specs.Io.KnownBytes.{Appends}
 use Rattle.cli_call.specs.cny-base.declared.options.Options.{Options}
 use Rattle.cli_call.specs.cny-base.declared.refusal.Refusal.{Refusal}
-use Rattle.cny_flow.specs.Flow.{SinkState}
 use Rattle.cny_manifest.specs.declared.made.Made.{Made}
 use Rattle.cny_manifest.specs.FirstFault as manifest_fault
 use Rattle.cny_manifest.specs.Makes.{Makes}
@@ -13,9 +13,12 @@ use Rattle.cli_call.specs.change-set.FirstFault.{IsFirstFault}
 use Rattle.cli_call.specs.Call.{CallState}
 use Rattle.cli_call.specs.system-core.FixedDirs.{fixed_dirs}
 use Rattle.cli_call.specs.Input.{input_limit}
-use Rattle.cli_call.specs.State.{State, Effect, tree_of}
-use Rattle.cli_call.specs.ByStatus.{IsAnswered, IsAnsweredOnRoot, HasRefusedRepository}
-use Rattle.cli_call.specs.WholeCall.{FromStates, FromRoots}
+use Rattle.cli_call.specs.State.{State, Effect, after, tree_of}
+use Rattle.cli_call.specs.Report.{End, status_of}
+use Rattle.cli_call.specs.Store.{RestsAt}
+use Rattle.cli_call.specs.Stores.{root_store}
+use Rattle.cli_call.specs.WholeCall.{FromStates, FromRoots, RestBoth, StopsForRepository}
+use Rattle.cli_call.specs.declared.failure.Failure.TheVariants as failure
 use Rattle.repo_commands.specs.SetInput.{IsNoSetStream}
 use Rattle.conary_cli.specs.declared.words.Command.{Command}
 use Rattle.conary_cli.specs.declared.words.Command.TheVariants as command
@@ -52,18 +55,40 @@ pub record DecidesUpdate (options : Options) (input : List ℕ) (s : State) (End
   -- any other input is refused with its first fault
   pub refused : IsNoSetStream input → (r : Refusal) × IsFirstFault input r × Ended (Err r)
 
--- where the fixed directories stand, the input is within its limit, and the status is an answer's
-abbrev pub IfRead : List ℕ → State → ℕ → Type 0 → Type 0
-IfRead input s status Decided = fixed_dirs (tree_of s.root) ≡ Ok tt → length input ≤ input_limit → status ≤ 2 → Decided
+-- where the fixed directories stand, the input is within its limit, and the call was done or refused
+abbrev pub IfRead : List ℕ → State → End → Type 0 → Type 0
+IfRead input s end Decided = fixed_dirs (tree_of s.root) ≡ Ok tt → length input ≤ input_limit → status_of end ≤ 2 → Decided
 
 module _ {T P : Type 0} (root_disk : DiskModel T) (repo_disk : DiskModel P) where
-  -- Where the disks are told, the fixed directories stand and the input is within its limit, a status up to 2 of these commands is
-  -- decided by the form; of `install` and `showcs` also where the root alone is told, unless the repository's log can't be put.
-  pub record FormDecides (c : Command) (input : List ℕ) (before now : CallState T P) (err err' : SinkState) (status : ℕ) : Type 0 where
-    pub manifest : (options : Options) → c ≡ command.Install options → FromStates root_disk repo_disk before (λ s. IfRead input s status (DecidesForm options input s (λ outcome. IsAnswered root_disk repo_disk s outcome before now err err' status)))
-    pub set : c ≡ command.ShowChangeSet → FromStates root_disk repo_disk before (λ s. IfRead input s status (DecidesSet input (λ outcome. IsAnswered root_disk repo_disk s outcome before now err err' status)))
-    pub update : (options : Options) → c ≡ command.UpdateByInput options → FromStates root_disk repo_disk before (λ s. IfRead input s status (DecidesUpdate options input s (λ outcome. IsAnswered root_disk repo_disk s outcome before now err err' status)))
-    pub manifest_alone : (options : Options) → c ≡ command.Install options → FromRoots root_disk repo_disk before (λ s. IfRead input s status
-        (HasRefusedRepository root_disk repo_disk before now err err' status ⊎ DecidesForm options input s (λ outcome. IsAnsweredOnRoot root_disk repo_disk s outcome before now err err' status)))
-    pub set_alone : c ≡ command.ShowChangeSet → FromRoots root_disk repo_disk before (λ s. IfRead input s status
-        (HasRefusedRepository root_disk repo_disk before now err err' status ⊎ DecidesSet input (λ outcome. IsAnsweredOnRoot root_disk repo_disk s outcome before now err err' status)))
+  -- done: both disks rest and store the state after the effect, and its bytes were written
+  pub record IsDone (s : State) (e : Effect) (before now : CallState T P) (end : End) : Type 0 where
+    pub ended : end ≡ Ok tt
+    pub rests : RestBoth root_disk repo_disk now (after s e.change)
+    pub out : Appends before.out.written now.out.written e.out
+
+  -- a call ended as its outcome says
+  abbrev pub IsAnswered : State → Result Effect Refusal → CallState T P → CallState T P → End → Type 0
+  IsAnswered s (Ok e) before now end = IsDone s e before now end
+  IsAnswered s (Err r) before now end = end ≡ Err (failure.Refused r)
+
+  -- The same of the root alone, where the effect leaves the repository.
+  pub record IsDoneOnRoot (s : State) (e : Effect) (before now : CallState T P) (end : End) : Type 0 where
+    pub ended : end ≡ Ok tt
+    pub rests : RestsAt root_store root_disk now.root (after s e.change).root
+    pub stays : (after s e.change).repository ≡ s.repository
+    pub out : Appends before.out.written now.out.written e.out
+
+  abbrev pub IsAnsweredOnRoot : State → Result Effect Refusal → CallState T P → CallState T P → End → Type 0
+  IsAnsweredOnRoot s (Ok e) before now end = IsDoneOnRoot s e before now end
+  IsAnsweredOnRoot s (Err r) before now end = end ≡ Err (failure.Refused r)
+
+  -- Where the disks are told, the fixed directories stand and the input is within its limit, how these commands are done or refused is
+  -- decided by the form; of `install` and `showcs` also where the root alone is told, unless the repository wasn't opened.
+  pub record FormDecides (c : Command) (input : List ℕ) (before now : CallState T P) (end : End) : Type 0 where
+    pub manifest : (options : Options) → c ≡ command.Install options → FromStates root_disk repo_disk before (λ s. IfRead input s end (DecidesForm options input s (λ outcome. IsAnswered s outcome before now end)))
+    pub set : c ≡ command.ShowChangeSet → FromStates root_disk repo_disk before (λ s. IfRead input s end (DecidesSet input (λ outcome. IsAnswered s outcome before now end)))
+    pub update : (options : Options) → c ≡ command.UpdateByInput options → FromStates root_disk repo_disk before (λ s. IfRead input s end (DecidesUpdate options input s (λ outcome. IsAnswered s outcome before now end)))
+    pub manifest_alone : (options : Options) → c ≡ command.Install options → FromRoots root_disk repo_disk before (λ s. IfRead input s end
+        (StopsForRepository root_disk repo_disk before now end ⊎ DecidesForm options input s (λ outcome. IsAnsweredOnRoot s outcome before now end)))
+    pub set_alone : c ≡ command.ShowChangeSet → FromRoots root_disk repo_disk before (λ s. IfRead input s end
+        (StopsForRepository root_disk repo_disk before now end ⊎ DecidesSet input (λ outcome. IsAnsweredOnRoot s outcome before now end)))

@@ -1,17 +1,15 @@
 -- No damaged record is passed over, also where the root stores no system.
-use Rattle.std.specs.Prelude.{◌≡◌, ◌⊎◌, ℕ, ◌≤◌, IsTrue, Result, Ok}
-use Rattle.cny_flow.specs.Flow.{SinkState}
+use Rattle.std.specs.Prelude.{◌⊎◌, ◌≤◌, IsTrue, Result, Ok}
 use Rattle.cli_call.specs.local-db.declared.db.Db.{Db}
 use Rattle.cli_call.specs.rollback-stack.Inverse.{IsDamagedJob}
 use Rattle.cli_call.specs.tree-disk.Disk.{DiskModel}
 use Rattle.cli_call.specs.tree-disk.Tree.{Name, Tree}
 use Rattle.cli_call.specs.declared.failure.Failure.{Failure}
 use Rattle.cli_call.specs.Call.{CallState, NotOpened, OpensRoot}
-use Rattle.cli_call.specs.Report.{End, Reports, status_of}
-use Rattle.cli_call.specs.ByStatus.{HasMissingDir, HasRefusedLog}
+use Rattle.cli_call.specs.Report.{End, status_of}
 use Rattle.conary_cli.specs.declared.words.Command.{Command}
 use Rattle.conary_cli.specs.declared.words.Command.TheVariants as command
-use Rattle.root_commands.specs.Records.{FindsNone, IsDamagedBack, IsDamagedOfAll, NoneIs, last_job}
+use Rattle.root_commands.specs.Records.{FindsNone, IsDamagedBack, IsDamagedOfAll, last_job}
 
 -- what isn't damaged where the command is done
 abbrev pub IsDamagedFor : Command → Tree → Db → Name → Type 0
@@ -30,8 +28,6 @@ abbrev pub EndsWhole : {A : Type 0} → Command → Tree → Db → Result A Fai
 EndsWhole c tree db result = FindsNone (IsDamagedFor c tree db) (IsDamagedFirst c tree db) result
 
 module _ {T P : Type 0} (root_disk : DiskModel T) (repo_disk : DiskModel P) where
-  -- ---- by its end
-
   -- The root was opened, and the command ended so on it.
   pub record EndsOnRoot (c : Command) (before : T) (end : End) : Type 0 where
     pub root : T
@@ -42,24 +38,3 @@ module _ {T P : Type 0} (root_disk : DiskModel T) (repo_disk : DiskModel P) wher
   -- where it is done or refused, unless the disks weren't opened
   abbrev pub EndsOpened : Command → CallState T P → CallState T P → End → Type 0
   EndsOpened c before now end = status_of end ≤ 1 → IsTrue root_disk.tells → NotOpened root_disk repo_disk before now end ⊎ EndsOnRoot c before.root end
-
-  -- So it ended, by an end that the status and the line on the standard error tell.
-  pub record EndsWithWhole (c : Command) (before now : CallState T P) (err err' : SinkState) (status : ℕ) : Type 0 where
-    pub end : End
-    pub reports : Reports end err err' status
-    pub whole : EndsOpened c before now end
-
-  -- ---- by its status
-
-  -- The root was opened; it has this database, and behind it nothing is damaged that the command read.
-  pub record ReadsWhole (c : Command) (before : T) (status : ℕ) : Type 0 where
-    pub root : T
-    pub db : Db
-    pub opens : OpensRoot root_disk repo_disk before root (Ok db)
-    pub done : status ≡ 0 → NoneIs (IsDamagedFor c (root_disk.reads root) db)
-    pub refused : status ≡ 1 → NoneIs (IsDamagedFirst c (root_disk.reads root) db)
-
-  -- where the root is told: so it is, or a fixed directory isn't one, or a log can't be put
-  abbrev pub RecordsAreWhole : Command → CallState T P → CallState T P → SinkState → SinkState → ℕ → Type 0
-  RecordsAreWhole c before now err err' status = IsTrue root_disk.tells →
-      ReadsWhole c before.root status ⊎ (HasMissingDir root_disk repo_disk before now err err' status ⊎ HasRefusedLog root_disk repo_disk before now err err' status)

@@ -1,24 +1,15 @@
-use Rattle.cli_call.proofs.CallByStatus.{by_status}
-use Rattle.conary_cli.specs.Commands.{meaning, scope_of}
 use Rattle.conary_cli.proofs.Calls.{some_status}
+use Rattle.conary_cli.specs.Commands.{meaning, scope_of}
 use Rattle.conary_cli.proofs.BlockedEnds.{blocked_call}
 use Rattle.conary_cli.proofs.FormEnds.{form_decides}
-use Rattle.conary_cli.proofs.RecordEnds.{records_whole}
 use Rattle.conary_cli.proofs.laws.call_laws.Goals as goal
 
 pub returns-clause-statuses : goal.returns-clause-statuses
 returns-clause-statuses g c words before now err err' status is = some_status g.T.TreeDisk.disk g.P.TreeDisk.disk words before now err err' status is
 
-pub returns-clause-status : goal.returns-clause-status
-returns-clause-status g c k before now err err' status call = by_status (scope_of k) (meaning k) before now err err' status call.call
-
 pub returns-clause-form : goal.returns-clause-form
 returns-clause-form g c k before now err err' status call =
-    form_decides g.T.TreeDisk.disk g.P.TreeDisk.disk before now err err' status (record { set = c.unique_set.ensures; made = c.one_manifest.ensures.made; excluded = c.one_manifest.ensures.excluded }) k call.call.input
-    (by_status (scope_of k) (meaning k) before now err err' status call.call)
-
-pub returns-clause-records : goal.returns-clause-records
-returns-clause-records g c k before now err err' status call small = records_whole g.met.T.TreeDisk.laws g.met.P.TreeDisk.laws before now err err' status k call.records.end call.records.whole call.records.reports small
+    form_decides g.T.TreeDisk.disk g.P.TreeDisk.disk before now k err err' status call.call (record { set = c.unique_set.ensures; made = c.one_manifest.ensures.made; excluded = c.one_manifest.ensures.excluded })
 
 pub returns-clause-blocked : goal.returns-clause-blocked
 returns-clause-blocked g c k before now err err' status call puts told set holds cannot =
