@@ -15,6 +15,7 @@ use Rattle.cli_call.specs.declared.failure.Failure.{Failure}
 use Rattle.cli_call.specs.declared.opened.Opened.{Opened}
 use Rattle.cli_call.specs.Command.{disks, AreReady}
 use Rattle.cli_call.specs.Call.{CallState, AreOpened, RunsCall}
+use Rattle.cli_call.proofs.BlockedEnds.{meets_log}
 use Rattle.cli_call.proofs.CallFacts.{call_facts}
 use Rattle.cli_call.proofs.CallKnown.{call_known}
 use Rattle.cli_call.specs.Input.{input_limit, within_limit, left_after_reading}
@@ -81,6 +82,7 @@ whole_call {root_disk = root_disk} {repo_disk = repo_disk} root_laws repo_laws s
         read_to_end = λ ok on. read_whole root_disk repo_disk m before now scope on end ok runs;
         reaches = known.reaches;
         facts = facts;
+        log = meets_log root_disk repo_disk scope m known.input before now end known.reaches facts;
         from = known.from;
         on_root = known.on_root;
         on_repository = known.on_repository;

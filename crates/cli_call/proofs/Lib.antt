@@ -15,6 +15,7 @@ pub mod RootStates
 pub mod CallStates
 pub mod RepositoryStates
 pub mod CallKnown
+pub mod BlockedEnds
 pub mod CallLaws
 pub mod InputBytes
 pub mod OpeningDisks

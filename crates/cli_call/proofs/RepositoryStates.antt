@@ -1,5 +1,5 @@
 -- What is known of a call of a command that works on the repository alone, from a state whose repository its disk recovers to.
-use Rattle.cli_call.specs.Call.{AreOpened, CallState, NotOpened, OpensRepository, OpensRoot}
+use Rattle.cli_call.specs.Call.{AreOpened, CallState, NotOpened, OpensRepository, OpensRoot, StopsForRoot}
 use Rattle.cli_call.specs.WholeCall.{CallEnds, CallOnRepository, HasEffect, OwnOutcome}
 use Rattle.local_db.specs.declared.db.Db.{Db}
 use Rattle.system_core.specs.tree-disk.Disk.{DiskModel, IsDisk}
@@ -19,7 +19,7 @@ use Rattle.system_core.proofs.Opened.{never_blocked}
 use Rattle.cli_call.specs.declared.failure.Failure.{Failure}
 use Rattle.cli_call.specs.declared.opened.Opened.{Opened}
 use Rattle.cli_call.proofs.CallEnds.{next_any, own_ends, own_unread, no_repo_effect, no_root_effect, no_unread_effect, small}
-use Rattle.cli_call.specs.Stops.{repository_failure, root_failure}
+use Rattle.cli_call.specs.Stops.{repository_failure}
 use Rattle.cli_call.specs.Stores.{repository_store}
 use Rattle.system_core.specs.cny-base.declared.stop.Stop.TheVariants as stop
 
@@ -37,15 +37,17 @@ module _ {T P : Type 0} {root_disk : DiskModel T} {repo_disk : DiskModel P} (rep
     (input : List ℕ) (repo_told : IsTrue repo_disk.tells) (s : State) (recovers : Recovers repository_store (repo_disk.reads before.repo) s.repository) where
   -- ---- the root wasn't opened
 
-  root_stopped : (end : End) (e : Stop) → end ≡ Err (root_failure e) → OpensRoot root_disk repo_disk before.root now.root (Err e) → now.repo ≡ before.repo → now.input ≡ before.input → CallOnRepository root_disk repo_disk m input s before now end
-  root_stopped end e is opens same unread = record {
-    next = s.repository;
-    ends = inl (record { stop = e; is = is; opens = opens; same = same; unread = unread });
-    is_next = inl refl;
-    repo = inl (subst (λ (d : P). LeavesOnly repo_disk before.repo d (RecoversAsThen repo_disk repository_store.base before.repo)) (sym same) (none_yet repo_disk_laws repository_store.base before.repo));
-    rests = λ h. absurd (no_root_effect e (subst HasEffect is h));
-    reads = inl (subst (λ (d : P). Recovers repository_store (repo_disk.reads d) s.repository) (sym same) recovers);
-  }
+  root_stopped : (end : End) (stopped : StopsForRoot root_disk repo_disk before now end) → CallOnRepository root_disk repo_disk m input s before now end
+  root_stopped end stopped =
+      let at = stopped.stops in
+      record {
+        next = s.repository;
+        ends = inl stopped;
+        is_next = inl refl;
+        repo = inl (subst (λ (d : P). LeavesOnly repo_disk before.repo d (RecoversAsThen repo_disk repository_store.base before.repo)) (sym at.same) (none_yet repo_disk_laws repository_store.base before.repo));
+        rests = λ h. absurd (no_root_effect at.stop (subst HasEffect (stopped.is ∙ ap Err at.is) h));
+        reads = inl (subst (λ (d : P). Recovers repository_store (repo_disk.reads d) s.repository) (sym at.same) recovers);
+      }
 
   -- ---- the root was opened, and the repository wasn't
 
@@ -61,7 +63,7 @@ module _ {T P : Type 0} {root_disk : DiskModel T} {repo_disk : DiskModel P} (rep
 
   pub repository_unopened : (end : End) → NotOpened root_disk repo_disk before now end → CallOnRepository root_disk repo_disk m input s before now end
   repository_unopened end stops = ⊎_elim
-      (λ at. root_stopped end at.stop (stops.is ∙ ap Err at.is) at.opens at.same stops.unread)
+      (λ at. root_stopped end (record { failure = stops.failure; is = stops.is; stops = at; unread = stops.unread; silent = stops.silent }))
       (λ at. subst (λ (x : End). CallOnRepository root_disk repo_disk m input s before now x) (sym (stops.is ∙ ap Err at.is)) (repository_stopped at.stop at.opens))
       stops.stops
 

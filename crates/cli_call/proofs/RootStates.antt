@@ -13,8 +13,8 @@ use Rattle.system_core.specs.tree-journal.Recovery.{RecoversAsThen}
 use Rattle.local_db.specs.declared.db.Db.{Db}
 use Rattle.cli_call.specs.declared.failure.Failure.{Failure}
 use Rattle.cli_call.specs.declared.opened.Opened.{Opened}
-use Rattle.cli_call.specs.Call.{CallState, OpensRoot, OpensRepository, AreOpened, NotOpened}
-use Rattle.cli_call.specs.WholeCall.{CallEnds, Outcome, left_when, left_of, IsOpenedOnly, CallOnRoot}
+use Rattle.cli_call.specs.Call.{CallState, OpensRoot, AreOpened, NotOpened, StopsForRepository}
+use Rattle.cli_call.specs.WholeCall.{CallEnds, HasEffect, Outcome, left_when, left_of, IsOpenedOnly, CallOnRoot}
 use Rattle.cli_call.proofs.CallEnds.{small, next_any, no_root_effect, no_repo_effect, no_unread_effect, outcome_of, dir_missing, run_ends, shown_so, unread_ends}
 use Rattle.cli_call.specs.Command.{disks, IsShown}
 use Rattle.system_core.specs.FixedDirs.{fixed_dirs}
@@ -26,7 +26,7 @@ use Rattle.cli_call.specs.Report.{End, status_of}
 use Rattle.cli_call.proofs.RootLaws.{root_laws, state_dirs, opened_root_rests}
 use Rattle.cli_call.specs.RootOpening.{IsRootOpen}
 use Rattle.cli_call.specs.State.{State, Meaning, tree_of, Scope}
-use Rattle.cli_call.specs.Stops.{root_failure, repository_failure}
+use Rattle.cli_call.specs.Stops.{root_failure}
 use Rattle.cli_call.specs.Store.{Recovers, IsEntryOr, RestsAt}
 use Rattle.cli_call.proofs.StoreLaws.{never_damaged, rest_reads, none_yet}
 use Rattle.cli_call.specs.Stores.{root_store, repository_store}
@@ -90,30 +90,33 @@ module _ {T P : Type 0} {root_disk : DiskModel T} {repo_disk : DiskModel P} (roo
     };
   }
 
-  repository_stopped : (e : Stop) (db : Db) → OpensRoot root_disk repo_disk before.root now.root (Ok db) → OpensRepository root_disk repo_disk before.repo now.repo (Err e) → now.input ≡ before.input → CallOnRoot root_disk repo_disk m input s before now (Err (repository_failure e))
-  repository_stopped e db first opens unread = record {
-    next = s;
-    ends = inl (record { stop = e; is = refl; opens = opens; unread = unread });
-    is_next = inl refl;
-    stays = refl;
-    root = inl (first.from root_told s.root recovers).images;
-    rests = λ h. absurd (no_repo_effect e h);
-    reads = inl (first.from root_told s.root recovers).reads;
-    outside = λ clear q out left. (first.from root_told s.root recovers).outside clear q out;
-    seen = record {
-      ready = now.root;
-      reached = inr refl;
-      recovery_later = first.later;
-      command_later = omega arith;
-      recovery = (first.from root_told s.root recovers).seen;
-      command = unfailed_start now.root (IsShown (Outcome m s input) s (root_disk.reads now.root));
-    };
-  }
+  repository_stopped : (end : End) (stopped : StopsForRepository root_disk repo_disk before now end) → CallOnRoot root_disk repo_disk m input s before now end
+  repository_stopped end stopped =
+      let at = stopped.stops in
+      let first = at.opens_root in
+      record {
+        next = s;
+        ends = inl stopped;
+        is_next = inl refl;
+        stays = refl;
+        root = inl (first.from root_told s.root recovers).images;
+        rests = λ h. absurd (no_repo_effect at.stop (subst HasEffect (stopped.is ∙ ap Err at.is) h));
+        reads = inl (first.from root_told s.root recovers).reads;
+        outside = λ clear q out left. (first.from root_told s.root recovers).outside clear q out;
+        seen = record {
+          ready = now.root;
+          reached = inr refl;
+          recovery_later = first.later;
+          command_later = omega arith;
+          recovery = (first.from root_told s.root recovers).seen;
+          command = unfailed_start now.root (IsShown (Outcome m s input) s (root_disk.reads now.root));
+        };
+      }
 
   pub root_unopened : (end : End) → NotOpened root_disk repo_disk before now end → CallOnRoot root_disk repo_disk m input s before now end
   root_unopened end stops = ⊎_elim
       (λ at. subst (λ (x : End). CallOnRoot root_disk repo_disk m input s before now x) (sym (stops.is ∙ ap Err at.is)) (root_stopped at.stop at.opens))
-      (λ at. subst (λ (x : End). CallOnRoot root_disk repo_disk m input s before now x) (sym (stops.is ∙ ap Err at.is)) (repository_stopped at.stop at.db at.opens_root at.opens stops.unread))
+      (λ at. repository_stopped end (record { failure = stops.failure; is = stops.is; stops = at; unread = stops.unread; silent = stops.silent }))
       stops.stops
 
   -- ---- both were opened

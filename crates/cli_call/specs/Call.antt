@@ -40,14 +40,14 @@ module _ {T P : Type 0} (root_disk : DiskModel T) (repo_disk : DiskModel P) wher
   abbrev pub OpensRepository : P → P → Result CatalogueParts Stop → Type 0
   OpensRepository old new result = Opens repository_store repo_disk no_test HoldsCatalogue old new result
 
-  -- The root wasn't opened, and nothing else was done.
+  -- The root wasn't opened, and its disk says why; the repository wasn't touched.
   pub record StopsAtRoot (root root' : T) (repo repo' : P) (e : Failure) : Type 0 where
     pub stop : Stop
     pub is : e ≡ root_failure stop
     pub opens : OpensRoot root root' (Err stop)
     pub same : repo' ≡ repo
 
-  -- The root was opened, and the repository wasn't.
+  -- The root was opened, and the repository wasn't, and its disk says why.
   pub record StopsAtRepository (root root' : T) (repo repo' : P) (e : Failure) : Type 0 where
     pub stop : Stop
     pub is : e ≡ repository_failure stop
@@ -87,13 +87,23 @@ module _ {T P : Type 0} (root_disk : DiskModel T) (repo_disk : DiskModel P) wher
 
   -- ---- the whole call
 
-  -- The disks weren't opened, and nothing else was done; or they were.
-  pub record NotOpened (before now : CallState T P) (end : End) : Type 0 where
+  -- What stopped the opening ended the call, and nothing else was done.
+  pub record EndsOpening (Stops : T → T → P → P → Failure → Type 0) (before now : CallState T P) (end : End) : Type 0 where
     pub failure : Failure
     pub is : end ≡ Err failure
-    pub stops : StopsOpening before.root now.root before.repo now.repo failure
+    pub stops : Stops before.root now.root before.repo now.repo failure
     pub unread : now.input ≡ before.input
     pub silent : now.out ≡ before.out
+
+  abbrev pub StopsForRoot : CallState T P → CallState T P → End → Type 0
+  StopsForRoot before now end = EndsOpening StopsAtRoot before now end
+
+  abbrev pub StopsForRepository : CallState T P → CallState T P → End → Type 0
+  StopsForRepository before now end = EndsOpening StopsAtRepository before now end
+
+  -- The disks weren't opened, and nothing else was done; or they were.
+  abbrev pub NotOpened : CallState T P → CallState T P → End → Type 0
+  NotOpened before now end = EndsOpening StopsOpening before now end
 
   abbrev pub after_opening : CallState T P → T → P → Opened → Moment T P
   after_opening before root repo opened = record { at = disks root repo opened; out = before.out }

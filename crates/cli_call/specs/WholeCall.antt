@@ -10,25 +10,26 @@ use Rattle.system_core.specs.tree-disk.Clear.{is_within}
 use Rattle.system_core.specs.tree-disk.Confined.{Among, Confined, LeavesOnly}
 use Rattle.system_core.specs.tree-disk.Steps.{no_name}
 use Rattle.system_core.specs.tree-disk.Unfailed.{UnlessFailed}
-use Rattle.system_core.specs.tree-journal.Recovery.{is_committed, RecoversAsThen}
+use Rattle.system_core.specs.journal-log.declared.put.Put.{Put}
+use Rattle.system_core.specs.tree-journal.CanBePut.{AllCanBePut}
+use Rattle.system_core.specs.tree-journal.Recovery.{is_committed, HoldsLog, RecoversAsThen}
 use Rattle.local_db.specs.declared.db.Db.{Db}
 use Rattle.repo_load.specs.Files.{repository_base}
 use Rattle.repo_load.specs.State.{RepositoryState}
 use Rattle.cli_call.specs.declared.failure.Failure.{Failure}
 use Rattle.cli_call.specs.declared.opened.Opened.{Opened}
 use Rattle.cli_call.specs.Alone.{HasLists, HasTree}
-use Rattle.cli_call.specs.Call.{CallState, AreOpened, NotOpened, OpensRepository, OpensRoot}
+use Rattle.cli_call.specs.Call.{CallState, AreOpened, NotOpened, OpensRoot, StopsForRepository, StopsForRoot}
 use Rattle.cli_call.specs.Command.{KeepsOthers, IsShown, ChangesNothing}
 use Rattle.system_core.specs.FixedDirs.{fixed_dirs}
 use Rattle.cli_call.specs.Reading.{given, left_by, Gives, IsInput}
-use Rattle.system_core.specs.tree-journal.Recovered.{RecoversToNone, IsKept}
+use Rattle.system_core.specs.tree-journal.Recovered.{RecoversToNone, IsKept, RefusesLog}
 use Rattle.cli_call.specs.Report.{End, Reports, status_of}
 use Rattle.cli_call.specs.RootOpening.{IsRootKept, RecoversOutside, ShowsBetween}
 use Rattle.cli_call.specs.State.{RootState, State, Effect, Meaning, tree_of, IsNext, OneDisk, Then, Scope, Takes}
 use Rattle.cli_call.specs.Store.{Store, Recovers, OneOf, IsEntryOr, HasDamagedFile, IsSettled, RestsAt}
 use Rattle.cli_call.specs.Stores.{root_store, repository_store}
 use Rattle.system_core.specs.cny-base.declared.stop.Stop.{Stop}
-use Rattle.cli_call.specs.Stops.{repository_failure, root_failure}
 use Rattle.cli_call.specs.declared.failure.Failure.TheVariants as failure
 
 -- ---- what a command means, with the tests that all commands share
@@ -210,6 +211,26 @@ module _ {T P : Type 0} (root_disk : DiskModel T) (repo_disk : DiskModel P) wher
     pub repo_within : IsTrue repo_disk.tells → is_committed repository_store.base (repo_disk.reads before.repo) ≡ false → Confined repo_disk (Among (is_within repository_base)) before.repo now.repo
     pub missing : IsTrue root_disk.tells → (r : Refusal) → fixed_dirs (root_disk.reads before.root) ≡ Err r → OnlyRead before now
 
+  -- ---- a root whose log can't be put
+
+  -- It was refused for the root's log, or for a fixed directory.
+  pub record RefusesRoot (before : CallState T P) (end : End) : Type 0 where
+    pub refusal : Refusal
+    pub is : end ≡ Err (failure.Refused refusal)
+    pub why : RefusesLog root_store.base (root_disk.reads before.root) refusal ⊎ (fixed_dirs (root_disk.reads before.root) ≡ Err refusal)
+
+  -- The root wasn't opened, and is left as it stands; and where neither a fault of its disk, want of memory nor a damaged file ended it, the
+  -- call was so refused.
+  pub record IsBlocked (before now : CallState T P) (end : End) : Type 0 where
+    pub stops : StopsForRoot root_disk repo_disk before now end
+    pub untouched : Confined root_disk (Among no_name) before.root now.root
+    pub refused : status_of end ≤ 4 → RefusesRoot before end
+
+  -- A root whose commit flag is set and whose log can't be put blocks the call, until an edit makes room.
+  abbrev pub MeetsLog : CallState T P → CallState T P → End → Type 0
+  MeetsLog before now end = IsTrue root_disk.tells → (puts : List Put) → is_committed root_store.base (root_disk.reads before.root) ≡ true → HoldsLog root_store.base puts (root_disk.reads before.root)
+      → (AllCanBePut puts (root_disk.reads before.root) → ⊥) → IsBlocked before now end
+
   -- ---- from a state to which both disks recover
 
   -- Until the root is open, readers see at each name outside its private directory what stood there, what it recovers to, or nothing
@@ -239,17 +260,10 @@ module _ {T P : Type 0} (root_disk : DiskModel T) (repo_disk : DiskModel P) wher
 
   -- ---- from a root that recovers to a state
 
-  -- The root was opened, and the repository wasn't.
-  pub record StopsForRepository (before now : CallState T P) (end : End) : Type 0 where
-    pub stop : Stop
-    pub is : end ≡ Err (repository_failure stop)
-    pub opens : OpensRepository root_disk repo_disk before.repo now.repo (Err stop)
-    pub unread : now.input ≡ before.input
-
   -- the state after the call, and what the root went through
   pub record CallOnRoot (m : Meaning) (input : List ℕ) (s : State) (before now : CallState T P) (end : End) : Type 0 where
     pub next : State
-    pub ends : StopsForRepository before now end ⊎ CallEnds (Outcome m s input) s next before.out now.out end
+    pub ends : StopsForRepository root_disk repo_disk before now end ⊎ CallEnds (Outcome m s input) s next before.out now.out end
     pub is_next : IsNext (Outcome m s input) s next
     pub stays : next.repository ≡ s.repository
     pub root : LivesRoot root_disk s.root next.root before.root now.root
@@ -271,18 +285,10 @@ module _ {T P : Type 0} (root_disk : DiskModel T) (repo_disk : DiskModel P) wher
 
   -- ---- from a repository that recovers to a state
 
-  -- The root wasn't opened, and nothing else was done.
-  pub record StopsForRoot (before now : CallState T P) (end : End) : Type 0 where
-    pub stop : Stop
-    pub is : end ≡ Err (root_failure stop)
-    pub opens : OpensRoot root_disk repo_disk before.root now.root (Err stop)
-    pub same : now.repo ≡ before.repo
-    pub unread : now.input ≡ before.input
-
   -- the repository after the call, and what its disk went through
   pub record CallOnRepository (m : Meaning) (input : List ℕ) (s : State) (before now : CallState T P) (end : End) : Type 0 where
     pub next : RepositoryState
-    pub ends : StopsForRoot before now end ⊎ CallEnds (OwnOutcome m s input) s (record { root = s.root; repository = next }) before.out now.out end
+    pub ends : StopsForRoot root_disk repo_disk before now end ⊎ CallEnds (OwnOutcome m s input) s (record { root = s.root; repository = next }) before.out now.out end
     pub is_next : IsNext (OwnOutcome m s input) s (record { root = s.root; repository = next })
     pub repo : LivesRepository repo_disk s.repository next before.repo now.repo
     pub rests : HasEffect end → RestsAt repository_store repo_disk now.repo next
@@ -310,6 +316,7 @@ module _ {T P : Type 0} (root_disk : DiskModel T) (repo_disk : DiskModel P) wher
     -- how far it came, why it ended so, and what stands then
     pub reaches : Reaches scope m input before now end
     pub facts : CallFacts before now end
+    pub log : MeetsLog before now end
     -- Its outcome, where both disks, the root alone, or the repository alone recover to a state. (That of a command that works on less
     -- is said where the disks were opened.)
     pub from : FromStates before (λ s. CallFrom m input s before now end)

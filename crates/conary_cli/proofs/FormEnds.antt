@@ -13,7 +13,7 @@ use Rattle.cny_manifest.specs.Makes.{Makes}
 use Rattle.cli_call.specs.tree-disk.Disk.{DiskModel}
 use Rattle.cli_call.specs.change-set.declared.change.ChangeSet.{ChangeSet}
 use Rattle.cli_call.specs.change-set.ChangeSet.{IsSetStream}
-use Rattle.cli_call.specs.Call.{CallState}
+use Rattle.cli_call.specs.Call.{CallState, StopsForRepository}
 use Rattle.cli_call.specs.system-core.FixedDirs.{fixed_dirs}
 use Rattle.cli_call.specs.Input.{input_limit, within_limit}
 use Rattle.cli_call.specs.Reading.{given}
@@ -21,7 +21,7 @@ use Rattle.cli_call.specs.State.{State, Effect, Meaning, tree_of, Then}
 use Rattle.cli_call.specs.Report.{End, status_of}
 use Rattle.cli_call.specs.Store.{RestsAt}
 use Rattle.cli_call.specs.Stores.{root_store}
-use Rattle.cli_call.specs.WholeCall.{CallEnds, FromRoots, FromStates, HasEffect, IsCall, Outcome, RestBoth, StopsForRepository}
+use Rattle.cli_call.specs.WholeCall.{CallEnds, FromRoots, FromStates, HasEffect, IsCall, Outcome, RestBoth}
 use Rattle.cli_call.specs.declared.failure.Failure.TheVariants as failure
 use Rattle.conary_cli.specs.declared.words.Command.{Command}
 use Rattle.conary_cli.specs.declared.words.Command.TheVariants as command

@@ -1,5 +1,4 @@
 pub mod FormEnds
-pub mod BlockedEnds
 pub mod RecordEnds
 pub mod Performing
 pub mod RestoreEnds

@@ -1,5 +1,4 @@
 pub mod FormDecides
-pub mod Blocked
 pub mod Records
 pub mod Restores
 pub mod Commands

@@ -1,13 +1,8 @@
 //! What follows of the promise of a call.
-ghost use Rattle.std.specs.Prelude.{◌≡◌, ◌≤◌, true, IsTrue, List, ℕ};
+ghost use Rattle.std.specs.Prelude.{◌≤◌, List, ℕ};
 ghost use Rattle.cny_flow.specs.Flow.{SinkState};
-ghost use Rattle.cli_call.specs.cny-base.Reserved.{private_directory};
-ghost use Rattle.cli_call.specs.journal-log.declared.put.Put.{Put};
-ghost use Rattle.cli_call.specs.tree-journal.CanBePut.{AllCanBePut};
-ghost use Rattle.cli_call.specs.tree-journal.Recovery.{is_committed, HoldsLog};
 ghost use Rattle.cli_call.specs.Call.{CallState};
 ghost use Rattle.conary_cli.specs.declared.words.Command.{Command};
-ghost use Rattle.conary_cli.specs.Blocked.{IsBlocked};
 ghost use Rattle.conary_cli.specs.Commands.{IsCommandCall, IsSomeCall};
 ghost use Rattle.conary_cli.specs.FormDecides.{FormDecides};
 
@@ -15,17 +10,13 @@ use cli_call::change_set::unique_set;
 use cli_call::tree_disk::TreeDisk;
 use cny_manifest::one_manifest;
 
-/// What a call promises of its status, by the form of its input, and on a root whose log can't be put.
+/// What a call promises of its status, and by the form of its input.
 pub fn call_laws<T: TreeDisk, P: TreeDisk>()
     // Whatever the words are, and however the call ends, no status is above 8.
     ensures statuses { (words : List (List ℕ)) (before now : CallState T P) (err err' : SinkState) (status : ℕ) → IsSomeCall T.disk P.disk words before now err err' status → status ≤ 8 }
     // What the form of the input decides.
     ensures form { (c : Command) (before now : CallState T P) (err err' : SinkState) (status : ℕ) (call : IsCommandCall T.disk P.disk c before now err err' status)
         → FormDecides T.disk P.disk c call.call.input before now call.call.end }
-    // A root whose log can't be put is left as it stands, and the call is refused: until an edit makes room.
-    ensures blocked { (c : Command) (before now : CallState T P) (err err' : SinkState) (status : ℕ) (call : IsCommandCall T.disk P.disk c before now err err' status) (puts : List Put)
-        → IsTrue T.disk.tells → is_committed private_directory (T.disk.reads before.root) ≡ true → HoldsLog private_directory puts (T.disk.reads before.root)
-        → (AllCanBePut puts (T.disk.reads before.root) → ⊥) → IsBlocked T.disk P.disk before now call.call.end }
 {
     // One input is one change set at most, and makes one value at most.
     unique_set();

@@ -1,6 +1,4 @@
 use Rattle.conary_cli.proofs.Calls.{some_status}
-use Rattle.conary_cli.specs.Commands.{meaning, scope_of}
-use Rattle.conary_cli.proofs.BlockedEnds.{blocked_call}
 use Rattle.conary_cli.proofs.FormEnds.{form_decides}
 use Rattle.conary_cli.proofs.laws.call_laws.Goals as goal
 
@@ -10,7 +8,3 @@ returns-clause-statuses g c words before now err err' status is = some_status g.
 pub returns-clause-form : goal.returns-clause-form
 returns-clause-form g c k before now err err' status call =
     form_decides g.T.TreeDisk.disk g.P.TreeDisk.disk before now k err err' status call.call (record { set = c.unique_set.ensures; made = c.one_manifest.ensures.made; excluded = c.one_manifest.ensures.excluded })
-
-pub returns-clause-blocked : goal.returns-clause-blocked
-returns-clause-blocked g c k before now err err' status call puts told set holds cannot =
-    blocked_call g.T.TreeDisk.disk g.P.TreeDisk.disk (scope_of k) (meaning k) before now err err' status call.call puts told set holds cannot
