@@ -1,5 +1,5 @@
 -- What is known of a call by how it ended, whatever the disks store.
-use Rattle.std.proofs.Common.{◌≡◌, ℕ, false, List, Result, Ok, Err, sym, ap, ◌∙◌, subst, ⊎_elim}
+use Rattle.std.proofs.Common.{◌≡◌, ℕ, false, List, Result, Ok, Err, sym, ap, ◌∙◌, subst, ⊎_elim, arith}
 use Rattle.std.specs.Prelude.{◌⊎◌, IsTrue}
 use Rattle.system_core.specs.cny-base.declared.refusal.Refusal.{Refusal}
 use Rattle.system_core.specs.cny-base.declared.stop.Stop.{Stop}
@@ -28,12 +28,19 @@ use Rattle.cli_call.specs.Stops.{root_failure, repository_failure}
 use Rattle.cli_call.specs.Stores.{root_store, repository_store}
 use Rattle.local_db.specs.declared.db.Db.{Db}
 use Rattle.cli_call.specs.WholeCall.{OnlyRead, CallCause, CallFacts}
+use Rattle.cny_flow.specs.Flow.{SourceState, SinkState}
 use Rattle.system_core.proofs.Opened.{kept_so}
 use Rattle.system_core.specs.cny-base.declared.stop.Stop.TheVariants as stop
 use Rattle.cli_call.specs.declared.failure.Failure.TheVariants as failure
 
 never_fixed : {r : Refusal} {d : Result (Unit {0}) Refusal} → d ≡ Ok tt → d ≡ Err r → ⊥
 never_fixed a b = cc (a, b)
+
+abbrev input_faults : SourceState → ℕ
+input_faults x = x.faults
+
+abbrev out_faults : SinkState → ℕ
+out_faults x = x.faults
 
 module _ {T P : Type 0} {root_disk : DiskModel T} {repo_disk : DiskModel P} (root_laws : IsDisk root_disk) (repo_laws : IsDisk repo_disk) (before now : CallState T P) where
   -- ---- the root wasn't opened
@@ -59,6 +66,7 @@ module _ {T P : Type 0} {root_disk : DiskModel T} {repo_disk : DiskModel P} (roo
 
   at_root : (e : Stop) → OpensRoot root_disk repo_disk before.root now.root (Err e) → now.repo ≡ before.repo → now.input ≡ before.input → now.out ≡ before.out → CallFacts root_disk repo_disk before now (Err (root_failure e))
   at_root e opens same unread silent = record {
+    later = record { input = omega (arith, ap input_faults unread); out = omega (arith, ap out_faults silent); root = opens.later; repo = omega (arith, ap repo_disk.faults same) };
     cause = root_cause e opens silent;
     kept = λ none. record { root = λ told. root_kept e opens told none; repo = λ told. same_repo same };
     root_untouched = opens.untouched;
@@ -77,8 +85,9 @@ module _ {T P : Type 0} {root_disk : DiskModel T} {repo_disk : DiskModel P} (roo
   repo_cause stop.FarFailed opens silent = absurd opens.stops
   repo_cause (stop.FarDamaged path) opens silent = absurd opens.stops
 
-  at_repository : (e : Stop) (db : Db) → OpensRoot root_disk repo_disk before.root now.root (Ok db) → OpensRepository root_disk repo_disk before.repo now.repo (Err e) → now.out ≡ before.out → CallFacts root_disk repo_disk before now (Err (repository_failure e))
-  at_repository e db opens_root opens silent = record {
+  at_repository : (e : Stop) (db : Db) → OpensRoot root_disk repo_disk before.root now.root (Ok db) → OpensRepository root_disk repo_disk before.repo now.repo (Err e) → now.input ≡ before.input → now.out ≡ before.out → CallFacts root_disk repo_disk before now (Err (repository_failure e))
+  at_repository e db opens_root opens unread silent = record {
+    later = record { input = omega (arith, ap input_faults unread); out = omega (arith, ap out_faults silent); root = opens_root.later; repo = opens.later };
     cause = repo_cause e opens silent;
     kept = λ none. record { root = λ told. opens_root.kept told tt; repo = opens.kept };
     root_untouched = λ told none. absurd (none (opens_root.opened told).reached.recovered (opens_root.opened told).reached.recovers);
@@ -90,7 +99,7 @@ module _ {T P : Type 0} {root_disk : DiskModel T} {repo_disk : DiskModel P} (roo
   pub not_opened : (end : End) → NotOpened root_disk repo_disk before now end → CallFacts root_disk repo_disk before now end
   not_opened end stops = ⊎_elim
       (λ at. subst (λ (x : End). CallFacts root_disk repo_disk before now x) (sym (stops.is ∙ ap Err at.is)) (at_root at.stop at.opens at.same stops.unread stops.silent))
-      (λ at. subst (λ (x : End). CallFacts root_disk repo_disk before now x) (sym (stops.is ∙ ap Err at.is)) (at_repository at.stop at.db at.opens_root at.opens stops.silent))
+      (λ at. subst (λ (x : End). CallFacts root_disk repo_disk before now x) (sym (stops.is ∙ ap Err at.is)) (at_repository at.stop at.db at.opens_root at.opens stops.unread stops.silent))
       stops.stops
 
   -- ---- both were opened
@@ -133,7 +142,15 @@ module _ {T P : Type 0} {root_disk : DiskModel T} {repo_disk : DiskModel P} (roo
         let silent : now.out ≡ before.out = ap (λ (x : Moment T P). x.out) same in
         let same_root : now.root ≡ root = ap (λ (x : Moment T P). x.at.root) same in
         let same_repo' : now.repo ≡ repo = ap (λ (x : Moment T P). x.at.repo) same in
+        let root_later = opens.opens_root.later in
+        let repo_later = opens.opens.later in
         record {
+          later = record {
+            input = reads.later;
+            out = omega (arith, ap out_faults silent);
+            root = omega (arith, root_later, ap root_disk.faults same_root);
+            repo = omega (arith, repo_later, ap repo_disk.faults same_repo');
+          };
           cause = unread_cause m e reads silent;
           kept = λ none. record { root = kept_root (ap root_disk.reads same_root); repo = kept_repo (ap repo_disk.reads same_repo') };
           root_untouched = open_root_untouched;
@@ -152,8 +169,14 @@ module _ {T P : Type 0} {root_disk : DiskModel T} {repo_disk : DiskModel P} (roo
     run_cause (Err failure.InputFault) h = absurd h
     run_cause _ h = h
 
-    run_facts : (scope : Scope) (m : Meaning) (bytes : List ℕ) (end : End) → RunsLine root_disk repo_disk scope m bytes mid last end → CallFacts root_disk repo_disk before now end
-    run_facts scope m bytes end runs = record {
+    run_facts : (scope : Scope) (m : Meaning) (bytes : List ℕ) (end : End) → ReadsGiven m.takes_input before.input now.input (Ok bytes) → RunsLine root_disk repo_disk scope m bytes mid last end → CallFacts root_disk repo_disk before now end
+    run_facts scope m bytes end reads runs = record {
+      later = record {
+        input = reads.later;
+        out = runs.out_later;
+        root = omega (arith, opens.opens_root.later, runs.root_later);
+        repo = omega (arith, opens.opens.later, runs.repo_later);
+      };
       cause = run_cause end runs.cause;
       kept = λ none. record { root = λ told. kept_root ((runs.same none).root told) told; repo = λ told. kept_repo ((runs.same none).repo told) told };
       root_untouched = open_root_untouched;
@@ -165,7 +188,7 @@ module _ {T P : Type 0} {root_disk : DiskModel T} {repo_disk : DiskModel P} (roo
     pub open_facts : (scope : Scope) (m : Meaning) (end : End) → StopsReading root_disk repo_disk m before.input now.input mid last end ⊎ RunsWith root_disk repo_disk scope m before.input now.input mid last end → CallFacts root_disk repo_disk before now end
     open_facts scope m end how = ⊎_elim
         (λ stops. subst (λ (x : End). CallFacts root_disk repo_disk before now x) (sym stops.is) (unread_facts m stops.failure stops.reads stops.same))
-        (λ runs. run_facts scope m runs.bytes end runs.runs)
+        (λ runs. run_facts scope m runs.bytes end runs.reads runs.runs)
         how
 
   pub call_facts : (scope : Scope) (m : Meaning) (end : End) → RunsCall root_disk repo_disk scope m before now end → CallFacts root_disk repo_disk before now end

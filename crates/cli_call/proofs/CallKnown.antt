@@ -81,7 +81,8 @@ module _ {T P : Type 0} {root_disk : DiskModel T} {repo_disk : DiskModel P} (roo
             repo = repo;
             opened = opened;
             opens = opens;
-            reads = inl (record { failure = stops.failure; is = refl; gives = read.gives; same_root = same_root; same_repo = same_repo; silent = ap (λ (x : Moment T P). x.out) stops.same });
+            reads = inl (record { failure = stops.failure; is = refl; gives = read.gives; reads = stops.reads; same_root = same_root; same_repo = same_repo; silent = ap (λ (x : Moment T P). x.out) stops.same });
+            same = λ none. record { root = λ told. ap root_disk.reads same_root; repo = λ told. ap repo_disk.reads same_repo };
             repo_left = λ is. same_repo;
             repo_within = λ told. subst (λ (d : P). Confined repo_disk (Among (is_within repository_base)) repo d) (sym same_repo) (confined_start repo_laws (Among (is_within repository_base)) repo);
             root_rests = λ small told. subst (λ (d : T). IsSettled root_disk root_store.base d) (sym same_root) (opens.opens_root.opened told).settled;
@@ -118,7 +119,8 @@ module _ {T P : Type 0} {root_disk : DiskModel T} {repo_disk : DiskModel P} (roo
             repo = repo;
             opened = opened;
             opens = opens;
-            reads = inr (record { bytes = runs.bytes; gives = read.gives });
+            reads = inr (record { bytes = runs.bytes; gives = read.gives; reads = runs.reads });
+            same = λ none. record { root = (runs.runs.same none).root; repo = (runs.runs.same none).repo };
             repo_left = λ is. (runs.runs.alone is).repo;
             repo_within = runs.runs.within;
             root_rests = λ small. (runs.runs.rest small).root;

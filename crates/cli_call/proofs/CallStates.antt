@@ -14,7 +14,7 @@ use Rattle.cli_call.specs.declared.opened.Opened.{Opened}
 use Rattle.cli_call.specs.Call.{CallState, OpensRoot, OpensRepository, AreOpened, NotOpened}
 use Rattle.cli_call.specs.WholeCall.{CallEnds, Outcome, RecoversBoth, CallFrom}
 use Rattle.cli_call.proofs.CallEnds.{small, no_root_effect, no_repo_effect, no_unread_effect, outcome_of, read_left, run_ends, shown_so, unread_ends, unread_left}
-use Rattle.cli_call.specs.Command.{disks, IsShown}
+use Rattle.cli_call.specs.Command.{disks, IsShown, KeepsOthers}
 use Rattle.system_core.specs.FixedDirs.{fixed_dirs}
 use Rattle.cli_call.specs.Line.{Moment, RunsLine}
 use Rattle.cli_call.specs.Reading.{given, Gives, ReadsGiven}
@@ -53,6 +53,7 @@ module _ {T P : Type 0} {root_disk : DiskModel T} {repo_disk : DiskModel P} (roo
       command_later = omega arith;
       recovery = (opens.from root_told s.root recovers.root).seen;
       command = unfailed_start now.root (IsShown (Outcome m s input) s (root_disk.reads now.root));
+      outside = λ q out left. refl;
     };
     left = root_left repo_disk root_disk_laws m before now root_told s recovers.root e opens unread;
   }
@@ -93,6 +94,7 @@ module _ {T P : Type 0} {root_disk : DiskModel T} {repo_disk : DiskModel P} (roo
       command_later = omega arith;
       recovery = (first.from root_told s.root recovers.root).seen;
       command = unfailed_start now.root (IsShown (Outcome m s input) s (root_disk.reads now.root));
+      outside = λ q out left. refl;
     };
     left = λ le. absurd (repo_left e opens le);
   }
@@ -144,6 +146,7 @@ module _ {T P : Type 0} {root_disk : DiskModel T} {repo_disk : DiskModel P} (roo
             command_later = omega (arith, ap root_disk.faults same_root);
             recovery = (opens.opens_root.from root_told s.root recovers.root).seen;
             command = subst (λ (d : T). UnlessFailed root_disk root d (IsShown (Outcome m s input) s (root_disk.reads root))) (sym same_root) (unfailed_start root (IsShown (Outcome m s input) s (root_disk.reads root)));
+            outside = λ q out left. ap (λ (d : T). get (root_disk.reads d) q) same_root;
           };
           left = unread_left m s fixed e reads;
         }
@@ -154,6 +157,8 @@ module _ {T P : Type 0} {root_disk : DiskModel T} {repo_disk : DiskModel P} (roo
       pub from_run : (end : End) → RunsLine root_disk repo_disk scope m bytes mid_ last_ end → CallFrom root_disk repo_disk m input s before now end
       from_run end runs =
           let f = runs.told root_told repo_told s (record { root = root_rests; repo = repo_rests }) in
+          let others : KeepsOthers (Outcome m s input) s (root_disk.reads root) (root_disk.reads now.root) = λ q out left.
+          f.outside q out (λ e of. left e (outcome_of m s input bytes (Ok e) fixed gives of)) in
           record {
             next = f.next;
             ends = run_ends m s input fixed bytes gives before.out now.out f.next end f.ends;
@@ -163,8 +168,7 @@ module _ {T P : Type 0} {root_disk : DiskModel T} {repo_disk : DiskModel P} (roo
             rests = λ h. record { root = f.root.rests (small end h); repo = f.repo.rests (small end h) };
             root_reads = f.root.reads;
             repo_reads = f.repo.reads;
-            outside = λ clear q out left.
-                f.outside q out (λ e of. left e (outcome_of m s input bytes (Ok e) fixed gives of)) ∙ (opens.opens_root.from root_told s.root recovers.root).outside clear q out;
+            outside = λ clear q out left. others q out left ∙ (opens.opens_root.from root_told s.root recovers.root).outside clear q out;
             seen = record {
               ready = root;
               reached = inl (opens.opens_root.opened root_told).reached;
@@ -172,6 +176,7 @@ module _ {T P : Type 0} {root_disk : DiskModel T} {repo_disk : DiskModel P} (roo
               command_later = runs.root_later;
               recovery = (opens.opens_root.from root_told s.root recovers.root).seen;
               command = unfailed_weaker (shown_so m s input fixed bytes gives) f.seen;
+              outside = others;
             };
             left = λ le. read_left m s fixed bytes reads;
           }

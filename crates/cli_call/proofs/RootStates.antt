@@ -16,7 +16,7 @@ use Rattle.cli_call.specs.declared.opened.Opened.{Opened}
 use Rattle.cli_call.specs.Call.{CallState, OpensRoot, AreOpened, NotOpened, StopsForRepository}
 use Rattle.cli_call.specs.WholeCall.{CallEnds, HasEffect, Outcome, left_when, left_of, IsOpenedOnly, CallOnRoot}
 use Rattle.cli_call.proofs.CallEnds.{small, next_any, no_root_effect, no_repo_effect, no_unread_effect, outcome_of, dir_missing, run_ends, shown_so, unread_ends}
-use Rattle.cli_call.specs.Command.{disks, IsShown}
+use Rattle.cli_call.specs.Command.{disks, IsShown, KeepsOthers}
 use Rattle.system_core.specs.FixedDirs.{fixed_dirs}
 use Rattle.cli_call.proofs.InputLaws.{some_is}
 use Rattle.cli_call.specs.Line.{Moment, RunsLine}
@@ -87,6 +87,7 @@ module _ {T P : Type 0} {root_disk : DiskModel T} {repo_disk : DiskModel P} (roo
       command_later = omega arith;
       recovery = (opens.from root_told s.root recovers).seen;
       command = unfailed_start now.root (IsShown (Outcome m s input) s (root_disk.reads now.root));
+      outside = λ q out left. refl;
     };
   }
 
@@ -110,6 +111,7 @@ module _ {T P : Type 0} {root_disk : DiskModel T} {repo_disk : DiskModel P} (roo
           command_later = omega arith;
           recovery = (first.from root_told s.root recovers).seen;
           command = unfailed_start now.root (IsShown (Outcome m s input) s (root_disk.reads now.root));
+          outside = λ q out left. refl;
         };
       }
 
@@ -154,6 +156,7 @@ module _ {T P : Type 0} {root_disk : DiskModel T} {repo_disk : DiskModel P} (roo
             command_later = omega (arith, ap root_disk.faults same_root);
             recovery = (opens.opens_root.from root_told s.root recovers).seen;
             command = subst (λ (d : T). UnlessFailed root_disk root d (IsShown (Outcome m s input) s (root_disk.reads root))) (sym same_root) (unfailed_start root (IsShown (Outcome m s input) s (root_disk.reads root)));
+            outside = λ q out left. ap (λ (d : T). get (root_disk.reads d) q) same_root;
           };
         }
 
@@ -161,6 +164,8 @@ module _ {T P : Type 0} {root_disk : DiskModel T} {repo_disk : DiskModel P} (roo
     pub root_run : (bytes : List ℕ) → ReadsGiven m.takes_input before.input now.input (Ok bytes) → given m.takes_input input ≡ Ok bytes → scope.of_root ≡ true → (end : End) → RunsLine root_disk repo_disk scope m bytes from_ to_ end → CallOnRoot root_disk repo_disk m input s before now end
     root_run bytes reads gives is end runs =
         let f = (runs.alone is).told root_told s root_rests in
+        let others : KeepsOthers (Outcome m s input) s (root_disk.reads root) (root_disk.reads now.root) = λ q out left.
+        f.outside q out (λ e of. left e (outcome_of m s input bytes (Ok e) fixed gives of)) in
         let ended : CallEnds (Outcome m s input) s f.next before.out now.out end = run_ends m s input fixed bytes gives before.out now.out f.next end f.ends in
         record {
           next = f.next;
@@ -170,8 +175,7 @@ module _ {T P : Type 0} {root_disk : DiskModel T} {repo_disk : DiskModel P} (roo
           root = inr (record { opened = root; opening = (opens.opens_root.from root_told s.root recovers).images; lives = f.root.images });
           rests = λ h. f.root.rests (small end h);
           reads = f.root.reads;
-          outside = λ clear q out left.
-              f.outside q out (λ e of. left e (outcome_of m s input bytes (Ok e) fixed gives of)) ∙ (opens.opens_root.from root_told s.root recovers).outside clear q out;
+          outside = λ clear q out left. others q out left ∙ (opens.opens_root.from root_told s.root recovers).outside clear q out;
           seen = record {
             ready = root;
             reached = inl (opens.opens_root.opened root_told).reached;
@@ -179,6 +183,7 @@ module _ {T P : Type 0} {root_disk : DiskModel T} {repo_disk : DiskModel P} (roo
             command_later = runs.root_later;
             recovery = (opens.opens_root.from root_told s.root recovers).seen;
             command = unfailed_weaker (shown_so m s input fixed bytes gives) f.seen;
+            outside = others;
           };
         }
 

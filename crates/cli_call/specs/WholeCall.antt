@@ -20,9 +20,9 @@ use Rattle.cli_call.specs.declared.failure.Failure.{Failure}
 use Rattle.cli_call.specs.declared.opened.Opened.{Opened}
 use Rattle.cli_call.specs.Alone.{HasLists, HasTree}
 use Rattle.cli_call.specs.Call.{CallState, AreOpened, NotOpened, OpensRoot, StopsForRepository, StopsForRoot}
-use Rattle.cli_call.specs.Command.{KeepsOthers, IsShown, ChangesNothing}
+use Rattle.cli_call.specs.Command.{disks, KeepsOthers, IsShown, ReadsSame, ChangesNothing}
 use Rattle.system_core.specs.FixedDirs.{fixed_dirs}
-use Rattle.cli_call.specs.Reading.{given, left_by, Gives, IsInput}
+use Rattle.cli_call.specs.Reading.{given, left_by, Gives, IsInput, ReadsGiven}
 use Rattle.system_core.specs.tree-journal.Recovered.{RecoversToNone, IsKept, RefusesLog}
 use Rattle.cli_call.specs.Report.{End, Reports, status_of}
 use Rattle.cli_call.specs.RootOpening.{IsRootKept, RecoversOutside, ShowsBetween}
@@ -139,14 +139,16 @@ module _ {T P : Type 0} (root_disk : DiskModel T) (repo_disk : DiskModel P) wher
     pub failure : Failure
     pub is : end ≡ Err failure
     pub gives : Gives m.takes_input input (Err failure)
+    pub reads : ReadsGiven m.takes_input before.input now.input (Err failure)
     pub same_root : now.root ≡ root
     pub same_repo : now.repo ≡ repo
     pub silent : now.out ≡ before.out
 
-  -- what the command was performed with
-  pub record WasGiven (m : Meaning) (input : List ℕ) : Type 0 where
+  -- what the command was performed with, and what reading it left
+  pub record WasGiven (m : Meaning) (input : List ℕ) (before now : CallState T P) : Type 0 where
     pub bytes : List ℕ
     pub gives : given m.takes_input input ≡ Ok bytes
+    pub reads : ReadsGiven m.takes_input before.input now.input (Ok bytes)
 
   -- A command that works on the lists alone that were read when the disks were opened ends as its outcome on each state that has them,
   -- whatever else the disks tell or store, and touched neither.
@@ -168,7 +170,9 @@ module _ {T P : Type 0} (root_disk : DiskModel T) (repo_disk : DiskModel P) wher
     pub repo : P
     pub opened : Opened
     pub opens : AreOpened root_disk repo_disk before.root root before.repo repo opened
-    pub reads : NotRead m input root repo before now end ⊎ WasGiven m input
+    pub reads : NotRead m input root repo before now end ⊎ WasGiven m input before now
+    -- where it was refused, the input failed or a file is damaged, each disk that is told reads as its opening left it
+    pub same : ChangesNothing end → ReadsSame root_disk repo_disk (disks root repo opened) (disks now.root now.repo opened)
     -- A command that works on the root alone leaves the repository as its opening left it, and any other changes it below its directory
     -- alone, however the call ends.
     pub repo_left : scope.of_root ≡ true → now.repo ≡ repo
@@ -199,8 +203,16 @@ module _ {T P : Type 0} (root_disk : DiskModel T) (repo_disk : DiskModel P) wher
   CallCause before now (Err (failure.Damaged path)) = Keeps before.out.written now.out.written
   CallCause before now (Err failure.Usage) = ⊥
 
+  -- no count of faults fell
+  pub record AreLater (before now : CallState T P) : Type 0 where
+    pub input : before.input.faults ≤ now.input.faults
+    pub out : before.out.faults ≤ now.out.faults
+    pub root : root_disk.faults before.root ≤ root_disk.faults now.root
+    pub repo : repo_disk.faults before.repo ≤ repo_disk.faults now.repo
+
   -- Whatever the disks store.
   pub record CallFacts (before now : CallState T P) (end : End) : Type 0 where
+    pub later : AreLater before now
     pub cause : CallCause before now end
     -- where it was refused, the input failed or a file is damaged, both disks recover to what they recovered to
     pub kept : ChangesNothing end → AreKept before now
@@ -234,8 +246,8 @@ module _ {T P : Type 0} (root_disk : DiskModel T) (repo_disk : DiskModel P) wher
   -- ---- from a state to which both disks recover
 
   -- Until the root is open, readers see at each name outside its private directory what stood there, what it recovers to, or nothing
-  -- where just one of the two is a directory; and from then on what the command shows. The count of faults at that moment is between the
-  -- two others: where none rose over the whole call, it rose in neither part.
+  -- where just one of the two is a directory; and from then on what the command shows, and what no outcome touches reads as it did then.
+  -- The count of faults at that moment is between the two others: where none rose over the whole call, it rose in neither part.
   pub record ShowsCall (IsOutcome : Result Effect Refusal → Type 0) (s : State) (old new : T) : Type 0 where
     pub ready : T
     pub reached : RecoversOutside (root_disk.reads old) (root_disk.reads ready) ⊎ (ready ≡ new)
@@ -243,6 +255,7 @@ module _ {T P : Type 0} (root_disk : DiskModel T) (repo_disk : DiskModel P) wher
     pub command_later : root_disk.faults ready ≤ root_disk.faults new
     pub recovery : UnlessFailed root_disk old ready (ShowsBetween (root_disk.reads old) (tree_of s.root))
     pub command : UnlessFailed root_disk ready new (IsShown IsOutcome s (root_disk.reads ready))
+    pub outside : KeepsOthers IsOutcome s (root_disk.reads ready) (root_disk.reads new)
 
   -- the state after the call, and what each disk went through
   pub record CallFrom (m : Meaning) (input : List ℕ) (s : State) (before now : CallState T P) (end : End) : Type 0 where
