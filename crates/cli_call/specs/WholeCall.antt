@@ -245,9 +245,10 @@ module _ {T P : Type 0} (root_disk : DiskModel T) (repo_disk : DiskModel P) wher
 
   -- ---- from a state to which both disks recover
 
-  -- Until the root is open, readers see at each name outside its private directory what stood there, what it recovers to, or nothing
-  -- where just one of the two is a directory; and from then on what the command shows, and what no outcome touches reads as it did then.
-  -- The count of faults at that moment is between the two others: where none rose over the whole call, it rose in neither part.
+  -- Until some moment, by which the root recovered or which is the end, readers see at each name outside its private directory what
+  -- stood there, what it recovers to, or nothing where just one of the two is a directory; and from then on what the command shows, and
+  -- what no outcome touches reads as it did then. The count of faults at that moment is between the two others: where none rose over
+  -- the whole call, it rose in neither part.
   pub record ShowsCall (IsOutcome : Result Effect Refusal → Type 0) (s : State) (old new : T) : Type 0 where
     pub ready : T
     pub reached : RecoversOutside (root_disk.reads old) (root_disk.reads ready) ⊎ (ready ≡ new)
