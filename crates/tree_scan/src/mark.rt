@@ -88,28 +88,6 @@ fn is_same_link(target: &Target, other: &Mark) -> bool
 }
 
 impl Mark {
-    /// The fingerprint of what a record describes.
-    pub fn of_record(rec: &FileRec) -> Result<Self, OutOfMemory>
-        ensures { IfOk result (λ mark. mark ≡ fingerprint_of_record rec.now) }
-    {
-        Ok(match rec {
-            FileRec::Dir { mode, .. } => Mark::Dir { mode: *mode },
-            FileRec::File {
-                mode,
-                size,
-                name,
-                ..
-            } => Mark::File {
-                mode: *mode,
-                size: u64::from(*size),
-                name: *name,
-            },
-            FileRec::Link { target } => Mark::Link {
-                target: target.copy()?,
-            },
-        })
-    }
-
     /// Whether nothing stands there.
     pub fn is_nothing(&self) -> bool
         ensures { result ≡ spec.is_nothing self.now }
