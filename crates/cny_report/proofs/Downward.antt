@@ -17,9 +17,9 @@ rolled_back_more newest count =
     ∙ ap (λ (line : List ℕ). rolled_back_text newest count ++ line) (append-nil (rolled_back_line (newest - count)))
 
 -- a text grows by the line of the next number
-pub rolled_back_step : (newest count : ℕ) (text line grown : List ℕ) → text ≡ rolled_back_text newest count → line ≡ rolled_back_line (newest - count)
-    → grown ≡ text ++ line → grown ≡ rolled_back_text newest (count + 1)
-rolled_back_step newest count text line grown is line_is grows =
+pub rolled_back_step : (newest count : ℕ) (text grown : List ℕ) → text ≡ rolled_back_text newest count → grown ≡ text ++ rolled_back_line (newest - count)
+    → grown ≡ rolled_back_text newest (count + 1)
+rolled_back_step newest count text grown is grows =
     let next : suc count ≡ count + 1 = omega arith in
-    grows ∙ ap (λ (front : List ℕ). front ++ line) is ∙ ap (λ (last : List ℕ). rolled_back_text newest count ++ last) line_is ∙ sym (rolled_back_more newest count)
+    grows ∙ ap (λ (front : List ℕ). front ++ rolled_back_line (newest - count)) is ∙ sym (rolled_back_more newest count)
     ∙ ap (λ (n : ℕ). rolled_back_text newest n) next

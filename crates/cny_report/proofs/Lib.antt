@@ -1,1 +1,2 @@
 mod Downward
+mod Pieces

@@ -1,71 +1,53 @@
 //! Change sets as texts.
 ghost use Rattle.std.specs.Prelude.{◌≡◌, ◌∷◌, [], ◌++◌, IfOk, OnOk, codes, string_bytes};
-ghost use Rattle.std.specs.List.{flat_map};
 ghost use Rattle.update_job.specs.trove-parts.Id.{id_text_of};
 ghost use Rattle.cny_report.specs.Changes.{part_line, content_line, change_text};
 
 use crate::digits::digits_of;
+use crate::lines::{Line, push_lines};
+use crate::troves::{push_id, push_told};
 use std::alloc::Global;
+use std::fmt::Write;
 use update_job::change_set::{Carried, ChangeSet, Part};
 use update_job::cny_base::{OutOfMemory, Text};
-use update_job::trove_parts::{TroveId, id_text};
+use update_job::trove_parts::TroveId;
 
-fn absolute(alloc: Global, id: &TroveId) -> Result<String, OutOfMemory>
-    ensures { IfOk result (λ line. string_bytes line ≡ codes "absolute " ++ id_text_of id.now ++ 10 ∷ []) }
+fn push_relative(
+    alloc: Global,
+    out: &mut String,
+    old: &TroveId,
+    fresh: &TroveId,
+) -> Result<(), OutOfMemory>
+    ensures { OnOk result (string_bytes out.new
+        ≡ string_bytes out.old ++ (codes "relative " ++ id_text_of fresh.now ++ codes " from " ++ id_text_of old.now ++ 10 ∷ [])) }
 {
-    let id = id_text(alloc, id)?;
-    let id = id.get();
-    Ok(format!(in alloc; "absolute {id}\n")?)
+    push_id(alloc, out, "relative ", fresh)?;
+    push_told(alloc, out, " from ", old)
 }
 
-fn relative(alloc: Global, old: &TroveId, fresh: &TroveId) -> Result<String, OutOfMemory>
-    ensures { IfOk result (λ line. string_bytes line
-        ≡ codes "relative " ++ id_text_of fresh.now ++ codes " from " ++ id_text_of old.now ++ 10 ∷ []) }
-{
-    let old_text = id_text(alloc, old)?;
-    let fresh_text = id_text(alloc, fresh)?;
-    let (old, fresh) = (old_text.get(), fresh_text.get());
-    Ok(format!(in alloc; "relative {fresh} from {old}\n")?)
-}
+impl Line for Part {
+    ghost line = { part_line };
 
-fn line_of_part(alloc: Global, part: &Part) -> Result<String, OutOfMemory>
-    ensures { IfOk result (λ line. string_bytes line ≡ part_line part.now) }
-{
-    match part {
-        Part::Whole(trove) => absolute(alloc, trove.id()),
-        Part::Relative(rel) => {
-            let parts = rel.parts();
-            relative(alloc, &parts.old, &parts.fresh)
+    fn push(&self, alloc: Global, out: &mut String) -> Result<(), OutOfMemory> {
+        match self {
+            Part::Whole(trove) => push_told(alloc, out, "absolute ", trove.id()),
+            Part::Relative(rel) => {
+                let parts = rel.parts();
+                push_relative(alloc, out, &parts.old, &parts.fresh)
+            }
         }
     }
 }
 
-fn line_of_content(alloc: Global, content: &Carried) -> Result<String, OutOfMemory>
-    ensures { IfOk result (λ line. string_bytes line ≡ content_line content.now) }
-{
-    let name = digits_of(alloc, &content.name)?;
-    let size = content.bytes.get().len();
-    Ok(format!(in alloc; "content {name} {size}\n")?)
-}
+impl Line for Carried {
+    ghost line = { content_line };
 
-fn push_parts(alloc: Global, out: &mut String, parts: &[Part]) -> Result<(), OutOfMemory>
-    ensures { OnOk result (string_bytes out.new ≡ string_bytes out.old ++ flat_map part_line parts.now) }
-{
-    for part in parts {
-        let line = line_of_part(alloc, part)?;
-        out.push_str(line.as_str())?;
+    fn push(&self, alloc: Global, out: &mut String) -> Result<(), OutOfMemory> {
+        let name = digits_of(alloc, &self.name)?;
+        let size = self.bytes.get().len();
+        write!(out, "content {name} {size}\n")?;
+        Ok(())
     }
-    Ok(())
-}
-
-fn push_contents(alloc: Global, out: &mut String, contents: &[Carried]) -> Result<(), OutOfMemory>
-    ensures { OnOk result (string_bytes out.new ≡ string_bytes out.old ++ flat_map content_line contents.now) }
-{
-    for content in contents {
-        let line = line_of_content(alloc, content)?;
-        out.push_str(line.as_str())?;
-    }
-    Ok(())
 }
 
 /// What a change set holds, in its order: a line `absolute T` for each whole trove, `relative T from T` for each relative
@@ -75,7 +57,7 @@ pub fn change_text(alloc: Global, change: &ChangeSet) -> Result<Text, OutOfMemor
     ensures value { IfOk result (λ text. text ≡ change_text change.now) }
 {
     let mut text = String::new(alloc);
-    push_parts(alloc, &mut text, change.parts.get())?;
-    push_contents(alloc, &mut text, change.contents.get())?;
+    push_lines(alloc, &mut text, "", change.parts.get())?;
+    push_lines(alloc, &mut text, "", change.contents.get())?;
     Ok(Text::from_string(text))
 }

@@ -5,6 +5,7 @@
 mod changes;
 mod digits;
 mod jobs;
+mod lines;
 mod note;
 mod records;
 mod refusals;

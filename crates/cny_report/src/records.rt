@@ -1,17 +1,17 @@
 //! What a trove records, as text.
-ghost use Rattle.std.specs.Prelude.{◌≡◌, ◌<◌, ◌++◌, ◌∷◌, [], IfOk, OnOk, codes, string_bytes};
-ghost use Rattle.std.specs.List.{flat_map};
+ghost use Rattle.std.specs.Prelude.{◌≡◌, ◌<◌, ◌++◌, ◌∷◌, [], IfOk, OnOk, string_bytes};
 ghost use Rattle.update_job.specs.cny-base.Number.{octal_text};
-ghost use Rattle.cny_report.specs.Records.{owner_field, flag_field, flags_field, content_field, record_text, file_line, dep_line, trove_text};
-ghost use Rattle.cny_report.specs.Troves.{told_id};
+ghost use Rattle.cny_dep.specs.Dep.{dep_text};
+ghost use Rattle.cny_report.specs.Records.{owner_field, flag_field, flags_field, content_field, record_text, file_line, trove_text};
 
 use crate::digits::digits_of;
-use crate::troves::{push_id_line, push_told};
+use crate::lines::{Line, push_lines};
 use cny_dep::Dep;
 use std::alloc::{AllocError, Global};
+use std::fmt::Write;
 use update_job::cny_base::{Mode, OutOfMemory, Text, octal};
 use update_job::file_stream::{FileRec, Flags, Owner};
-use update_job::trove_parts::{FileAt, TroveId};
+use update_job::trove_parts::FileAt;
 use update_job::trove_stream::Trove;
 
 fn push_digit(out: &mut String, digit: u8) -> Result<(), AllocError>
@@ -37,48 +37,64 @@ fn push_owner(out: &mut String, owner: &Owner) -> Result<(), AllocError>
     if owner.is_root() {
         return Ok(());
     }
-    out.push_str(" ")?;
-    out.push_str(owner.user())?;
-    out.push_str(":")?;
-    out.push_str(owner.group())
+    let (user, group) = (owner.user(), owner.group());
+    write!(out, " {user}:{group}")
 }
 
-fn push_flag(out: &mut String, flag: bool, word: &str) -> Result<(), AllocError>
-    ensures { OnOk result (string_bytes out.new ≡ string_bytes out.old ++ flag_field flag word.now) }
+fn word_if(flag: bool, word: &str) -> &str
+    ensures { result.now ≡ flag_field flag word.now }
 {
-    if flag {
-        out.push_str(word)?;
-    }
-    Ok(())
+    if flag { word } else { "" }
 }
 
 fn push_flags(out: &mut String, flags: Flags) -> Result<(), AllocError>
     ensures { OnOk result (string_bytes out.new ≡ string_bytes out.old ++ flags_field flags) }
 {
-    push_flag(out, flags.config, " config")?;
-    push_flag(out, flags.initial, " initial")?;
-    push_flag(out, flags.transient, " transient")
+    let config = word_if(flags.config, " config");
+    let initial = word_if(flags.initial, " initial");
+    let transient = word_if(flags.transient, " transient");
+    write!(out, "{config}{initial}{transient}")
 }
 
-fn content_of(alloc: Global, size: u32, name: &[u8; 20]) -> Result<String, AllocError>
-    ensures { IfOk result (λ text. string_bytes text ≡ content_field size name.now) }
+fn push_content(
+    alloc: Global,
+    out: &mut String,
+    size: u32,
+    name: &[u8; 20],
+) -> Result<(), AllocError>
+    ensures { OnOk result (string_bytes out.new ≡ string_bytes out.old ++ content_field size name.now) }
 {
     let digits = digits_of(alloc, name)?;
-    let text = format!(in alloc; " {size} {digits}")?;
-    Ok(text)
+    write!(out, " {size} {digits}")
+}
+
+// Appends a word, the mode and the owner, with which a directory and a file begin.
+fn push_owned(out: &mut String, word: &str, mode: Mode, owner: &Owner) -> Result<(), AllocError>
+    ensures { OnOk result (string_bytes out.new ≡ string_bytes out.old ++ (word.now ++ octal_text mode ++ owner_field owner.now)) }
+{
+    out.push_str(word)?;
+    push_mode(out, mode)?;
+    push_owner(out, owner)
+}
+
+fn push_dir(out: &mut String, path: &str, mode: Mode, owner: &Owner) -> Result<(), AllocError>
+    ensures { OnOk result (string_bytes out.new ≡ string_bytes out.old ++ record_text path.now (FileRec.Dir mode owner.now)) }
+{
+    push_owned(out, "dir ", mode, owner)?;
+    write!(out, " {path}")
+}
+
+fn push_link(out: &mut String, path: &str, target: &str) -> Result<(), AllocError>
+    ensures { OnOk result (string_bytes out.new ≡ string_bytes out.old ++ record_text path.now (FileRec.Link target.now)) }
+{
+    write!(out, "link {path} -> {target}")
 }
 
 fn push_record(alloc: Global, out: &mut String, path: &str, rec: &FileRec) -> Result<(), AllocError>
     ensures { OnOk result (string_bytes out.new ≡ string_bytes out.old ++ record_text path.now rec.now) }
 {
     match rec {
-        FileRec::Dir { mode, owner } => {
-            out.push_str("dir ")?;
-            push_mode(out, *mode)?;
-            push_owner(out, owner)?;
-            out.push_str(" ")?;
-            out.push_str(path)
-        }
+        FileRec::Dir { mode, owner } => push_dir(out, path, *mode, owner),
         FileRec::File {
             mode,
             owner,
@@ -86,65 +102,43 @@ fn push_record(alloc: Global, out: &mut String, path: &str, rec: &FileRec) -> Re
             size,
             name,
         } => {
-            let content = content_of(alloc, *size, name)?;
-            out.push_str("file ")?;
-            push_mode(out, *mode)?;
-            push_owner(out, owner)?;
-            out.push_str(content.as_str())?;
+            push_owned(out, "file ", *mode, owner)?;
+            push_content(alloc, out, *size, name)?;
             push_flags(out, *flags)?;
-            out.push_str(" ")?;
-            out.push_str(path)
+            write!(out, " {path}")
         }
-        FileRec::Link { target } => {
-            out.push_str("link ")?;
-            out.push_str(path)?;
-            out.push_str(" -> ")?;
-            out.push_str(target.text())
-        }
+        FileRec::Link { target } => push_link(out, path, target.text()),
     }
 }
 
-fn push_file(alloc: Global, out: &mut String, file: &FileAt) -> Result<(), OutOfMemory>
-    ensures { OnOk result (string_bytes out.new ≡ string_bytes out.old ++ file_line file.now) }
-{
-    push_record(alloc, out, file.path.text(), &file.rec)?;
-    out.push('\n')?;
-    Ok(())
-}
+impl Line for FileAt {
+    ghost line = { file_line };
 
-fn push_files(alloc: Global, out: &mut String, files: &[FileAt]) -> Result<(), OutOfMemory>
-    ensures { OnOk result (string_bytes out.new ≡ string_bytes out.old ++ flat_map file_line files.now) }
-{
-    for file in files {
-        push_file(alloc, out, file)?;
+    fn push(&self, alloc: Global, out: &mut String) -> Result<(), OutOfMemory> {
+        push_record(alloc, out, self.path.text(), &self.rec)?;
+        out.push('\n')?;
+        Ok(())
     }
-    Ok(())
 }
 
-fn push_refs(alloc: Global, out: &mut String, refs: &[TroveId]) -> Result<(), OutOfMemory>
-    ensures { OnOk result (string_bytes out.new ≡ string_bytes out.old ++ flat_map (told_id (codes "ref ")) refs.now) }
-{
-    for id in refs {
-        push_told(alloc, out, "ref ", id)?;
+impl Line for Dep {
+    ghost line = { λ dep. dep_text dep ++ 10 ∷ [] };
+
+    fn push(&self, _: Global, out: &mut String) -> Result<(), OutOfMemory> {
+        out.push_str(self.text())?;
+        out.push('\n')?;
+        Ok(())
     }
-    Ok(())
 }
 
-fn push_dep(out: &mut String, word: &str, dep: &Dep) -> Result<(), AllocError>
-    ensures { OnOk result (string_bytes out.new ≡ string_bytes out.old ++ dep_line word.now dep.now) }
+fn push_trove(alloc: Global, out: &mut String, trove: &Trove) -> Result<(), OutOfMemory>
+    ensures { OnOk result (string_bytes out.new ≡ string_bytes out.old ++ trove_text trove.now) }
 {
-    out.push_str(word)?;
-    out.push_str(dep.text())?;
-    out.push('\n')
-}
-
-fn push_deps(out: &mut String, word: &str, deps: &[Dep]) -> Result<(), OutOfMemory>
-    ensures { OnOk result (string_bytes out.new ≡ string_bytes out.old ++ flat_map (dep_line word.now) deps.now) }
-{
-    for dep in deps {
-        push_dep(out, word, dep)?;
-    }
-    Ok(())
+    trove.push(alloc, out)?;
+    push_lines(alloc, out, "", trove.files())?;
+    push_lines(alloc, out, "ref ", trove.refs())?;
+    push_lines(alloc, out, "requires ", trove.requires_())?;
+    push_lines(alloc, out, "provides ", trove.provides())
 }
 
 /// A trove with all that it records: the line of its id; for each path, in path order, `dir MODE PATH`,
@@ -154,10 +148,6 @@ pub fn trove_text(alloc: Global, trove: &Trove) -> Result<Text, OutOfMemory>
     ensures value { IfOk result (λ text. text ≡ trove_text trove.now) }
 {
     let mut text = String::new(alloc);
-    push_id_line(alloc, &mut text, trove.id())?;
-    push_files(alloc, &mut text, trove.files())?;
-    push_refs(alloc, &mut text, trove.refs())?;
-    push_deps(&mut text, "requires ", trove.requires_())?;
-    push_deps(&mut text, "provides ", trove.provides())?;
+    push_trove(alloc, &mut text, trove)?;
     Ok(Text::from_string(text))
 }

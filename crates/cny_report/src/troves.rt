@@ -1,20 +1,28 @@
 //! Lists of troves as texts.
 ghost use Rattle.std.specs.Prelude.{◌≡◌, ◌++◌, IfOk, OnOk, string_bytes};
+ghost use Rattle.update_job.specs.trove-parts.Id.{id_text_of};
 ghost use Rattle.cny_report.specs.Troves as spec;
 ghost use Rattle.cny_report.specs.Troves.{id_line, troves_text, named_text, told_id, committed_text};
 
+use crate::lines::{Line, lines_text};
 use std::alloc::Global;
+use std::fmt::Write;
 use update_job::cny_base::{Name, OutOfMemory, Text};
 use update_job::trove_parts::{TroveId, id_text};
 use update_job::trove_stream::Trove;
 
-/// Appends the line of an id.
-pub(crate) fn push_id_line(alloc: Global, out: &mut String, id: &TroveId) -> Result<(), OutOfMemory>
-    ensures { OnOk result (string_bytes out.new ≡ string_bytes out.old ++ id_line id.now) }
+/// Appends a word, which ends in a space, and the text of an id.
+pub(crate) fn push_id(
+    alloc: Global,
+    out: &mut String,
+    word: &str,
+    id: &TroveId,
+) -> Result<(), OutOfMemory>
+    ensures { OnOk result (string_bytes out.new ≡ string_bytes out.old ++ (word.now ++ id_text_of id.now)) }
 {
-    let text = id_text(alloc, id)?;
-    out.push_str(text.get())?;
-    out.push('\n')?;
+    let id = id_text(alloc, id)?;
+    let id = id.get();
+    write!(out, "{word}{id}")?;
     Ok(())
 }
 
@@ -27,8 +35,26 @@ pub(crate) fn push_told(
 ) -> Result<(), OutOfMemory>
     ensures { OnOk result (string_bytes out.new ≡ string_bytes out.old ++ told_id word.now id.now) }
 {
-    out.push_str(word)?;
-    push_id_line(alloc, out, id)
+    push_id(alloc, out, word, id)?;
+    out.push('\n')?;
+    Ok(())
+}
+
+impl Line for TroveId {
+    ghost line = { id_line };
+
+    fn push(&self, alloc: Global, out: &mut String) -> Result<(), OutOfMemory> {
+        push_told(alloc, out, "", self)
+    }
+}
+
+// A trove is told by its id alone.
+impl Line for Trove {
+    ghost line = { λ trove. id_line trove.id };
+
+    fn push(&self, alloc: Global, out: &mut String) -> Result<(), OutOfMemory> {
+        push_told(alloc, out, "", self.id())
+    }
 }
 
 /// What is written where nothing changes.
@@ -42,11 +68,7 @@ pub(crate) fn nothing_changes(alloc: Global) -> Result<Text, OutOfMemory>
 pub fn troves_text(alloc: Global, troves: &[Trove]) -> Result<Text, OutOfMemory>
     ensures value { IfOk result (λ text. text ≡ troves_text troves.now) }
 {
-    let mut text = String::new(alloc);
-    for trove in troves {
-        push_id_line(alloc, &mut text, trove.id())?;
-    }
-    Ok(Text::from_string(text))
+    lines_text(alloc, "", troves)
 }
 
 /// The same of the troves of this name alone.
@@ -56,7 +78,7 @@ pub fn named_text(alloc: Global, name: &Name, troves: &[Trove]) -> Result<Text, 
     let mut text = String::new(alloc);
     for trove in troves {
         if trove.id().name == *name {
-            push_id_line(alloc, &mut text, trove.id())?;
+            trove.push(alloc, &mut text)?;
         }
     }
     Ok(Text::from_string(text))
@@ -69,9 +91,5 @@ pub fn committed_text(alloc: Global, ids: &[TroveId]) -> Result<Text, OutOfMemor
     if ids.is_empty() {
         return nothing_changes(alloc);
     }
-    let mut text = String::new(alloc);
-    for id in ids {
-        push_told(alloc, &mut text, "committed ", id)?;
-    }
-    Ok(Text::from_string(text))
+    lines_text(alloc, "committed ", ids)
 }

@@ -203,7 +203,8 @@ module _ {Y : Type 0} (gone : List (List ℕ)) (come : List TroveParts) (slots e
   -- ---- slots in which the edits were made
 
   module _ (requiring : All (λ (t : TroveParts). IsNoted requirers t.id.name t.requires_) come) (coming : All (λ (t : TroveParts). IsNoted providers t.id.name (provides_of t)) come) (new : Slots)
-      (ordered : IsOrdered (slice_cmp nat_cmp) new) (made : (name : List ℕ) → held new name ≡ held_after slots edits name) (closed : IsClosedBy (held_after slots edits)) where
+      (ordered : IsOrdered (slice_cmp nat_cmp) new) (made : (name : List ℕ) → held new name ≡ held_after slots edits name)
+      (has_slots : (name : List ℕ) → IsSome (slot edits name) → IsSome (slot slots name)) (passed : IsPassed slots edits requirers known) where
     pub kept_after : IsKept new requirers providers true
     kept_after = record {
       ordered = ordered;
@@ -214,7 +215,7 @@ module _ {Y : Type 0} (gone : List (List ℕ)) (come : List TroveParts) (slots e
       noted = λ name t there. noted_after requirers (λ (u : TroveParts). u.requires_) kept.noted requiring name t (sym (made name) ∙ there);
       closed = λ _ name t there.
           All-weaker (IsMetBy (held_after slots edits)) (IsMetBy (held new)) (λ require m. record { name = m.name; trove = m.trove; there = made m.name ∙ m.there; by = m.by }) t.requires_
-          (closed name t (sym (made name) ∙ there));
+          (closed_passed has_slots passed name t (sym (made name) ∙ there));
     }
 
     pub changed_after : IsChanged gone come (all_held slots) (all_held new)
@@ -257,17 +258,24 @@ module _ {Y : Type 0} (list : List TroveParts) (slots : Slots) (found : (name : 
   }
 
 -- slots that hold the same, and indices that grew
-pub still_kept : {Y : Type 0} (slots new : Slots) (requirers more providers others : BTreeMap (String Y) (BTreeSet (List ℕ))) (known : Bool) → IsKept slots requirers providers known
-    → IsOrdered (slice_cmp nat_cmp) new → ((name : List ℕ) → held new name ≡ held slots name) → ((dep name : List ℕ) → IsTrue (notes requirers dep name) → IsTrue (notes more dep name))
-    → ((dep name : List ℕ) → IsTrue (notes providers dep name) → IsTrue (notes others dep name)) → IsKept new more others known
-still_kept slots new requirers more providers others known kept ordered alike requiring providing = record {
-  ordered = ordered;
-  provided = record {
-    named = λ name t there. kept.provided.named name t (sym (alike name) ∙ there);
-    noted = λ name t there. still_noted providers others providing name (provides_of t) (kept.provided.noted name t (sym (alike name) ∙ there));
-  };
-  noted = λ name t there. still_noted requirers more requiring name t.requires_ (kept.noted name t (sym (alike name) ∙ there));
-  closed = λ is name t there.
-      All-weaker (IsMetBy (held slots)) (IsMetBy (held new)) (λ require m. record { name = m.name; trove = m.trove; there = alike m.name ∙ m.there; by = m.by }) t.requires_
-      (kept.closed is name t (sym (alike name) ∙ there));
-}
+module _ {Y : Type 0} (slots new : Slots) (requirers more providers others : BTreeMap (String Y) (BTreeSet (List ℕ))) (known : Bool) (kept : IsKept slots requirers providers known)
+    (ordered : IsOrdered (slice_cmp nat_cmp) new) (alike : (name : List ℕ) → held new name ≡ held slots name)
+    (requiring : (dep name : List ℕ) → IsTrue (notes requirers dep name) → IsTrue (notes more dep name))
+    (providing : (dep name : List ℕ) → IsTrue (notes providers dep name) → IsTrue (notes others dep name)) where
+  pub still_kept : IsKept new more others known
+  still_kept = record {
+    ordered = ordered;
+    provided = record {
+      named = λ name t there. kept.provided.named name t (sym (alike name) ∙ there);
+      noted = λ name t there. still_noted providers others providing name (provides_of t) (kept.provided.noted name t (sym (alike name) ∙ there));
+    };
+    noted = λ name t there. still_noted requirers more requiring name t.requires_ (kept.noted name t (sym (alike name) ∙ there));
+    closed = λ is name t there.
+        All-weaker (IsMetBy (held slots)) (IsMetBy (held new)) (λ require m. record { name = m.name; trove = m.trove; there = alike m.name ∙ m.there; by = m.by }) t.requires_
+        (kept.closed is name t (sym (alike name) ∙ there));
+  }
+
+  pub still_held : all_held new ≡ all_held slots
+  still_held =
+      same_held (all_held slots) (held_rises slots requirers providers known kept) new more others known still_kept
+      (λ name. held_found slots requirers providers known kept name ∙ sym (alike name))

@@ -20,11 +20,11 @@ flags_of_none (f ∷ flags) all = absurd (nothing_in f (All-head (Contains []) f
 pub by_first : (p : Dependency) (provides : List Dependency) (dep : Dependency) → Satisfies p dep → IsSatisfiedBy (p ∷ provides) dep
 by_first p provides dep is = record { provide = p; provided = first p provides; satisfies = is }
 
-pub by_later : (p : Dependency) (provides : List Dependency) (dep : Dependency) → IsSatisfiedBy provides dep → IsSatisfiedBy (p ∷ provides) dep
-by_later p provides dep is = record { provide = is.provide; provided = later p is.provide provides is.provided; satisfies = is.satisfies }
+pub by_later : (p : Dependency) (provides : List Dependency) (dep : Dependency) → (q : Dependency) × Contains provides q × Satisfies q dep → IsSatisfiedBy (p ∷ provides) dep
+by_later p provides dep (q, provided, is) = record { provide = q; provided = later p q provides provided; satisfies = is }
 
-pub by_rest : (p : Dependency) (provides : List Dependency) (dep : Dependency) → (Satisfies p dep → ⊥) → IsSatisfiedBy (p ∷ provides) dep → IsSatisfiedBy provides dep
+pub by_rest : (p : Dependency) (provides : List Dependency) (dep : Dependency) → (Satisfies p dep → ⊥) → IsSatisfiedBy (p ∷ provides) dep → (q : Dependency) × Contains provides q × Satisfies q dep
 by_rest p provides dep not_first is = ⊎_elim
     (λ same. absurd (not_first (subst (λ (q : Dependency). Satisfies q dep) (sym same) is.satisfies)))
-    (λ there. record { provide = is.provide; provided = there; satisfies = is.satisfies })
+    (λ there. (is.provide, there, is.satisfies))
     (first_or_later p is.provide provides is.provided)

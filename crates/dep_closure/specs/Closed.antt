@@ -38,12 +38,16 @@ IsClosed list = All (HasAllMet list) list
 
 -- ---- the first requirement that isn't met
 
--- the first of these requirements that the list doesn't meet
-pub record IsFirstOf (list : List TroveParts) (required : List Dependency) (require : Dependency) : Type 0 where
+-- the first of these requirements that isn't met, by what it means that one is
+pub record IsFirstNotMet (Met : Dependency → Type 0) (required : List Dependency) (require : Dependency) : Type 0 where
   pub number : ℕ
   pub there : slice_get required number ≡ Some require
-  pub met : All (IsMet list) (take number required)
-  pub unmet : IsMet list require → ⊥
+  pub met : All Met (take number required)
+  pub unmet : Met require → ⊥
+
+-- the first of these requirements that the list doesn't meet
+abbrev pub IsFirstOf : List TroveParts → List Dependency → Dependency → Type 0
+IsFirstOf list required require = IsFirstNotMet (IsMet list) required require
 
 -- the first trove of the list that has a requirement which isn't met, and its first such requirement
 pub record IsFirstUnmet (list : List TroveParts) (trove : TroveParts) (require : Dependency) : Type 0 where

@@ -1,5 +1,5 @@
 -- Troves by their names, with indices of those that provide and of those that require something of a name.
-use Rattle.std.specs.Prelude.{◌≡◌, ◌⊎◌, ℕ, Bool, false, IsTrue, IsSome, List, All, Option, Some, None, String, slice_get, take}
+use Rattle.std.specs.Prelude.{◌≡◌, ◌⊎◌, ℕ, Bool, false, IsTrue, IsSome, List, All, Option, Some, None, String}
 use Rattle.std.specs.BTreeMap.{BTreeMap, get, get_by_text, keys, IsOrdered}
 use Rattle.std.specs.BTreeSet as set
 use Rattle.std.specs.BTreeSet.{BTreeSet}
@@ -13,7 +13,7 @@ use Rattle.trove_stream.specs.cny-base.declared.refusal.Fault.TheVariants.{Refus
 use Rattle.trove_stream.specs.cny-base.declared.refusal.Refusal.TheVariants.{Unmet}
 use Rattle.cny_dep.specs.Dep.{Dependency, dep_text}
 use Rattle.trove_stream.specs.declared.parts.TroveParts.{TroveParts}
-use Rattle.dep_closure.specs.Closed.{provides_of, IsSatisfiedBy, IsClosed, IsUnmetOrMemory}
+use Rattle.dep_closure.specs.Closed.{provides_of, IsSatisfiedBy, IsClosed, IsFirstNotMet, IsUnmetOrMemory}
 
 -- by name: a trove, or a place for one
 abbrev pub Slots : Type 0
@@ -69,17 +69,10 @@ IsClosedBy troves = (name : List ℕ) → IsServed troves name
 abbrev pub IsNoProvider : (List ℕ → Option TroveParts) → Dependency → List ℕ → Type 0
 IsNoProvider troves require name = (t : TroveParts) → troves name ≡ Some t → IsSatisfiedBy (provides_of t) require → ⊥
 
--- the first of these requirements that the troves don't meet
-pub record IsFirstOfBy (troves : List ℕ → Option TroveParts) (required : List Dependency) (require : Dependency) : Type 0 where
-  pub number : ℕ
-  pub there : slice_get required number ≡ Some require
-  pub met : All (IsMetBy troves) (take number required)
-  pub unmet : IsMetBy troves require → ⊥
-
 -- the trove of this name, and its first requirement that isn't met
 pub record IsFirstAt (troves : List ℕ → Option TroveParts) (name : List ℕ) (trove : TroveParts) (require : Dependency) : Type 0 where
   pub there : troves name ≡ Some trove
-  pub first : IsFirstOfBy troves trove.requires_ require
+  pub first : IsFirstNotMet (IsMetBy troves) trove.requires_ require
 
 -- the refusal of the first requirement of the trove of this name that isn't met, or want of memory
 abbrev pub IsUnmetAt : (List ℕ → Option TroveParts) → List ℕ → Fault → Type 0

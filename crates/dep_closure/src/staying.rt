@@ -1,7 +1,7 @@
 //! Which trove is the first that has a requirement that isn't met, once edits are made of a list that is closed. Only a trove that
 //! comes can have one, or a trove that may require something of the name of a provide which goes and which no trove provides as
 //! well; so only these are looked at. The bound in what follows is the first name of such a trove that was found so far.
-ghost use Rattle.std.specs.Prelude.{◌≡◌, ◌↔◌, ℕ, List, false, IsTrue, All, Some, None, IfNone, IfSome, IfErr, OnOk};
+ghost use Rattle.std.specs.Prelude.{◌≡◌, ◌↔◌, ℕ, List, false, IsTrue, All, Some, None, IfErr, OnOk};
 ghost use Rattle.std.specs.BTreeSet.{contains};
 ghost use Rattle.std.specs.Cmp.Lexicographic.{slice_cmp};
 ghost use Rattle.std.specs.Option.{option_copied};
@@ -9,10 +9,10 @@ ghost use Rattle.std.specs.Ordering.{nat_cmp};
 ghost use Rattle.trove_stream.specs.declared.parts.TroveParts.{TroveParts};
 ghost use Rattle.dep_closure.specs.Closed.{own_provide, provides_of};
 ghost use Rattle.dep_closure.specs.Slots as spec;
-ghost use Rattle.dep_closure.specs.Slots.{notes, AreNoted, IsMetBy, IsNoProvider, IsFirstOfBy, IsUnmetAt, IsServed, IsServedBefore, IsUnserved, IsBefore, IsLowered, IsNoLoss, IsHarmless, AreHarmless, IsFirstFault};
+ghost use Rattle.dep_closure.specs.Slots.{notes, AreNoted, IsMetBy, IsNoProvider, IsUnmetAt, IsServed, IsServedBefore, IsUnserved, IsBefore, IsLowered, IsNoLoss, IsHarmless, AreHarmless, IsFirstFault};
 
 use crate::index::Index;
-use crate::providing::provides;
+use crate::providing::{Meets, first_unmet};
 use crate::slots::{Slots, held, held_after};
 use crate::whole::unmet;
 use cny_dep::Dep;
@@ -27,7 +27,7 @@ fn is_met_by(slots: &Slots, edits: &Slots, name: &Name, require: &Dep) -> bool
     ensures unmet { result ≡ false → IsNoProvider (spec.held_after slots.now edits.now) require.now name.now }
 {
     match held_after(slots, edits, name) {
-        Some(trove) => provides(trove, require),
+        Some(trove) => trove.meets(require),
         None => false,
     }
 }
@@ -57,30 +57,34 @@ fn is_met(slots: &Slots, edits: &Slots, providers: &Index, require: &Dep) -> boo
     }
 }
 
-// The first of these requirements that no trove meets.
-fn first_unmet<'a>(
-    slots: &Slots,
-    edits: &Slots,
-    providers: &Index,
-    required: &'a [Dep],
-) -> Option<&'a Dep>
-    requires { AreNoted (spec.held_after slots.now edits.now) providers.now }
-    ensures none { IfNone result (All (IsMetBy (spec.held_after slots.now edits.now)) required.now) }
-    ensures some { IfSome result (λ require. IsFirstOfBy (spec.held_after slots.now edits.now) required.now require.now) }
-{
-    for require in required {
-        if !is_met(slots, edits, providers, require) {
-            return Some(require);
-        }
+// The troves once the edits are made, with the index of what they provide.
+#[derive(Drop)]
+struct Edited<'a> {
+    slots: &'a Slots,
+    edits: &'a Slots,
+    providers: &'a Index,
+}
+
+impl Meets for Edited<'_> {
+    ghost can_tell = { λ edited. AreNoted (spec.held_after edited.slots.now edited.edits.now) edited.providers.now };
+
+    ghost is_met = { λ edited require. IsMetBy (spec.held_after edited.slots.now edited.edits.now) require };
+
+    fn meets(&self, require: &Dep) -> bool {
+        is_met(self.slots, self.edits, self.providers, require)
     }
-    None
 }
 
 fn are_met(slots: &Slots, edits: &Slots, providers: &Index, required: &[Dep]) -> bool
     requires { AreNoted (spec.held_after slots.now edits.now) providers.now }
     ensures { IsTrue result ↔ All (IsMetBy (spec.held_after slots.now edits.now)) required.now }
 {
-    match first_unmet(slots, edits, providers, required) {
+    let edited = Edited {
+        slots,
+        edits,
+        providers,
+    };
+    match first_unmet(&edited, required) {
         Some(_) => false,
         None => true,
     }
@@ -101,7 +105,12 @@ fn test_trove(
     let Some(trove) = held_after(slots, edits, name) else {
         return Ok(());
     };
-    let Some(require) = first_unmet(slots, edits, providers, trove.requires_()) else {
+    let edited = Edited {
+        slots,
+        edits,
+        providers,
+    };
+    let Some(require) = first_unmet(&edited, trove.requires_()) else {
         return Ok(());
     };
     let refusal = unmet(alloc, &trove.id().name, require)?;

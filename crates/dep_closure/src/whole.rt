@@ -1,10 +1,10 @@
 //! Whether a list of troves is closed.
-ghost use Rattle.std.specs.Prelude.{◌≡◌, ◌↔◌, IsTrue, All, OnOk, IfOk, IfErr, IfNone, IfSome};
+ghost use Rattle.std.specs.Prelude.{◌≡◌, IsTrue, OnOk, IfOk, IfErr};
 ghost use Rattle.trove_stream.specs.cny-base.declared.refusal.Refusal.TheVariants as refusal;
 ghost use Rattle.cny_dep.specs.Dep.{dep_text};
-ghost use Rattle.dep_closure.specs.Closed.{IsMet, IsClosed, IsFirstOf, IsUnmetOrMemory};
+ghost use Rattle.dep_closure.specs.Closed.{IsMet, IsClosed, IsUnmetOrMemory};
 
-use crate::providing::provides;
+use crate::providing::{Meets, first_unmet, is_met_by_any};
 use cny_dep::Dep;
 use std::alloc::Global;
 use std::collections::BTreeMap;
@@ -51,18 +51,6 @@ fn providers_of(alloc: Global, list: &[Trove]) -> Result<Providers, OutOfMemory>
     Ok(providers)
 }
 
-// Whether some trove of the list meets the requirement.
-fn is_met_by_any(list: &[Trove], require: &Dep) -> bool
-    ensures { IsTrue result ↔ IsMet list.now require.now }
-{
-    for trove in list {
-        if provides(trove, require) {
-            return true;
-        }
-    }
-    false
-}
-
 // Whether the trove at this place of the list is there and meets the requirement.
 fn is_met_at(list: &[Trove], place: usize, require: &Dep) -> bool
     ensures { IsTrue result → IsMet list.now require.now }
@@ -70,7 +58,7 @@ fn is_met_at(list: &[Trove], place: usize, require: &Dep) -> bool
     if place >= list.len() {
         return false;
     }
-    provides(&list[place], require)
+    list[place].meets(require)
 }
 
 // Whether a trove at one of these places of the list meets the requirement.
@@ -85,28 +73,26 @@ fn is_met_at_any(list: &[Trove], places: &[usize], require: &Dep) -> bool
     false
 }
 
-fn is_met(list: &[Trove], providers: &Providers, require: &Dep) -> bool
-    ensures { IsTrue result ↔ IsMet list.now require.now }
-{
-    if let Some(places) = providers.get(require.name()) {
-        if is_met_at_any(list, places.as_slice(), require) {
-            return true;
-        }
-    }
-    is_met_by_any(list, require)
+// A list, with the places of its troves that provide something of a name.
+#[derive(Drop)]
+struct Listed<'a> {
+    list: &'a [Trove],
+    providers: &'a Providers,
 }
 
-// The first of these requirements that the list doesn't meet.
-fn first_unmet<'a>(list: &[Trove], providers: &Providers, required: &'a [Dep]) -> Option<&'a Dep>
-    ensures none { IfNone result (All (IsMet list.now) required.now) }
-    ensures some { IfSome result (λ require. IsFirstOf list.now required.now require.now) }
-{
-    for require in required {
-        if !is_met(list, providers, require) {
-            return Some(require);
+impl Meets for Listed<'_> {
+    ghost can_tell = { λ _. Unit {0} };
+
+    ghost is_met = { λ listed require. IsMet listed.list.now require };
+
+    fn meets(&self, require: &Dep) -> bool {
+        if let Some(places) = self.providers.get(require.name()) {
+            if is_met_at_any(self.list, places.as_slice(), require) {
+                return true;
+            }
         }
+        is_met_by_any(self.list, require)
     }
-    None
 }
 
 /// The refusal of a requirement of the trove of this name.
@@ -128,7 +114,11 @@ pub fn closed(alloc: Global, list: &[Trove]) -> Result<(), Fault>
 {
     let providers = providers_of(alloc, list)?;
     for trove in list {
-        if let Some(require) = first_unmet(list, &providers, trove.requires_()) {
+        let listed = Listed {
+            list,
+            providers: &providers,
+        };
+        if let Some(require) = first_unmet(&listed, trove.requires_()) {
             let refusal = unmet(alloc, &trove.id().name, require)?;
             return Err(Fault::Refused(refusal));
         }

@@ -1,5 +1,5 @@
 //! The trove deltas of a job's record.
-ghost use Rattle.std.specs.Prelude.{◌≡◌, ◌≢◌, ◌↔◌, IsTrue, Some, map, IfOk};
+ghost use Rattle.std.specs.Prelude.{◌≡◌, ◌≢◌, Some, map, IfOk};
 ghost use Rattle.local_db.specs.trove-stream.Installed.{trove_of};
 ghost use Rattle.local_db.specs.RecordText.{delta_of};
 ghost use Rattle.local_db.specs.Record.{TakesBack};
@@ -8,20 +8,8 @@ ghost use Rattle.job_record.specs.Changed.{AreChangedNames, IsChangedAt, IsDelta
 use change_rel::relative;
 use local_db::Delta;
 use local_db::cny_base::{Copies, Name, OutOfMemory};
-use local_db::trove_parts::{TroveId, distinct_ids};
 use local_db::trove_stream::{Installed, Trove};
 use std::alloc::Global;
-
-// Whether the ids are equal.
-fn is_same_id(one: &TroveId, other: &TroveId) -> bool
-    ensures { IsTrue result ↔ (one.now ≡ other.now) }
-{
-    // Ids that are equal by their texts are one id.
-    distinct_ids();
-    one.is_valid();
-    other.is_valid();
-    *one == *other
-}
 
 // The delta from the trove after a job to another one of its name before it.
 fn delta_between(alloc: Global, after: &Trove, before: &Trove) -> Result<Delta, OutOfMemory>
@@ -29,7 +17,7 @@ fn delta_between(alloc: Global, after: &Trove, before: &Trove) -> Result<Delta, 
     requires differ { after.now ≢ before.now }
     ensures { IfOk result (IsDeltaOf after.now.id.name (Some after.now) (Some before.now)) }
 {
-    if is_same_id(after.id(), before.id()) {
+    if after.id().is_same(before.id()) {
         let was = before.copy()?;
         return Ok(Delta::Was(was));
     }

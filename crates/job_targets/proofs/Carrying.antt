@@ -1,9 +1,9 @@
 -- A carried content that a binary search finds by its name.
-use Rattle.std.proofs.Common.{◌≡◌, ◌≢◌, ℕ, zero, suc, ◌<◌, Bool, true, false, cond, List, [], ◌∷◌, length, get_or, Option, Some, None, Ordering, All, ⊎_elim, inl, inr, refl, sym, ◌∙◌, ap, subst, arith, add-one}
+use Rattle.std.proofs.Common.{◌≡◌, ◌≢◌, ℕ, zero, suc, ◌<◌, Bool, true, false, cond, List, [], ◌∷◌, length, get_or, Option, Some, None, All, ⊎_elim, inl, inr, refl, sym, ◌∙◌, ap, subst, arith, add-one}
 use Rattle.std.specs.List.{HoldsAt}
 use Rattle.std.specs.List.Sorted.{IsStrictlySortedBy, IsSortedBy, IsNonDecreasingBy, IsPartitionPoint}
 use Rattle.std.specs.Cmp.Lexicographic.{slice_cmp, nat_list_cmp_total}
-use Rattle.std.specs.Ordering.{nat_cmp, is_eq, is_lt, ordering_index, ordering_reverse}
+use Rattle.std.specs.Ordering.{nat_cmp, is_eq, is_lt, ordering_index}
 use Rattle.std.specs.Prelude.{◌==◌, IfSome}
 use Rattle.std.specs.declared.cmp.Ordering.TheVariants.{Less, Equal, Greater}
 use Rattle.std.specs.Str.{bytes_eq}
@@ -21,6 +21,7 @@ use Rattle.job_targets.specs.Old.{IsContent}
 use Rattle.job_targets.specs.Contents.{carried_bytes}
 use Rattle.change_set.proofs.Carrying.{against, rec_at}
 use Rattle.change_set.proofs.cny-base.ByteLists.{equal_bytes, same_bytes}
+use Rattle.change_set.proofs.cny-base.Orders.{not_less as turned}
 use Rattle.tree_scan.proofs.tree-disk.Order.{not_before}
 use Rattle.change_set.specs.cny-base.Sized.{of_size}
 use Rattle.change_set.proofs.cny-base.Counts.{number_same as equal_size}
@@ -50,9 +51,6 @@ module _ (cs : List Carried) (name : List ℕ) (rises : IsStrictlySortedBy conte
   pub found_place : (place : ℕ) (e : Carried) → place < length cs → e ≡ get_or cs place e → HoldsAt (λ y. against name y ≡ Equal) cs place → carried_bytes cs name ≡ Some e.bytes
   found_place place e within is holds =
       found_at name cs place e rises within is (same_means e.name name (ap is_eq (subst (λ (d : Carried). against name d ≡ Equal) (sym is) (holds e))))
-
-  turned : (a b : Ordering) → a ≡ ordering_reverse b → b ≡ Less → is_lt a ≡ false
-  turned a b e f = ap is_lt (e ∙ ap ordering_reverse f)
 
   in_order : IsSortedBy (λ a b. is_lt (slice_cmp nat_cmp a.name b.name)) cs
   in_order = λ k d low high.

@@ -1,5 +1,5 @@
 -- The writes of planned paths, gathered one after the other.
-use Rattle.std.proofs.Common.{◌≡◌, ℕ, ◌+◌, ◌<◌, List, [], ◌∷◌, ◌++◌, length, take, drop, get_or, suc, Option, Some, None, Result, Ok, Err, IsErrAnd, sym, subst}
+use Rattle.std.proofs.Common.{◌≡◌, ℕ, ◌+◌, ◌<◌, List, [], ◌∷◌, ◌++◌, length, take, drop, get_or, suc, Option, Some, None, Result, Ok, Err, IsErrAnd, refl, sym, subst}
 use Rattle.local_db.specs.cny-base.declared.refusal.Refusal.{Refusal}
 use Rattle.local_db.specs.cny-base.declared.refusal.Refusal.TheVariants.{MissingContent}
 use Rattle.local_db.specs.cny-base.declared.stop.Stop.{Stop}
@@ -15,7 +15,7 @@ use Rattle.job_targets.specs.Gathering.{Gathers, no_refusal}
 use Rattle.job_targets.specs.Outcome.{IsFirstUnfound, IsMissing, IsUnfound}
 use Rattle.job_targets.specs.Targets.{ArePutsOf, IsPutOf}
 use Rattle.job_targets.proofs.GatherLaws.{answers_before, gathers_answer, gathers_stop, gathers_then}
-use Rattle.job_targets.proofs.Listed.{finds_by, next_taken, put_by, puts_more, split_at}
+use Rattle.job_targets.proofs.Listed.{finds_by, put_by, split_at, zip_next}
 
 unfound_by : (carried : List Carried) (answers more : Answers) (tree : Tree) (x : Planned) (size : ℕ) (name : List ℕ) (why : Refusal)
     → ((n : List ℕ) (f : Option (List ℕ)) → answers n f → more n f) → IsUnfound carried answers tree x size name why → IsUnfound carried more tree x size name why
@@ -43,9 +43,8 @@ module _ {D C : Type 0} {disk : DiskModel D} {contents : ContentsModel C} (searc
   put_next {old = old} {far = far} {mid_far = mid_far} {k = k} {x = x} {p = p} {Q = Q} ps qs first one within is more =
       gathers_answer
       (gathers_then searches laws {U = λ tree q. ArePutsOf carried (contents.answers far) tree (take (k + 1) planned) (ps ++ q ∷ [])} {W = Q} first one
-      (λ tells are q put. subst (λ (l : List Planned). ArePutsOf carried (contents.answers far) (disk.reads old) l (ps ++ q ∷ [])) (sym (next_taken planned k x within is))
-      (puts_more carried (contents.answers far) (disk.reads old) (take k planned) ps x q are
-      (put_by carried (contents.answers mid_far) (contents.answers far) (disk.reads old) x q (answers_before contents far mid_far first.keeps) put)))
+      (λ tells are q put. zip_next (IsPutOf carried (contents.answers far) (disk.reads old)) planned k x ps q (ps ++ q ∷ []) within is refl are
+      (put_by carried (contents.answers mid_far) (contents.answers far) (disk.reads old) x q (answers_before contents far mid_far first.keeps) put))
       (λ tells are why h. h))
       (λ tells are. subst (λ (l : List Put). ArePutsOf carried (contents.answers far) (disk.reads old) (take (k + 1) planned) l) (sym more) are)
 

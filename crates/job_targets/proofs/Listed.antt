@@ -1,13 +1,14 @@
 -- Writes and entries of planned paths, one after the other.
 use Rattle.std.proofs.Common.{◌≡◌, ◌≢◌, ℕ, zero, suc, ◌+◌, ◌<◌, false, List, [], ◌∷◌, ◌++◌, map, length, take, drop, get_or, Option, Some, None, All, refl, sym, ◌∙◌, ap, subst, arith}
 use Rattle.std.specs.FinMap.{get}
-use Rattle.std.specs.List.{AllByRecursion}
+use Rattle.std.specs.List.{AllByRecursion, AllZip}
 use Rattle.std.specs.List.Sorted.{IsStrictlySortedBy}
 use Rattle.std.specs.Option.{option_or}
 use Rattle.std.specs.Cmp.Lexicographic.{slice_cmp}
 use Rattle.std.specs.Ordering.{nat_cmp}
 use Rattle.std.specs.declared.cmp.Ordering.TheVariants.{Less}
 use Rattle.std.proofs.lemmas.List.{take_more}
+use Rattle.std.proofs.lemmas.Slice.Zip.{all_zipped_more}
 use Rattle.std.proofs.lemmas.List.Elements.{All-cons, All-head, All-nil, All-tail}
 use Rattle.change_set.specs.declared.change.Carried.{Carried}
 use Rattle.conflict_plan.specs.declared.planned.Planned.{Planned}
@@ -32,30 +33,11 @@ use Rattle.tree_scan.specs.declared.mark.Mark.{Mark}
 use Rattle.content_store.specs.Contents.{Answers}
 use Rattle.job_targets.specs.Contents.{Finds, FindsBehind, carried_bytes}
 use Rattle.job_targets.specs.Outcome.{AreChanges}
-use Rattle.job_targets.specs.Targets.{ArePutsOf, entries_at, entries_of_puts, entry_at, entry_of, entry_of_put, first_large, HasEntry, HasPut, HaveEntries, HavePuts, IsChange, IsPutOf, IsTarget, large_size}
+use Rattle.job_targets.specs.Targets.{entries_at, entries_of_puts, entry_at, entry_of, entry_of_put, first_large, HasEntry, HasPut, HaveEntries, HavePuts, IsChange, IsPutOf, IsTarget, large_size}
 use Rattle.job_targets.proofs.Standing.{tellable}
 use Rattle.change_set.specs.cny-base.Sized.{of_size}
 
 -- ---- one more
-
-pub puts_more : (carried : List Carried) (answers : Answers) (tree : Tree) (xs : List Planned) (ps : List Put) (x : Planned) (p : Put)
-    → ArePutsOf carried answers tree xs ps → IsPutOf carried answers tree x p → ArePutsOf carried answers tree (xs ++ x ∷ []) (ps ++ p ∷ [])
-puts_more carried answers tree [] [] x p are is = (is, tt)
-puts_more carried answers tree (y ∷ xs) (q ∷ ps) x p are is = (are.0, puts_more carried answers tree xs ps x p are.1 is)
-puts_more carried answers tree [] (q ∷ ps) x p are is = absurd are
-puts_more carried answers tree (y ∷ xs) [] x p are is = absurd are
-
-pub have_more : (xs : List Planned) (ps : List Put) (x : Planned) (p : Put) → HavePuts xs ps → HasPut x p → HavePuts (xs ++ x ∷ []) (ps ++ p ∷ [])
-have_more [] [] x p have has = (has, tt)
-have_more (y ∷ xs) (q ∷ ps) x p have has = (have.0, have_more xs ps x p have.1 has)
-have_more [] (q ∷ ps) x p have has = absurd have
-have_more (y ∷ xs) [] x p have has = absurd have
-
-pub entries_more : (xs : List Planned) (es : List Entry) (x : Planned) (e : Entry) → HaveEntries xs es → HasEntry x e → HaveEntries (xs ++ x ∷ []) (es ++ e ∷ [])
-entries_more [] [] x e have has = (has, tt)
-entries_more (y ∷ xs) (f ∷ es) x e have has = (have.0, entries_more xs es x e have.1 has)
-entries_more [] (f ∷ es) x e have has = absurd have
-entries_more (y ∷ xs) [] x e have has = absurd have
 
 pub at_more : (tree : Tree) (xs : List Planned) (x : Planned) → entries_at tree (xs ++ x ∷ []) ≡ entries_at tree xs ++ entry_at tree x ∷ []
 at_more tree [] x = refl
@@ -70,15 +52,11 @@ split_at [] i x within is = absurd (omega arith)
 split_at (y ∷ xs) zero x within is = ap (λ (z : Planned). z ∷ xs) (sym is)
 split_at (y ∷ xs) (suc i) x within is = ap (λ (l : List Planned). y ∷ l) (split_at xs i x (omega arith) is)
 
-pub have_next : (xs : List Planned) (i : ℕ) (x : Planned) (ps : List Put) (p : Put) (qs : List Put) → i < length xs → x ≡ get_or xs i x → qs ≡ ps ++ p ∷ [] → HavePuts (take i xs) ps → HasPut x p → HavePuts (take (i + 1) xs) qs
-have_next xs i x ps p qs within is more have has =
-    subst (λ (l : List Planned). HavePuts l qs) (sym (next_taken xs i x within is))
-    (subst (λ (l : List Put). HavePuts (take i xs ++ x ∷ []) l) (sym more) (have_more (take i xs) ps x p have has))
-
-pub entries_next : (xs : List Planned) (i : ℕ) (x : Planned) (es : List Entry) (e : Entry) (fs : List Entry) → i < length xs → x ≡ get_or xs i x → fs ≡ es ++ e ∷ [] → HaveEntries (take i xs) es → HasEntry x e → HaveEntries (take (i + 1) xs) fs
-entries_next xs i x es e fs within is more have has =
-    subst (λ (l : List Planned). HaveEntries l fs) (sym (next_taken xs i x within is))
-    (subst (λ (l : List Entry). HaveEntries (take i xs ++ x ∷ []) l) (sym more) (entries_more (take i xs) es x e have has))
+-- what holds of each of the first planned paths and the item of its place, and of the next ones
+pub zip_next : {Y : Type 0} (R : Planned → Y → Type 0) (xs : List Planned) (i : ℕ) (x : Planned) (ys : List Y) (y : Y) (more : List Y) → i < length xs → x ≡ get_or xs i x → more ≡ ys ++ y ∷ [] → AllZip R (take i xs) ys → R x y → AllZip R (take (i + 1) xs) more
+zip_next {Y} R xs i x ys y more within is more_is have has =
+    subst (λ (l : List Planned). AllZip R l more) (sym (next_taken xs i x within is))
+    (subst (λ (l : List Y). AllZip R (take i xs ++ x ∷ []) l) (sym more_is) (all_zipped_more R (take i xs) ys x y have has))
 
 pub at_next : (tree : Tree) (xs : List Planned) (i : ℕ) (x : Planned) (es : List Entry) (e : Entry) (fs : List Entry) → i < length xs → x ≡ get_or xs i x → fs ≡ es ++ e ∷ [] → es ≡ entries_at tree (take i xs) → e ≡ entry_at tree x → fs ≡ entries_at tree (take (i + 1) xs)
 at_next tree xs i x es e fs within is more are here =
@@ -162,11 +140,14 @@ rises_as (x ∷ xs) (p ∷ ps) rises have = (before xs ps rises.0 have.1, rises_
 
 -- ---- what follows of the writes and the entries
 
+all_zipped : {Y : Type 0} (R : Planned → Y → Type 0) (P : Y → Type 0) → ((x : Planned) (y : Y) → R x y → P y) → (xs : List Planned) (ys : List Y) → AllZip R xs ys → All P ys
+all_zipped R P holds [] [] have = All-nil P
+all_zipped R P holds (x ∷ xs) (y ∷ ys) have = All-cons P y ys (holds x y have.0) (all_zipped R P holds xs ys have.1)
+all_zipped R P holds [] (y ∷ ys) have = absurd have
+all_zipped R P holds (x ∷ xs) [] have = absurd have
+
 pub given_puts : (xs : List Planned) (ps : List Put) → HavePuts xs ps → All (λ (p : Put). is_staged p.want ≡ false) ps
-given_puts [] [] have = All-nil _
-given_puts (x ∷ xs) (p ∷ ps) have = All-cons (λ (q : Put). is_staged q.want ≡ false) p ps have.0.marked.given (given_puts xs ps have.1)
-given_puts [] (p ∷ ps) have = absurd have
-given_puts (x ∷ xs) [] have = absurd have
+given_puts = all_zipped HasPut (λ (p : Put). is_staged p.want ≡ false) (λ x p has. has.marked.given)
 
 pub marked_puts : (xs : List Planned) (ps : List Put) (es : List Entry) → HavePuts xs ps → HaveEntries xs es → All (λ (p : Put). IsMark (fingerprint (node_of p.want))) ps
 marked_puts [] [] es have entries = All-nil _
@@ -179,10 +160,7 @@ marked_puts [] (p ∷ ps) es have entries = absurd have
 marked_puts (x ∷ xs) [] es have entries = absurd have
 
 pub given_entries : (xs : List Planned) (es : List Entry) → HaveEntries xs es → All (λ (e : Entry). is_staged e.was ≡ false) es
-given_entries [] [] have = All-nil _
-given_entries (x ∷ xs) (e ∷ es) have = All-cons (λ (f : Entry). is_staged f.was ≡ false) e es have.0.old.given (given_entries xs es have.1)
-given_entries [] (e ∷ es) have = absurd have
-given_entries (x ∷ xs) [] have = absurd have
+given_entries = all_zipped HasEntry (λ (e : Entry). is_staged e.was ≡ false) (λ x e has. has.old.given)
 
 pub told_entries : (xs : List Planned) (es : List Entry) → HaveEntries xs es → All IsEntry (map entry_of es)
 told_entries [] [] have = All-nil _

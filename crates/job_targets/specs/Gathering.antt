@@ -36,11 +36,38 @@ pub record Gathers {D C X : Type 0} (disk : DiskModel D) (contents : ContentsMod
 abbrev pub no_refusal : Tree → Refusal → Type 0
 no_refusal tree why = ⊥
 
--- the stops of such a run that isn't refused
+-- ---- how a run may stop, on every disk, also on one that tells nothing
+
+-- A run that only reads a disk: by a refusal of which Q holds, by a fault of the disk, or for want of memory.
+abbrev pub IsStopBy : (Refusal → Type 0) → Stop → Type 0
+IsStopBy Q (Refused why) = Q why
+IsStopBy Q Memory = Unit {0}
+IsStopBy Q Failed = Unit {0}
+IsStopBy Q (Damaged path) = ⊥
+IsStopBy Q FarFailed = ⊥
+IsStopBy Q (FarDamaged path) = ⊥
+
+-- One that searches contents too: also by a fault of the contents, or at a damaged file behind them.
+abbrev pub IsSearchStopBy : (Refusal → Type 0) → Stop → Type 0
+IsSearchStopBy Q (Refused why) = Q why
+IsSearchStopBy Q Memory = Unit {0}
+IsSearchStopBy Q Failed = Unit {0}
+IsSearchStopBy Q (Damaged path) = ⊥
+IsSearchStopBy Q FarFailed = Unit {0}
+IsSearchStopBy Q (FarDamaged path) = Unit {0}
+
+-- the same of one that isn't refused
 abbrev pub IsSearchStop : Stop → Type 0
-IsSearchStop (Refused why) = ⊥
-IsSearchStop Memory = Unit {0}
-IsSearchStop Failed = Unit {0}
-IsSearchStop (Damaged path) = ⊥
-IsSearchStop FarFailed = Unit {0}
-IsSearchStop (FarDamaged path) = Unit {0}
+IsSearchStop = IsSearchStopBy (λ why. ⊥)
+
+-- ---- runs that read files of the root
+
+-- Why nothing is read: the disk failed, no memory was left, or the file of a path is damaged of which this holds, where the disk
+-- tells its tree.
+abbrev pub IsReadStop : (told : Bool) → (Name → Type 0) → (rose : Type 0) → Stop → Type 0
+IsReadStop told damaged rose Failed = rose
+IsReadStop told damaged rose Memory = Unit {0}
+IsReadStop told damaged rose (Damaged path) = IsTrue told → damaged path
+IsReadStop told damaged rose (Refused why) = ⊥
+IsReadStop told damaged rose FarFailed = ⊥
+IsReadStop told damaged rose (FarDamaged path) = ⊥

@@ -1,8 +1,6 @@
 -- What a job found at a path, as a fingerprint and the contents that the job saved tell it.
-use Rattle.std.specs.Prelude.{◌≡◌, ℕ, Bool, true, false, IsTrue, List, length, Some}
+use Rattle.std.specs.Prelude.{◌≡◌, ℕ, Bool, true, false, List, length, Some}
 use Rattle.sha1.specs.Sha1.{sha1}
-use Rattle.local_db.specs.cny-base.declared.stop.Stop.{Stop}
-use Rattle.local_db.specs.cny-base.declared.stop.Stop.TheVariants as stop
 use Rattle.content_store.specs.Store.{content_path, stored}
 use Rattle.local_db.specs.journal-log.declared.put.Want.{Want}
 use Rattle.local_db.specs.journal-log.declared.put.Want.TheVariants.{Nothing, Dir, File, Link, Staged}
@@ -54,15 +52,6 @@ IsDamagedOld x number (mark.File mode size name) path = (path ≡ content_path (
 IsDamagedOld x number mark.Nothing path = ⊥
 IsDamagedOld x number (mark.Dir mode) path = ⊥
 IsDamagedOld x number (mark.Link target) path = ⊥
-
--- Why it isn't told what a job found at a path: the disk failed, no memory was left, or a saved content is damaged.
-abbrev pub IsOldStop : Bool → (Name → Type 0) → Type 0 → Stop → Type 0
-IsOldStop told damaged rose stop.Failed = rose
-IsOldStop told damaged rose stop.Memory = Unit {0}
-IsOldStop told damaged rose (stop.Damaged path) = IsTrue told → damaged path
-IsOldStop told damaged rose (stop.Refused why) = ⊥
-IsOldStop told damaged rose stop.FarFailed = ⊥
-IsOldStop told damaged rose (stop.FarDamaged path) = ⊥
 
 -- the path is that of the content of this name in the directory, which holds none of this size
 abbrev pub IsDamagedContent : Tree → Name → ℕ → List ℕ → Name → Type 0

@@ -9,7 +9,6 @@ use Rattle.local_db.specs.cny-base.declared.refusal.Refusal.TheVariants.{Missing
 use Rattle.local_db.specs.cny-base.declared.refusal.What.{What}
 use Rattle.local_db.specs.cny-base.declared.refusal.What.TheVariants.{Local}
 use Rattle.local_db.specs.cny-base.declared.stop.Stop.{Stop}
-use Rattle.local_db.specs.cny-base.declared.stop.Stop.TheVariants.{Refused, Memory, Failed, Damaged, FarFailed, FarDamaged}
 use Rattle.change_set.specs.declared.change.Carried.{Carried}
 use Rattle.conflict_plan.specs.declared.planned.Planned.{Planned}
 use Rattle.local_db.specs.file-stream.declared.record.FileRec.{FileRec}
@@ -18,6 +17,7 @@ use Rattle.local_db.specs.journal-log.declared.put.Put.{Put}
 use Rattle.local_db.specs.journal-log.Targets.{node_of}
 use Rattle.job_targets.specs.declared.entry.Entry.{Entry}
 use Rattle.job_targets.specs.Agree.{AllAgree, IsFirstCollision}
+use Rattle.job_targets.specs.Gathering.{IsSearchStopBy, IsStopBy}
 use Rattle.job_targets.specs.Old.{is_staged}
 use Rattle.local_db.specs.MarkBytes.{IsMark}
 use Rattle.local_db.specs.Record.{entry_cmp, IsEntry}
@@ -126,12 +126,7 @@ IsTargetRefusal (Collision name at) = Unit {0}
 IsTargetRefusal _ = ⊥
 
 abbrev pub IsTargetStop : Stop → Type 0
-IsTargetStop (Refused why) = IsTargetRefusal why
-IsTargetStop Memory = Unit {0}
-IsTargetStop Failed = Unit {0}
-IsTargetStop (Damaged path) = ⊥
-IsTargetStop FarFailed = Unit {0}
-IsTargetStop (FarDamaged path) = Unit {0}
+IsTargetStop = IsSearchStopBy IsTargetRefusal
 
 -- the same of the writes alone
 abbrev pub IsMissingRefusal : Refusal → Type 0
@@ -139,12 +134,7 @@ IsMissingRefusal (MissingContent name) = Unit {0}
 IsMissingRefusal _ = ⊥
 
 abbrev pub IsMissingStop : Stop → Type 0
-IsMissingStop (Refused why) = IsMissingRefusal why
-IsMissingStop Memory = Unit {0}
-IsMissingStop Failed = Unit {0}
-IsMissingStop (Damaged path) = ⊥
-IsMissingStop FarFailed = Unit {0}
-IsMissingStop (FarDamaged path) = Unit {0}
+IsMissingStop = IsSearchStopBy IsMissingRefusal
 
 -- ---- of a part of the tests
 
@@ -163,9 +153,4 @@ IsGrown (TooLarge what size) = what ≡ Local
 IsGrown _ = ⊥
 
 abbrev pub IsGrownStop : Stop → Type 0
-IsGrownStop (Refused why) = IsGrown why
-IsGrownStop Memory = Unit {0}
-IsGrownStop Failed = Unit {0}
-IsGrownStop (Damaged path) = ⊥
-IsGrownStop FarFailed = ⊥
-IsGrownStop (FarDamaged path) = ⊥
+IsGrownStop = IsStopBy IsGrown

@@ -1,6 +1,7 @@
 -- The write set of a plan, and what stood at its paths.
 use Rattle.std.specs.Prelude.{◌≡◌, ◌≢◌, ℕ, nat_lt, false, if◌then◌else◌, List, [], ◌∷◌, map, Option, Some, None}
 use Rattle.std.specs.FinMap.{get}
+use Rattle.std.specs.List.{AllZip}
 use Rattle.std.specs.Option.{option_or}
 use Rattle.local_db.specs.cny-base.declared.limits.TheConstants.{CONTENT_LIMIT}
 use Rattle.change_set.specs.declared.change.Carried.{Carried}
@@ -48,10 +49,7 @@ pub record IsPutOf (carried : List Carried) (answers : Answers) (tree : Tree) (x
 
 -- the writes of the planned paths, in their order
 abbrev pub ArePutsOf : List Carried → Answers → Tree → List Planned → List Put → Type 0
-ArePutsOf carried answers tree [] [] = Unit {0}
-ArePutsOf carried answers tree (x ∷ xs) (p ∷ ps) = IsPutOf carried answers tree x p × ArePutsOf carried answers tree xs ps
-ArePutsOf carried answers tree [] (p ∷ ps) = ⊥
-ArePutsOf carried answers tree (x ∷ xs) [] = ⊥
+ArePutsOf carried answers tree = AllZip (IsPutOf carried answers tree)
 
 -- whatever a disk tells: a write at the path, of a node with the planned fingerprint
 pub record HasPut (x : Planned) (p : Put) : Type 0 where
@@ -59,10 +57,7 @@ pub record HasPut (x : Planned) (p : Put) : Type 0 where
   pub marked : HasMark (mark_of_want x.want) p.want
 
 abbrev pub HavePuts : List Planned → List Put → Type 0
-HavePuts [] [] = Unit {0}
-HavePuts (x ∷ xs) (p ∷ ps) = HasPut x p × HavePuts xs ps
-HavePuts [] (p ∷ ps) = ⊥
-HavePuts (x ∷ xs) [] = ⊥
+HavePuts = AllZip HasPut
 
 -- ---- what stood there
 
@@ -98,10 +93,7 @@ pub record HasEntry (x : Planned) (e : Entry) : Type 0 where
   pub told : IsEntry (entry_of e)
 
 abbrev pub HaveEntries : List Planned → List Entry → Type 0
-HaveEntries [] [] = Unit {0}
-HaveEntries (x ∷ xs) (e ∷ es) = HasEntry x e × HaveEntries xs es
-HaveEntries [] (e ∷ es) = ⊥
-HaveEntries (x ∷ xs) [] = ⊥
+HaveEntries = AllZip HasEntry
 
 -- ---- files that are too large
 

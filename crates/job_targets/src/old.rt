@@ -5,7 +5,8 @@ ghost use Rattle.local_db.specs.cny-base.declared.stop.Stop.TheVariants as stops
 ghost use Rattle.content_store.specs.Store.{content_path};
 ghost use Rattle.local_db.specs.tree-disk.Disk.{Reads};
 ghost use Rattle.tree_scan.specs.declared.mark.Mark.TheVariants as mark;
-ghost use Rattle.job_targets.specs.Old.{HasMark, HoldsContent, IsContent, IsDamagedContent, IsDamagedOld, IsOldStop, IsSaved};
+ghost use Rattle.job_targets.specs.Gathering.{IsReadStop};
+ghost use Rattle.job_targets.specs.Old.{HasMark, HoldsContent, IsContent, IsDamagedContent, IsDamagedOld, IsSaved};
 
 use content_store::get;
 use local_db::cny_base::{Bytes, Copies, Mode, Path, Stop, TextFault};
@@ -52,7 +53,7 @@ fn content_in<D: TreeDisk>(
     requires { length dir.now ≤ 983 }
     ensures value { Reads D.disk disk.old disk.new (IfOk result (HoldsContent (D.disk.reads disk.old) dir.now size name.now)) }
     ensures content { IfOk result (IsContent size name.now) }
-    ensures stops { IfErr result (IsOldStop D.disk.tells (IsDamagedContent (D.disk.reads disk.old) dir.now size name.now)
+    ensures stops { IfErr result (IsReadStop D.disk.tells (IsDamagedContent (D.disk.reads disk.old) dir.now size name.now)
         (Rose (D.disk.faults disk.old) (D.disk.faults disk.new))) }
     ensures later { D.disk.faults disk.old ≤ D.disk.faults disk.new }
 {
@@ -76,7 +77,7 @@ fn old_file<D: TreeDisk>(
 ) -> Result<Want, Stop>
     ensures value { Reads D.disk disk.old disk.new (IfOk result (IsSaved (D.disk.reads disk.old) number)) }
     ensures marked { IfOk result (HasMark (mark.File mode size name.now)) }
-    ensures stops { IfErr result (IsOldStop D.disk.tells (IsDamagedOld (D.disk.reads disk.old) number (mark.File mode size name.now))
+    ensures stops { IfErr result (IsReadStop D.disk.tells (IsDamagedOld (D.disk.reads disk.old) number (mark.File mode size name.now))
         (Rose (D.disk.faults disk.old) (D.disk.faults disk.new))) }
     ensures later { D.disk.faults disk.old ≤ D.disk.faults disk.new }
 {
@@ -96,7 +97,7 @@ pub fn old_node<D: TreeDisk>(
     ensures value { Reads D.disk disk.old disk.new (IfOk result (IsSaved (D.disk.reads disk.old) number)) }
     // On every disk, also where it tells nothing.
     ensures marked { IfOk result (HasMark mark.now) }
-    ensures stops { IfErr result (IsOldStop D.disk.tells (IsDamagedOld (D.disk.reads disk.old) number mark.now)
+    ensures stops { IfErr result (IsReadStop D.disk.tells (IsDamagedOld (D.disk.reads disk.old) number mark.now)
         (Rose (D.disk.faults disk.old) (D.disk.faults disk.new))) }
     ensures later { D.disk.faults disk.old ≤ D.disk.faults disk.new }
 {

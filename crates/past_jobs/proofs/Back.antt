@@ -76,16 +76,16 @@ module _ (f : Format) (old left : Troves) (m m1 : Marks) (len len1 : ℕ) (us : 
     back_new = taken_back (troves_of old) us made rises h (troves_of new)
         (λ name. sym (found_in f new m2 len2 new_is name) ∙ news name ∙ ap (or_else (trove_of name made)) (lefts name ∙ ap (cond (has_delta us name) None) (old_found name)))
 
-    pub one_new : OneLed → (before : List TroveParts) → IsPast f us (troves_of old) before → troves_of new ≡ before
+    one_new : OneLed → (before : List TroveParts) → IsPast f us (troves_of old) before → troves_of new ≡ before
     one_new led before past = one_before led us (troves_of old) (troves_of new) before (rises_in f new m2 len2 new_is) past.list.rising back_new past.back
 
     counted : length (database_bytes f (troves_of new) 0 0) ≡ len2
     counted = database_length f (troves_of new) ∙ sym new_is.counted
 
-    pub past_new : len2 ≤ limit f → IsPast f us (troves_of old) (troves_of new)
+    past_new : len2 ≤ limit f → IsPast f us (troves_of old) (troves_of new)
     past_new small = record { back = back_new; list = sound.installed; fits = record { told = sound.told; short = omega (arith, small, counted) } }
 
-    pub held_new : len2 ≤ limit f → IsHeld f new m2 len2
+    held_new : len2 ≤ limit f → IsHeld f new m2 len2
     held_new small = record { indexed = new_is; installed = sound.installed; fits = (past_new small).fits }
 
     pub too_large : OneLed → limit f < len2 → (before : List TroveParts) → IsPast f us (troves_of old) before → ⊥
@@ -93,14 +93,25 @@ module _ (f : Format) (old left : Troves) (m m1 : Marks) (len len1 : ℕ) (us : 
         let same : length (database_bytes f (troves_of new) 0 0) ≡ length (database_bytes f before 0 0) = ap (λ (l : List TroveParts). length (database_bytes f l 0 0)) (one_new led before past) in
         omega (arith, large, counted, same, past.fits.short)
 
-    pub after_ids : AreChangedIds (troves_of old) (troves_of new) (ids_at (troves_of old) us)
+    after_ids : AreChangedIds (troves_of old) (troves_of new) (ids_at (troves_of old) us)
     after_ids = ids_after us rises (troves_of old) (troves_of new) back_new held.installed.rising
 
-    pub before_ids : OneLed → AreChangedIds (troves_of new) (troves_of old) (map (λ (t : TroveParts). t.id) made)
+    before_ids : OneLed → AreChangedIds (troves_of new) (troves_of old) (map (λ (t : TroveParts). t.id) made)
     before_ids led = subst (AreChangedIds (troves_of new) (troves_of old))
         (sym (made_ids (troves_of old) (troves_of new) us made h
         (λ u u_in b turn. one_back led (delta_of u) (trove_of (text.name_of u) (troves_of old)) (trove_of (text.name_of u) (troves_of new)) b (turned_to us rises (troves_of old) (troves_of new) back_new u u_in) turn)))
         (ids_before us rises (troves_of old) (troves_of new) back_new (rises_in f new m2 len2 new_is))
+
+    -- the list before the job, where it isn't too large
+    pub record IsBefore : Type 0 where
+      pub is_held : IsHeld f new m2 len2
+      pub past : IsPast f us (troves_of old) (troves_of new)
+      pub only : (before : List TroveParts) → IsPast f us (troves_of old) before → troves_of new ≡ before
+      pub before : AreChangedIds (troves_of new) (troves_of old) (map (λ (t : TroveParts). t.id) made)
+      pub after : AreChangedIds (troves_of old) (troves_of new) (ids_at (troves_of old) us)
+
+    pub list_before : OneLed → len2 ≤ limit f → IsBefore
+    list_before led small = record { is_held = held_new small; past = past_new small; only = one_new led; before = before_ids led; after = after_ids }
 
 -- a trove of a whole list may join some others of it
 pub may_from : (f : Format) (whole : List TroveParts) (troves : Troves) (m : Marks) (len : ℕ) (t : TroveParts) → IsIndexed f troves m len → IsSound f whole → Contains whole t

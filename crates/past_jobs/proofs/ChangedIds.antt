@@ -11,18 +11,18 @@ use Rattle.std.proofs.lemmas.Map.Keys.{Less-from_sorted}
 use Rattle.std.proofs.lemmas.Option.{none-some}
 use Rattle.local_db.specs.trove-parts.declared.id.TroveId.{TroveId}
 use Rattle.local_db.specs.trove-stream.declared.parts.TroveParts.{TroveParts}
-use Rattle.local_db.specs.tree-disk.Tree.{Name}
+use Rattle.local_db.specs.tree-disk.Tree.{Name, same_name}
 use Rattle.local_db.specs.trove-stream.Installed.{IsRising, trove_of}
 use Rattle.local_db.specs.Record as state
 use Rattle.local_db.specs.Record.{delta_at, TakesBackAt, TakesBack}
 use Rattle.local_db.specs.declared.record.Delta.{Delta}
 use Rattle.local_db.specs.RecordText.{delta_of, name_of}
 use Rattle.local_db.specs.RecordText as text
+use Rattle.local_db.specs.tree-disk.Laws.{same_means}
 use Rattle.past_jobs.specs.Past.{IsChanged, AreChangedIds, by_name}
-use Rattle.past_jobs.specs.Table.{same, has_delta, TurnsTo, AreMade, id_of, ids_at, Marks, Troves, trove_at, troves_of, IsIndexed}
+use Rattle.past_jobs.specs.Table.{has_delta, TurnsTo, AreMade, id_of, ids_at, Marks, Troves, trove_at, troves_of, IsIndexed}
 use Rattle.past_jobs.proofs.Maps.{found_in}
 use Rattle.local_db.specs.declared.format.Format.{Format}
-use Rattle.past_jobs.proofs.Names.{same_means}
 use Rattle.past_jobs.proofs.PastDeltas.{delta_of_name, turn_differs}
 use Rattle.change_rel.proofs.trove-stream.Names.{contained, is_named}
 use Rattle.change_rel.proofs.cny-base.ByteLists.{not_less_itself}
@@ -38,9 +38,9 @@ pub record DeltaAt (us : List Delta) (name : Name) (d : state.Delta) : Type 0 wh
 
 pub delta_there : (us : List Delta) (name : Name) (d : state.Delta) → delta_at (map delta_of us) name ≡ Some d → DeltaAt us name d
 delta_there [] name d is = absurd (none-some d is)
-delta_there (u ∷ us) name d is = at (same name (name_of u)) refl (delta_there us name d)
+delta_there (u ∷ us) name d is = at (same_name name (name_of u)) refl (delta_there us name d)
   where
-    at : (b : Bool) → same name (name_of u) ≡ b → (delta_at (map delta_of us) name ≡ Some d → DeltaAt us name d) → DeltaAt (u ∷ us) name d
+    at : (b : Bool) → same_name name (name_of u) ≡ b → (delta_at (map delta_of us) name ≡ Some d → DeltaAt us name d) → DeltaAt (u ∷ us) name d
     at true here rest = record {
       delta = u;
       in_deltas = first u us;

@@ -12,12 +12,13 @@ use Rattle.std.proofs.lemmas.Map.Keys.{Less-from_sorted}
 use Rattle.std.proofs.lemmas.Map.Entries.{sum_by-remove_entry}
 use Rattle.local_db.specs.trove-parts.declared.files.FileAt.{FileAt}
 use Rattle.local_db.specs.trove-stream.declared.parts.TroveParts.{TroveParts}
-use Rattle.local_db.specs.tree-disk.Tree.{Name}
+use Rattle.local_db.specs.tree-disk.Tree.{Name, same_name}
 use Rattle.local_db.specs.trove-stream.Installed.{by_name, IsRising, trove_of}
 use Rattle.local_db.specs.Installed.{recorded, SharesDirsAlone, IsInstalled}
 use Rattle.local_db.specs.declared.format.Format.{Format}
-use Rattle.past_jobs.specs.Table.{same, may_stand, Marks, Troves, trove_at, troves_of, item_len, IsIndexed}
-use Rattle.past_jobs.proofs.Names.{same_means, same_itself}
+use Rattle.local_db.specs.tree-disk.Laws.{same_means}
+use Rattle.local_db.proofs.tree-disk.Laws.{same_itself}
+use Rattle.past_jobs.specs.Table.{may_stand, Marks, Troves, trove_at, troves_of, item_len, IsIndexed}
 use Rattle.past_jobs.proofs.Maps.{found_in, rises_in}
 use Rattle.past_jobs.proofs.Sharing.{files_apart, shares_dirs, stands_apart, apart_stands}
 use Rattle.change_rel.proofs.cny-base.ByteLists.{bytes_mean, not_less_itself}
@@ -72,18 +73,18 @@ unnamed xs rises k t within is = at (trove_of t.id.name (take k xs)) refl
         absurd (not_less_itself t.id.name (ap (λ (n : Name). slice_cmp nat_cmp n t.id.name) (sym names) ∙ ap (λ (w : TroveParts). slice_cmp nat_cmp w.id.name t.id.name) (sym here) ∙ ap (λ (w : TroveParts). slice_cmp nat_cmp (get_or xs u_in.0 u).id.name w.id.name) (sym there) ∙ less))
 
 pub put_step : (xs : List TroveParts) (t : TroveParts) (name : Name) (base now next : Option TroveParts) → trove_of t.id.name xs ≡ None → now ≡ or_else (trove_of name xs) base
-    → next ≡ cond (same t.id.name name) (Some t) now → next ≡ or_else (trove_of name (xs ++ t ∷ [])) base
-put_step xs t name base now next absent so_far step = at (same t.id.name name) refl
+    → next ≡ cond (same_name t.id.name name) (Some t) now → next ≡ or_else (trove_of name (xs ++ t ∷ [])) base
+put_step xs t name base now next absent so_far step = at (same_name t.id.name name) refl
   where
-    one : (b : Bool) → bytes_eq t.id.name name ≡ b → same t.id.name name ≡ false → trove_of name (t ∷ []) ≡ None
-    one true is off = let on : same t.id.name name ≡ true = ap (same t.id.name) (sym (bytes_mean t.id.name name is)) ∙ same_itself t.id.name in absurd (cc (on, off))
+    one : (b : Bool) → bytes_eq t.id.name name ≡ b → same_name t.id.name name ≡ false → trove_of name (t ∷ []) ≡ None
+    one true is off = let on : same_name t.id.name name ≡ true = ap (same_name t.id.name) (sym (bytes_mean t.id.name name is)) ∙ same_itself t.id.name in absurd (cc (on, off))
     one false is off = found_other t [] name is
 
     stays : (o : Option TroveParts) → or_else (or_else o None) base ≡ or_else o base
     stays None = refl
     stays (Some u) = refl
 
-    at : (b : Bool) → same t.id.name name ≡ b → next ≡ or_else (trove_of name (xs ++ t ∷ [])) base
+    at : (b : Bool) → same_name t.id.name name ≡ b → next ≡ or_else (trove_of name (xs ++ t ∷ [])) base
     at true is =
         let names : t.id.name ≡ name = same_means t.id.name name is in
         let none : trove_of name xs ≡ None = ap (λ (n : Name). trove_of n xs) (sym names) ∙ absent in
@@ -113,9 +114,9 @@ no_other (Some t) = refl
 -- ---- what a map has after it was added to
 
 pub old_or_new : (f : Format) (old new : Troves) (m n : Marks) (len to : ℕ) (t : TroveParts) → IsIndexed f old m len → IsIndexed f new n to
-    → ((name : Name) → trove_at new name ≡ cond (same t.id.name name) (Some t) (trove_at old name)) → (u : TroveParts) → Contains (troves_of new) u → (t ≡ u) ⊎ Contains (troves_of old) u
+    → ((name : Name) → trove_at new name ≡ cond (same_name t.id.name name) (Some t) (trove_at old name)) → (u : TroveParts) → Contains (troves_of new) u → (t ≡ u) ⊎ Contains (troves_of old) u
 old_or_new f old new m n len to t old_is new_is put u u_in =
-    at (same t.id.name u.id.name) (sym (put u.id.name) ∙ found_in f new n to new_is u.id.name ∙ contained (troves_of new) (rises_in f new n to new_is) u u_in)
+    at (same_name t.id.name u.id.name) (sym (put u.id.name) ∙ found_in f new n to new_is u.id.name ∙ contained (troves_of new) (rises_in f new n to new_is) u u_in)
   where
     at : (b : Bool) → cond b (Some t) (trove_at old u.id.name) ≡ Some u → (t ≡ u) ⊎ Contains (troves_of old) u
     at true e = inl (cc e)

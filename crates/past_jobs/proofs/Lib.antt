@@ -15,5 +15,4 @@ pub mod Meaning
 pub mod Undone
 pub mod JobLaws
 pub mod Ranging
-pub mod Searching
 pub mod Firsts

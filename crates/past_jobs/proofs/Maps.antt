@@ -16,15 +16,16 @@ use Rattle.std.proofs.lemmas.Map.Entries.{sum_by-insert_entry, sum_by-remove_ent
 use Rattle.local_db.specs.cny-stream.Item.{item_bytes}
 use Rattle.local_db.specs.trove-parts.Items.{items_bytes}
 use Rattle.local_db.specs.trove-stream.declared.parts.TroveParts.{TroveParts}
-use Rattle.local_db.specs.tree-disk.Tree.{Name}
+use Rattle.local_db.specs.tree-disk.Tree.{Name, same_name}
 use Rattle.local_db.specs.file-stream.declared.record.FileRec.{FileRec}
 use Rattle.local_db.specs.trove-stream.Installed.{IsRising, trove_of}
 use Rattle.local_db.specs.Installed.{record_at, first_mark}
 use Rattle.local_db.specs.declared.format.Format.{Format}
 use Rattle.local_db.specs.declared.format.Format.TheVariants.{One, Two}
 use Rattle.local_db.specs.Formats.{database_magic, database_bytes, trove_text}
-use Rattle.past_jobs.specs.Table.{same, Marks, Troves, mark_at, mark_of, trove_at, troves_of, item_len, list_len, HasOwnName, IsIndexed}
-use Rattle.past_jobs.proofs.Names.{same_means, same_itself}
+use Rattle.local_db.specs.tree-disk.Laws.{same_means}
+use Rattle.local_db.proofs.tree-disk.Laws.{same_itself}
+use Rattle.past_jobs.specs.Table.{Marks, Troves, mark_at, mark_of, trove_at, troves_of, item_len, list_len, HasOwnName, IsIndexed}
 use Rattle.change_rel.proofs.cny-base.ByteLists.{bytes_itself, bytes_mean}
 use Rattle.change_rel.proofs.trove-parts.Encodings.{item_length}
 
@@ -32,12 +33,12 @@ use Rattle.change_rel.proofs.trove-parts.Encodings.{item_length}
 
 pub by_list : (es : List (Name × TroveParts)) → All HasOwnName es → (name : Name) → lookup (is_at (slice_cmp nat_cmp name)) es ≡ trove_of name (values_of es)
 by_list [] named name = refl
-by_list (e ∷ es) named name = at (by_list es (All-tail HasOwnName e es named) name) (same name e.0) refl (bytes_eq e.1.id.name name) refl
+by_list (e ∷ es) named name = at (by_list es (All-tail HasOwnName e es named) name) (same_name name e.0) refl (bytes_eq e.1.id.name name) refl
   where
     own : e.0 ≡ e.1.id.name
     own = All-head HasOwnName e es named
 
-    at : lookup (is_at (slice_cmp nat_cmp name)) es ≡ trove_of name (values_of es) → (b : Bool) → same name e.0 ≡ b → (c : Bool) → bytes_eq e.1.id.name name ≡ c
+    at : lookup (is_at (slice_cmp nat_cmp name)) es ≡ trove_of name (values_of es) → (b : Bool) → same_name name e.0 ≡ b → (c : Bool) → bytes_eq e.1.id.name name ≡ c
         → cond b (Some e.1) (lookup (is_at (slice_cmp nat_cmp name)) es) ≡ cond c (Some e.1) (trove_of name (values_of es))
     at rest true is true so = refl
     at rest false is false so = rest
@@ -47,7 +48,7 @@ by_list (e ∷ es) named name = at (by_list es (All-tail HasOwnName e es named) 
         absurd (cc (yes, so))
     at rest false is true so =
         let names : e.0 ≡ name = own ∙ bytes_mean e.1.id.name name so in
-        let yes : same name e.0 ≡ true = ap (same name) names ∙ same_itself name in
+        let yes : same_name name e.0 ≡ true = ap (same_name name) names ∙ same_itself name in
         absurd (cc (yes, is))
 
 above : (k : Name) (es : List (Name × TroveParts)) → All HasOwnName es → AllByRecursion (λ (n : Name). slice_cmp nat_cmp k n ≡ Less) (keys_of es)
@@ -126,14 +127,14 @@ module _ (f : Format) (old new : Troves) (m n : Marks) (len to : ℕ) (t : Trove
 
   pub put_indexed : trove_at old t.id.name ≡ None
       → new.entries ≡ insert_entry (slice_cmp nat_cmp) old.entries t.id.name t
-      → ((q : Name) → trove_at new q ≡ cond (same t.id.name q) (Some t) (trove_at old q))
-      → ((p q : Name) → mark_at n p q ≡ cond (same t.id.name q) (first_mark (record_at t.files p) (mark_at m p q)) (mark_at m p q))
+      → ((q : Name) → trove_at new q ≡ cond (same_name t.id.name q) (Some t) (trove_at old q))
+      → ((p q : Name) → mark_at n p q ≡ cond (same_name t.id.name q) (first_mark (record_at t.files p) (mark_at m p q)) (mark_at m p q))
       → to ≡ len + item_len f t
       → IsIndexed f new n to
   put_indexed absent entries at marks counted = record {
     ordered = ordered;
     named = subst (All HasOwnName) (sym entries) (insert_named t.id.name t refl old.entries indexed.named);
-    marked = λ p q. marked p q (same t.id.name q) refl;
+    marked = λ p q. marked p q (same_name t.id.name q) refl;
     counted =
         let sums = sum_by-insert_entry (item_len f) nat_list_cmp_total old.entries t.id.name t indexed.ordered in
         let none : unwrap_or (option_map (item_len f) (trove_at old t.id.name)) 0 ≡ 0 = ap (λ (o : Option TroveParts). unwrap_or (option_map (item_len f) o) 0) absent in
@@ -141,7 +142,7 @@ module _ (f : Format) (old new : Troves) (m n : Marks) (len to : ℕ) (t : Trove
         omega (arith, sums, none, same_sum, counted, indexed.counted);
   }
     where
-      marked : (p q : Name) (b : Bool) → same t.id.name q ≡ b → mark_at n p q ≡ mark_of (trove_at new q) p
+      marked : (p q : Name) (b : Bool) → same_name t.id.name q ≡ b → mark_at n p q ≡ mark_of (trove_at new q) p
       marked p q true is =
           marks p q ∙ ap (λ (b : Bool). cond b (first_mark (record_at t.files p) (mark_at m p q)) (mark_at m p q)) is
           ∙ ap (first_mark (record_at t.files p)) (nothing_before absent p q (same_means t.id.name q is))
@@ -157,14 +158,14 @@ module _ (f : Format) (old new : Troves) (m n : Marks) (len to : ℕ) (t : Trove
 
   pub take_indexed : (name : Name) → trove_at old name ≡ Some t
       → new.entries ≡ remove_entry (is_at (slice_cmp nat_cmp name)) old.entries
-      → ((q : Name) → trove_at new q ≡ cond (same name q) None (trove_at old q))
-      → ((p q : Name) → mark_at n p q ≡ cond (same name q && is_some (record_at t.files p)) None (mark_at m p q))
+      → ((q : Name) → trove_at new q ≡ cond (same_name name q) None (trove_at old q))
+      → ((p q : Name) → mark_at n p q ≡ cond (same_name name q && is_some (record_at t.files p)) None (mark_at m p q))
       → to + item_len f t ≡ len
       → IsIndexed f new n to
   take_indexed name there entries at marks counted = record {
     ordered = ordered;
     named = subst (All HasOwnName) (sym entries) (remove_named (is_at (slice_cmp nat_cmp name)) old.entries indexed.named);
-    marked = λ p q. marked p q (same name q) refl;
+    marked = λ p q. marked p q (same_name name q) refl;
     counted =
         let sums = sum_by-remove_entry (item_len f) (is_at (slice_cmp nat_cmp name)) old.entries in
         let some : unwrap_or (option_map (item_len f) (trove_at old name)) 0 ≡ item_len f t = ap (λ (o : Option TroveParts). unwrap_or (option_map (item_len f) o) 0) there in
@@ -172,7 +173,7 @@ module _ (f : Format) (old new : Troves) (m n : Marks) (len to : ℕ) (t : Trove
         omega (arith, sums, some, same_sum, counted, indexed.counted);
   }
     where
-      marked : (p q : Name) (b : Bool) → same name q ≡ b → mark_at n p q ≡ mark_of (trove_at new q) p
+      marked : (p q : Name) (b : Bool) → same_name name q ≡ b → mark_at n p q ≡ mark_of (trove_at new q) p
       marked p q true is =
           marks p q ∙ ap (λ (b : Bool). cond (b && is_some (record_at t.files p)) None (mark_at m p q)) is
           ∙ ap (cond (is_some (record_at t.files p)) None) (indexed.marked p q ∙ ap (λ (o : Option TroveParts). mark_of o p) (ap (trove_at old) (sym (same_means name q is)) ∙ there))

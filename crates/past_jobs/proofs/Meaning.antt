@@ -28,10 +28,12 @@ use Rattle.tree_scan.specs.declared.mark.Mark.{Mark}
 use Rattle.tree_scan.specs.declared.mark.Mark.TheVariants as mark
 use Rattle.local_db.specs.Record.{Entry, entry_cmp}
 use Rattle.past_jobs.specs.declared.found.FoundMark.{FoundMark}
+use Rattle.conflict_plan.proofs.Remaining.{IsListed, any_listed}
+use Rattle.past_jobs.proofs.Firsts.{none_first}
 use Rattle.past_jobs.specs.Jobs.{AreFound, CanUndoAll, undone_all}
 use Rattle.past_jobs.proofs.JobLaws.{seen_is, undone_other, undone_same}
 use Rattle.past_jobs.specs.Marks.{CanUndo, HasForeignEntry, IsEdited, IsFirstEdited, IsFirstOrphan, IsOrphan, IsUndoRefusal, Marks, is_path_of, marks_of, undone}
-use Rattle.past_jobs.specs.Seen.{FoundMarks, edited_or, first_edited, first_orphan, undo_tested, has_foreign, has_foreign_on_disk, has_foreign_put, is_dir_after, is_edited, is_foreign, is_foreign_put, is_orphan, makes_dir, mark_or, mark_seen, stays}
+use Rattle.past_jobs.specs.Seen.{FoundMarks, edited_or, first_path, undo_tested, has_foreign, has_foreign_on_disk, has_foreign_put, is_dir_after, is_edited, is_foreign, is_foreign_put, is_orphan, makes_dir, mark_or, mark_seen, stays}
 use Rattle.past_jobs.proofs.Undone.{IsOf, at_path}
 use Rattle.conflict_plan.proofs.Remaining.{joined_child, node_stands, not_true, some_stands}
 use Rattle.conflict_plan.proofs.Order.{child_parent}
@@ -70,31 +72,8 @@ undone_whole (es ∷ more) m whole can = undone_whole more (undone es m) can.0.n
 
 -- ---- listed names
 
-record IsListed (p : Name) (test : List ℕ → Bool) (names : List Name) (q : Name) : Type 0 where
-  listed : list_any (same_name q) names ≡ true
-  child : is_child p q ≡ true
-  passes : test (last_name q) ≡ true
-
-more_listed : (p : Name) (test : List ℕ → Bool) (n : Name) (names : List Name) (q : Name) → IsListed p test names q → IsListed p test (n ∷ names) q
-more_listed p test n names q is = record {
-  listed = or_right (same_name q n) (list_any (same_name q) names) is.listed;
-  child = is.child;
-  passes = is.passes;
-}
-
 abbrev lasts : Name → List Name → List (List ℕ)
 lasts p names = map last_name (filter (is_child p) names)
-
-any_listed : (p : Name) (test : List ℕ → Bool) (names : List Name) → list_any test (lasts p names) ≡ true → (q : Name) × IsListed p test names q
-any_listed p test [] any = absurd (cc any)
-any_listed p test (n ∷ names) any = at (is_child p n) refl (any_listed p test names) any
-  where
-    at : (b : Bool) → is_child p n ≡ b → (list_any test (lasts p names) ≡ true → (q : Name) × IsListed p test names q) → list_any test (map last_name (cond b (n ∷ filter (is_child p) names) (filter (is_child p) names))) ≡ true → (q : Name) × IsListed p test (n ∷ names) q
-    at true child rest any = ⊎_elim
-        (λ here. (n, record { listed = or_left (same_name n n) (list_any (same_name n) names) (same_itself n); child = child; passes = here }))
-        (λ later. let found = rest later in (found.0, more_listed p test n names found.0 found.1))
-        (or_both (test (last_name n)) (list_any test (lasts p names)) any)
-    at false other rest any = let found = rest any in (found.0, more_listed p test n names found.0 found.1)
 
 listed_any : (p : Name) (test : List ℕ → Bool) (names : List Name) (q : Name) → IsListed p test names q → list_any test (lasts p names) ≡ true
 listed_any p test [] q is = absurd (cc is.listed)
@@ -331,14 +310,9 @@ module _ (x : Tree) (newest : ℕ) (jobs : List (List Entry)) (found : FoundMark
 
   -- ---- the first of the job's entries
 
-  pub none_edited : (list : List Entry) → AllByRecursion (IsOf es) list → first_edited found es x list ≡ None → AllByRecursion (λ e. IsEdited es before e → ⊥) list
-  none_edited [] each none = tt
-  none_edited (e ∷ list) each none = by (is_edited found es x e) refl (none_edited list each.1) none
-    where
-      by : (b : Bool) → is_edited found es x e ≡ b → (first_edited found es x list ≡ None → AllByRecursion (λ e. IsEdited es before e → ⊥) list)
-          → cond b (Some e.path) (first_edited found es x list) ≡ None → (IsEdited es before e → ⊥) × AllByRecursion (λ e. IsEdited es before e → ⊥) list
-      by true is later none = absurd (cc none)
-      by false fails later none = (means_edited e each.0.own fails, later none)
+  pub none_edited : (list : List Entry) → AllByRecursion (IsOf es) list → AllByRecursion (λ e. is_edited found es x e ≡ false) list → AllByRecursion (λ e. IsEdited es before e → ⊥) list
+  none_edited [] each fail = tt
+  none_edited (e ∷ list) each fail = (means_edited e each.0.own fail.0, none_edited list each.1 fail.1)
 
   pub record FirstEdit (list : List Entry) (p : Name) : Type 0 where
     pub front : List Entry
@@ -349,11 +323,11 @@ module _ (x : Tree) (newest : ℕ) (jobs : List (List Entry)) (found : FoundMark
     pub unedited : AllByRecursion (λ e. IsEdited es before e → ⊥) front
     pub edited : IsEdited es before first
 
-  pub some_edited : (list : List Entry) (p : Name) → AllByRecursion (IsOf es) list → first_edited found es x list ≡ Some p → FirstEdit list p
+  pub some_edited : (list : List Entry) (p : Name) → AllByRecursion (IsOf es) list → first_path (is_edited found es x) list ≡ Some p → FirstEdit list p
   some_edited [] p each is = absurd (cc is)
   some_edited (e ∷ list) p each is = by (is_edited found es x e) refl (some_edited list p each.1) is
     where
-      by : (b : Bool) → is_edited found es x e ≡ b → (first_edited found es x list ≡ Some p → FirstEdit list p) → cond b (Some e.path) (first_edited found es x list) ≡ Some p → FirstEdit (e ∷ list) p
+      by : (b : Bool) → is_edited found es x e ≡ b → (first_path (is_edited found es x) list ≡ Some p → FirstEdit list p) → cond b (Some e.path) (first_path (is_edited found es x) list) ≡ Some p → FirstEdit (e ∷ list) p
       by true holds later is =
           let path : p ≡ e.path = cc is in
           record { front = []; first = e; rest = list; split = refl; path_is = path; unedited = tt; edited = edited_means e holds }
@@ -368,15 +342,6 @@ module _ (x : Tree) (newest : ℕ) (jobs : List (List Entry)) (found : FoundMark
             unedited = (means_edited e each.0.own fails, more.unedited);
             edited = more.edited;
           }
-
-  pub none_orphan : (list : List Entry) → first_orphan found es x list ≡ None → AllByRecursion (λ e. is_orphan found es x e ≡ false) list
-  none_orphan [] none = tt
-  none_orphan (e ∷ list) none = by (is_orphan found es x e) refl (none_orphan list) none
-    where
-      by : (b : Bool) → is_orphan found es x e ≡ b → (first_orphan found es x list ≡ None → AllByRecursion (λ e. is_orphan found es x e ≡ false) list)
-          → cond b (Some e.path) (first_orphan found es x list) ≡ None → (is_orphan found es x e ≡ false) × AllByRecursion (λ e. is_orphan found es x e ≡ false) list
-      by true is later none = absurd (cc none)
-      by false fails later none = (fails, later none)
 
   -- where an entry comes before the path it lacks nothing
   abbrev SparedBefore : Name → Entry → Type 0
@@ -393,12 +358,12 @@ module _ (x : Tree) (newest : ℕ) (jobs : List (List Entry)) (found : FoundMark
   all_behind p [] behind = tt
   all_behind p (e ∷ list) behind = ((λ less. absurd (not_both_less p e.path behind.0 less)), all_behind p list behind.1)
 
-  pub some_orphan : (list : List Entry) (p : Name) → AllByRecursion (IsOf es) list → IsStrictlySortedBy entry_cmp list → first_orphan found es x list ≡ Some p → FirstOrphan list p
+  pub some_orphan : (list : List Entry) (p : Name) → AllByRecursion (IsOf es) list → IsStrictlySortedBy entry_cmp list → first_path (is_orphan found es x) list ≡ Some p → FirstOrphan list p
   unfolding IsStrictlySortedBy
   some_orphan [] p each rising is = absurd (cc is)
   some_orphan (e ∷ list) p each rising is = by (is_orphan found es x e) refl (some_orphan list p each.1 rising.1) is
     where
-      by : (b : Bool) → is_orphan found es x e ≡ b → (first_orphan found es x list ≡ Some p → FirstOrphan list p) → cond b (Some e.path) (first_orphan found es x list) ≡ Some p → FirstOrphan (e ∷ list) p
+      by : (b : Bool) → is_orphan found es x e ≡ b → (first_path (is_orphan found es x) list ≡ Some p → FirstOrphan list p) → cond b (Some e.path) (first_path (is_orphan found es x) list) ≡ Some p → FirstOrphan (e ∷ list) p
       by true holds later is =
           let path : e.path ≡ p = cc is in
           record {
@@ -421,20 +386,20 @@ module _ (x : Tree) (newest : ℕ) (jobs : List (List Entry)) (found : FoundMark
             before_it = ((λ less. fails), more.before_it);
           }
 
-  can_by : (CanUndoAll jobs (marks_of x)) → (one other : Option Name) → first_edited found es x es ≡ one → first_orphan found es x es ≡ other → edited_or one other ≡ Ok tt → CanUndo es before
+  can_by : (CanUndoAll jobs (marks_of x)) → (one other : Option Name) → first_path (is_edited found es x) es ≡ one → first_path (is_orphan found es x) es ≡ other → edited_or one other ≡ Ok tt → CanUndo es before
   can_by can (Some p) other edits orphans is = absurd (cc is)
   can_by can None (Some p) edits orphans is = absurd (cc is)
   can_by can None None edits orphans is =
-      let unedited = none_edited es of edits in
+      let unedited = none_edited es of (none_first (is_edited found es x) es edits) in
       let whole = undone_whole jobs (marks_of x) (tree_whole x well) can in
       record {
         unedited = All-from_recursion (λ e. IsEdited es before e → ⊥) es unedited;
         no_orphan = λ q orphan.
-            let e = at_path (λ (e : Entry). IsOf es e × (is_orphan found es x e ≡ false)) es q (zip_all (IsOf es) (λ e. is_orphan found es x e ≡ false) es of (none_orphan es orphans)) (orphan_own whole unedited q orphan) in
+            let e = at_path (λ (e : Entry). IsOf es e × (is_orphan found es x e ≡ false)) es q (zip_all (IsOf es) (λ e. is_orphan found es x e ≡ false) es of (none_first (is_orphan found es x) es orphans)) (orphan_own whole unedited q orphan) in
             means_orphan e.0 e.2.0 e.2.1 (subst (λ p. IsOrphan (undone es before) p) (sym e.1) orphan);
       }
 
-  refused_by : (CanUndoAll jobs (marks_of x)) → IsStrictlySortedBy entry_cmp es → (one other : Option Name) (why : Refusal) → first_edited found es x es ≡ one → first_orphan found es x es ≡ other → edited_or one other ≡ Err why → IsUndoRefusal es before why
+  refused_by : (CanUndoAll jobs (marks_of x)) → IsStrictlySortedBy entry_cmp es → (one other : Option Name) (why : Refusal) → first_path (is_edited found es x) es ≡ one → first_path (is_orphan found es x) es ≡ other → edited_or one other ≡ Err why → IsUndoRefusal es before why
   refused_by can rising (Some p) other why edits orphans is =
       let r : Edited p ≡ why = cc is in
       let e = some_edited es p of edits in
@@ -450,7 +415,7 @@ module _ (x : Tree) (newest : ℕ) (jobs : List (List Entry)) (found : FoundMark
       subst (IsUndoRefusal es before) r refused
   refused_by can rising None (Some p) why edits orphans is =
       let r : Parent p ≡ why = cc is in
-      let unedited = none_edited es of edits in
+      let unedited = none_edited es of (none_first (is_edited found es x) es edits) in
       let whole = undone_whole jobs (marks_of x) (tree_whole x well) can in
       let o = some_orphan es p of rising orphans in
       let refused : IsFirstOrphan es before p = record {
@@ -464,7 +429,7 @@ module _ (x : Tree) (newest : ℕ) (jobs : List (List Entry)) (found : FoundMark
   refused_by can rising None None why edits orphans is = absurd (cc is)
 
   pub can_undo : CanUndoAll jobs (marks_of x) → undo_tested found es x ≡ Ok tt → CanUndo es before
-  can_undo can is = can_by can (first_edited found es x es) (first_orphan found es x es) refl refl is
+  can_undo can is = can_by can (first_path (is_edited found es x) es) (first_path (is_orphan found es x) es) refl refl is
 
   pub undo_refused : CanUndoAll jobs (marks_of x) → IsStrictlySortedBy entry_cmp es → (why : Refusal) → undo_tested found es x ≡ Err why → IsUndoRefusal es before why
-  undo_refused can rising why is = refused_by can rising (first_edited found es x es) (first_orphan found es x es) why refl refl is
+  undo_refused can rising why is = refused_by can rising (first_path (is_edited found es x) es) (first_path (is_orphan found es x) es) why refl refl is

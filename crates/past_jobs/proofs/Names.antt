@@ -1,43 +1,25 @@
 -- Lists of troves in the order of their names, and troves found by their names.
 use Rattle.std.proofs.Common.{◌≡◌, ℕ, true, false, List, Some, Ordering, Contains, sym, ap, ◌∙◌}
-use Rattle.std.specs.Cmp.{Equal-is}
 use Rattle.std.specs.Cmp.Lexicographic.{slice_cmp, nat_list_cmp_total}
-use Rattle.std.specs.FinMap.{nat_cmp-IsAntisymmetric, slice_cmp-IsAntisymmetric}
 use Rattle.std.specs.Ordering.{nat_cmp, is_eq, ordering_reverse}
 use Rattle.std.specs.declared.cmp.Ordering.TheVariants.{Less, Equal, Greater}
-use Rattle.std.proofs.lemmas.Cmp.{tied_itself}
 use Rattle.local_db.specs.trove-stream.Installed.{IsRising, trove_of}
 use Rattle.local_db.specs.trove-stream.declared.parts.TroveParts.{TroveParts}
-use Rattle.past_jobs.specs.Table.{same}
+use Rattle.local_db.specs.tree-disk.Tree.{same_name}
+use Rattle.local_db.proofs.tree-disk.Laws.{same_itself}
 use Rattle.change_rel.proofs.trove-stream.Names.{contained}
-
--- ---- elements
-
--- ---- names
-
-pub same_means : (x y : List ℕ) → same x y ≡ true → x ≡ y
-same_means x y h = slice_cmp-IsAntisymmetric nat_cmp-IsAntisymmetric x y ((Equal-is (slice_cmp nat_cmp x y)).0 h)
-
-pub same_itself : (x : List ℕ) → same x x ≡ true
-same_itself x = ap is_eq (tied_itself nat_list_cmp_total x)
-
--- ---- one trove of a name
-
--- ---- one list
-
--- ---- the same, the other way round
 
 flip_eq : (a b : Ordering) → a ≡ ordering_reverse b → is_eq b ≡ is_eq a
 flip_eq a Less e = ap is_eq (sym e)
 flip_eq a Equal e = ap is_eq (sym e)
 flip_eq a Greater e = ap is_eq (sym e)
 
-pub same_flips : (x y : List ℕ) → same y x ≡ same x y
+pub same_flips : (x y : List ℕ) → same_name y x ≡ same_name x y
 same_flips x y = flip_eq (slice_cmp nat_cmp x y) (slice_cmp nat_cmp y x) (nat_list_cmp_total.antisymm x y)
 
 -- names that are told apart
-pub apart_means : (x y : List ℕ) → same x y ≡ false → x ≡ y → ⊥
-apart_means x y apart equal = let own : same x x ≡ true = same_itself x in let off : same x x ≡ false = ap (same x) equal ∙ apart in absurd (cc (own, off))
+pub apart_means : (x y : List ℕ) → same_name x y ≡ false → x ≡ y → ⊥
+apart_means x y apart equal = let own : same_name x x ≡ true = same_itself x in let off : same_name x x ≡ false = ap (same_name x) equal ∙ apart in absurd (cc (own, off))
 
 -- one trove of a name
 pub one_named : (list : List TroveParts) → IsRising list → (t u : TroveParts) → Contains list t → Contains list u → t.id.name ≡ u.id.name → t ≡ u

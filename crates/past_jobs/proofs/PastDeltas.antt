@@ -11,7 +11,7 @@ use Rattle.std.proofs.lemmas.Map.Keys.{sorted_head, sorted_tail}
 use Rattle.std.proofs.lemmas.Option.{none-some}
 use Rattle.local_db.specs.trove-parts.declared.id.TroveId.{TroveId}
 use Rattle.local_db.specs.trove-stream.declared.parts.TroveParts.{TroveParts}
-use Rattle.local_db.specs.tree-disk.Tree.{Name}
+use Rattle.local_db.specs.tree-disk.Tree.{Name, same_name}
 use Rattle.local_db.specs.trove-stream.Installed.{IsRising, trove_of}
 use Rattle.local_db.specs.Record as state
 use Rattle.local_db.specs.Record.{delta_at, TakesBackAt, TakesBack}
@@ -19,8 +19,10 @@ use Rattle.local_db.specs.declared.record.Delta.{Delta}
 use Rattle.local_db.specs.declared.record.Delta.TheVariants.{Came, Was, Turned}
 use Rattle.local_db.specs.RecordText.{delta_of, name_of}
 use Rattle.local_db.specs.RecordText as text
-use Rattle.past_jobs.specs.Table.{same, has_delta, TurnsTo, AreMade, id_of, ids_at}
-use Rattle.past_jobs.proofs.Names.{same_means, same_itself, same_flips}
+use Rattle.local_db.specs.tree-disk.Laws.{same_means}
+use Rattle.local_db.proofs.tree-disk.Laws.{same_itself}
+use Rattle.past_jobs.specs.Table.{has_delta, TurnsTo, AreMade, id_of, ids_at}
+use Rattle.past_jobs.proofs.Names.{same_flips}
 use Rattle.local_db.proofs.OneResult.{OneLed}
 use Rattle.change_rel.proofs.cny-base.ByteLists.{bytes_mean, not_less_itself}
 use Rattle.change_rel.proofs.trove-stream.Names.{contained, found_first, found_other, is_there, one_list}
@@ -70,24 +72,24 @@ module _ (led : OneLed) where
 
 -- ---- one delta more
 
-pub has_push : (us : List Delta) (u : Delta) (name : Name) → has_delta (us ++ u ∷ []) name ≡ (has_delta us name || same name (name_of u))
-has_push [] u name = at (same name (name_of u))
+pub has_push : (us : List Delta) (u : Delta) (name : Name) → has_delta (us ++ u ∷ []) name ≡ (has_delta us name || same_name name (name_of u))
+has_push [] u name = at (same_name name (name_of u))
   where
     at : (b : Bool) → is_some (cond b (Some (delta_of u)) None) ≡ b
     at true = refl
     at false = refl
-has_push (v ∷ us) u name = at (same name (name_of v)) (has_push us u name)
+has_push (v ∷ us) u name = at (same_name name (name_of v)) (has_push us u name)
   where
-    at : (b : Bool) → has_delta (us ++ u ∷ []) name ≡ (has_delta us name || same name (name_of u))
-        → is_some (cond b (Some (delta_of v)) (delta_at (map delta_of (us ++ u ∷ [])) name)) ≡ (is_some (cond b (Some (delta_of v)) (delta_at (map delta_of us) name)) || same name (name_of u))
+    at : (b : Bool) → has_delta (us ++ u ∷ []) name ≡ (has_delta us name || same_name name (name_of u))
+        → is_some (cond b (Some (delta_of v)) (delta_at (map delta_of (us ++ u ∷ [])) name)) ≡ (is_some (cond b (Some (delta_of v)) (delta_at (map delta_of us) name)) || same_name name (name_of u))
     at true rest = refl
     at false rest = rest
 
 -- which troves are left
-pub left_push : (us : List Delta) (u : Delta) (name : Name) (base now next : Option TroveParts) → now ≡ cond (has_delta us name) None base → next ≡ cond (same (name_of u) name) None now
+pub left_push : (us : List Delta) (u : Delta) (name : Name) (base now next : Option TroveParts) → now ≡ cond (has_delta us name) None base → next ≡ cond (same_name (name_of u) name) None now
     → next ≡ cond (has_delta (us ++ u ∷ []) name) None base
 left_push us u name base now next so_far step =
-    step ∙ ap (cond (same (name_of u) name) None) so_far ∙ at (has_delta us name) (same (name_of u) name)
+    step ∙ ap (cond (same_name (name_of u) name) None) so_far ∙ at (has_delta us name) (same_name (name_of u) name)
     ∙ ap (λ (b : Bool). cond b None base) (ap (λ (b : Bool). has_delta us name || b) (sym (same_flips (name_of u) name)) ∙ sym (has_push us u name))
   where
     at : (a b : Bool) → cond b None (cond a None base) ≡ cond (a || b) None base
@@ -112,9 +114,9 @@ ids_push list (v ∷ us) u = ap (λ (l : List TroveId). id_of (trove_of (name_of
 
 none_of : (name : Name) (us : List Delta) → AllByRecursion (λ (v : Delta). slice_cmp nat_cmp name (name_of v) ≡ Less) us → delta_at (map delta_of us) name ≡ None
 none_of name [] above = refl
-none_of name (v ∷ us) above = at (same name (name_of v)) refl (none_of name us above.1)
+none_of name (v ∷ us) above = at (same_name name (name_of v)) refl (none_of name us above.1)
   where
-    at : (b : Bool) → same name (name_of v) ≡ b → delta_at (map delta_of us) name ≡ None → cond b (Some (delta_of v)) (delta_at (map delta_of us) name) ≡ None
+    at : (b : Bool) → same_name name (name_of v) ≡ b → delta_at (map delta_of us) name ≡ None → cond b (Some (delta_of v)) (delta_at (map delta_of us) name) ≡ None
     at true is rest = absurd (not_less_itself name (ap (slice_cmp nat_cmp name) (same_means name (name_of v) is) ∙ above.0))
     at false is rest = rest
 
@@ -125,10 +127,10 @@ pub delta_of_name : (us : List Delta) → IsStrictlySortedBy text.by_name us →
 delta_of_name [] rises u u_in = absurd (nothing_in u u_in)
 delta_of_name (v ∷ us) rises u u_in = ⊎_elim
     (λ here. subst (λ (w : Delta). delta_at (map delta_of (v ∷ us)) (name_of w) ≡ Some (delta_of w)) here (own_delta v us))
-    (λ behind. at (same (name_of u) (name_of v)) refl behind (delta_of_name us (sorted_tail text.by_name v us rises) u behind))
+    (λ behind. at (same_name (name_of u) (name_of v)) refl behind (delta_of_name us (sorted_tail text.by_name v us rises) u behind))
     (first_or_later v u us u_in)
   where
-    at : (b : Bool) → same (name_of u) (name_of v) ≡ b → Contains us u → delta_at (map delta_of us) (name_of u) ≡ Some (delta_of u) → cond b (Some (delta_of v)) (delta_at (map delta_of us) (name_of u)) ≡ Some (delta_of u)
+    at : (b : Bool) → same_name (name_of u) (name_of v) ≡ b → Contains us u → delta_at (map delta_of us) (name_of u) ≡ Some (delta_of u) → cond b (Some (delta_of v)) (delta_at (map delta_of us) (name_of u)) ≡ Some (delta_of u)
     at true is behind rest =
         let less : slice_cmp nat_cmp (name_of v) (name_of u) ≡ Less = All-contains (λ (w : Delta). text.by_name v w ≡ Less) us u (All-from_recursion (λ (w : Delta). text.by_name v w ≡ Less) us (sorted_head text.by_name v us rises)) behind in
         absurd (not_less_itself (name_of v) (ap (slice_cmp nat_cmp (name_of v)) (sym (same_means (name_of u) (name_of v) is)) ∙ less))
@@ -144,21 +146,21 @@ pub made_each : (after : List TroveParts) (us : List Delta) (made : List TrovePa
     → (name : Name) → TurnsAt (delta_at (map delta_of us) name) (trove_of name after) (trove_of name made)
 made_each after [] made rises h name = ap (trove_of name) h
 made_each after (u ∷ us) made rises h name = ⊎_elim
-    (λ none. quiet none.0 (made_each after us made (sorted_tail text.by_name u us rises) none.1 name) (same name (name_of u)) refl)
-    (λ some. loud some.0 some.1 some.2 some.3 (made_each after us some.1 (sorted_tail text.by_name u us rises) some.4 name) (same name (name_of u)) refl)
+    (λ none. quiet none.0 (made_each after us made (sorted_tail text.by_name u us rises) none.1 name) (same_name name (name_of u)) refl)
+    (λ some. loud some.0 some.1 some.2 some.3 (made_each after us some.1 (sorted_tail text.by_name u us rises) some.4 name) (same_name name (name_of u)) refl)
     h
   where
     gone : name ≡ name_of u → delta_at (map delta_of us) name ≡ None
     gone is = ap (delta_at (map delta_of us)) is ∙ none_of (name_of u) us (sorted_head text.by_name u us rises)
 
-    quiet : TurnsTo after u None → TurnsAt (delta_at (map delta_of us) name) (trove_of name after) (trove_of name made) → (b : Bool) → same name (name_of u) ≡ b → TurnsAt (cond b (Some (delta_of u)) (delta_at (map delta_of us) name)) (trove_of name after) (trove_of name made)
+    quiet : TurnsTo after u None → TurnsAt (delta_at (map delta_of us) name) (trove_of name after) (trove_of name made) → (b : Bool) → same_name name (name_of u) ≡ b → TurnsAt (cond b (Some (delta_of u)) (delta_at (map delta_of us) name)) (trove_of name after) (trove_of name made)
     quiet turn tail true is =
         let names : name ≡ name_of u = same_means name (name_of u) is in
         let none : trove_of name made ≡ None = subst (λ (d : Option state.Delta). TurnsAt d (trove_of name after) (trove_of name made)) (gone names) tail in
         subst (TakesBackAt (Some (delta_of u)) (trove_of name after)) (sym none) (subst (λ (n : Name). TakesBackAt (Some (delta_of u)) (trove_of n after) None) (sym names) turn)
     quiet turn tail false is = tail
 
-    loud : (t : TroveParts) (list : List TroveParts) → made ≡ t ∷ list → TurnsTo after u (Some t) → TurnsAt (delta_at (map delta_of us) name) (trove_of name after) (trove_of name list) → (b : Bool) → same name (name_of u) ≡ b → TurnsAt (cond b (Some (delta_of u)) (delta_at (map delta_of us) name)) (trove_of name after) (trove_of name made)
+    loud : (t : TroveParts) (list : List TroveParts) → made ≡ t ∷ list → TurnsTo after u (Some t) → TurnsAt (delta_at (map delta_of us) name) (trove_of name after) (trove_of name list) → (b : Bool) → same_name name (name_of u) ≡ b → TurnsAt (cond b (Some (delta_of u)) (delta_at (map delta_of us) name)) (trove_of name after) (trove_of name made)
     loud t list is turn tail true here =
         let names : name ≡ name_of u = same_means name (name_of u) here in
         let own : t.id.name ≡ name = turn_named u (trove_of (name_of u) after) t turn ∙ sym names in
@@ -170,7 +172,7 @@ made_each after (u ∷ us) made rises h name = ⊎_elim
         apart : (b : Bool) → bytes_eq t.id.name name ≡ b → b ≡ false
         apart true so =
             let names : name ≡ name_of u = sym (bytes_mean t.id.name name so) ∙ turn_named u (trove_of (name_of u) after) t turn in
-            let on : same name (name_of u) ≡ true = ap (same name) (sym names) ∙ same_itself name in absurd (cc (on, off))
+            let on : same_name name (name_of u) ≡ true = ap (same_name name) (sym names) ∙ same_itself name in absurd (cc (on, off))
         apart false so = refl
 
 made_above : (name : Name) (after : List TroveParts) (us : List Delta) (made : List TroveParts) → AllByRecursion (λ (v : Delta). slice_cmp nat_cmp name (name_of v) ≡ Less) us → AreMade after us made

@@ -23,8 +23,10 @@ use Rattle.tree_scan.specs.Marks as marks
 use Rattle.tree_scan.specs.Marks.{fingerprint_of_record}
 use Rattle.local_db.specs.trove-stream.Installed.{by_name, IsRising}
 use Rattle.local_db.specs.Installed.{record_at, first_mark, recorded, are_apart, SharesDirsAlone, IsInstalled}
-use Rattle.past_jobs.specs.Table.{same, may_stand}
-use Rattle.past_jobs.proofs.Names.{same_means, same_itself, apart_means, one_named}
+use Rattle.local_db.specs.tree-disk.Laws.{same_means}
+use Rattle.local_db.proofs.tree-disk.Laws.{same_itself}
+use Rattle.past_jobs.specs.Table.{may_stand}
+use Rattle.past_jobs.proofs.Names.{apart_means, one_named}
 use Rattle.change_rel.proofs.cny-base.ByteLists.{not_less_itself}
 use Rattle.change_rel.proofs.cny-base.Lists.{all_from as all_of, contains_first as first, contains_cases as first_or_later, contains_rest as later, nothing_in}
 use Rattle.local_db.proofs.Apart.{apart_when, when_apart}
@@ -176,9 +178,9 @@ module _ (list : List TroveParts) (installed : IsInstalled list) (file : FileAt)
       let one = recorder w.trove.files file.path w.rec_ w.recorded_is in
       let dirs = h mark some in
       let mark_dir : is_dir w.rec_ ≡ true = sym (dir_mark w.rec_) ∙ ap marks.is_dir w.mark_is ∙ dirs.1 in
-      (dirs.0, at w one mark_dir (same w.trove.id.name u.id.name) refl)
+      (dirs.0, at w one mark_dir (same_name w.trove.id.name u.id.name) refl)
     where
-      at : (w : ListRecorder list file.path mark) → (one : Recorder w.trove.files file.path w.rec_) → is_dir w.rec_ ≡ true → (b : Bool) → same w.trove.id.name u.id.name ≡ b → is_dir other.rec ≡ true
+      at : (w : ListRecorder list file.path mark) → (one : Recorder w.trove.files file.path w.rec_) → is_dir w.rec_ ≡ true → (b : Bool) → same_name w.trove.id.name u.id.name ≡ b → is_dir other.rec ≡ true
       at w one mark_dir true names =
           let alike : w.trove ≡ u = one_named list installed.rising w.trove u w.in_list u_in (same_means w.trove.id.name u.id.name names) in
           let rises : IsStrictlySortedBy file_cmp u.files = (All-contains IsTrove list u installed.troves u_in).lists.files.rising in

@@ -14,6 +14,8 @@ use Rattle.tree_scan.specs.declared.mark.Mark.{Mark}
 use Rattle.tree_scan.specs.Marks.{fingerprint_at, is_dir, is_nothing, same_mark}
 use Rattle.local_db.specs.Record.{Entry}
 use Rattle.past_jobs.specs.declared.found.FoundMark.{FoundMark}
+use Rattle.past_jobs.specs.declared.obstacles.Obstacle.{Obstacle}
+use Rattle.past_jobs.specs.declared.obstacles.Obstacle.TheVariants as obstacle
 use Rattle.past_jobs.specs.Marks.{Marks, undone, is_path_of}
 
 abbrev pub FoundMarks : Type 0
@@ -60,11 +62,6 @@ has_foreign found es tree e = makes_dir e && (has_foreign_put found es e.path ||
 abbrev pub is_edited : FoundMarks → List Entry → Tree → Entry → Bool
 is_edited found es tree e = not (same_mark (mark_seen found tree e.path) e.now) || has_foreign found es tree e
 
--- the first of these entries of the job that is edited
-abbrev pub first_edited : FoundMarks → List Entry → Tree → List Entry → Option Name
-first_edited found es tree [] = None
-first_edited found es tree (e ∷ more) = if is_edited found es tree e then Some e.path else first_edited found es tree more
-
 -- ---- paths without a directory
 
 abbrev pub is_dir_after : FoundMarks → List Entry → Tree → Name → Bool
@@ -73,12 +70,17 @@ is_dir_after found es tree p = is_dir (undone es (mark_seen found tree) p)
 abbrev pub is_orphan : FoundMarks → List Entry → Tree → Entry → Bool
 is_orphan found es tree e = not (is_nothing e.was) && not (is_dir_after found es tree (parent e.path))
 
--- the first of these entries of the job whose path would lack its directory
-abbrev pub first_orphan : FoundMarks → List Entry → Tree → List Entry → Option Name
-first_orphan found es tree [] = None
-first_orphan found es tree (e ∷ more) = if is_orphan found es tree e then Some e.path else first_orphan found es tree more
-
 -- ---- both
+
+-- the test of an entry of the job for what may stand in the way
+abbrev pub test_of : Obstacle → FoundMarks → List Entry → Tree → Entry → Bool
+test_of obstacle.Edited = is_edited
+test_of obstacle.Orphan = is_orphan
+
+-- the path of the first of these entries that passes the test
+abbrev pub first_path : (Entry → Bool) → List Entry → Option Name
+first_path test [] = None
+first_path test (e ∷ more) = if test e then Some e.path else first_path test more
 
 abbrev pub edited_or : Option Name → Option Name → Result Unit Refusal
 edited_or (Some path) orphan = Err (Edited path)
@@ -86,4 +88,4 @@ edited_or None (Some path) = Err (Parent path)
 edited_or None None = Ok tt
 
 abbrev pub undo_tested : FoundMarks → List Entry → Tree → Result Unit Refusal
-undo_tested found es tree = edited_or (first_edited found es tree es) (first_orphan found es tree es)
+undo_tested found es tree = edited_or (first_path (is_edited found es tree) es) (first_path (is_orphan found es tree) es)

@@ -4,7 +4,7 @@ use Rattle.std.specs.BTreeMap.{BTreeMap, IsOrdered, get}
 use Rattle.std.specs.Cmp.Lexicographic.{slice_cmp}
 use Rattle.std.specs.List.{sum_by}
 use Rattle.std.specs.Map.{values_of}
-use Rattle.std.specs.Ordering.{nat_cmp, is_eq, is_gt}
+use Rattle.std.specs.Ordering.{nat_cmp, is_gt}
 use Rattle.local_db.specs.file-stream.declared.record.FileRec.{FileRec}
 use Rattle.local_db.specs.file-stream.Record as rec
 use Rattle.local_db.specs.trove-stream.declared.parts.TroveParts.{TroveParts}
@@ -22,10 +22,6 @@ use Rattle.local_db.specs.trove-parts.declared.id.TroveId.{TroveId}
 use Rattle.local_db.specs.declared.record.Delta.{Delta}
 use Rattle.local_db.specs.RecordText.{delta_of, name_of}
 pub use Rattle.change_rel.specs.trove-stream.Either.{or_else}
-
--- whether a map takes two keys for the same
-abbrev pub same : Name → Name → Bool
-same x y = is_eq (slice_cmp nat_cmp x y)
 
 -- ---- fingerprints
 

@@ -8,9 +8,8 @@ ghost use Rattle.past_jobs.specs.Outcome.{CanUndoNext, IsTestStop, IsUndoStop};
 ghost use Rattle.local_db.specs.Record.{entry_cmp};
 ghost use Rattle.past_jobs.specs.Seen.{undo_tested};
 
-use crate::edits::first_edited;
 use crate::found::FoundMarks;
-use crate::parents::first_orphan;
+use crate::obstacles::{Obstacle, first_with};
 use local_db::Change;
 use local_db::cny_base::{Refusal, Stop, Text};
 use local_db::tree_disk::TreeDisk;
@@ -30,12 +29,12 @@ fn test_undo<D: TreeDisk>(
     // On every disk, also where it tells nothing.
     ensures kinds { IfErr result IsTestStop }
 {
-    let edited = first_edited(alloc, disk, found, changes)?;
+    let edited = first_with(alloc, disk, found, changes, Obstacle::Edited)?;
     if let Some(path) = edited {
         let path = Text::new(alloc, path.text())?;
         return Err(Stop::Refused(Refusal::Edited { path }));
     }
-    let orphan = first_orphan(alloc, disk, found, changes)?;
+    let orphan = first_with(alloc, disk, found, changes, Obstacle::Orphan)?;
     if let Some(path) = orphan {
         let path = Text::new(alloc, path.text())?;
         return Err(Stop::Refused(Refusal::Parent { path }));

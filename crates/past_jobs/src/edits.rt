@@ -8,12 +8,12 @@ ghost use Rattle.past_jobs.specs.Seen as spec;
 use crate::foreign::has_foreign;
 use crate::found::{FoundMarks, mark_now};
 use local_db::Change;
-use local_db::cny_base::{Copies, Path, Stop};
+use local_db::cny_base::Stop;
 use local_db::tree_disk::TreeDisk;
 use std::alloc::Global;
 
 // Whether something else stands at the path than what the job left, or in a directory that it made there.
-fn is_edited<D: TreeDisk>(
+pub(crate) fn is_edited<D: TreeDisk>(
     alloc: Global,
     disk: &mut D,
     found: &FoundMarks,
@@ -32,27 +32,4 @@ fn is_edited<D: TreeDisk>(
     }
     let any = has_foreign(alloc, disk, found, changes, change)?;
     Ok(any)
-}
-
-// The first path of the job that was changed since.
-pub(crate) fn first_edited<D: TreeDisk>(
-    alloc: Global,
-    disk: &mut D,
-    found: &FoundMarks,
-    changes: &[Change],
-) -> Result<Option<Path>, Stop>
-    requires { IsStrictlySortedBy entry_cmp changes.now }
-    ensures tests { Tests D.disk (λ path. path)
-        (λ tree. Ok (spec.first_edited found.now changes.now tree changes.now))
-        disk.old disk.new result }
-    ensures stops { IfErr result IsDiskStop }
-{
-    for change in changes {
-        let edited = is_edited(alloc, disk, found, changes, change)?;
-        if edited {
-            let path = change.path().copy()?;
-            return Ok(Some(path));
-        }
-    }
-    Ok(None)
 }

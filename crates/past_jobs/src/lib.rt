@@ -7,6 +7,7 @@ mod checking;
 mod edits;
 mod foreign;
 mod found;
+mod obstacles;
 mod parents;
 mod past_list;
 mod past_marks;

@@ -46,7 +46,7 @@ fn is_dir_after<D: TreeDisk>(
 }
 
 // Whether the path would lack its directory.
-fn is_orphan<D: TreeDisk>(
+pub(crate) fn is_orphan<D: TreeDisk>(
     alloc: Global,
     disk: &mut D,
     found: &FoundMarks,
@@ -65,27 +65,4 @@ fn is_orphan<D: TreeDisk>(
     let above = dir_of(alloc, change.path())?;
     let dir = is_dir_after(alloc, disk, found, changes, &above)?;
     Ok(!dir)
-}
-
-// The first path of the job that would lack its directory.
-pub(crate) fn first_orphan<D: TreeDisk>(
-    alloc: Global,
-    disk: &mut D,
-    found: &FoundMarks,
-    changes: &[Change],
-) -> Result<Option<Path>, Stop>
-    requires { IsStrictlySortedBy entry_cmp changes.now }
-    ensures tests { Tests D.disk (λ path. path)
-        (λ tree. Ok (spec.first_orphan found.now changes.now tree changes.now))
-        disk.old disk.new result }
-    ensures stops { IfErr result IsDiskStop }
-{
-    for change in changes {
-        let orphan = is_orphan(alloc, disk, found, changes, change)?;
-        if orphan {
-            let path = change.path().copy()?;
-            return Ok(Some(path));
-        }
-    }
-    Ok(None)
 }

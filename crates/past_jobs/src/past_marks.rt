@@ -1,12 +1,11 @@
 //! What the troves of a list record of each path.
-ghost use Rattle.std.specs.Prelude.{◌≡◌, ◌&&◌, None, Some, IfNone, IfOk, IfSome, OnOk, if◌then◌else◌, is_some};
+ghost use Rattle.std.specs.Prelude.{◌≡◌, ◌&&◌, None, Some, IfNone, IfSome, OnOk, if◌then◌else◌, is_some};
 ghost use Rattle.local_db.specs.tree-disk.Tree as tree;
-ghost use Rattle.tree_scan.specs.Marks.{fingerprint_of_record};
 ghost use Rattle.local_db.specs.Installed.{record_at, first_mark};
-ghost use Rattle.past_jobs.specs.Table.{IsFirst, mark_at, mark_in, recorders_at, same};
+ghost use Rattle.past_jobs.specs.Table.{IsFirst, mark_at, mark_in, recorders_at};
 
 use local_db::cny_base::{Copies, Name, OutOfMemory, Path};
-use local_db::file_stream::FileRec;
+use local_db::mark_of_record;
 use local_db::trove_parts::FileAt;
 use std::alloc::Global;
 use std::collections::BTreeMap;
@@ -17,28 +16,6 @@ type Recorders = BTreeMap<Name, Mark>;
 
 /// The fingerprints that troves record, by the paths.
 pub(crate) type Marks = BTreeMap<Path, Recorders>;
-
-// The fingerprint of the node that a record describes.
-fn mark_of(rec: &FileRec) -> Result<Mark, OutOfMemory>
-    ensures { IfOk result (λ mark. mark ≡ fingerprint_of_record rec.now) }
-{
-    Ok(match rec {
-        FileRec::Dir { mode, .. } => Mark::Dir { mode: *mode },
-        FileRec::File {
-            mode,
-            size,
-            name,
-            ..
-        } => Mark::File {
-            mode: *mode,
-            size: u64::from(*size),
-            name: *name,
-        },
-        FileRec::Link { target } => Mark::Link {
-            target: target.copy()?,
-        },
-    })
-}
 
 // The fingerprint of the first trove by name that records the path.
 pub(crate) fn first_of<'a>(marks: &'a Marks, path: &Path) -> Option<&'a Mark>
@@ -55,7 +32,7 @@ pub(crate) fn first_of<'a>(marks: &'a Marks, path: &Path) -> Option<&'a Mark>
 // Takes away what is recorded at the path.
 fn take_recorders(alloc: Global, marks: &mut Marks, path: &Path) -> Recorders
     ensures taken { (name : tree.Name) → mark_in (Some result) name ≡ mark_at marks.old path.now name }
-    ensures kept { (p : tree.Name) → recorders_at marks.new p ≡ (if same path.now p then None else recorders_at marks.old p) }
+    ensures kept { (p : tree.Name) → recorders_at marks.new p ≡ (if tree.same_name path.now p then None else recorders_at marks.old p) }
 {
     match marks.remove(path) {
         Some(recorders) => recorders,
@@ -72,7 +49,7 @@ fn add_mark(
     mark: Mark,
 ) -> Result<(), OutOfMemory>
     ensures { OnOk result ((p n : tree.Name) → mark_at marks.new p n
-        ≡ (if same path.now p && same name.now n then Some mark else mark_at marks.old p n)) }
+        ≡ (if tree.same_name path.now p && tree.same_name name.now n then Some mark else mark_at marks.old p n)) }
 {
     let mut recorders = take_recorders(alloc, marks, path);
     recorders.insert(name.copy()?, mark)?;
@@ -88,7 +65,7 @@ fn remove_mark(
     name: &Name,
 ) -> Result<(), OutOfMemory>
     ensures { OnOk result ((p n : tree.Name) → mark_at marks.new p n
-        ≡ (if same path.now p && same name.now n then None else mark_at marks.old p n)) }
+        ≡ (if tree.same_name path.now p && tree.same_name name.now n then None else mark_at marks.old p n)) }
 {
     let mut recorders = take_recorders(alloc, marks, path);
     recorders.remove(name);
@@ -104,12 +81,12 @@ pub(crate) fn add_files(
     files: &[FileAt],
 ) -> Result<(), OutOfMemory>
     ensures { OnOk result ((p n : tree.Name) → mark_at marks.new p n
-        ≡ (if same name.now n then first_mark (record_at files.now p) (mark_at marks.old p n) else mark_at marks.old p n)) }
+        ≡ (if tree.same_name name.now n then first_mark (record_at files.now p) (mark_at marks.old p n) else mark_at marks.old p n)) }
 {
     // From the last on, so that a file outweighs those behind it.
     for behind in 0..files.len() {
         let file = &files[files.len() - 1 - behind];
-        let mark = mark_of(&file.rec)?;
+        let mark = mark_of_record(&file.rec)?;
         add_mark(alloc, marks, &file.path, name, mark)?;
     }
     Ok(())
@@ -123,7 +100,7 @@ pub(crate) fn remove_files(
     files: &[FileAt],
 ) -> Result<(), OutOfMemory>
     ensures { OnOk result ((p n : tree.Name) → mark_at marks.new p n
-        ≡ (if same name.now n && is_some (record_at files.now p) then None else mark_at marks.old p n)) }
+        ≡ (if tree.same_name name.now n && is_some (record_at files.now p) then None else mark_at marks.old p n)) }
 {
     for behind in 0..files.len() {
         let file = &files[files.len() - 1 - behind];

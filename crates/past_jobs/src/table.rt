@@ -6,7 +6,7 @@ ghost use Rattle.local_db.specs.trove-stream.Trove.{IsTrove};
 ghost use Rattle.local_db.specs.trove-stream.Installed.{IsRising};
 ghost use Rattle.local_db.specs.Installed.{recorded, IsInstalled, SharesDirsAlone};
 ghost use Rattle.past_jobs.specs.Table as spec;
-ghost use Rattle.past_jobs.specs.Table.{IsIndexed, same, trove_at, troves_of};
+ghost use Rattle.past_jobs.specs.Table.{IsIndexed, trove_at, troves_of};
 
 use crate::past_marks::{Marks, add_files, first_of, remove_files};
 use crate::turning::item_len;
@@ -87,7 +87,7 @@ pub(crate) fn put_trove(
     requires absent { trove_at table.old.troves trove.now.id.name ≡ None }
     ensures indexed { OnOk result (IsIndexed format table.new.troves table.new.marks table.new.len) }
     ensures troves { OnOk result ((name : tree.Name) → trove_at table.new.troves name
-        ≡ (if same trove.now.id.name name then Some trove.now else trove_at table.old.troves name)) }
+        ≡ (if tree.same_name trove.now.id.name name then Some trove.now else trove_at table.old.troves name)) }
     ensures trove { OnOk result (IsTrove trove.now) }
 {
     let by = item_len(alloc, format, trove)?;
@@ -111,7 +111,7 @@ pub(crate) fn take_trove(
     ensures value { IfOk result (λ taken. taken ≡ trove_at table.old.troves name.now) }
     ensures indexed { OnOk result (IsIndexed format table.new.troves table.new.marks table.new.len) }
     ensures troves { OnOk result ((n : tree.Name) → trove_at table.new.troves n
-        ≡ (if same name.now n then None else trove_at table.old.troves n)) }
+        ≡ (if tree.same_name name.now n then None else trove_at table.old.troves n)) }
 {
     let Some(trove) = table.troves.remove(name) else {
         return Ok(None);

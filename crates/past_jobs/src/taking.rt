@@ -11,7 +11,7 @@ ghost use Rattle.local_db.specs.Record.{TakesBack, TakesBackAt};
 ghost use Rattle.local_db.specs.declared.format.Format.TheVariants.{One};
 ghost use Rattle.local_db.specs.RecordText as text;
 ghost use Rattle.local_db.specs.RecordText.{delta_of};
-ghost use Rattle.past_jobs.specs.Table.{AreMade, IsIndexed, IsSound, MayJoin, has_delta, id_of, ids_at, or_else, same, trove_at, troves_of};
+ghost use Rattle.past_jobs.specs.Table.{AreMade, IsIndexed, IsSound, MayJoin, has_delta, id_of, ids_at, or_else, trove_at, troves_of};
 
 use crate::table::{Table, may_join, put_trove, take_trove};
 use crate::turning::before_of;
@@ -76,7 +76,7 @@ fn take_one(
     requires { IsIndexed format table.old.troves table.old.marks table.old.len }
     ensures indexed { OnOk result (IsIndexed format table.new.troves table.new.marks table.new.len) }
     ensures troves { OnOk result ((name : tree.Name) → trove_at table.new.troves name
-        ≡ (if same (text.name_of delta.now) name then None else trove_at table.old.troves name)) }
+        ≡ (if tree.same_name (text.name_of delta.now) name then None else trove_at table.old.troves name)) }
     ensures made { OnOk result ((made : Option TroveParts) × (taken.new.made.items ≡ taken.old.made.items ++ option_to_list made)
         × TakesBackAt (Some (delta_of delta.now)) (trove_at table.old.troves (text.name_of delta.now)) made) }
     ensures after { OnOk result (taken.new.after.items ≡ taken.old.after.items ++ id_of (trove_at table.old.troves (text.name_of delta.now))) }
@@ -127,7 +127,7 @@ fn add_one(alloc: Global, format: Format, table: &mut Table, trove: &Trove) -> R
     ensures indexed { OnOk result (IsIndexed format table.new.troves table.new.marks table.new.len) }
     ensures sound { OnOk result (IsSound format (troves_of table.new.troves)) }
     ensures troves { OnOk result ((name : tree.Name) → trove_at table.new.troves name
-        ≡ (if same trove.now.id.name name then Some trove.now else trove_at table.old.troves name)) }
+        ≡ (if tree.same_name trove.now.id.name name then Some trove.now else trove_at table.old.troves name)) }
     ensures bad { IsErrOf result TextFault.Bad → MayJoin format (troves_of table.old.troves) trove.now → ⊥ }
 {
     if !is_allowed(alloc, trove) {

@@ -10,7 +10,7 @@ ghost use Rattle.past_jobs.specs.Table as table;
 
 use change_rel::apply;
 use local_db::cny_base::{Bytes, Copies, Fault, OutOfMemory, TextFault};
-use local_db::trove_parts::{TroveId, distinct_ids};
+use local_db::trove_parts::TroveId;
 use local_db::trove_stream::{RelTrove, Trove, distinct_troves, encode, encode_full};
 use local_db::{Delta, Format};
 use std::alloc::Global;
@@ -46,15 +46,6 @@ fn are_same(alloc: Global, one: &Trove, other: &Trove) -> Result<bool, OutOfMemo
     Ok(stream == other_stream)
 }
 
-fn is_same_id(one: &TroveId, other: &TroveId) -> bool
-    ensures { IsTrue result ↔ (one.now ≡ other.now) }
-{
-    one.is_valid();
-    other.is_valid();
-    distinct_ids();
-    one == other
-}
-
 // None of the name was there before the trove of this id came.
 fn before_coming(id: &TroveId, after: Option<&Trove>) -> Result<Option<Trove>, TextFault>
     ensures value { IfOk result (record_.TakesBackAt (Some (record_.came id.now)) (option_copied after.entry)) }
@@ -64,7 +55,7 @@ fn before_coming(id: &TroveId, after: Option<&Trove>) -> Result<Option<Trove>, T
     let Some(trove) = after else {
         return Err(TextFault::Bad);
     };
-    if !is_same_id(trove.id(), id) {
+    if !trove.id().is_same(id) {
         return Err(TextFault::Bad);
     }
     Ok(None)
@@ -79,7 +70,7 @@ fn as_it_was(alloc: Global, was: &Trove, after: Option<&Trove>) -> Result<Option
     let Some(trove) = after else {
         return Ok(Some(was.copy()?));
     };
-    if !is_same_id(trove.id(), was.id()) {
+    if !trove.id().is_same(was.id()) {
         return Err(TextFault::Bad);
     }
     if are_same(alloc, trove, was)? {

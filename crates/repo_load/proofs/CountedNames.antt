@@ -26,7 +26,8 @@ use Rattle.repo_load.specs.Counts.{Counts, IsCommitName, IsContentOfState, IsPre
 use Rattle.repo_load.specs.Files.{commit_file, contents_dir, repository_base, HoldsCommits, StoresRepository}
 use Rattle.repo_load.proofs.Holding.{first_stays}
 use Rattle.repo_load.specs.State.{catalogue_of, records_content, trove_records, Commit, IsRepository, RepositoryState, troves_of}
-use Rattle.repo_load.proofs.Digests.{digest_is_name}
+use Rattle.content_store.proofs.Digests.{digest_is_name}
+use Rattle.repo_index.proofs.file-stream.Digests.{digest_long}
 use Rattle.repo_load.proofs.FileNames.{commit_differs}
 use Rattle.journal_log.proofs.cny-base.FileNames.{is_low}
 use Rattle.journal_log.proofs.tree-disk.Names.{within_rest}
@@ -124,7 +125,7 @@ pub is_named : (r : RepositoryState) (name bytes : List ℕ) → IsRepository r 
 is_named r name bytes is holds = recorded_is_named name (length bytes) (troves_of r.commits) (is.named name bytes holds).1
 
 pub is_name : (r : RepositoryState) (name bytes : List ℕ) → IsRepository r → r.contents name ≡ Some bytes → IsContentName name
-is_name r name bytes is holds = subst IsContentName (is.named name bytes holds).0 (digest_is_name bytes)
+is_name r name bytes is holds = subst IsContentName (is.named name bytes holds).0 (digest_is_name bytes (digest_long bytes))
 
 -- contents of two names stand apart
 pub content_apart : (a b : List ℕ) → IsContentName a → IsContentName b → is_within (content_path contents_dir a) (content_path contents_dir b) ≡ true → a ≡ b

@@ -4,7 +4,6 @@ mod TrovesRead
 mod Damages
 pub mod Committing
 pub mod HeldCatalogues
-pub mod Digests
 pub mod CountedNames
 mod Written
 pub mod Joined

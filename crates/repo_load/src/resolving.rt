@@ -20,12 +20,7 @@ fn is_committed(catalogue: &Catalogue, id: &TroveId) -> bool
 fn are_committed(catalogue: &Catalogue, ids: &[TroveId]) -> bool
     ensures { IsTrue result ↔ All (λ (id : TroveId). IsSome (found id catalogue.now.troves)) ids.now }
 {
-    for id in ids {
-        if !is_committed(catalogue, id) {
-            return false;
-        }
-    }
-    true
+    ids.iter().all(|id| is_committed(catalogue, id))
 }
 
 // Whether each reference of the trove is the id of a trove of the catalogue.
@@ -39,12 +34,7 @@ fn has_refs(catalogue: &Catalogue, trove: &Trove) -> bool
 fn have_refs(catalogue: &Catalogue, troves: &[Trove]) -> bool
     ensures { IsTrue result ↔ All (HasRefs catalogue.now.troves) troves.now }
 {
-    for trove in troves {
-        if !has_refs(catalogue, trove) {
-            return false;
-        }
-    }
-    true
+    troves.iter().all(|trove| has_refs(catalogue, trove))
 }
 
 /// The number of the first commit with a trove that refers to one that isn't committed. These are the numbers of the commits'

@@ -6,7 +6,6 @@ pub mod Carrying
 pub mod Held
 pub mod Stepping
 pub mod Checking
-pub mod Preparations
 pub mod Placing
 pub mod Putting
 pub mod States

@@ -1,5 +1,5 @@
 -- Tests of lists, and failures one after another.
-use Rattle.std.proofs.Common.{◌≡◌, Bool, true, false, cond, ◌||◌, List, [], ◌∷◌, ◌++◌, Option, Some, None, is_some, Result, Ok, Err, IsErrAnd, refl, sym, ◌∙◌, ap, subst}
+use Rattle.std.proofs.Common.{◌≡◌, Bool, true, false, cond, ◌||◌, List, [], ◌∷◌, ◌++◌, Option, Some, None, is_some, Result, Ok, Err, IsErrAnd, refl, sym, subst}
 use Rattle.std.specs.Option.{option_or}
 use Rattle.repo_load.specs.cny-base.declared.refusal.Refusal.{Refusal}
 use Rattle.repo_load.specs.trove-parts.declared.id.TroveId.{TroveId}
@@ -7,7 +7,6 @@ use Rattle.repo_load.specs.trove-stream.declared.parts.TroveParts.{TroveParts}
 use Rattle.repo_index.specs.Catalogue.{found, has_id}
 use Rattle.repo_load.specs.cny-base.declared.refusal.Fault.{Fault}
 use Rattle.repo_load.specs.cny-base.declared.refusal.Fault.TheVariants as fault
-use Rattle.change_set.specs.Contents.{IfRefused}
 use Rattle.repository.specs.Verdict.{IsVerdict}
 
 -- ---- what is found
@@ -41,11 +40,6 @@ then_second None b is = refl
 then_second (Some why) b is = absurd (cc is)
 
 -- ---- verdicts
-
--- the refusal of a test
-pub verdict_of : (test : Option Refusal) (wanted : Refusal) (f : Fault) → test ≡ Some wanted → IfRefused (λ refused. refused ≡ wanted) f → IsVerdict {X = Unit {0}} test (Err f)
-verdict_of test wanted (fault.Refused refusal) is made = is ∙ ap Some (sym made)
-verdict_of test wanted fault.Memory is made = tt
 
 -- a verdict passed on by `?`
 pub verdict_stop : (test goal : Option Refusal) (e : Fault) (r : Result (Unit {0}) Fault) → IsVerdict {X = Unit {0}} test (Err e) → IsErrAnd r (λ s. s ≡ e) → ((refusal : Refusal) → test ≡ Some refusal → goal ≡ Some refusal) → IsVerdict goal r

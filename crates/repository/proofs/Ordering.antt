@@ -24,7 +24,8 @@ use Rattle.repository.specs.Outcome.{committed_contents}
 use Rattle.repository.specs.Order.{kept_stop, later_stop, refusing, source_stop, sources_stop, IsFirstStop, StopsAs}
 use Rattle.repository.specs.Parts.{AreMade, IsFirstRefused}
 use Rattle.repository.specs.Tests.{collides, collision_at, missing_content, missing_ref, refs_of, too_many}
-use Rattle.repository.specs.Preparing.{StopsBefore, Writes}
+use Rattle.tree_journal.specs.Preparing.{StopsBefore}
+use Rattle.repository.specs.Preparing.{IsUntold, Writes}
 use Rattle.repository.specs.Verdict.{IsVerdict}
 use Rattle.repository.proofs.Held.{kept_at, none_damaged, none_named}
 use Rattle.change_rel.specs.trove-stream.FilesOf.{files_of}
@@ -149,7 +150,7 @@ pub write_first : {D X : Type 0} {disk : DiskModel D} {k : CatalogueParts} {cont
 write_first c x change e (Ok k) tells writes is = tt
 write_first {disk = disk} {old = old} {new = new} c x change e (Err s) tells writes is = subst (IsFirstStop c x change) (sym is) (by e writes.ends)
   where
-    by : (e : Stop) → StopsBefore disk.tells (disk.faults old) (disk.faults new) e → IsFirstStop c x change e
+    by : (e : Stop) → StopsBefore (IsUntold disk.tells) (disk.faults old) (disk.faults new) e → IsFirstStop c x change e
     by (Refused refusal) stops = absurd (stops tells)
     by (Damaged path) stops = absurd stops
     by Failed stops = tt

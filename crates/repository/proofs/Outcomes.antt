@@ -26,7 +26,8 @@ use Rattle.repo_load.proofs.HeldCatalogues.{rules_after}
 use Rattle.repo_load.specs.Loading.{IsCatalogue}
 use Rattle.repo_load.proofs.CountedNames.{counted_state, prepared_state}
 use Rattle.repository.specs.Outcome.{committed_contents, AreSound, AtEveryMoment, CanBeRead, EndsSo, IsAtRest, IsDone, IsSettled, MayJoin, StopsSo, TestsChange}
-use Rattle.repository.specs.Preparing.{IsWritten, RecoversSo, StopsBefore, Writes}
+use Rattle.tree_journal.specs.Preparing.{StopsBefore}
+use Rattle.repository.specs.Preparing.{IsUntold, IsWritten, RecoversSo, Writes}
 use Rattle.repository.specs.Steps.{after_commit, catalogue_after, ids_of, IsStep, RecoversToEither}
 use Rattle.repository.specs.Tests.{Passes}
 use Rattle.repository.proofs.Held.{held_is}
@@ -143,7 +144,7 @@ module _ {D : Type 0} {disk : DiskModel D} (laws : IsDisk disk) (change : Change
       }
 
   -- the writing stopped
-  stops_write : (old new : D) (c' : CatalogueParts) (told : Bool) (a b : ℕ) (e : Stop) → IsTrue told → StopsBefore told a b e → StopsSo disk change c c' old new e
+  stops_write : (old new : D) (c' : CatalogueParts) (told : Bool) (a b : ℕ) (e : Stop) → IsTrue told → StopsBefore (IsUntold told) a b e → StopsSo disk change c c' old new e
   stops_write old new c' told a b (Refused refusal) tells stops = absurd (stops tells)
   stops_write old new c' told a b (Damaged path) tells stops = absurd stops
   stops_write old new c' told a b Failed tells stops = tt

@@ -20,7 +20,8 @@ use Rattle.repo_load.proofs.tree-disk.ConfinedLaws.{confined_wider}
 use Rattle.repo_load.specs.content-store.Outcome.{placed, put_names, put_outcome, CanPut, Decides, IsCollisionOf, PutStops}
 use Rattle.repo_load.specs.content-store.Store.{content_path}
 use Rattle.repo_load.specs.Files.{contents_dir}
-use Rattle.repository.specs.Preparing.{StopsBefore}
+use Rattle.tree_journal.specs.Preparing.{StopsBefore}
+use Rattle.repository.specs.Preparing.{IsUntold}
 use Rattle.change_rel.proofs.cny-base.Stops.{stopped}
 use Rattle.repo_load.proofs.content-store.Absent.{no_bytes as empty_at}
 
@@ -66,7 +67,7 @@ module _ {D : Type 0} {disk : DiskModel D} {mid new : D} where
       subst (λ (n : Name). Confined disk (Among (is_within n)) mid new) same (confined_wider (within_names p (disk.reads mid)) (decides.confined tells))
 
   pub put_stops : {X : Type 0} (p name bytes : List ℕ) (e : Stop) → (IsTrue disk.tells → get (disk.reads mid) p ≡ None) → Decides disk (put_names p) (put_outcome p name bytes) mid new (stopped {X = X} e)
-      → PutStops (IsCollisionOf name) (disk.faults mid) (disk.faults new) e → StopsBefore disk.tells (disk.faults mid) (disk.faults new) e
+      → PutStops (IsCollisionOf name) (disk.faults mid) (disk.faults new) e → StopsBefore (IsUntold disk.tells) (disk.faults mid) (disk.faults new) e
   put_stops p name bytes Failed none decides stops = stops
   put_stops p name bytes Memory none decides stops = tt
   put_stops p name bytes (Refused refusal) none decides stops =

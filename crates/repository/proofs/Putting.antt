@@ -17,16 +17,21 @@ use Rattle.repo_index.specs.Catalogue.{CatalogueParts, has_content}
 use Rattle.repo_load.specs.Counts.{IsUnnamedContent}
 use Rattle.repo_load.specs.Files.{contents_dir}
 use Rattle.repo_load.proofs.CountedNames.{content_apart}
-use Rattle.repo_load.proofs.Digests.{digest_is_name}
-use Rattle.repository.specs.Preparing.{AreStored, IsCarriedName, IsPutName, IsStored, Prepares}
+use Rattle.repo_load.proofs.content-store.Digests.{digest_is_name}
+use Rattle.change_rel.proofs.file-stream.Digests.{digest_long}
+use Rattle.repository.specs.Preparing.{AreStored, IsCarriedName, IsPutName, IsStored, IsUntold}
+use Rattle.tree_journal.specs.Preparing.{Prepares}
 use Rattle.repository.proofs.Placing.{dir_not_within}
 use Rattle.tree_journal.proofs.tree-disk.Order.{not_before}
 
+pub is_name : (content : Carried) → content.name ≡ sha1 content.bytes → IsContentName content.name
+is_name content hash = subst IsContentName (sym hash) (digest_is_name content.bytes (digest_long content.bytes))
+
 pub put_is_unnamed : (c : CatalogueParts) (content : Carried) → content.name ≡ sha1 content.bytes → (q : Name) → IsPutName c content q → IsUnnamedContent c q
-put_is_unnamed c content hash q put = record { name = content.name; name_is = subst IsContentName (sym hash) (digest_is_name content.bytes); unnamed = put.unnamed; within = put.within }
+put_is_unnamed c content hash q put = record { name = content.name; name_is = is_name content hash; unnamed = put.unnamed; within = put.within }
 
 -- a content that some trove records isn't put
-pub nothing_put : {D : Type 0} {disk : DiskModel D} (laws : IsDisk disk) (c : CatalogueParts) (content : Carried) (d : D) → has_content content.name c.troves ≡ true → Prepares disk (IsPutName c content) (IsStored c content) d d (Ok tt)
+pub nothing_put : {D : Type 0} {disk : DiskModel D} (laws : IsDisk disk) (c : CatalogueParts) (content : Carried) (d : D) → has_content content.name c.troves ≡ true → Prepares disk (IsUntold disk.tells) (IsPutName c content) (IsStored c content) d d (Ok tt)
 nothing_put laws c content d named = record {
   later = omega arith;
   ends = λ tells unnamed. absurd (cc (named, unnamed));
@@ -47,9 +52,6 @@ earlier_name [] j i d rises before lt same = absurd (omega arith)
 earlier_name (c ∷ cs) j zero d rises before lt same = absurd (omega arith)
 earlier_name (c ∷ cs) zero (suc i) d rises before lt same = not_before c.name (get_or cs i d).name same (rec_at (λ (e : Carried). content_cmp c e ≡ Less) cs i d rises.0 (omega arith))
 earlier_name (c ∷ cs) (suc j) (suc i) d rises before lt same = earlier_name cs j i d rises.1 (omega arith) (omega arith) same
-
-pub is_name : (content : Carried) → content.name ≡ sha1 content.bytes → IsContentName content.name
-is_name content hash = subst IsContentName (sym hash) (digest_is_name content.bytes)
 
 -- what was stored stays where another content is put
 stays_stored : (c : CatalogueParts) (one other : Carried) (old new : Tree) → one.name ≡ sha1 one.bytes → other.name ≡ sha1 other.bytes → (one.name ≡ other.name → ⊥) → AgreesExcept (IsPutName c other) new old → IsStored c one old → IsStored c one new

@@ -1,9 +1,8 @@
 -- What stands before the file of a commit is written, and how the writing of a commit goes.
-use Rattle.std.specs.Prelude.{◌≡◌, ◌⊎◌, ℕ, ◌+◌, ◌≤◌, Bool, false, ◌||◌, IsTrue, List, [], ◌∷◌, All, Contains, Some, None, Result, Ok, Err, OnOk}
+use Rattle.std.specs.Prelude.{◌≡◌, ◌⊎◌, ◌+◌, ◌≤◌, Bool, false, ◌||◌, IsTrue, List, [], ◌∷◌, All, Contains, Some, None, Result, OnOk}
 use Rattle.std.specs.FinMap.{get}
-use Rattle.repo_load.specs.cny-base.Count.{Rose}
+use Rattle.repo_load.specs.cny-base.declared.refusal.Refusal.{Refusal}
 use Rattle.repo_load.specs.cny-base.declared.stop.Stop.{Stop}
-use Rattle.repo_load.specs.cny-base.declared.stop.Stop.TheVariants.{Refused, Memory, Failed, Damaged, FarFailed, FarDamaged}
 use Rattle.repo_load.specs.trove-stream.declared.parts.TroveParts.{TroveParts}
 use Rattle.repo_load.specs.trove-stream.Trove.{IsTrove}
 use Rattle.repo_load.specs.tree-disk.Tree.{Name, Tree, same_name}
@@ -13,6 +12,7 @@ use Rattle.repo_load.specs.tree-disk.Disk.{DiskModel}
 use Rattle.repo_load.specs.tree-disk.Confined.{AgreesExcept, Among, Confined, IsSynced, IsUnsyncedOr, LeavesOnly}
 use Rattle.repo_load.specs.journal-log.Own.{is_own, StoresSame}
 use Rattle.repo_load.specs.journal-log.Targets.{with_targets}
+use Rattle.tree_journal.specs.Preparing.{EndsWith}
 use Rattle.tree_journal.specs.Recovery.{is_committed, RecoversTo}
 use Rattle.change_set.specs.declared.change.Carried.{Carried}
 use Rattle.repo_load.specs.content-store.Store.{content_path, stored}
@@ -24,25 +24,9 @@ pub use Rattle.change_rel.specs.cny-base.Modes.{file_mode}
 
 -- ---- the names that change before
 
--- Why it stopped: a fault, or want of memory; and where the disk tells its tree, no refusal.
-abbrev pub StopsBefore : Bool → ℕ → ℕ → Stop → Type 0
-StopsBefore told before now Failed = Rose before now
-StopsBefore told before now Memory = Unit {0}
-StopsBefore told before now (Refused refusal) = IsTrue told → ⊥
-StopsBefore told before now (Damaged path) = ⊥
-StopsBefore told before now FarFailed = ⊥
-StopsBefore told before now (FarDamaged path) = ⊥
-
--- with a tree of which P holds, or so
-abbrev pub EndsWith : Bool → Type 0 → Result Unit Stop → ℕ → ℕ → Type 0
-EndsWith told P (Ok x) before now = IsTrue told → P
-EndsWith told P (Err stop) before now = StopsBefore told before now stop
-
--- A run of calls that changes some of these names alone, and leaves a tree of which P holds.
-pub record Prepares {D : Type 0} (disk : DiskModel D) (names : Name → Type 0) (P : Tree → Type 0) (old new : D) (result : Result Unit Stop) : Type 0 where
-  pub later : disk.faults old ≤ disk.faults new
-  pub ends : EndsWith disk.tells (P (disk.reads new)) result (disk.faults old) (disk.faults new)
-  pub confined : IsTrue disk.tells → Confined disk names old new
+-- It may be refused only where the disk doesn't tell its tree.
+abbrev pub IsUntold : Bool → Refusal → Type 0
+IsUntold told refusal = IsTrue told → ⊥
 
 -- the two directories
 abbrev pub is_dir_name : Name → Bool
@@ -113,7 +97,7 @@ pub record RecoversSo (names : Name → Type 0) (c : CatalogueParts) (contents :
 -- counts is as it was, or to one with the commit's file; after Ok that stands, and a crash leaves what is read.
 pub record Writes {D : Type 0} (disk : DiskModel D) (c : CatalogueParts) (contents : List Carried) (troves : List TroveParts) (old new : D) (result : Result Unit Stop) : Type 0 where
   pub later : disk.faults old ≤ disk.faults new
-  pub ends : EndsWith disk.tells (IsWritten c contents troves (disk.reads old) (disk.reads new)) result (disk.faults old) (disk.faults new)
+  pub ends : EndsWith disk.tells (IsUntold disk.tells) (IsWritten c contents troves (disk.reads old) (disk.reads new)) result (disk.faults old) (disk.faults new)
   pub flag_clear : IsTrue disk.tells → OnOk result (is_committed repository_base (disk.reads new) ≡ false)
   pub synced : IsTrue disk.tells → OnOk result (IsSynced disk new)
   pub any_moment : IsTrue disk.tells → LeavesOnly disk old new (RecoversSo (IsUnsyncedOr disk old (IsPreparedName c)) c contents troves (disk.reads old))

@@ -1,5 +1,5 @@
 //! What is told of new troves beside old ones.
-ghost use Rattle.std.specs.Prelude.{◌≡◌, ◌↔◌, ◌++◌, [], All, IfOk, IfSome, IsTrue, OnOk, Option};
+ghost use Rattle.std.specs.Prelude.{◌≡◌, ◌++◌, [], All, IfOk, IfSome, OnOk, Option};
 ghost use Rattle.std.specs.List.{cons_option};
 ghost use Rattle.std.specs.Option.{option_copied};
 ghost use Rattle.change_set.specs.declared.change.Part.{Part};
@@ -10,7 +10,6 @@ ghost use Rattle.repository.specs.Between.{old_of, AreParts, IsPartOf};
 use change_rel::relative;
 use change_set::{Part, Parts};
 use repo_load::cny_base::{Copies, Name, OutOfMemory};
-use repo_load::trove_parts::{TroveId, distinct_ids};
 use repo_load::trove_stream::Trove;
 use std::alloc::Global;
 
@@ -26,17 +25,6 @@ pub(crate) fn trove_named<'a>(troves: &'a [Trove], name: &Name) -> Option<&'a Tr
     }
 }
 
-// Whether the ids are equal.
-fn is_same_id(one: &TroveId, other: &TroveId) -> bool
-    ensures { IsTrue result ↔ (one.now ≡ other.now) }
-{
-    // Ids that are equal by their texts are one id.
-    distinct_ids();
-    one.is_valid();
-    other.is_valid();
-    *one == *other
-}
-
 // What is told of a new trove beside the old one of its name, if there is one.
 fn part_of(alloc: Global, old: Option<&Trove>, fresh: &Trove) -> Result<Option<Part>, OutOfMemory>
     requires { IfSome old (λ trove. trove.now.id.name ≡ fresh.now.id.name) }
@@ -45,7 +33,7 @@ fn part_of(alloc: Global, old: Option<&Trove>, fresh: &Trove) -> Result<Option<P
     let Some(trove) = old else {
         return Ok(Some(Part::Whole(fresh.copy()?)));
     };
-    if is_same_id(trove.id(), fresh.id()) {
+    if trove.id().is_same(fresh.id()) {
         return Ok(None);
     }
     Ok(Some(Part::Relative(relative(alloc, trove, fresh)?)))

@@ -9,18 +9,17 @@ use crate::refs::is_there;
 use change_rel::{apply, missing_base};
 use change_set::Part;
 use repo_index::Catalogue;
-use repo_load::cny_base::{Copies, Fault, Refusal};
+use repo_load::cny_base::{Copies, Fault, OutOfMemory, Refusal};
 use repo_load::trove_parts::{TroveId, id_text};
 use repo_load::trove_stream::{RelTrove, Trove, check};
 use std::alloc::Global;
 
-fn exists(alloc: Global, id: &TroveId) -> Fault
-    ensures { IfRefused (λ refused. refused ≡ refusal.Exists (id_text_of id.now)) result }
+// The refusal of a trove whose id is there already.
+fn exists(alloc: Global, id: &TroveId) -> Result<Refusal, OutOfMemory>
+    ensures { IfOk result (λ made. made ≡ refusal.Exists (id_text_of id.now)) }
 {
-    match id_text(alloc, id) {
-        Ok(trove) => Fault::Refused(Refusal::Exists { trove }),
-        Err(_) => Fault::Memory,
-    }
+    let trove = id_text(alloc, id)?;
+    Ok(Refusal::Exists { trove })
 }
 
 // The trove to which a relative one leads from one that is committed.
@@ -56,7 +55,8 @@ fn add_trove(
     ensures refused { IfErr result (IfRefused (IsTroveRefused (committed.now.troves ++ added.old.troves) trove)) }
 {
     if is_there(committed, added, trove.id()) {
-        return Err(exists(alloc, trove.id()));
+        let refusal = exists(alloc, trove.id())?;
+        return Err(Fault::Refused(refusal));
     }
     check(alloc, &trove)?;
     added.add(alloc, trove)

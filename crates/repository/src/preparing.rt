@@ -8,13 +8,14 @@ ghost use Rattle.repo_load.specs.tree-disk.Confined.{Among, Confined};
 ghost use Rattle.repo_load.specs.tree-disk.Rows.{is_dir_at};
 ghost use Rattle.repo_load.specs.tree-disk.Steps.{Makes};
 ghost use Rattle.tree_journal.specs.Apply.{with_base};
+ghost use Rattle.tree_journal.specs.Preparing.{Prepares};
 ghost use Rattle.change_set.specs.ChangeSet.{content_cmp};
 ghost use Rattle.change_set.specs.declared.change.Carried.{Carried};
 ghost use Rattle.repo_load.specs.content-store.Store.{content_path, stored};
 ghost use Rattle.repo_index.specs.Catalogue.{has_content};
 ghost use Rattle.repo_load.specs.Counts.{IsPreparedName};
 ghost use Rattle.repo_load.specs.Files.{commit_file, contents_dir, repository_base};
-ghost use Rattle.repository.specs.Preparing.{is_dir_name, AreStored, IsCarriedName, IsPutName, IsReady, IsStored, IsWrittenName, Prepares};
+ghost use Rattle.repository.specs.Preparing.{is_dir_name, AreStored, IsCarriedName, IsPutName, IsReady, IsStored, IsUntold, IsWrittenName};
 
 use change_set::Carried;
 use repo_index::Catalogue;
@@ -51,7 +52,7 @@ fn put_content<D: TreeDisk>(
     requires hash { content.now.name ≡ sha1 content.now.bytes }
     requires dir { dir.now ≡ contents_dir }
     requires stands { IsTrue D.disk.tells → IsTrue (is_dir_at (D.disk.reads disk.old) contents_dir) }
-    ensures { Prepares D.disk (Among (is_within (content_path contents_dir content.now.name)))
+    ensures { Prepares D.disk (IsUntold D.disk.tells) (Among (is_within (content_path contents_dir content.now.name)))
         (λ tree. stored tree contents_dir content.now.name ≡ Some content.now.bytes) disk.old disk.new result }
 {
     clear(alloc, disk, dir, &content.name)?;
@@ -77,7 +78,7 @@ fn put_new<D: TreeDisk>(
     requires hash { content.now.name ≡ sha1 content.now.bytes }
     requires dir { dir.now ≡ contents_dir }
     requires stands { IsTrue D.disk.tells → IsTrue (is_dir_at (D.disk.reads disk.old) contents_dir) }
-    ensures { Prepares D.disk (IsPutName committed.now content.now) (IsStored committed.now content.now) disk.old disk.new result }
+    ensures { Prepares D.disk (IsUntold D.disk.tells) (IsPutName committed.now content.now) (IsStored committed.now content.now) disk.old disk.new result }
 {
     if is_committed(committed, content) {
         return Ok(());
@@ -97,7 +98,7 @@ fn put_contents<D: TreeDisk>(
     requires rising { IsStrictlySortedBy content_cmp contents.now }
     requires dir { dir.now ≡ contents_dir }
     requires stands { IsTrue D.disk.tells → IsTrue (is_dir_at (D.disk.reads disk.old) contents_dir) }
-    ensures { Prepares D.disk (IsCarriedName committed.now contents.now) (AreStored committed.now contents.now) disk.old disk.new result }
+    ensures { Prepares D.disk (IsUntold D.disk.tells) (IsCarriedName committed.now contents.now) (AreStored committed.now contents.now) disk.old disk.new result }
 {
     for content in contents {
         put_new(alloc, disk, committed, dir, content)?;
@@ -126,7 +127,7 @@ pub(crate) fn prepare<D: TreeDisk>(
     requires few { committed.now.commits < COMMITS_LIMIT }
     requires hash { All (λ (content : Carried). content.name ≡ sha1 content.bytes) contents.now }
     requires rising { IsStrictlySortedBy content_cmp contents.now }
-    ensures prepares { Prepares D.disk (IsPreparedName committed.now) (IsReady committed.now contents.now) disk.old disk.new result }
+    ensures prepares { Prepares D.disk (IsUntold D.disk.tells) (IsPreparedName committed.now) (IsReady committed.now contents.now) disk.old disk.new result }
     // Of the contents it changes the carried ones alone.
     ensures only { IsTrue D.disk.tells → Confined D.disk (IsWrittenName committed.now contents.now) disk.old disk.new }
 {

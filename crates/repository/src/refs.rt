@@ -1,14 +1,13 @@
 //! References of troves that are to be committed.
-ghost use Rattle.std.specs.Prelude.{◌≡◌, ◌++◌, is_some};
+ghost use Rattle.std.specs.Prelude.{◌≡◌, ◌++◌, IfOk, is_some};
 ghost use Rattle.repo_load.specs.cny-base.declared.refusal.Refusal.TheVariants as refusal;
 ghost use Rattle.repo_load.specs.trove-parts.Id.{id_text_of};
-ghost use Rattle.change_set.specs.Contents.{IfRefused};
 ghost use Rattle.repo_index.specs.Catalogue.{found};
 ghost use Rattle.repository.specs.Tests.{missing_ref, refs_of};
 ghost use Rattle.repository.specs.Verdict.{IsVerdict};
 
 use repo_index::Catalogue;
-use repo_load::cny_base::{Fault, Refusal};
+use repo_load::cny_base::{Fault, OutOfMemory, Refusal};
 use repo_load::trove_parts::{TroveId, id_text};
 use repo_load::trove_stream::Trove;
 use std::alloc::Global;
@@ -22,13 +21,12 @@ pub(crate) fn is_there(committed: &Catalogue, added: &Catalogue, id: &TroveId) -
     old || new
 }
 
-fn missing(alloc: Global, id: &TroveId) -> Fault
-    ensures { IfRefused (λ refused. refused ≡ refusal.MissingRef (id_text_of id.now)) result }
+// The refusal of a reference to an id of which no trove is there.
+fn missing(alloc: Global, id: &TroveId) -> Result<Refusal, OutOfMemory>
+    ensures { IfOk result (λ made. made ≡ refusal.MissingRef (id_text_of id.now)) }
 {
-    match id_text(alloc, id) {
-        Ok(name) => Fault::Refused(Refusal::MissingRef { name }),
-        Err(_) => Fault::Memory,
-    }
+    let name = id_text(alloc, id)?;
+    Ok(Refusal::MissingRef { name })
 }
 
 // Whether a trove of each of these ids is there.
@@ -42,7 +40,8 @@ fn check_ids(
 {
     for id in ids {
         if !is_there(committed, added, id) {
-            return Err(missing(alloc, id));
+            let refusal = missing(alloc, id)?;
+            return Err(Fault::Refused(refusal));
         }
     }
     Ok(())

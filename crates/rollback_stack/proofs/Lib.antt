@@ -1,6 +1,5 @@
 pub mod Noting
 pub mod Later
-pub mod Stops
 pub mod OneRecord
 pub mod Mapped
 pub mod TakingJobs
@@ -10,8 +9,6 @@ pub mod Doubling
 pub mod Rewriting
 pub mod Migrating
 pub mod Given
-pub mod Preparations
-pub mod Digests
 pub mod Places
 pub mod Putting
 pub mod Saved

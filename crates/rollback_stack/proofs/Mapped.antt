@@ -27,6 +27,8 @@ use Rattle.rollback_stack.specs.Inverse.{no_records}
 use Rattle.rollback_stack.specs.Wanting.{HasNoRecord, HasNoRecords, Wants, is_record, put_of, puts_in, want_at}
 use Rattle.change_rel.proofs.cny-base.Lists.{contains_first, contains_map, contains_rest}
 use Rattle.change_rel.proofs.cny-base.Bools.{or_false, or_left, or_right}
+use Rattle.change_rel.proofs.cny-base.OptionValues.{same_some}
+use Rattle.change_rel.proofs.cny-base.Bools.{joined}
 
 -- ---- the order
 
@@ -61,10 +63,6 @@ record_free (suc count) number p free = neither (same_name (record_file number) 
     neither true b isnt other = absurd (isnt refl)
     neither false b isnt other = other
 
-or_assoc : (a b c : Bool) → (a || (b || c)) ≡ ((a || b) || c)
-or_assoc true b c = refl
-or_assoc false b c = refl
-
 -- the last of so many records
 is_record_last : (count number : ℕ) (p : Name) → is_record (suc count) number p ≡ (is_record count number p || same_name (record_file (number - count)) p)
 is_record_last zero number p =
@@ -73,7 +71,7 @@ is_record_last zero number p =
 is_record_last (suc count) number p =
     let same : (number - 1) - count ≡ number - suc count = omega arith in
     ap (λ (b : Bool). same_name (record_file number) p || b) (is_record_last count (number - 1) p)
-    ∙ or_assoc (same_name (record_file number) p) (is_record count (number - 1) p) (same_name (record_file ((number - 1) - count)) p)
+    ∙ sym (joined (same_name (record_file number) p) (is_record count (number - 1) p) (same_name (record_file ((number - 1) - count)) p))
     ∙ ap (λ (n : ℕ). (same_name (record_file number) p || is_record count (number - 1) p) || same_name (record_file n) p) same
 
 if_either : (a b : Bool) (w o : Option Want) → cond b w (cond a w o) ≡ cond (a || b) w o
@@ -119,14 +117,11 @@ module _ (count newest : ℕ) (old new : Wants) (cleared : HasNoRecords count ne
       (λ rest. contains_rest (no_record_put m) (record { path = p; want = want.Nothing }) (no_records c (m - 1)) (record_of c (m - 1) p rest))
       (or_cases (same_name (record_file m) p) (is_record c (m - 1) p) is)
 
-  some_want : (w v : Want) → Some w ≡ Some v → w ≡ v
-  some_want w v same = cc same
-
   one_of : (q : Put) → Contains (puts_in new) q → Contains (puts_in old) q ⊎ Contains (no_records count newest) q
   one_of q in' =
       let at = put_at new ordered q in' in
       ⊎_elim
-      (λ is. let nothing : want.Nothing ≡ q.want = some_want want.Nothing q.want (sym (on_record q.path is) ∙ at) in
+      (λ is. let nothing : want.Nothing ≡ q.want = same_some want.Nothing q.want (sym (on_record q.path is) ∙ at) in
       inr (subst (λ (w : Want). Contains (no_records count newest) (record { path = q.path; want = w })) nothing (record_of count newest q.path is)))
       (λ out. inl (put_in old q.path q.want (sym (off_record q.path out) ∙ at)))
       (cases_Bool (is_record count newest q.path))

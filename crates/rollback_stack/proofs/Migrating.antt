@@ -13,6 +13,7 @@ use Rattle.job_targets.specs.journal-log.declared.put.Put.{Put}
 use Rattle.local_db.specs.Database.{IsDatabaseFile}
 use Rattle.local_db.specs.declared.db.Db.{Db}
 use Rattle.local_db.specs.Formats.{database_bytes, database_magic, trove_text}
+use Rattle.local_db.specs.Loading.{IsTextStop}
 use Rattle.local_db.specs.Names.{database}
 use Rattle.local_db.specs.Stores.{HoldsDatabase, IsDatabase, absent, written}
 use Rattle.local_db.specs.declared.format.Format.{Format}
@@ -24,18 +25,8 @@ use Rattle.job_targets.specs.tree-disk.Tree.{Name, Tree}
 use Rattle.job_targets.specs.trove-stream.declared.parts.TroveParts.{TroveParts}
 use Rattle.rollback_stack.specs.Migrated.{AreMigration, AreWritesOf, IsDamagedFile, IsFileStop, IsMigratedStop, IsNoDatabase, IsOldFile, IsRecordsStop, is_up_to_date}
 use Rattle.rollback_stack.specs.Numbers.{job_count}
+use Rattle.rollback_stack.proofs.Later.{read_stop_then}
 use Rattle.change_rel.proofs.cny-base.OptionValues.{same_path as some_bytes}
-
--- ---- stops
-
-pub read_stop_map : (told : Bool) (damaged more : Name → Type 0) (rose later : Type 0) (e : Stop) → (IsTrue told → (path : Name) → damaged path → more path) → (rose → later)
-    → IsReadStop told damaged rose e → IsReadStop told more later e
-read_stop_map told damaged more rose later stop.Failed to rises is = rises is
-read_stop_map told damaged more rose later stop.Memory to rises is = tt
-read_stop_map told damaged more rose later (stop.Damaged path) to rises is = λ tells. to tells path (is tells)
-read_stop_map told damaged more rose later (stop.Refused why) to rises is = is
-read_stop_map told damaged more rose later stop.FarFailed to rises is = is
-read_stop_map told damaged more rose later (stop.FarDamaged path) to rises is = is
 
 -- ---- the file of the database
 
@@ -75,8 +66,17 @@ file_stop told x rose file bytes (stop.Refused why) at there is = is
 file_stop told x rose file bytes stop.FarFailed at there is = is
 file_stop told x rose file bytes (stop.FarDamaged path) at there is = is
 
-pub as_file : (db : Db) (bytes : List ℕ) → IsOldFile db bytes → IsDatabaseFile db bytes
+as_file : (db : Db) (bytes : List ℕ) → IsOldFile db bytes → IsDatabaseFile db bytes
 as_file db bytes is = record { format = One; database = is.database; text = is.text }
+
+-- bytes of no database that don't begin as those of format 2
+pub no_old_file : (path : Name) (bytes : List ℕ) → begins_with (database_magic Two) bytes ≡ false → (e : Stop) → IsTextStop path bytes e → IsFileStop path bytes e
+no_old_file path bytes other stop.Failed is = is
+no_old_file path bytes other stop.Memory is = is
+no_old_file path bytes other (stop.Damaged p) is = (is.0, other, λ db old. is.1 db (as_file db bytes old))
+no_old_file path bytes other (stop.Refused why) is = is
+no_old_file path bytes other stop.FarFailed is = is
+no_old_file path bytes other (stop.FarDamaged p) is = is
 
 -- ---- all writes
 
@@ -93,11 +93,11 @@ migration_is x db puts holds are = record {
 }
 
 pub no_database_stop : (told : Bool) (x : Tree) (rose : Type 0) (e : Stop) → IsReadStop told (IsNoDatabase x) rose e → IsMigratedStop told x rose e
-no_database_stop told x rose e is = read_stop_map told (IsNoDatabase x) (IsDamagedFile x) rose rose e (λ tells path none. inl none) (λ r. r) is
+no_database_stop told x rose e is = read_stop_then told (IsNoDatabase x) (IsDamagedFile x) rose rose e (λ tells path none. inl none) (λ r. r) is
 
 pub records_stop : (told : Bool) (x y : Tree) (db : Db) (rose later : Type 0) (e : Stop) → (IsTrue told → HoldsDatabase One x db.installed db.oldest db.newest) → (rose → later) → (IsTrue told → y ≡ x)
     → IsRecordsStop told y db rose e → IsMigratedStop told x later e
 records_stop told x y db rose later e holds rises same is =
     let count = job_count db.oldest db.newest in
-    read_stop_map told (IsDamagedRecord One y count db.newest db.installed) (IsDamagedFile x) rose later e
+    read_stop_then told (IsDamagedRecord One y count db.newest db.installed) (IsDamagedFile x) rose later e
     (λ tells path damaged. inr (db, holds tells, subst (λ (t : Tree). IsDamagedRecord One t count db.newest db.installed path) (same tells) damaged)) rises is

@@ -14,7 +14,7 @@ use Rattle.job_targets.proofs.tree-disk.ClearLaws.{or_cases}
 use Rattle.job_targets.specs.content-store.Store.{content_path}
 use Rattle.local_db.specs.Names.{is_job_place, record_file, saved}
 use Rattle.job_targets.proofs.content-store.Digits.{digits_long}
-use Rattle.rollback_stack.proofs.Digests.{digest_is_name}
+use Rattle.change_rel.proofs.file-stream.Digests.{digest_long}
 use Rattle.tree_scan.proofs.tree-disk.Names.{within_rest}
 use Rattle.local_db.proofs.tree-journal.Staged.{decimal_plain as no_slash}
 use Rattle.change_rel.proofs.cny-base.Bools.{not_true as not_so}
@@ -78,7 +78,7 @@ longer (b ∷ c ∷ p) last some = omega (arith, length-append (b ∷ c ∷ p) (
 
 pub content_not_dir : (dir bytes : List ℕ) → same_name (content_path dir (sha1 bytes)) dir ≡ false
 content_not_dir dir bytes = not_so (same_name (content_path dir (sha1 bytes)) dir) (λ same.
-    let digits = digits_long (sha1 bytes) (digest_is_name bytes).long in
+    let digits = digits_long (sha1 bytes) (digest_long bytes) in
     let more = longer dir (encode_lower (sha1 bytes)) (omega (arith, digits)) in
     let is = ap length (same_means (content_path dir (sha1 bytes)) dir same) in
     omega (arith, more, is))

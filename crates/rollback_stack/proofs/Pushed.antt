@@ -1,11 +1,12 @@
 -- How a record is pushed.
-use Rattle.std.proofs.Common.{◌≡◌, ⊎_elim, ℕ, Bool, true, false, List, Option, Result, Ok, Err, IfErr, IsErrAnd, sym, subst}
+use Rattle.std.proofs.Common.{◌≡◌, ⊎_elim, ℕ, Bool, true, false, List, Option, Result, IfErr, IsErrAnd, sym, subst}
 use Rattle.job_targets.specs.cny-base.Count.{Rose}
 use Rattle.job_targets.specs.cny-base.declared.stop.Stop.{Stop}
 use Rattle.job_targets.specs.cny-base.declared.stop.Stop.TheVariants.{Refused, Memory, Failed, Damaged, FarFailed, FarDamaged}
 use Rattle.job_targets.specs.tree-disk.Tree.{Name, Tree}
 use Rattle.job_targets.specs.tree-disk.Disk.{DiskModel, IsDisk}
 use Rattle.job_targets.specs.tree-disk.Moments.{shows_start}
+use Rattle.job_targets.specs.tree-journal.Preparing.{StopsBefore}
 use Rattle.job_targets.specs.tree-disk.Confined.{Among, Confined}
 use Rattle.job_targets.proofs.tree-disk.ConfinedLaws.{confined_start, leaves_weaker}
 use Rattle.local_db.specs.declared.format.Format.{Format}
@@ -14,19 +15,20 @@ use Rattle.local_db.specs.Names.{counts}
 use Rattle.local_db.specs.Stores.{StoresIn}
 use Rattle.local_db.proofs.Frame.{stores_still}
 use Rattle.job_targets.specs.declared.entry.Entry.{Entry}
-use Rattle.rollback_stack.specs.Saving.{is_saving_name, IsNextJob, IsSavedJob, IsSaveStop, KeepsSystem}
+use Rattle.rollback_stack.specs.Saving.{is_saving_name, IsNextJob, IsSavedJob, IsUntoldCollision, KeepsSystem}
 use Rattle.rollback_stack.specs.Pushing.{IsPushStop}
+use Rattle.change_rel.proofs.cny-base.Faults.{passed_on}
 
 -- ---- the same run, by another name of the job that is cleared besides
 
-pub confined_as : {D : Type 0} {disk : DiskModel D} {old new : D} (n : ℕ) (d o : Option ℕ) → d ≡ o → Confined disk (Among (is_saving_name n d)) old new → Confined disk (Among (is_saving_name n o)) old new
-confined_as {disk = disk} {old = old} {new = new} n d o dropped run = subst (λ (k : Option ℕ). Confined disk (Among (is_saving_name n k)) old new) dropped run
+pub confined_as : {D : Type 0} {disk : DiskModel D} {old new : D} {d o : Option ℕ} (n : ℕ) → d ≡ o → Confined disk (Among (is_saving_name n d)) old new → Confined disk (Among (is_saving_name n o)) old new
+confined_as {disk = disk} {old = old} {new = new} n dropped run = subst (λ (k : Option ℕ). Confined disk (Among (is_saving_name n k)) old new) dropped run
 
-pub saved_as : (n : ℕ) (d o : Option ℕ) (es : List Entry) (x : Tree) → d ≡ o → IsSavedJob n d es x → IsSavedJob n o es x
-saved_as n d o es x dropped is = subst (λ (k : Option ℕ). IsSavedJob n k es x) dropped is
+pub saved_as : {n : ℕ} {d o : Option ℕ} {es : List Entry} {x : Tree} → d ≡ o → IsSavedJob n d es x → IsSavedJob n o es x
+saved_as {n = n} {es = es} {x = x} dropped is = subst (λ (k : Option ℕ). IsSavedJob n k es x) dropped is
 
-pub next_as : (s : SystemState) (n : ℕ) (d o : Option ℕ) → d ≡ o → IsNextJob s n o → IsNextJob s n d
-next_as s n d o dropped next = subst (λ (k : Option ℕ). IsNextJob s n k) (sym dropped) next
+pub next_as : {s : SystemState} {n : ℕ} {d o : Option ℕ} → d ≡ o → IsNextJob s n o → IsNextJob s n d
+next_as {s = s} {n = n} dropped next = subst (λ (k : Option ℕ). IsNextJob s n k) (sym dropped) next
 
 -- ---- no call at all
 
@@ -42,7 +44,7 @@ keeps_start {disk = disk} laws f s d synced stores =
 
 -- ---- stops
 
-push_stop : (told : Bool) (before now : ℕ) (e : Stop) → IsSaveStop told before now e → IsPushStop told (Rose before now) e
+push_stop : (told : Bool) (before now : ℕ) (e : Stop) → StopsBefore (IsUntoldCollision told) before now e → IsPushStop told (Rose before now) e
 push_stop told before now Failed stops = stops
 push_stop told before now Memory stops = tt
 push_stop told before now (Refused why) stops = stops
@@ -50,6 +52,5 @@ push_stop told before now (Damaged path) stops = stops
 push_stop told before now FarFailed stops = stops
 push_stop told before now (FarDamaged path) stops = stops
 
-pub stopped_push : {T : Type 0} (told : Bool) (before now : ℕ) (e : Stop) (r : Result T Stop) → IsErrAnd r (λ s. s ≡ e) → IsSaveStop told before now e → IfErr r (IsPushStop told (Rose before now))
-stopped_push told before now e (Ok x) is stops = tt
-stopped_push told before now e (Err s) is stops = subst (IsPushStop told (Rose before now)) (sym is) (push_stop told before now e stops)
+pub stopped_push : {T : Type 0} (told : Bool) (before now : ℕ) (e : Stop) (r : Result T Stop) → IsErrAnd r (λ s. s ≡ e) → StopsBefore (IsUntoldCollision told) before now e → IfErr r (IsPushStop told (Rose before now))
+stopped_push told before now e r is stops = passed_on (IsPushStop told (Rose before now)) e r (push_stop told before now e stops) is

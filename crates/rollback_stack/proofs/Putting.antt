@@ -1,5 +1,5 @@
 -- A content that is put where nothing stands, or the same content.
-use Rattle.std.proofs.Common.{◌≡◌, inl, inr, ⊎_elim, ℕ, Bool, true, false, ◌&&◌, ◌||◌, IsTrue, List, Option, Some, None, Result, Ok, Err, refl, ◌∙◌, ap}
+use Rattle.std.proofs.Common.{◌≡◌, inl, inr, ⊎_elim, ℕ, true, ◌||◌, IsTrue, List, Option, Some, None, Result, Ok, Err, refl, ◌∙◌, ap}
 use Rattle.std.specs.Prelude.{not, is_some}
 use Rattle.std.specs.FinMap.{get}
 use Rattle.sha1.specs.Sha1.{sha1}
@@ -14,13 +14,15 @@ use Rattle.job_targets.specs.tree-disk.Rows.{is_dir_at, is_file_at, with_append}
 use Rattle.job_targets.specs.tree-disk.Disk.{DiskModel, one_name}
 use Rattle.job_targets.specs.tree-disk.Confined.{Among}
 use Rattle.job_targets.specs.tree-journal.Apply.{with_base}
+use Rattle.job_targets.specs.tree-journal.Preparing.{StopsBefore}
 use Rattle.job_targets.proofs.tree-journal.OwnFiles.{get-base_other}
 use Rattle.job_targets.specs.content-store.Outcome.{if_passed, placed, put_names, put_outcome, same_or_collision, CanPut, Decides, IsCollision, IsCollisionOf, PutStops}
 use Rattle.job_targets.specs.content-store.Store.{content_path, file_bytes}
 use Rattle.job_targets.proofs.content-store.Differences.{none_of_same}
-use Rattle.rollback_stack.specs.Saving.{is_save_name, IsSaveStop, MayHold}
+use Rattle.rollback_stack.specs.Saving.{is_save_name, IsUntoldCollision, MayHold}
 use Rattle.rollback_stack.proofs.Places.{content_not_dir}
 use Rattle.change_rel.proofs.cny-base.Stops.{stopped}
+use Rattle.job_targets.proofs.tree-disk.Laws.{second}
 use Rattle.job_targets.proofs.content-store.Absent.{no_bytes}
 use Rattle.tree_scan.proofs.tree-disk.Looks.{nothing_grows as none_may}
 use Rattle.change_rel.proofs.cny-base.Bools.{or_left, or_right}
@@ -33,10 +35,6 @@ dir_name dir bytes q h = or_left (same_name q dir) (same_name q (content_path di
 pub content_name : (dir bytes : List ℕ) (tree : Tree) (q : Name) → Among (put_names (content_path dir (sha1 bytes)) tree) q → Among (is_save_name dir bytes) q
 content_name dir bytes tree q h =
     or_right (same_name q dir) (same_name q (content_path dir (sha1 bytes))) (second (not (is_file_at tree (content_path dir (sha1 bytes)))) (same_name q (content_path dir (sha1 bytes))) h)
-  where
-    second : (a b : Bool) → (a && b) ≡ true → b ≡ true
-    second true b h = h
-    second false b h = absurd (cc h)
 
 -- ---- what stands at the content's path
 
@@ -70,7 +68,7 @@ any_collision name _ is = absurd is
 
 pub put_stops : {D X : Type 0} {disk : DiskModel D} {mid new : D} (path name bytes : List ℕ) (e : Stop) → (IsTrue disk.tells → MayHold (disk.reads mid) path bytes)
     → Decides disk (put_names path) (put_outcome path name bytes) mid new (stopped {X = X} e) → PutStops (IsCollisionOf name) (disk.faults mid) (disk.faults new) e
-    → IsSaveStop disk.tells (disk.faults mid) (disk.faults new) e
+    → StopsBefore (IsUntoldCollision disk.tells) (disk.faults mid) (disk.faults new) e
 put_stops path name bytes Failed may decides stops = stops
 put_stops path name bytes Memory may decides stops = tt
 put_stops {disk = disk} {mid = mid} path name bytes (Refused refusal) may decides stops = record {

@@ -32,6 +32,7 @@ use Rattle.rollback_stack.proofs.Mapped.{put_at, put_in, rises_from}
 use Rattle.rollback_stack.proofs.Noting.{records_push}
 use Rattle.job_record.proofs.ByLists.{implied}
 use Rattle.change_rel.proofs.cny-base.Lists.{contains_first}
+use Rattle.change_rel.proofs.cny-base.OptionValues.{same_some}
 
 -- ---- names of records
 
@@ -100,9 +101,6 @@ if_own : (b : Bool) (w o : Option Want) → b ≡ true → cond b w o ≡ w
 if_own true w o is = refl
 if_own false w o is = absurd (cc is)
 
-some_want : (w v : Want) → Some w ≡ Some v → w ≡ v
-some_want w v same = cc same
-
 module _ (x : Tree) (newest below : ℕ) (installed list next : List TroveParts) (first old new : Wants) (so_far : AreRewrittenTo x newest below installed list first old) (step : HasRewritten x (newest - below) list next old new)
     (fits : newest ≤ JOBS_LIMIT) (some : below < newest) where
   put : Put
@@ -118,7 +116,7 @@ module _ (x : Tree) (newest below : ℕ) (installed list next : List TroveParts)
   unfolding put
   each p w is = ⊎_elim
       (λ same.
-      let here : want.File 420 step.bytes ≡ w = some_want (want.File 420 step.bytes) w (sym at_put ∙ ap (want_at new) (same_means (record_file (newest - below)) p same) ∙ is) in
+      let here : want.File 420 step.bytes ≡ w = same_some (want.File 420 step.bytes) w (sym at_put ∙ ap (want_at new) (same_means (record_file (newest - below)) p same) ∙ is) in
       inr (subst (λ (v : Want). Contains (so_far.records ++ put ∷ []) (record { path = p; want = v })) here
       (subst (λ (r : Name). Contains (so_far.records ++ put ∷ []) (record { path = r; want = want.File 420 step.bytes })) (same_means (record_file (newest - below)) p same)
       (Contains-push so_far.records put))))
@@ -193,7 +191,7 @@ module _ (bytes : List ℕ) (records : List Put) (none first all_ : Wants) (empt
   unfolding db_put
   of_first p w is = ⊎_elim
       (λ same.
-      let here : want.File 420 bytes ≡ w = some_want (want.File 420 bytes) w (sym (if_own (same_name database p) (Some (want.File 420 bytes)) (want_at none p) same) ∙ sym (db p) ∙ is) in
+      let here : want.File 420 bytes ≡ w = same_some (want.File 420 bytes) w (sym (if_own (same_name database p) (Some (want.File 420 bytes)) (want_at none p) same) ∙ sym (db p) ∙ is) in
       subst (λ (v : Want). Contains (db_put ∷ []) (record { path = p; want = v })) here
       (subst (λ (r : Name). Contains (db_put ∷ []) (record { path = r; want = want.File 420 bytes })) (same_means database p same)
       (contains_first db_put [])))

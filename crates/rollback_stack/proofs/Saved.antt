@@ -15,6 +15,7 @@ use Rattle.job_targets.proofs.tree-disk.ClearLaws.{below_within, itself_within, 
 use Rattle.job_targets.specs.tree-disk.Confined.{AgreesExcept, Among}
 use Rattle.job_targets.proofs.tree-disk.ConfinedLaws.{confined_start, confined_wider}
 use Rattle.job_targets.specs.content-store.Store.{content_path, file_bytes, stored}
+use Rattle.job_targets.specs.tree-journal.Preparing.{Prepares}
 use Rattle.job_targets.proofs.content-store.Paths.{same_content_path}
 use Rattle.job_targets.specs.journal-log.declared.put.Want.{Want}
 use Rattle.job_targets.specs.journal-log.declared.put.Want.TheVariants as want
@@ -22,17 +23,17 @@ use Rattle.local_db.specs.Names.{saved}
 use Rattle.job_targets.specs.declared.entry.Entry.{Entry}
 use Rattle.job_targets.specs.Agree.{AllAgree, bytes_of, IsOld}
 use Rattle.job_targets.specs.Old.{is_staged, IsSaved}
-use Rattle.rollback_stack.specs.Saving.{is_save_name, AreSaved, HoldsOld, HoldsOnly, IsOldContent, IsSavedIn, IsSaveName, MayHold, Prepares}
-use Rattle.rollback_stack.proofs.Digests.{digest_is_name}
+use Rattle.rollback_stack.specs.Saving.{is_save_name, AreSaved, HoldsOld, HoldsOnly, IsOldContent, IsSavedIn, IsSaveName, IsUntoldCollision, MayHold}
+use Rattle.job_targets.proofs.content-store.Digests.{sha1_bytes}
 use Rattle.rollback_stack.proofs.Places.{below_not_itself, content_below}
-use Rattle.rollback_stack.proofs.Preparations.{stopped_ends}
+use Rattle.job_targets.proofs.tree-journal.Preparing.{stopped_ends}
 use Rattle.local_db.proofs.Apart.{none_some}
 use Rattle.change_rel.proofs.cny-base.OptionValues.{same_some as some_same}
 
 -- ---- one entry
 
 -- what is no file isn't saved
-pub nothing_saved : {D : Type 0} {disk : DiskModel D} (laws : IsDisk disk) (dir : Name) (want_ : Want) (d : D) → bytes_of want_ ≡ None → Prepares disk (IsSaveName dir want_) (IsSavedIn dir want_) d d (Ok tt)
+pub nothing_saved : {D : Type 0} {disk : DiskModel D} (laws : IsDisk disk) (dir : Name) (want_ : Want) (d : D) → bytes_of want_ ≡ None → Prepares disk (IsUntoldCollision disk.tells) (IsSaveName dir want_) (IsSavedIn dir want_) d d (Ok tt)
 nothing_saved laws dir want_ d none = record {
   later = omega arith;
   ends = λ tells bytes is. absurd (none_some (bytes_of want_) bytes none is);
@@ -48,10 +49,10 @@ own_saved dir own want_ was t is bytes other =
 
 -- a run that stopped, passed on by `?`
 pub run_stopped : {D : Type 0} {disk : DiskModel D} {few many : Name → Type 0} {P Q : Tree → Type 0} {old new : D} (e : Stop) {r : Result (Unit {0}) Stop} → ((q : Name) → few q → many q)
-    → Prepares disk few P old new (Err e) → IsErrAnd r (λ s. s ≡ e) → Prepares disk many Q old new r
+    → Prepares disk (IsUntoldCollision disk.tells) few P old new (Err e) → IsErrAnd r (λ s. s ≡ e) → Prepares disk (IsUntoldCollision disk.tells) many Q old new r
 run_stopped {disk = disk} {Q = Q} {old = old} {new = new} e {r = r} within run is = record {
   later = run.later;
-  ends = stopped_ends disk.tells (Q (disk.reads new)) (disk.faults old) (disk.faults new) e r is run.ends;
+  ends = stopped_ends (IsUntoldCollision disk.tells) disk.tells (Q (disk.reads new)) (disk.faults old) (disk.faults new) e r is run.ends;
   confined = λ tells. confined_wider within (run.confined tells);
 }
 
@@ -65,7 +66,7 @@ entry_within n dir want_ is q names = ⊎_elim
 -- ---- the content of an entry among those that are saved
 
 same_digest : (dir a b : List ℕ) → content_path dir (sha1 a) ≡ content_path dir (sha1 b) → sha1 a ≡ sha1 b
-same_digest dir a b is = same_content_path dir (sha1 a) (sha1 b) (digest_is_name a).bytes (digest_is_name b).bytes is
+same_digest dir a b is = same_content_path dir (sha1 a) (sha1 b) (sha1_bytes a) (sha1_bytes b) is
 
 front_of : (es : List Entry) (i : ℕ) (bytes : List ℕ) → IsOld (take i es) bytes → IsOld es bytes
 front_of es i bytes is = record {

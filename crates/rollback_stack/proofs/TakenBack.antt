@@ -23,7 +23,7 @@ use Rattle.rollback_stack.specs.JobReading.{HoldsNoRecord, HoldsRecord, HoldsRec
 use Rattle.rollback_stack.specs.JobReading as reading
 use Rattle.rollback_stack.specs.declared.undo.Back.{Back}
 use Rattle.local_db.specs.declared.db.Db.{Db}
-use Rattle.job_targets.specs.Old.{IsDamagedOld, IsOldStop}
+use Rattle.job_targets.specs.Old.{IsDamagedOld}
 use Rattle.local_db.specs.Names.{record_file}
 use Rattle.local_db.specs.Record as state
 use Rattle.local_db.specs.Steps.{IsUnion}
@@ -44,6 +44,7 @@ use Rattle.rollback_stack.specs.Taking.{AreTaken, IsJobsStop, IsNoJob, IsNoJobSt
 use Rattle.rollback_stack.specs.Wanting.{AreWanted, HasNoRecords, IsFirstDamaged, Wants, puts_in, want_at}
 use Rattle.rollback_stack.proofs.Finding.{in_front}
 use Rattle.rollback_stack.proofs.Mapped.{all_writes, put_at, put_in, rises_from}
+use Rattle.change_rel.proofs.cny-base.OptionValues.{same_some}
 
 -- ---- the paths of jobs
 
@@ -247,9 +248,6 @@ job_stop told x db number rose (stop.Damaged path) on_stack is = λ tells.
 job_stop told x db number rose stop.FarFailed on_stack is = is
 job_stop told x db number rose (stop.FarDamaged path) on_stack is = is
 
-some_number : (n k : ℕ) → Some n ≡ Some k → n ≡ k
-some_number n k same = cc same
-
 -- what the jobs found at a path before that of the first content which isn't saved is saved
 module _ (x : Tree) (newest : ℕ) (jobs : List (List state.Entry)) (found : FoundMarks) (path : Name) (are : AreFound newest jobs found) (bad : IsFirstDamaged x found path) (q : Name) (n : ℕ)
     (less : slice_cmp nat_cmp q bad.place ≡ Less) (named_ : oldest_with newest jobs q ≡ Some n) where
@@ -267,12 +265,12 @@ module _ (x : Tree) (newest : ℕ) (jobs : List (List state.Entry)) (found : Fou
       at None none = absurd (cc (named_, not_found newest jobs found q are none))
       at (Some f) has =
           let both = found_at newest jobs found (marks_of x) q f are has in
-          subst (λ (k : ℕ). HoldsOld x k (undone_all jobs (marks_of x) q)) (some_number f.number n (sym both.0 ∙ named_))
+          subst (λ (k : ℕ). HoldsOld x k (undone_all jobs (marks_of x) q)) (same_some f.number n (sym both.0 ∙ named_))
           (subst (HoldsOld x f.number) (sym both.1) (held f has))
 
 -- a content that isn't saved
 pub content_stop : (told : Bool) (x y : Tree) (db : Db) (number : ℕ) (list : List TroveParts) (found : FoundMarks) (rose later : Type 0) (e : Stop) → IsOnStack db number → (IsTrue told → AreTaken x db (db.newest - number + 1) list found)
-    → (rose → later) → (IsTrue told → y ≡ x) → IsOldStop told (IsFirstDamaged y found) rose e → IsBackStop told x db number later e
+    → (rose → later) → (IsTrue told → y ≡ x) → IsReadStop told (IsFirstDamaged y found) rose e → IsBackStop told x db number later e
 content_stop told x y db number list found rose later stop.Failed on_stack taken rises reads is = rises is
 content_stop told x y db number list found rose later stop.Memory on_stack taken rises reads is = tt
 content_stop told x y db number list found rose later (stop.Damaged path) on_stack taken rises reads is = λ tells.

@@ -1,5 +1,5 @@
 -- What the records of a root say.
-use Rattle.std.specs.Prelude.{◌≡◌, ℕ, ◌-◌, ◌<◌, Bool, IsTrue, List, [], ◌∷◌, length, map, Result, Ok, Err, All}
+use Rattle.std.specs.Prelude.{◌≡◌, ℕ, ◌-◌, ◌<◌, List, [], ◌∷◌, length, map, Result, Ok, Err, All}
 use Rattle.std.specs.List.Sorted.{IsStrictlySortedBy}
 use Rattle.local_db.specs.cny-base.declared.stop.Stop.{Stop}
 use Rattle.local_db.specs.cny-base.declared.stop.Stop.TheVariants as stop
@@ -18,6 +18,7 @@ use Rattle.local_db.specs.Record.{IsRecord, PassesChecks}
 use Rattle.local_db.specs.Stores.{HoldsFile}
 use Rattle.rollback_stack.specs.declared.job_reading.Job.{Job}
 use Rattle.rollback_stack.specs.JobEntries.{IsChange, entries_of}
+pub use Rattle.job_targets.specs.Gathering.{IsReadStop}
 
 -- ---- one record
 
@@ -91,15 +92,6 @@ abbrev pub damaged_as : {T : Type 0} → Name → Result T TextFault → Result 
 damaged_as path (Ok value) = Ok value
 damaged_as path (Err fault.Memory) = Err stop.Memory
 damaged_as path (Err fault.Bad) = Err (stop.Damaged path)
-
--- Why nothing is read: the disk failed, no memory was left, or the file of this path is damaged, where the tree is told.
-abbrev pub IsReadStop : Bool → (Name → Type 0) → Type 0 → Stop → Type 0
-IsReadStop told damaged rose stop.Failed = rose
-IsReadStop told damaged rose stop.Memory = Unit {0}
-IsReadStop told damaged rose (stop.Damaged path) = IsTrue told → damaged path
-IsReadStop told damaged rose (stop.Refused why) = ⊥
-IsReadStop told damaged rose stop.FarFailed = ⊥
-IsReadStop told damaged rose (stop.FarDamaged path) = ⊥
 
 -- Why a record that was read doesn't pass: no memory was left, or it is that of no job.
 abbrev pub IsCheckStop : Format → ℕ → Record → List TroveParts → Stop → Type 0

@@ -1,14 +1,13 @@
 -- What the records of a root say of its jobs.
-use Rattle.std.specs.Prelude.{◌≡◌, ℕ, zero, suc, ◌-◌, Bool, IsTrue, List, [], ◌∷◌, length}
+use Rattle.std.specs.Prelude.{◌≡◌, ℕ, zero, suc, ◌-◌, Bool, List, [], ◌∷◌, length}
 use Rattle.job_targets.specs.cny-base.declared.stop.Stop.{Stop}
-use Rattle.job_targets.specs.cny-base.declared.stop.Stop.TheVariants as stop
 use Rattle.past_jobs.specs.Past.{AreChangedIds}
 use Rattle.job_targets.specs.trove-stream.declared.parts.TroveParts.{TroveParts}
 use Rattle.job_targets.specs.tree-disk.Tree.{Tree}
 use Rattle.local_db.specs.declared.format.Format.TheVariants.{Two}
 use Rattle.local_db.specs.Record as state
 use Rattle.rollback_stack.specs.declared.undo.Note.{Note}
-use Rattle.rollback_stack.specs.JobReading.{HoldsRecord, IsDamagedRecord}
+use Rattle.rollback_stack.specs.JobReading.{HoldsRecord, IsDamagedRecord, IsReadStop}
 
 -- what is noted of a job
 pub record IsNote (after before : List TroveParts) (number : ℕ) (es : List state.Entry) (note : Note) : Type 0 where
@@ -27,9 +26,4 @@ AreNotes x _ number after _ = ⊥
 
 -- Why the jobs aren't told: `count` of them from this number down.
 abbrev pub IsAllStop : Bool → Tree → ℕ → ℕ → List TroveParts → Type 0 → Stop → Type 0
-IsAllStop told x count number after rose stop.Failed = rose
-IsAllStop told x count number after rose stop.Memory = Unit {0}
-IsAllStop told x count number after rose (stop.Damaged path) = IsTrue told → IsDamagedRecord Two x count number after path
-IsAllStop told x count number after rose (stop.Refused why) = ⊥
-IsAllStop told x count number after rose stop.FarFailed = ⊥
-IsAllStop told x count number after rose (stop.FarDamaged path) = ⊥
+IsAllStop told x count number after rose e = IsReadStop told (IsDamagedRecord Two x count number after) rose e

@@ -1,18 +1,15 @@
 -- What is written before the write set of a job: the contents that it replaces.
-use Rattle.std.specs.Prelude.{◌≡◌, ◌≢◌, ◌⊎◌, ℕ, ◌+◌, ◌-◌, ◌≤◌, Bool, false, nat_lt, ◌||◌, if◌then◌else◌, IsTrue, List, Option, Some, None, Result, Ok, Err, All}
+use Rattle.std.specs.Prelude.{◌≡◌, ◌≢◌, ◌⊎◌, ℕ, ◌+◌, ◌-◌, Bool, false, nat_lt, ◌||◌, if◌then◌else◌, IsTrue, List, Option, Some, None, All}
 use Rattle.std.specs.FinMap.{get}
 use Rattle.sha1.specs.Sha1.{sha1}
 use Rattle.job_targets.specs.cny-base.Below.{is_below}
-use Rattle.job_targets.specs.cny-base.Count.{Rose}
 use Rattle.job_targets.specs.cny-base.Reserved.{private_directory}
 use Rattle.job_targets.specs.cny-base.declared.refusal.Refusal.{Refusal}
-use Rattle.job_targets.specs.cny-base.declared.stop.Stop.{Stop}
-use Rattle.job_targets.specs.cny-base.declared.stop.Stop.TheVariants.{Refused, Memory, Failed, Damaged, FarFailed, FarDamaged}
 use Rattle.job_targets.specs.tree-disk.Tree.{Name, Tree, same_name}
 use Rattle.job_targets.specs.tree-disk.Clear.{IsBare, without_tree}
 use Rattle.job_targets.specs.tree-disk.Disk.{DiskModel, Shows}
 use Rattle.job_targets.specs.tree-disk.Rows.{is_dir_at}
-use Rattle.job_targets.specs.tree-disk.Confined.{Among, Confined, LeavesOnly}
+use Rattle.job_targets.specs.tree-disk.Confined.{Among, LeavesOnly}
 use Rattle.job_targets.specs.tree-journal.Apply.{with_base}
 use Rattle.job_targets.specs.content-store.Outcome.{IsCollision}
 use Rattle.job_targets.specs.content-store.Store.{content_path, file_bytes, stored}
@@ -98,33 +95,13 @@ pub record IsSavedJob (number : ℕ) (dropped : Option ℕ) (es : List Entry) (x
   pub contents : AreSaved number es x
   pub cleared : (n : ℕ) → dropped ≡ Some n → n ≢ number → (q : Name) → IsTrue (is_job_place n q) → get x q ≡ None
 
--- ---- runs of calls
+-- ---- refusals
 
 -- Such a refusal comes only where the disk tells nothing: there another file may stand in a directory that was just made, so that
 -- a content collides with it.
 pub record IsUntoldCollision (told : Bool) (refusal : Refusal) : Type 0 where
   pub untold : IsTrue told → ⊥
   pub collides : IsCollision refusal
-
--- Why it stopped: a fault, or want of memory; or so refused.
-abbrev pub IsSaveStop : Bool → ℕ → ℕ → Stop → Type 0
-IsSaveStop told before now Failed = Rose before now
-IsSaveStop told before now Memory = Unit {0}
-IsSaveStop told before now (Refused refusal) = IsUntoldCollision told refusal
-IsSaveStop told before now (Damaged path) = ⊥
-IsSaveStop told before now FarFailed = ⊥
-IsSaveStop told before now (FarDamaged path) = ⊥
-
--- with a tree of which P holds, or so
-abbrev pub EndsWith : Bool → Type 0 → Result Unit Stop → ℕ → ℕ → Type 0
-EndsWith told P (Ok x) before now = IsTrue told → P
-EndsWith told P (Err stop) before now = IsSaveStop told before now stop
-
--- A run of calls that leaves a tree of which P holds. However it ends, at every moment, it changes some of these names alone.
-pub record Prepares {D : Type 0} (disk : DiskModel D) (names : Name → Type 0) (P : Tree → Type 0) (old new : D) (result : Result Unit Stop) : Type 0 where
-  pub later : disk.faults old ≤ disk.faults new
-  pub ends : EndsWith disk.tells (P (disk.reads new)) result (disk.faults old) (disk.faults new)
-  pub confined : IsTrue disk.tells → Confined disk names old new
 
 -- ---- the stored system
 

@@ -4,9 +4,10 @@ ghost use Rattle.std.specs.BTreeMap.{IsOrdered};
 ghost use Rattle.std.specs.Cmp.Lexicographic.{slice_cmp};
 ghost use Rattle.std.specs.Ordering.{nat_cmp};
 ghost use Rattle.job_targets.specs.cny-base.Count.{Rose};
-ghost use Rattle.job_targets.specs.Old.{IsDamagedOld, IsOldStop};
+ghost use Rattle.job_targets.specs.Old.{IsDamagedOld};
 ghost use Rattle.job_targets.specs.tree-disk.Disk.{Reads};
 ghost use Rattle.job_targets.specs.tree-disk.Steps.{IsDiskStop, Tests};
+ghost use Rattle.rollback_stack.specs.JobReading.{IsReadStop};
 ghost use Rattle.rollback_stack.specs.Wanting.{AreWanted, HasNoRecord, HasNoRecords, HasWanted, IsFirstDamaged, puts_in, stays};
 
 use job_targets::cny_base::{Copies, OutOfMemory, Path, Stop};
@@ -90,7 +91,7 @@ fn want_found<D: TreeDisk>(
 ) -> Result<(), Stop>
     ensures value { Reads D.disk disk.old disk.new (OnOk result (HasWanted (D.disk.reads disk.old) path.now found.now wants.old wants.new)) }
     ensures ordered { IsOrdered (slice_cmp nat_cmp) wants.old → OnOk result (IsOrdered (slice_cmp nat_cmp) wants.new) }
-    ensures stops { IfErr result (IsOldStop D.disk.tells (IsDamagedOld (D.disk.reads disk.old) found.now.number found.now.mark)
+    ensures stops { IfErr result (IsReadStop D.disk.tells (IsDamagedOld (D.disk.reads disk.old) found.now.number found.now.mark)
         (Rose (D.disk.faults disk.old) (D.disk.faults disk.new))) }
     ensures later { D.disk.faults disk.old ≤ D.disk.faults disk.new }
 {
@@ -111,7 +112,7 @@ pub(crate) fn old_nodes<D: TreeDisk>(
 ) -> Result<Wants, Stop>
     ensures value { Reads D.disk disk.old disk.new (IfOk result (AreWanted (D.disk.reads disk.old) found.now)) }
     ensures ordered { IfOk result (IsOrdered (slice_cmp nat_cmp)) }
-    ensures stops { IfErr result (IsOldStop D.disk.tells (IsFirstDamaged (D.disk.reads disk.old) found.now)
+    ensures stops { IfErr result (IsReadStop D.disk.tells (IsFirstDamaged (D.disk.reads disk.old) found.now)
         (Rose (D.disk.faults disk.old) (D.disk.faults disk.new))) }
     ensures later { D.disk.faults disk.old ≤ D.disk.faults disk.new }
 {

@@ -1,10 +1,10 @@
 //! The writes that bring a root from format 1 to format 2.
-ghost use Rattle.std.specs.Prelude.{◌≡◌, ◌≤◌, false, IfErr, IfOk, IfSome, Ok, OnOk};
+ghost use Rattle.std.specs.Prelude.{◌≡◌, ◌≤◌, IfErr, IfOk, IfSome, Ok, OnOk};
 ghost use Rattle.std.specs.FinMap.{get};
 ghost use Rattle.job_targets.specs.cny-base.Below.{begins_with};
 ghost use Rattle.job_targets.specs.cny-base.Count.{Rose};
 ghost use Rattle.rollback_stack.specs.JobReading.{IsDamagedJob, IsReadStop};
-ghost use Rattle.local_db.specs.Formats.{database_bytes, database_magic};
+ghost use Rattle.local_db.specs.Formats.{database_magic};
 ghost use Rattle.local_db.specs.Installed.{IsInstalled};
 ghost use Rattle.local_db.specs.Stores.{IsDatabase};
 ghost use Rattle.local_db.specs.declared.format.Format.TheVariants.{One, Two};
@@ -12,18 +12,16 @@ ghost use Rattle.job_targets.specs.tree-disk.Disk.{Reads};
 ghost use Rattle.job_targets.specs.tree-disk.Looks.{sees_nothing};
 ghost use Rattle.job_targets.specs.tree-disk.Rows.{look_of};
 ghost use Rattle.job_targets.specs.tree-disk.Steps.{IsDiskStop, Tests};
-ghost use Rattle.rollback_stack.specs.Migrated.{AreAllRewritten, AreWritesOf, HasFile, HasRewritten, IsFileStop, IsFoundFile, IsMigrated, IsMigratedStop, IsNoDatabase, IsOldDatabase, IsOldFile, IsOldIn, IsOtherAt, IsRecordsStop};
+ghost use Rattle.rollback_stack.specs.Migrated.{AreAllRewritten, AreWritesOf, HasFile, HasRewritten, IsFileStop, IsFoundFile, IsMigrated, IsMigratedStop, IsNoDatabase, IsOldDatabase, IsOldIn, IsOtherAt, IsRecordsStop};
 
 use crate::back::{Wants, puts_of};
 use crate::job_reading::{check_record, read_record};
 use job_record::{distinct_records, encode, records_by_lists};
-use job_targets::cny_base::{Bytes, Copies, Fault, Mode, OutOfMemory, Path, Stop, TextFault};
+use job_targets::cny_base::{Bytes, Copies, Mode, OutOfMemory, Path, Stop};
 use job_targets::content_store::file_at;
 use job_targets::journal_log::{Puts, Want};
 use job_targets::tree_disk::{TreeDisk, steps};
-use local_db::{
-    Db, Format, database_path, decode, distinct_databases, encode as encode_db, record_path,
-};
+use local_db::{Db, Format, database_path, decode_file, encode_within, record_path};
 use past_jobs::PastList;
 use std::alloc::Global;
 use std::collections::BTreeMap;
@@ -64,19 +62,6 @@ fn file_or_nothing<D: TreeDisk>(
     }
 }
 
-// The database of format 1 that these bytes are, or that the file of this path is damaged.
-fn decoded(alloc: Global, path: Path, bytes: &[u8]) -> Result<Db, Stop>
-    requires { begins_with (database_magic Two) bytes.now ≡ false }
-    ensures value { IfOk result (λ db. IsOldFile db bytes.now) }
-    ensures stops { IfErr result (IsFileStop path bytes.now) }
-{
-    match decode(alloc, bytes) {
-        Ok(db) => Ok(db),
-        Err(TextFault::Memory) => Err(Stop::Memory),
-        Err(TextFault::Bad) => Err(Stop::Damaged { path }),
-    }
-}
-
 // Whether the bytes begin as those of a database of format 2.
 fn has_magic(bytes: &[u8]) -> bool
     ensures { result ≡ begins_with (database_magic Two) bytes.now }
@@ -92,7 +77,7 @@ fn old_file(alloc: Global, path: Path, bytes: &[u8]) -> Result<Option<Db>, Stop>
     if has_magic(bytes) {
         return Ok(None);
     }
-    let db = decoded(alloc, path, bytes)?;
+    let db = decode_file(alloc, path, bytes)?;
     Ok(Some(db))
 }
 
@@ -123,19 +108,6 @@ fn want_file(wants: &mut Wants, path: Path, bytes: Bytes) -> Result<(), OutOfMem
     };
     wants.insert(path, Want::File { mode, bytes })?;
     Ok(())
-}
-
-// The bytes in format 2 of a database that was read in format 1: it has room there.
-fn bytes_in_two(alloc: Global, db: &Db) -> Result<Bytes, OutOfMemory>
-    requires { IsDatabase One db.now.installed db.now.oldest db.now.newest }
-    ensures { IfOk result (λ bytes. bytes ≡ database_bytes Two db.now.installed db.now.oldest db.now.newest) }
-{
-    distinct_databases();
-    match encode_db(alloc, db) {
-        Ok(bytes) => Ok(bytes),
-        Err(Fault::Memory) => Err(OutOfMemory),
-        Err(Fault::Refused(_)) => unreachable!(),
-    }
 }
 
 // The record of this number in format 2, once it passed the cross-checks. The list, which is that after the job, is made the one
@@ -202,7 +174,8 @@ fn writes_of<D: TreeDisk>(alloc: Global, disk: &mut D, db: &Db) -> Result<Puts, 
     ensures later { D.disk.faults disk.old ≤ D.disk.faults disk.new }
 {
     let path = database_path(alloc)?;
-    let bytes = bytes_in_two(alloc, db)?;
+    // What was read in format 1 has room in format 2.
+    let bytes = encode_within(alloc, db)?;
     let mut wants = BTreeMap::new(alloc);
     want_file(&mut wants, path, bytes)?;
     want_records(alloc, disk, &mut wants, db)?;

@@ -8,6 +8,7 @@ ghost use Rattle.job_targets.specs.tree-disk.Clear.{is_within, IsBare};
 ghost use Rattle.job_targets.specs.tree-disk.Confined.{Among};
 ghost use Rattle.job_targets.specs.tree-disk.Rows.{is_dir_at};
 ghost use Rattle.job_targets.specs.content-store.Store.{content_path, stored};
+ghost use Rattle.job_targets.specs.tree-journal.Preparing.{Prepares};
 ghost use Rattle.local_db.specs.declared.format.Format.{Format};
 ghost use Rattle.local_db.specs.Names.{counts, saved};
 ghost use Rattle.local_db.specs.Stores.{StoresIn};
@@ -15,7 +16,7 @@ ghost use Rattle.local_db.specs.SystemState.{SystemState};
 ghost use Rattle.job_targets.specs.declared.entry.Entry as declared;
 ghost use Rattle.job_targets.specs.Agree.{AllAgree, bytes_of};
 ghost use Rattle.job_targets.specs.Old.{is_staged};
-ghost use Rattle.rollback_stack.specs.Saving.{AreSaved, IsNextJob, IsSavedIn, IsSavedJob, IsSaveName, KeepsSystem, MayHold, Prepares, is_save_name, is_saving_name};
+ghost use Rattle.rollback_stack.specs.Saving.{AreSaved, IsNextJob, IsSavedIn, IsSavedJob, IsSaveName, IsUntoldCollision, KeepsSystem, MayHold, is_save_name, is_saving_name};
 
 use crate::clearing::make_ready;
 use job_targets::cny_base::{Path, Stop};
@@ -31,7 +32,7 @@ fn save<D: TreeDisk>(alloc: Global, disk: &mut D, dir: &Path, bytes: &[u8]) -> R
     requires short { length dir.now ≤ 983 }
     requires parent { IsTrue D.disk.tells → IsTrue (is_dir_at (D.disk.reads disk.old) (parent dir.now)) }
     requires free { IsTrue D.disk.tells → MayHold (D.disk.reads disk.old) (content_path dir.now (sha1 bytes.now)) bytes.now }
-    ensures { Prepares D.disk (Among (is_save_name dir.now bytes.now)) (λ tree. stored tree dir.now (sha1 bytes.now) ≡ Some bytes.now) disk.old disk.new result }
+    ensures { Prepares D.disk (IsUntoldCollision D.disk.tells) (Among (is_save_name dir.now bytes.now)) (λ tree. stored tree dir.now (sha1 bytes.now) ≡ Some bytes.now) disk.old disk.new result }
 {
     make_dir(alloc, disk, dir)?;
     put(alloc, disk, &Sha1Namer, dir, bytes)?;
@@ -45,7 +46,7 @@ fn save_old<D: TreeDisk>(alloc: Global, disk: &mut D, dir: &Path, entry: &Entry)
     requires parent { IsTrue D.disk.tells → IsTrue (is_dir_at (D.disk.reads disk.old) (parent dir.now)) }
     requires free { IsTrue D.disk.tells → (bytes : List ℕ) → bytes_of entry.now.was ≡ Some bytes
         → MayHold (D.disk.reads disk.old) (content_path dir.now (sha1 bytes)) bytes }
-    ensures { Prepares D.disk (IsSaveName dir.now entry.now.was) (IsSavedIn dir.now entry.now.was) disk.old disk.new result }
+    ensures { Prepares D.disk (IsUntoldCollision D.disk.tells) (IsSaveName dir.now entry.now.was) (IsSavedIn dir.now entry.now.was) disk.old disk.new result }
 {
     let Some(bytes) = old_bytes(entry) else {
         return Ok(());
@@ -65,7 +66,7 @@ fn save_all<D: TreeDisk>(
     requires agree { AllAgree entries.now }
     requires base { IsTrue D.disk.tells → IsTrue (is_dir_at (D.disk.reads disk.old) private_directory) }
     requires bare { IsTrue D.disk.tells → IsBare (D.disk.reads disk.old) (saved number) }
-    ensures { Prepares D.disk (Among (is_within (saved number))) (AreSaved number entries.now) disk.old disk.new result }
+    ensures { Prepares D.disk (IsUntoldCollision D.disk.tells) (Among (is_within (saved number))) (AreSaved number entries.now) disk.old disk.new result }
 {
     let dir = saved_path(alloc, number)?;
     for entry in entries {
@@ -92,7 +93,7 @@ pub fn save_job<D: TreeDisk>(
     requires given { All (λ (e : declared.Entry). is_staged e.was ≡ false) entries.now }
     requires agree { AllAgree entries.now }
     requires parent { IsTrue D.disk.tells → IsTrue (is_dir_at (D.disk.reads disk.old) (parent private_directory)) }
-    ensures saves { Prepares D.disk (Among (is_saving_name number dropped)) (IsSavedJob number dropped entries.now) disk.old disk.new result }
+    ensures saves { Prepares D.disk (IsUntoldCollision D.disk.tells) (Among (is_saving_name number dropped)) (IsSavedJob number dropped entries.now) disk.old disk.new result }
     // What the root stores, it stores at every moment, if this is its next job.
     ensures keeps { (f : Format) (s : SystemState) → IsNextJob s number dropped → IsTrue D.disk.tells
         → ((q : Name) → counts s q ≡ true → D.disk.unsynced disk.old q ≡ false) → StoresIn f (D.disk.reads disk.old) s

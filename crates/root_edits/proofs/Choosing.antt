@@ -11,8 +11,9 @@ use Rattle.update_job.specs.trove-stream.Installed.{by_name, IsPlaceOf, IsRising
 use Rattle.update_job.specs.trove-stream.declared.parts.TroveParts.{TroveParts}
 use Rattle.update_job.specs.Gone.{Leads}
 use Rattle.root_edits.specs.Reached.{AreReached}
-use Rattle.root_edits.specs.Steps.{chosen, ArePlacesReached}
-use Rattle.root_edits.proofs.Gathering.{other_roots}
+use Rattle.update_job.specs.Places.{ArePlacesFrom}
+use Rattle.root_edits.specs.Steps.{chosen}
+use Rattle.update_job.proofs.Searching.{reached_also}
 use Rattle.root_edits.proofs.Members.{next_one, rises_cons}
 use Rattle.cny_version.proofs.cny-base.Recorded.{any_of}
 use Rattle.cny_version.proofs.cny-base.Lists.{contains_cases, contains_first, contains_rest, nothing_in}
@@ -96,7 +97,7 @@ module _ (places : List ℕ) where
 
 -- the troves at the places that are reached
 pub reached_are : (list : List TroveParts) (name : List ℕ) (start : ℕ) (places : List ℕ) → IsRising list → IsPlaceOf name list start → ((place : ℕ) → IsPlaceOf name list place → Some start ≡ Some place)
-    → ArePlacesReached list start places → AreReached list name (chosen places 0 list)
+    → ArePlacesFrom list start places → AreReached list name (chosen places 0 list)
 reached_are list name start places rises here only are = record {
   rising = chosen_rises places 0 list rises;
   from = λ t among.
@@ -105,11 +106,11 @@ reached_are list name start places rises here only are = record {
       let in' : Contains places one.0 = Contains-from_any eqb-true one.0 places (ap (λ (n : ℕ). list_any (eqb n) places) (sym zero_on) ∙ one.2) in record {
         place = one.0;
         there = one.1;
-        reached = other_roots (Leads list) (λ (p : ℕ). p ≡ start) (IsPlaceOf name list) (λ p same. subst (IsPlaceOf name list) (sym same) here) (length list) one.0 (are.reached one.0 in');
+        reached = reached_also (Leads list) (Leads list) (λ (p : ℕ). p ≡ start) (IsPlaceOf name list) (λ x y step. step) (λ p same. subst (IsPlaceOf name list) (sym same) here) (length list) one.0 (are.reached one.0 in');
       };
   all = λ t is.
       let to_start : (p : ℕ) → IsPlaceOf name list p → p ≡ start = λ p at. sym (same_Some start p (only p at)) in
-      let in' : Contains places is.place = are.all is.place (other_roots (Leads list) (IsPlaceOf name list) (λ (p : ℕ). p ≡ start) to_start (length list) is.place is.reached) in
+      let in' : Contains places is.place = are.all is.place (reached_also (Leads list) (Leads list) (IsPlaceOf name list) (λ (p : ℕ). p ≡ start) (λ x y step. step) to_start (length list) is.place is.reached) in
       let zero_on : 0 + is.place ≡ is.place = omega arith in
       in_chosen places 0 list is.place t is.there (ap (λ (n : ℕ). list_any (eqb n) places) zero_on ∙ any_of (eqb is.place) places is.place in' (eq-eqb is.place is.place refl));
 }

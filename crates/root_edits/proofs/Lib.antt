@@ -5,8 +5,6 @@ mod SearchLaws
 mod FindsLaws
 mod Stopping
 mod Members
-mod Adding
-mod Gathering
 mod Choosing
 mod MovedIds
 mod Troves

@@ -5,7 +5,6 @@ use Rattle.update_job.specs.cny-base.declared.node.Node.{Node}
 use Rattle.update_job.specs.cny-base.declared.refusal.Fault.{Fault}
 use Rattle.update_job.specs.cny-base.declared.refusal.Fault.TheVariants.{Refused, Memory}
 use Rattle.update_job.specs.cny-base.declared.refusal.Refusal.{Refusal}
-use Rattle.update_job.specs.trove-stream.Installed.{IsPlaceOf}
 use Rattle.sha1.specs.Sha1.{sha1}
 use Rattle.update_job.specs.cny-base.declared.limits.TheConstants.{VERSION_LIMIT}
 use Rattle.update_job.specs.cny-base.declared.node.Node.TheVariants as node
@@ -23,7 +22,6 @@ use Rattle.update_job.specs.change-set.declared.change.Part.{Part}
 use Rattle.update_job.specs.change-set.declared.change.Part.TheVariants.{Relative}
 use Rattle.update_job.specs.change-set.declared.change.Carried.{Carried}
 use Rattle.tree_scan.specs.tree-disk.Tree.{Tree, may_stand}
-use Rattle.update_job.specs.Gone.{IsReached}
 use Rattle.root_edits.specs.Local.{all_contents, all_sights, AreLocalParts, IsLocalTrove, IsNotInstalled}
 use Rattle.root_edits.specs.Standing.{Sight, sights, local_contents, local_files, too_large, too_large_node}
 pub use Rattle.cny_version.specs.cny-base.Refusals.{IsRefusalOrMemory}
@@ -33,28 +31,6 @@ IsUninstalled list name (Refused refused) = IsNotInstalled list name refused
 IsUninstalled list name Memory = Unit {0}
 
 -- ---- places of troves
-
--- the place of a trove with the name of one of the ids
-pub record IsPlaceOfId (list : List TroveParts) (ids : List TroveId) (place : ℕ) : Type 0 where
-  pub id : TroveId
-  pub among : Contains ids id
-  pub named : IsPlaceOf id.name list place
-
--- behind the places that were there stand such places of these ids, so that those of all of them are there
-pub record HasAdded (list : List TroveParts) (ids : List TroveId) (old new : List ℕ) : Type 0 where
-  pub more : List ℕ
-  pub new_is : new ≡ old ++ more
-  pub each : (place : ℕ) → Contains more place → IsPlaceOfId list ids place
-  pub all : (id : TroveId) (place : ℕ) → Contains ids id → IsPlaceOf id.name list place → Contains new place
-
--- the same, with the references of the trove at a place
-abbrev pub HasAddedRefs : List TroveParts → ℕ → List ℕ → List ℕ → Type 0
-HasAddedRefs list place old new = (t : TroveParts) → slice_get list place ≡ Some t → HasAdded list t.refs old new
-
--- just the places that are reached from this one
-pub record ArePlacesReached (list : List TroveParts) (start : ℕ) (places : List ℕ) : Type 0 where
-  pub reached : (place : ℕ) → Contains places place → IsReached list (λ (p : ℕ). p ≡ start) place
-  pub all : (place : ℕ) → IsReached list (λ (p : ℕ). p ≡ start) place → Contains places place
 
 -- the troves whose places, counted from this one on, are among these
 abbrev pub chosen : List ℕ → ℕ → List TroveParts → List TroveParts

@@ -2,66 +2,15 @@
 ghost use Rattle.std.specs.Prelude.{◌≡◌, IfOk, IfErr, OnOk};
 ghost use Rattle.update_job.specs.cny-base.declared.refusal.Refusal.TheVariants as refusal;
 ghost use Rattle.update_job.specs.trove-stream.Installed.{IsNameless};
-ghost use Rattle.update_job.specs.Gone.{IsPlace};
 ghost use Rattle.root_edits.specs.Reached.{AreReached};
 ghost use Rattle.root_edits.specs.Steps as spec;
-ghost use Rattle.root_edits.specs.Steps.{ArePlacesReached, HasAdded, HasAddedRefs, IsUninstalled};
+ghost use Rattle.root_edits.specs.Steps.{IsUninstalled};
 
 use indexmap::IndexSet;
 use std::alloc::Global;
 use update_job::cny_base::{Copies, Fault, Name, OutOfMemory, Refusal, Text};
-use update_job::trove_parts::TroveId;
+use update_job::places_from;
 use update_job::trove_stream::Installed;
-
-// Adds the places of the installed troves with the names of these ids, each once.
-fn add_named(
-    installed: &Installed,
-    ids: &[TroveId],
-    places: &mut IndexSet<usize>,
-) -> Result<(), OutOfMemory>
-    ensures { OnOk result (HasAdded installed.now ids.now places.old.keys places.new.keys) }
-{
-    for id in ids {
-        if let Some(place) = installed.place_of(&id.name) {
-            places.insert(place)?;
-        }
-    }
-    Ok(())
-}
-
-// Adds the places to which the trove at this place refers.
-fn add_refs(
-    installed: &Installed,
-    place: usize,
-    places: &mut IndexSet<usize>,
-) -> Result<(), OutOfMemory>
-    ensures { OnOk result (HasAddedRefs installed.now place places.old.keys places.new.keys) }
-{
-    if let Some(trove) = installed.troves().get(place) {
-        add_named(installed, trove.refs(), places)?;
-    }
-    Ok(())
-}
-
-// The places that this one reaches by references, itself included, each once.
-fn places_reached(
-    alloc: Global,
-    installed: &Installed,
-    start: usize,
-) -> Result<IndexSet<usize>, OutOfMemory>
-    requires { IsPlace installed.now start }
-    ensures { IfOk result (λ places. ArePlacesReached installed.now start places.keys) }
-{
-    let mut places = IndexSet::new(alloc);
-    places.insert(start)?;
-    let mut done = 0;
-    while done < places.len() {
-        let place = places.as_slice()[done];
-        add_refs(installed, place, &mut places)?;
-        done += 1;
-    }
-    Ok(places)
-}
 
 // The troves at these places, in the order of the list.
 fn chosen(
@@ -100,6 +49,6 @@ pub(crate) fn reached(alloc: Global, installed: &Installed, name: &Name) -> Resu
         let refusal = not_installed(alloc, name)?;
         return Err(Fault::Refused(refusal));
     };
-    let places = places_reached(alloc, installed, start)?;
+    let places = places_from(alloc, installed, start)?;
     Ok(chosen(alloc, installed, &places)?)
 }

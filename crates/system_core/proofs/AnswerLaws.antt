@@ -28,9 +28,11 @@ use Rattle.system_core.specs.declared.done.Done.{Done}
 use Rattle.system_core.specs.Answers.{AnswersCall, AnswersRefusal, HasList, IsTestAnswer, IsTestStop, PassesListTests, collided, last, no_list, untested}
 use Rattle.system_core.specs.Job.{IsTestRefusal, IsTested, Sources}
 use Rattle.system_core.specs.Lists.{ListStep, to_list}
-use Rattle.system_core.specs.Something.{HasNothing}
+use Rattle.rollback_stack.specs.change-set.Contents.{IfRefused}
+use Rattle.system_core.specs.Something.{LacksOne}
 use Rattle.system_core.proofs.EndingAll.{err_is}
 use Rattle.rollback_stack.proofs.Later.{read_as}
+use Rattle.local_db.proofs.cny-base.Faults.{passed_on}
 
 -- ---- the tests
 
@@ -68,13 +70,12 @@ module _ (list : List TroveParts) where
   target_answer FarFailed passes kind = passes
   target_answer (FarDamaged path) passes kind = passes
 
-  pub lack_answer : (es : List Entry) (e : Fault) → PassesListTests list → HasNothing es e → IsTestStop list (stop_of_fault e)
+  pub lack_answer : (es : List Entry) (e : Fault) → PassesListTests list → IfRefused (LacksOne es) e → IsTestStop list (stop_of_fault e)
   lack_answer es (fault.Refused why) passes lacks = subst (IsTestAnswer list) (sym lacks.refusal_is) passes
   lack_answer es fault.Memory passes lacks = tt
 
   pub stop_answer : {T : Type 0} (r : Result T Stop) (e : Stop) → IsErrAnd r (λ s. s ≡ e) → IsTestStop list e → IfErr r (IsTestStop list)
-  stop_answer (Ok x) e is stops = tt
-  stop_answer (Err s) e is stops = subst (IsTestStop list) (sym is) stops
+  stop_answer r e is stops = passed_on (IsTestStop list) e r stops is
 
 -- ---- a job with a list after it
 

@@ -25,6 +25,7 @@ use Rattle.local_db.proofs.cny-base.Lists.{contains_at}
 use Rattle.system_core.proofs.EndingAll.{err_is}
 use Rattle.system_core.proofs.AnswerLaws.{led}
 use Rattle.rollback_stack.proofs.Later.{read_as}
+use Rattle.local_db.proofs.cny-base.Faults.{passed_on}
 
 -- ---- lists that may be
 
@@ -104,5 +105,4 @@ own_cause far far' rose FarFailed cause = no_rise cause
 own_cause far far' rose (FarDamaged path) cause = let h = cause refl in h.1.damaged
 
 pub own_cause_of : {T : Type 0} (rose : Type 0) (e : Stop) (r : Result T Stop) → IsErrAnd r (λ x. x ≡ e) → HasOwnCause rose e → IfErr r (HasOwnCause rose)
-own_cause_of rose e (Ok x) is cause = tt
-own_cause_of rose e (Err x) is cause = subst (HasOwnCause rose) (sym is) cause
+own_cause_of rose e r is cause = passed_on (HasOwnCause rose) e r cause is

@@ -26,13 +26,13 @@ pub no_file : (x : Tree) (bytes : List ℕ) → get x database ≡ None → Hold
 no_file x bytes none file = absurd (cc (ap file_bytes none, file))
 
 -- a tree holds one database
-pub one_held : OneDatabase → (x : Tree) (list other : List TroveParts) (low high lower higher : ℕ) → HoldsDatabase Two x list low high → HoldsDatabase Two x other lower higher
+pub one_held : {f g : Format} → OneDatabase → (x : Tree) (list other : List TroveParts) (low high lower higher : ℕ) → HoldsDatabase f x list low high → HoldsDatabase g x other lower higher
     → SameParts list other low high lower higher
 one_held one x list other low high lower higher (absent n l a b) (absent m k c d) = record { lists = l ∙ sym k; lows = a ∙ sym c; highs = b ∙ sym d }
 one_held one x list other low high lower higher (absent n l a b) (written is file) = absurd (no_file x _ n file)
 one_held one x list other low high lower higher (written is file) (absent n l a b) = absurd (no_file x _ n file)
-one_held one x list other low high lower higher (written is file) (written its too) =
-    let same = one Two Two list other low high lower higher is its (same_some _ _ (sym file ∙ too)) in
+one_held {f = f} {g = g} one x list other low high lower higher (written is file) (written its too) =
+    let same = one f g list other low high lower higher is its (same_some _ _ (sym file ∙ too)) in
     record { lists = same.lists; lows = same.oldest; highs = same.newest }
 
 -- the list of the database is that of each system that the tree stores

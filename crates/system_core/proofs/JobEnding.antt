@@ -1,5 +1,5 @@
 -- How a job ends.
-use Rattle.std.proofs.Common.{◌≡◌, inl, inr, ℕ, ◌+◌, ◌≤◌, Bool, false, IsTrue, List, Option, Some, None, Result, Ok, Err, IfErr, IsErrAnd, refl, sym, ◌∙◌, ap, subst, arith}
+use Rattle.std.proofs.Common.{◌≡◌, inl, inr, ℕ, ◌+◌, ◌≤◌, Bool, false, IsTrue, List, Option, Some, None, Result, Ok, Err, IfErr, IsErrAnd, refl, sym, ◌∙◌, ap, subst}
 use Rattle.std.specs.Prelude.{◌≢◌, IsErrOf}
 use Rattle.std.specs.FinMap.{get}
 use Rattle.rollback_stack.specs.content-store.Store.{file_bytes}
@@ -21,45 +21,30 @@ use Rattle.rollback_stack.proofs.tree-disk.Moments.{rose_before}
 use Rattle.rollback_stack.specs.tree-disk.Steps.{IsDiskStop}
 use Rattle.rollback_stack.specs.journal-log.declared.put.Put.{Put}
 use Rattle.job_targets.specs.declared.entry.Entry.{Entry}
-use Rattle.local_db.specs.declared.format.Format.{Format}
 use Rattle.local_db.specs.declared.format.Format.TheVariants.{Two}
 use Rattle.local_db.specs.Formats.{database_bytes, AreEnds, Fits}
 use Rattle.local_db.specs.Installed.{IsInstalled}
 use Rattle.local_db.specs.Names.{database}
-use Rattle.local_db.specs.Stores.{absent, written, HoldsDatabase, IsDatabase, SameDatabase, StoresIn}
+use Rattle.local_db.specs.Stores.{absent, written, HoldsDatabase, IsDatabase, StoresIn}
 use Rattle.local_db.specs.SystemState.{SystemState, newest, oldest}
 use Rattle.local_db.specs.Steps.{after_job, old_of}
 use Rattle.local_db.specs.declared.db.Db.{Db}
 use Rattle.rollback_stack.specs.Pushing.{IsPushStop}
+use Rattle.rollback_stack.specs.change-set.Contents.{IfRefused}
 use Rattle.rollback_stack.proofs.Pushed.{keeps_start}
 use Rattle.rollback_stack.specs.Saving.{is_saving_name}
 use Rattle.rollback_stack.specs.job-record.Changed.{AreChangedNames}
 use Rattle.system_core.specs.RootWriting.{Goes}
-use Rattle.system_core.specs.Last.{number_after, oldest_after, too_large, too_many, ChangesNothing, IsLastOrMemory, IsRefusedOrMemory, PassesLast}
+use Rattle.system_core.specs.Last.{number_after, oldest_after, too_large, too_many, ChangesNothing, IsLastOrMemory, IsRefusedLast, PassesLast}
 use Rattle.system_core.specs.Last as last
 use Rattle.system_core.specs.JobWriting.{AnswersJob, AreTargetsOf, CanPutJob, CanWriteJob, IsJobFrom, IsJobOf, IsJobStop, JobEnds, done}
-use Rattle.system_core.proofs.JobNumbers.{ends_after, number_is, oldest_pushed}
+use Rattle.system_core.proofs.Held.{OneDatabase, one_held}
+use Rattle.system_core.proofs.JobNumbers.{ends_after, number_is, oldest_pushed, room_of}
 use Rattle.system_core.proofs.JobRunning.{stopped_before}
 use Rattle.rollback_stack.proofs.Rewriting.{most as below_limit}
-use Rattle.local_db.proofs.cny-base.OptionValues.{same_some as some_same}
+use Rattle.local_db.proofs.cny-base.Faults.{passed_on}
 
--- ---- one database
-
-abbrev pub Unique : Type 0
-Unique = (f g : Format) (list other : List TroveParts) (low high lower higher : ℕ) → IsDatabase f list low high → IsDatabase g other lower higher
-    → database_bytes f list low high ≡ database_bytes g other lower higher → SameDatabase f g list other low high lower higher
-
-no_file : {A : Type 0} (n : Option Node) (bytes : List ℕ) → n ≡ None → file_bytes n ≡ Some bytes → A
-no_file n bytes none some = absurd (cc (some, ap file_bytes none))
-
-one_database : Unique → (x : Tree) (list other : List TroveParts) (low high lower higher : ℕ) → HoldsDatabase Two x list low high → HoldsDatabase Two x other lower higher
-    → SameDatabase Two Two list other low high lower higher
-one_database unique x list other low high lower higher (absent none list_is low_is high_is) (absent gone other_is lower_is higher_is) =
-    record { formats = refl; lists = list_is ∙ sym other_is; oldest = low_is ∙ sym lower_is; newest = high_is ∙ sym higher_is }
-one_database unique x list other low high lower higher (absent none list_is low_is high_is) (written is file) = no_file (get x database) _ none file
-one_database unique x list other low high lower higher (written is file) (absent gone other_is lower_is higher_is) = no_file (get x database) _ gone file
-one_database unique x list other low high lower higher (written is file) (written are file') =
-    unique Two Two list other low high lower higher is are (some_same _ _ (sym file ∙ file'))
+-- ---- the database's file
 
 pub is_file_or_none : (n : Option Node) (bytes : List ℕ) → file_bytes n ≡ Some bytes → is_dir n ≡ false
 is_file_or_none None bytes is = refl
@@ -73,41 +58,49 @@ no_dir_at x list low high (written is file) = is_file_or_none (get x database) _
 
 -- ---- the job, by the values
 
-module _ (before : Db) (list : List TroveParts) (puts : List Put) (es : List Entry) (names : List Name) (db : Db) (bytes : List ℕ)
-    (is : IsJobOf before list names db bytes) (room : before.newest ≢ JOBS_LIMIT) (was : IsDatabase Two before.installed before.oldest before.newest) (installed : IsInstalled list) where
+-- what is made of a job that passes the last tests
+pub job_is : (before : Db) (list : List TroveParts) (names : List Name) (db : Db) (bytes : List ℕ) → db ≡ last.db_after before list → before.newest ≢ JOBS_LIMIT
+    → IsDatabase Two before.installed before.oldest before.newest → IsInstalled list → Fits Two db.installed → AreChangedNames before.installed list names
+    → bytes ≡ database_bytes Two db.installed db.oldest db.newest → IsJobOf before list names db bytes
+job_is before list names db bytes db_is room was installed fits names_are text = record {
+  db_is = db_is;
+  database = record {
+    installed = subst IsInstalled (sym list_is) installed;
+    ends = subst (AreEnds db.oldest) (sym newest_is) (subst (λ (low : ℕ). AreEnds low (number_after before.newest)) (sym oldest_is) (ends_after before.oldest before.newest was.ends room));
+    fits = fits;
+  };
+  next = newest_is ∙ number_is before.newest (below_limit before.oldest before.newest was.ends) room;
+  names_are = subst (λ (l : List TroveParts). AreChangedNames before.installed l names) (sym list_is) names_are;
+  text = text;
+}
+  where
+    list_is : db.installed ≡ list
+    list_is = ap (λ (d : Db). d.installed) db_is
+
+    newest_is : db.newest ≡ number_after before.newest
+    newest_is = ap (λ (d : Db). d.newest) db_is
+
+    oldest_is : db.oldest ≡ oldest_after before.oldest (number_after before.newest)
+    oldest_is = ap (λ (d : Db). d.oldest) db_is
+
+module _ (before : Db) (list : List TroveParts) (puts : List Put) (es : List Entry) (names : List Name) (db : Db) (bytes : List ℕ) (is : IsJobOf before list names db bytes) where
   list_is : db.installed ≡ list
   list_is = ap (λ (d : Db). d.installed) is.db_is
-
-  newest_is : db.newest ≡ number_after before.newest
-  newest_is = ap (λ (d : Db). d.newest) is.db_is
 
   oldest_is : db.oldest ≡ oldest_after before.oldest (number_after before.newest)
   oldest_is = ap (λ (d : Db). d.oldest) is.db_is
 
-  pub next_is : db.newest ≡ before.newest + 1
-  next_is = newest_is ∙ number_is before.newest (below_limit before.oldest before.newest was.ends) room
-
-  pub is_database : IsDatabase Two db.installed db.oldest db.newest
-  is_database = record {
-    installed = subst IsInstalled (sym list_is) installed;
-    ends = subst (AreEnds db.oldest) (sym newest_is) (subst (λ (low : ℕ). AreEnds low (number_after before.newest)) (sym oldest_is) (ends_after before.oldest before.newest was.ends room));
-    fits = subst (Fits Two) (sym list_is) is.fits;
-  }
-
-  pub is_first : 1 ≤ db.newest
-  is_first = let next = next_is in omega (arith, next)
-
-  pub names_db : AreChangedNames before.installed db.installed names
-  names_db = subst (λ (l : List TroveParts). AreChangedNames before.installed l names) (sym list_is) is.names_are
+  room : before.newest ≢ JOBS_LIMIT
+  room = room_of before.newest (sym (ap (λ (d : Db). d.newest) is.db_is) ∙ is.next)
 
   -- from a system that the root stores
-  pub job_from : Unique → (x : Tree) (s : SystemState) → HoldsDatabase Two x before.installed before.oldest before.newest → StoresIn Two x s → IsJobFrom s puts before.installed db
+  pub job_from : OneDatabase → (x : Tree) (s : SystemState) → HoldsDatabase Two x before.installed before.oldest before.newest → StoresIn Two x s → IsJobFrom s puts before.installed db
   job_from unique x s holds stores =
-      let same = one_database unique x before.installed s.installed before.oldest before.newest (oldest s.stack) (newest s.stack) holds stores.list in
+      let same = one_held unique x before.installed s.installed before.oldest before.newest (oldest s.stack) (newest s.stack) holds stores.list in
       record {
-        newest_is = next_is ∙ ap (λ (n : ℕ). n + 1) same.newest;
-        oldest_is = oldest_is ∙ (λ i. oldest_after (same.oldest i) (number_after (same.newest i)))
-            ∙ sym (oldest_pushed (old_of puts s) s.stack stores.system.numbered stores.system.few refl stores.system.number (λ full. room (same.newest ∙ full)));
+        newest_is = is.next ∙ ap (λ (n : ℕ). n + 1) same.highs;
+        oldest_is = oldest_is ∙ (λ i. oldest_after (same.lows i) (number_after (same.highs i)))
+            ∙ sym (oldest_pushed (old_of puts s) s.stack stores.system.numbered stores.system.few refl stores.system.number (λ full. room (same.highs ∙ full)));
         list_is = same.lists;
       }
 
@@ -123,7 +116,7 @@ module _ (before : Db) (list : List TroveParts) (puts : List Put) (es : List Ent
       targets = subst (AreTargetsOf (disk.reads old) puts) (sym same) can.targets;
     }
 
-    module _ (unique : Unique) (new : D) (s : SystemState) (stores : StoresIn Two (disk.reads old) s) where
+    module _ (unique : OneDatabase) (new : D) (s : SystemState) (stores : StoresIn Two (disk.reads old) s) where
       from : IsJobFrom s puts before.installed db
       from = job_from unique (disk.reads old) s can.holds stores
 
@@ -170,29 +163,27 @@ module _ {D : Type 0} {disk : DiskModel D} (laws : IsDisk disk) (before : Db) (l
 
 -- ---- stops
 
-last_refusal : (db : Db) (list : List TroveParts) (puts : List Put) (e : Fault) → (ChangesNothing db list puts → ⊥) → IsLastOrMemory db.newest list e → IsRefusedOrMemory db list puts e
+last_refusal : (db : Db) (list : List TroveParts) (puts : List Put) (e : Fault) → (ChangesNothing db list puts → ⊥) → IsLastOrMemory db.newest list e → IfRefused (IsRefusedLast db list puts) e
 last_refusal db list puts (fault.Refused why) changes (inl large) = too_large large.0 large.1
 last_refusal db list puts (fault.Refused why) changes (inr many) = too_many many.0 changes many.1 many.2
 last_refusal db list puts fault.Memory changes is = tt
 
 -- a last test failed, where something changes
 pub last_fault : {T : Type 0} (db : Db) (list other : List TroveParts) (puts : List Put) (e : Fault) (r : Result T Fault) → IsErrAnd r (λ x. x ≡ e) → (ChangesNothing db list puts → ⊥)
-    → other ≡ list → IsLastOrMemory db.newest other e → IfErr r (IsRefusedOrMemory db list puts)
-last_fault db list other puts e (Ok x) same changes lists is = tt
-last_fault db list other puts e (Err x) same changes lists is =
-    subst (IsRefusedOrMemory db list puts) (sym same) (last_refusal db list puts e changes (subst (λ (l : List TroveParts). IsLastOrMemory db.newest l e) lists is))
+    → other ≡ list → IsLastOrMemory db.newest other e → IfErr r (IfRefused (IsRefusedLast db list puts))
+last_fault db list other puts e r same changes lists is =
+    passed_on (IfRefused (IsRefusedLast db list puts)) e r (last_refusal db list puts e changes (subst (λ (l : List TroveParts). IsLastOrMemory db.newest l e) lists is)) same
 
 pub passes_size : (list : List TroveParts) → Fits Two list → last.database_size list ≤ DATABASE_LIMIT
 passes_size list fits = fits.short
 
-fault_stop : (told : Bool) (rose : Type 0) (db : Db) (list : List TroveParts) (puts : List Put) (e : Fault) → IsRefusedOrMemory db list puts e → IsJobStop told rose db list puts (stop_of_fault e)
+fault_stop : (told : Bool) (rose : Type 0) (db : Db) (list : List TroveParts) (puts : List Put) (e : Fault) → IfRefused (IsRefusedLast db list puts) e → IsJobStop told rose db list puts (stop_of_fault e)
 fault_stop told rose db list puts (fault.Refused why) is = inl is
 fault_stop told rose db list puts fault.Memory is = tt
 
 pub refused_stops : {T : Type 0} (told : Bool) (rose : Type 0) (db : Db) (list : List TroveParts) (puts : List Put) (e : Fault) (r : Result T Stop) → IsErrAnd r (λ x. x ≡ stop_of_fault e)
-    → IsRefusedOrMemory db list puts e → IfErr r (IsJobStop told rose db list puts)
-refused_stops told rose db list puts e (Ok x) same is = tt
-refused_stops told rose db list puts e (Err x) same is = subst (IsJobStop told rose db list puts) (sym same) (fault_stop told rose db list puts e is)
+    → IfRefused (IsRefusedLast db list puts) e → IfErr r (IsJobStop told rose db list puts)
+refused_stops told rose db list puts e r same is = passed_on (IsJobStop told rose db list puts) (stop_of_fault e) r (fault_stop told rose db list puts e is) same
 
 push_stop : (told : Bool) (rose : Type 0) (db : Db) (list : List TroveParts) (puts : List Put) (e : Stop) → PassesLast db list puts → IsPushStop told rose e → IsJobStop told rose db list puts e
 push_stop told rose db list puts Failed passes is = (is, passes)
@@ -204,8 +195,7 @@ push_stop told rose db list puts (FarDamaged path) passes is = is
 
 pub pushed_stops : {T : Type 0} (told : Bool) (rose : Type 0) (db : Db) (list : List TroveParts) (puts : List Put) (e : Stop) (r : Result T Stop) → IsErrAnd r (λ x. x ≡ e) → PassesLast db list puts
     → IsPushStop told rose e → IfErr r (IsJobStop told rose db list puts)
-pushed_stops told rose db list puts e (Ok x) same passes is = tt
-pushed_stops told rose db list puts e (Err x) same passes is = subst (IsJobStop told rose db list puts) (sym same) (push_stop told rose db list puts e passes is)
+pushed_stops told rose db list puts e r same passes is = passed_on (IsJobStop told rose db list puts) e r (push_stop told rose db list puts e passes is) same
 
 disk_stop : (told : Bool) (rose : Type 0) (e : Stop) → (e ≡ Failed → rose) → IsDiskStop e → IsPushStop told rose e
 disk_stop told rose Failed failed is = failed refl

@@ -41,6 +41,7 @@ use Rattle.system_core.proofs.ManagedTargets.{test_refusal_managed, tested_manag
 use Rattle.system_core.proofs.ReadFirst.{goes_behind}
 use Rattle.system_core.proofs.EndingAll.{err_is}
 use Rattle.rollback_stack.proofs.Later.{read_as}
+use Rattle.local_db.proofs.cny-base.Faults.{passed_on}
 
 -- ---- why it stops, on every disk
 
@@ -64,8 +65,7 @@ written_cause contents far far' a b c told db list puts FarFailed early stops = 
 written_cause contents far far' a b c told db list puts (FarDamaged path) early stops = absurd stops
 
 pub cause_of : {T C : Type 0} (contents : ContentsModel C) (far far' : C) (rose : Type 0) (e : Stop) (r : Result T Stop) → IsErrAnd r (λ s. s ≡ e) → HasCause contents far far' rose e → IfErr r (HasCause contents far far' rose)
-cause_of contents far far' rose e (Ok x) is cause = tt
-cause_of contents far far' rose e (Err s) is cause = subst (HasCause contents far far' rose) (sym is) cause
+cause_of contents far far' rose e r is cause = passed_on (HasCause contents far far' rose) e r cause is
 
 pub memory_cause : {T C : Type 0} (contents : ContentsModel C) (far far' : C) (rose : Type 0) (r : Result T Stop) → IsErrAnd r (λ s. s ≡ Memory) → IfErr r (HasCause contents far far' rose)
 memory_cause contents far far' rose r is = cause_of contents far far' rose Memory r is tt

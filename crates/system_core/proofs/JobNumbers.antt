@@ -1,5 +1,5 @@
 -- The numbers of the stack after one more job.
-use Rattle.std.proofs.Common.{◌≡◌, inl, inr, ℕ, ◌+◌, ◌<◌, ◌≤◌, List, [], ◌∷◌, length, take, Result, Ok, Err, IfErr, IsErrAnd, refl, sym, ◌∙◌, ap, subst, arith}
+use Rattle.std.proofs.Common.{◌≡◌, inl, inr, ℕ, ◌+◌, ◌<◌, ◌≤◌, List, [], ◌∷◌, length, take, Result, IfErr, IsErrAnd, refl, ◌∙◌, ap, subst, arith}
 use Rattle.std.specs.Prelude.{◌≢◌}
 use Rattle.std.proofs.lemmas.List.{length-take}
 use Rattle.rollback_stack.specs.cny-base.declared.limits.TheConstants.{DATABASE_LIMIT, JOBS_LIMIT, STACK_LIMIT}
@@ -15,6 +15,7 @@ use Rattle.local_db.specs.SystemState.{StackItem, newest, oldest, AreNumbered}
 use Rattle.local_db.specs.Steps.{pushed}
 use Rattle.local_db.proofs.Systems.{low_at_least, numbered_more, numbered_take, numbers_by_length}
 use Rattle.system_core.specs.Last.{database_size, number_after, oldest_after, IsLastOrMemory}
+use Rattle.local_db.proofs.cny-base.Faults.{passed_on}
 
 jobs_is : JOBS_LIMIT ≡ 4294967295
 jobs_is = refl
@@ -24,6 +25,10 @@ stack_is = refl
 
 pub number_is : (newest : ℕ) → newest ≤ JOBS_LIMIT → newest ≢ JOBS_LIMIT → number_after newest ≡ newest + 1
 number_is newest most other = omega (arith, jobs_is, most, other)
+
+-- there was room for one more
+pub room_of : (newest : ℕ) → number_after newest ≡ newest + 1 → newest ≢ JOBS_LIMIT
+room_of newest is full = omega (arith, jobs_is, is, full)
 
 -- they are those of a database
 pub ends_after : (oldest newest : ℕ) → AreEnds oldest newest → newest ≢ JOBS_LIMIT → AreEnds (oldest_after oldest (number_after newest)) (number_after newest)
@@ -60,8 +65,7 @@ large newest list size (fault.Refused why) same is = inl (subst (λ (n : ℕ). D
 -- the database is too large
 pub large_last : {T : Type 0} (newest : ℕ) (list : List TroveParts) (size : ℕ) (e : Fault) (r : Result T Fault) → size ≡ database_size list → IsErrAnd r (λ f. f ≡ e) → IsTooLargeOrMemory size e
     → IfErr r (IsLastOrMemory newest list)
-large_last newest list size e (Ok x) same is cause = tt
-large_last newest list size e (Err f) same is cause = subst (IsLastOrMemory newest list) (sym is) (large newest list size e same cause)
+large_last newest list size e r same is cause = passed_on (IsLastOrMemory newest list) e r (large newest list size e same cause) is
 
 full : (newest : ℕ) (list : List TroveParts) (size : ℕ) (e : Fault) → size ≡ database_size list → size ≤ DATABASE_LIMIT → IsFull newest e → IsLastOrMemory newest list e
 full newest list size fault.Memory same short is = absurd is
@@ -70,5 +74,4 @@ full newest list size (fault.Refused why) same short is = inr (subst (λ (n : �
 -- there is no number
 pub full_last : {T : Type 0} (newest : ℕ) (list : List TroveParts) (size : ℕ) (e : Fault) (r : Result T Fault) → size ≡ database_size list → size ≤ DATABASE_LIMIT → IsErrAnd r (λ f. f ≡ e)
     → IsFull newest e → IfErr r (IsLastOrMemory newest list)
-full_last newest list size e (Ok x) same short is cause = tt
-full_last newest list size e (Err f) same short is cause = subst (IsLastOrMemory newest list) (sym is) (full newest list size e same short cause)
+full_last newest list size e r same short is cause = passed_on (IsLastOrMemory newest list) e r (full newest list size e same short cause) is

@@ -24,9 +24,10 @@ use Rattle.rollback_stack.specs.journal-log.Targets.{is_target, node_of, with_ta
 use Rattle.rollback_stack.specs.journal-log.WriteSet.{Rises}
 use Rattle.tree_journal.specs.Recovery.{is_committed, is_flag, at_rest}
 use Rattle.job_targets.specs.Old.{is_staged}
+use Rattle.local_db.specs.declared.format.Format.{Format}
 use Rattle.local_db.specs.declared.format.Format.TheVariants.{Two}
 use Rattle.local_db.specs.Formats.{database_bytes, AreEnds}
-use Rattle.local_db.specs.Names.{database, is_job_place, record_file}
+use Rattle.local_db.specs.Names.{counts, database, is_job_place, record_file}
 use Rattle.local_db.specs.Record.{IsRecord}
 use Rattle.local_db.specs.Stores.{StoresIn, IsDatabase}
 use Rattle.local_db.specs.SystemState.{SystemState, IsFree}
@@ -200,6 +201,15 @@ next_job puts before db s from = record {
   next = from.newest_is;
   dropped_is = ap dropped_below from.oldest_is;
 }
+
+-- no more was done than to push its record
+pub only_pushed : {D : Type 0} {disk : DiskModel D} {puts : List Put} {es : List Entry} {before : List TroveParts} {db : Db} {s : SystemState} {old mid : D} {result : Result (Unit {0}) Stop} → IsTrue disk.tells
+    → CanPutJob disk puts es old → Confined disk (Among (is_written db)) old mid
+    → ((f : Format) (s : SystemState) → IsNextJob s db.newest (dropped_below db.oldest) → IsTrue disk.tells → ((q : Name) → counts s q ≡ true → disk.unsynced old q ≡ false) → StoresIn f (disk.reads old) s → KeepsSystem disk f s old mid)
+    → StoresIn Two (disk.reads old) s → IsJobFrom s puts before db → (Why : Stop → Type 0) → IsErrAnd result Why → Goes disk Two s (after_job puts db.installed s) puts old mid result
+only_pushed {puts = puts} {before = before} {db = db} {s = s} {old = old} {mid = mid} {result = result} tells can confined keeps stores from Why is =
+    stopped_before db.newest (dropped_below db.oldest) puts old mid can.flag_clear can.synced confined s (after_job puts db.installed s)
+    (keeps Two s (next_job puts before db s from) tells (λ q counted. can.synced q) stores) Why result is
 
 -- ---- what the write set asks, and the system after it
 

@@ -25,6 +25,7 @@ use Rattle.tree_journal.specs.Recovery.{RecoversTo, at_rest, is_committed, is_fl
 use Rattle.tree_journal.specs.Visible.{IsVisible, ShowsNode, differ_in_kind}
 use Rattle.local_db.specs.Names.{database}
 use Rattle.rollback_stack.specs.JobReading.{IsReadStop}
+use Rattle.rollback_stack.proofs.Later.{read_as, read_stop_then}
 use Rattle.system_core.specs.RootWriting.{CanWrite, IsPut, Writes}
 use Rattle.rollback_stack.specs.Migrated.{AreMigration, IsDamagedFile, is_up_to_date}
 use Rattle.system_core.specs.Migrating.{HasMigrated, IsBrought, IsMigratingStop, Migrates, RecoversInAFormat}
@@ -79,12 +80,9 @@ shown_itself n shown (inr (inr is)) = let one = one_kind n in let other = is.1 i
 
 -- why there are no writes
 pub migrated_stops : {D : Type 0} (disk : DiskModel D) (old mid : D) (e : Stop) → IsReadStop disk.tells (IsDamagedFile (disk.reads old)) (Rose (disk.faults old) (disk.faults mid)) e → (IsTrue disk.tells → HasRead disk old mid (Unit {0})) → IsMigratingStop disk old mid e
-migrated_stops disk old mid stop.Failed is read = is
-migrated_stops disk old mid stop.Memory is read = tt
-migrated_stops disk old mid (stop.Damaged path) is read = λ tells. record { answer = is tells; same = (read tells).same; time = (read tells).time }
-migrated_stops disk old mid (stop.Refused why) is read = is
-migrated_stops disk old mid stop.FarFailed is read = is
-migrated_stops disk old mid (stop.FarDamaged path) is read = is
+migrated_stops disk old mid e is read =
+    let rose = Rose (disk.faults old) (disk.faults mid) in
+    read_stop_then disk.tells (IsDamagedFile (disk.reads old)) (λ path. HasRead disk old mid (IsDamagedFile (disk.reads old) path)) rose rose e (λ tells path damaged. read_as (read tells) damaged) (λ r. r) is
 
 module _ {D : Type 0} {disk : DiskModel D} (laws : IsDisk disk) (old mid : D) (rests : IsAtRest disk old) where
   module _ (read : HasRead disk old mid (Unit {0})) where

@@ -1,12 +1,11 @@
 -- A root made ready, by the systems to which it recovers.
-use Rattle.std.proofs.Common.{◌≡◌, inl, inr, ⊎_elim, IsTrue, List, Option, Some, None, Result, Ok, Err, sym, ◌∙◌, ap, subst}
+use Rattle.std.proofs.Common.{◌≡◌, inl, inr, ⊎_elim, IsTrue, List, Option, Some, None, Result, Ok, Err, subst}
 use Rattle.std.specs.Prelude.{IfErr, IfOk, OnOk}
 use Rattle.std.specs.FinMap.{get}
 use Rattle.rollback_stack.specs.cny-base.Reserved.{private_directory, is_reserved}
 use Rattle.rollback_stack.specs.cny-base.declared.node.Node.{Node}
 use Rattle.rollback_stack.specs.cny-base.declared.stop.Stop.{Stop}
 use Rattle.rollback_stack.specs.cny-base.declared.stop.Stop.TheVariants as stop
-use Rattle.rollback_stack.specs.content-store.Store.{file_bytes}
 use Rattle.rollback_stack.specs.journal-log.declared.put.Put.{Put}
 use Rattle.rollback_stack.specs.journal-log.Own.{StoresSame}
 use Rattle.rollback_stack.specs.journal-log.Targets.{with_targets}
@@ -19,7 +18,7 @@ use Rattle.tree_journal.specs.Visible.{ShowsNode}
 use Rattle.local_db.specs.Loading.{HoldsDb}
 use Rattle.local_db.specs.declared.db.Db.{Db}
 use Rattle.local_db.specs.Steps.{IsMigration}
-use Rattle.local_db.specs.Stores.{HoldsDatabase, RecoversToSystem, StoresIn, StoresSystem, absent, written}
+use Rattle.local_db.specs.Stores.{HoldsDatabase, RecoversToSystem, StoresIn, StoresSystem}
 use Rattle.local_db.specs.SystemState.{SystemState, newest, oldest}
 use Rattle.local_db.specs.declared.format.Format.{Format}
 use Rattle.local_db.specs.declared.format.Format.TheVariants.{One, Two}
@@ -31,9 +30,8 @@ use Rattle.system_core.specs.Migrating.{IsBrought, IsDamagedStore, RecoversInAFo
 use Rattle.system_core.specs.Ready.{EndsReady, HasReadied, IsReadyStop, MakesReady, Readies, ShowsOnTheWay}
 use Rattle.system_core.proofs.Migration.{OneRecord, in_one, in_two, is_migration, none_damaged}
 use Rattle.system_core.proofs.Opened.{never_blocked, never_damaged_log}
-use Rattle.system_core.proofs.Held.{OneDatabase}
+use Rattle.system_core.proofs.Held.{OneDatabase, one_held}
 use Rattle.system_core.specs.Job.{db_of}
-use Rattle.local_db.proofs.cny-base.OptionValues.{same_some}
 
 abbrev pub KeepsSystem : Type 0
 KeepsSystem = (x : Tree) (s : SystemState) (all : List Put) → StoresIn One x s → IsMigration s all → StoresIn Two (with_targets all x) s
@@ -48,20 +46,12 @@ list_so : (x : Tree) (s : SystemState) → StoresSystem x s → (f : Format) × 
 list_so x s (inl one) = (One, one.list)
 list_so x s (inr two) = (Two, two.list)
 
--- a tree holds one database
-one_held : OneDatabase → (x : Tree) (a b : Db) → HoldsDb x a → HoldsDb x b → a ≡ b
-one_held one x a b held other = by held.format other.format held.holds other.holds
-  where
-    by : (f g : Format) → HoldsDatabase f x a.installed a.oldest a.newest → HoldsDatabase g x b.installed b.oldest b.newest → a ≡ b
-    by f g (absent none list low high) (absent none' list' low' high') =
-        let l = list ∙ sym list' in let o = low ∙ sym low' in let n = high ∙ sym high' in
-        λ i. record { installed = l i; oldest = o i; newest = n i }
-    by f g (absent none list low high) (written is file) = absurd (cc (file, ap file_bytes none))
-    by f g (written is file) (absent none list low high) = absurd (cc (file, ap file_bytes none))
-    by f g (written is file) (written its too) =
-        let all = one f g a.installed b.installed a.oldest a.newest b.oldest b.newest is its (same_some _ _ (sym file ∙ too)) in
-        let l = all.lists in let o = all.oldest in let n = all.newest in
-        λ i. record { installed = l i; oldest = o i; newest = n i }
+-- a tree holds one database, in whichever format
+one_db_held : OneDatabase → (x : Tree) (a b : Db) → HoldsDb x a → HoldsDb x b → a ≡ b
+one_db_held one x a b held other =
+    let same = one_held one x a.installed b.installed a.oldest a.newest b.oldest b.newest held.holds other.holds in
+    let l = same.lists in let o = same.lows in let n = same.highs in
+    λ i. record { installed = l i; oldest = o i; newest = n i }
 
 module _ (one_db : OneDatabase) (one_record : OneRecord) (keeps : KeepsSystem) where
   -- a tree that was brought to format 2 stores the same system
@@ -88,7 +78,7 @@ module _ (one_db : OneDatabase) (one_record : OneRecord) (keeps : KeepsSystem) w
     ends_so : (r : Result Db Stop) → IfOk r (HasReadied disk old new) → IfErr r (IsReadyStop disk old new) → EndsReady s (disk.reads old) r
     ends_so (Ok db) readied stops =
         let list = list_so x s stores in
-        one_held one_db x db (db_of s) (readied.readied x to).held (record { format = list.0; holds = list.1 })
+        one_db_held one_db x db (db_of s) (readied.readied x to).held (record { format = list.0; holds = list.1 })
     ends_so (Err stop.Failed) readied stops = tt
     ends_so (Err stop.Memory) readied stops = tt
     ends_so (Err (stop.Refused why)) readied stops = ⊎_elim (λ fixed. fixed) (λ log. absurd (never_blocked log to)) (stops.1 tells).cause

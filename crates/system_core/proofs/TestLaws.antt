@@ -28,7 +28,8 @@ use Rattle.system_core.specs.JobWriting.{AreTargetsOf, IsSomething}
 use Rattle.local_db.specs.Installed.{IsInstalled}
 use Rattle.system_core.specs.Job.{IsTestRefusal, IsTested, Sources, unmet, unplanned, untargeted}
 use Rattle.system_core.specs.Lists.{AreAllowed}
-use Rattle.system_core.specs.Something.{HasNothing, LacksOne}
+use Rattle.rollback_stack.specs.change-set.Contents.{IfRefused}
+use Rattle.system_core.specs.Something.{LacksOne}
 use Rattle.system_core.proofs.Formed.{targets_formed}
 use Rattle.system_core.proofs.Shared.{unshared_pairs}
 use Rattle.system_core.proofs.Values.{are_targets, nothing_lacks, puts_free}
@@ -105,11 +106,11 @@ module _ {D C : Type 0} {disk : DiskModel D} {contents : ContentsModel C} (searc
   -- at a path where nothing stands nothing is to stand: no disk that tells its tree has one
   pub lack_stop : {old new : D} {far far' : C} (made : Targets) (es : List Entry) → es ≡ made.entries → (e : Fault) (r : Result Targets Stop) → IsErrAnd r (λ s. s ≡ stop_of_fault e)
       → Gathers disk contents (IsTested from before list) (IsTestRefusal from before list) old new far far' (Ok made)
-      → (IsTrue disk.tells → AreTargetsOf (disk.reads old) made.puts made.entries) → HasNothing es e
+      → (IsTrue disk.tells → AreTargetsOf (disk.reads old) made.puts made.entries) → IfRefused (LacksOne es) e
       → Gathers disk contents (IsTested from before list) (IsTestRefusal from before list) old new far far' r
   lack_stop {old = old} {new = new} {far = far} {far' = far'} made es same e r is run over lacks = by e is lacks
     where
-      by : (e : Fault) → IsErrAnd r (λ s. s ≡ stop_of_fault e) → HasNothing es e → Gathers disk contents (IsTested from before list) (IsTestRefusal from before list) old new far far' r
+      by : (e : Fault) → IsErrAnd r (λ s. s ≡ stop_of_fault e) → IfRefused (LacksOne es) e → Gathers disk contents (IsTested from before list) (IsTestRefusal from before list) old new far far' r
       by (fault.Refused refusal) is lacks =
           gathers_refuse refusal run is
           (λ tells h. let o = over tells in absurd (nothing_lacks (disk.reads old) made.puts made.entries o.changes o.entries refusal (subst (λ (l : List Entry). LacksOne l refusal) same lacks)))

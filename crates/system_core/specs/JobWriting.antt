@@ -22,10 +22,10 @@ use Rattle.rollback_stack.specs.tree-scan.declared.mark.Mark.TheVariants as mark
 use Rattle.rollback_stack.specs.tree-scan.Marks.{fingerprint}
 use Rattle.local_db.specs.declared.format.Format.TheVariants.{Two}
 use Rattle.local_db.specs.Record as state
-use Rattle.local_db.specs.Formats.{database_bytes, Fits}
+use Rattle.local_db.specs.Formats.{database_bytes}
 use Rattle.local_db.specs.Names.{database}
 use Rattle.local_db.specs.SystemState.{SystemState, newest, oldest, IsFree, IsTellable}
-use Rattle.local_db.specs.Stores.{HoldsDatabase}
+use Rattle.local_db.specs.Stores.{HoldsDatabase, IsDatabase}
 use Rattle.local_db.specs.Steps.{after_job, old_of, paths_of, pushed, want_of}
 use Rattle.local_db.specs.declared.db.Db.{Db}
 use Rattle.rollback_stack.specs.Saving.{IsUntoldCollision}
@@ -89,8 +89,9 @@ database_write bytes = record { path = database; want = want.File 420 bytes }
 -- What is made of a job before it is written: the names whose trove it changes, the database after it, and that database's bytes.
 pub record IsJobOf (before : Db) (list : List TroveParts) (names : List Name) (db : Db) (bytes : List ℕ) : Type 0 where
   pub db_is : db ≡ db_after before list
-  pub names_are : AreChangedNames before.installed list names
-  pub fits : Fits Two list
+  pub database : IsDatabase Two db.installed db.oldest db.newest
+  pub next : db.newest ≡ before.newest + 1
+  pub names_are : AreChangedNames before.installed db.installed names
   pub text : bytes ≡ database_bytes Two db.installed db.oldest db.newest
 
 -- The list before it and the database after it are those of a job from this system.
@@ -98,13 +99,6 @@ pub record IsJobFrom (s : SystemState) (puts : List Put) (before : List TrovePar
   pub newest_is : db.newest ≡ newest s.stack + 1
   pub oldest_is : db.oldest ≡ oldest (pushed (old_of puts s) s.stack)
   pub list_is : before ≡ s.installed
-
--- ---- at rest
-
--- The commit flag isn't set, and a crash leaves just what the root reads.
-pub record IsSettled {D : Type 0} (disk : DiskModel D) (d : D) : Type 0 where
-  pub flag_clear : is_committed private_directory (disk.reads d) ≡ false
-  pub synced : IsSynced disk d
 
 -- ---- how it ends
 

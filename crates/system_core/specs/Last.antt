@@ -50,8 +50,3 @@ IsLastOrMemory newest list fault.Memory = Unit {0}
 IsLastOrMemory newest list (fault.Refused why) =
     (DATABASE_LIMIT < database_size list) × (why ≡ TooLarge Database (database_size list))
     ⊎ (database_size list ≤ DATABASE_LIMIT) × (newest ≡ JOBS_LIMIT) × (why ≡ TooLarge Jobs JOBS_LIMIT)
-
--- one of the last tests fails, or no memory was left
-abbrev pub IsRefusedOrMemory : Db → List TroveParts → List Put → Fault → Type 0
-IsRefusedOrMemory db list puts fault.Memory = Unit {0}
-IsRefusedOrMemory db list puts (fault.Refused why) = IsRefusedLast db list puts why

@@ -4,7 +4,6 @@ use Rattle.std.specs.FinMap.{get}
 use Rattle.rollback_stack.specs.cny-base.Count.{Rose}
 use Rattle.rollback_stack.specs.cny-base.Reserved.{private_directory, is_reserved}
 use Rattle.rollback_stack.specs.cny-base.declared.stop.Stop.{Stop}
-use Rattle.rollback_stack.specs.cny-base.declared.stop.Stop.TheVariants as stop
 use Rattle.rollback_stack.specs.tree-disk.Tree.{Name, Tree, AgreesOutside}
 use Rattle.rollback_stack.specs.tree-disk.Disk.{DiskModel, HasRead}
 use Rattle.rollback_stack.specs.tree-disk.Confined.{LeavesOnly}
@@ -13,6 +12,7 @@ use Rattle.rollback_stack.specs.journal-log.declared.put.Put.{Put}
 use Rattle.rollback_stack.specs.journal-log.Own.{StoresSame}
 use Rattle.rollback_stack.specs.journal-log.Targets.{with_targets}
 use Rattle.tree_journal.specs.Recovery.{RecoversTo}
+use Rattle.rollback_stack.specs.JobReading.{IsReadStop}
 use Rattle.local_db.specs.declared.format.Format.TheVariants.{Two}
 use Rattle.local_db.specs.Names.{database}
 use Rattle.local_db.specs.Stores.{HoldsDatabase, IsDatabase}
@@ -62,12 +62,7 @@ pub record Migrates {D : Type 0} (disk : DiskModel D) (old new : D) (result : Re
 
 -- why a root isn't brought to format 2: a fault, no memory, or a damaged file, and then the root was only read
 abbrev pub IsMigratingStop : {D : Type 0} → DiskModel D → D → D → Stop → Type 0
-IsMigratingStop disk old new stop.Failed = Rose (disk.faults old) (disk.faults new)
-IsMigratingStop disk old new stop.Memory = Unit {0}
-IsMigratingStop disk old new (stop.Refused why) = ⊥
-IsMigratingStop disk old new (stop.Damaged path) = IsTrue disk.tells → HasRead disk old new (IsDamagedFile (disk.reads old) path)
-IsMigratingStop disk old new stop.FarFailed = ⊥
-IsMigratingStop disk old new (stop.FarDamaged path) = ⊥
+IsMigratingStop disk old new e = IsReadStop disk.tells (λ path. HasRead disk old new (IsDamagedFile (disk.reads old) path)) (Rose (disk.faults old) (disk.faults new)) e
 
 -- ---- with the database
 
@@ -80,12 +75,7 @@ pub record HasLoaded {D : Type 0} (disk : DiskModel D) (old new : D) (db : Db) :
 
 -- why the database of a root at rest isn't loaded
 abbrev pub IsLoadingStop : {D : Type 0} → DiskModel D → D → D → Stop → Type 0
-IsLoadingStop disk old new stop.Failed = Rose (disk.faults old) (disk.faults new)
-IsLoadingStop disk old new stop.Memory = Unit {0}
-IsLoadingStop disk old new (stop.Refused why) = ⊥
-IsLoadingStop disk old new (stop.Damaged path) = IsTrue disk.tells → HasRead disk old new (IsDamagedStore (disk.reads old) path)
-IsLoadingStop disk old new stop.FarFailed = ⊥
-IsLoadingStop disk old new (stop.FarDamaged path) = ⊥
+IsLoadingStop disk old new e = IsReadStop disk.tells (λ path. HasRead disk old new (IsDamagedStore (disk.reads old) path)) (Rose (disk.faults old) (disk.faults new)) e
 
 -- The same as of the migration alone, with the database that was loaded.
 pub record Loads {D : Type 0} (disk : DiskModel D) (old new : D) (result : Result Db Stop) : Type 0 where

@@ -1,7 +1,5 @@
 -- Entries at whose path something stands before or after the job.
 use Rattle.std.specs.Prelude.{◌≡◌, Bool, true, false, not, List, Contains}
-use Rattle.rollback_stack.specs.cny-base.declared.refusal.Fault.{Fault}
-use Rattle.rollback_stack.specs.cny-base.declared.refusal.Fault.TheVariants.{Refused, Memory}
 use Rattle.rollback_stack.specs.cny-base.declared.refusal.Refusal.{Refusal}
 use Rattle.rollback_stack.specs.cny-base.declared.refusal.Refusal.TheVariants as refusal
 use Rattle.rollback_stack.specs.journal-log.declared.put.Want.{Want}
@@ -28,12 +26,6 @@ pub record LacksOne (es : List Entry) (why : Refusal) : Type 0 where
   pub nothing : is_something entry ≡ false
   pub refusal_is : why ≡ refusal.Edited entry.path
 
--- that, or no memory was left
-abbrev pub HasNothing : List Entry → Fault → Type 0
-HasNothing es (Refused why) = LacksOne es why
-HasNothing es Memory = Unit {0}
-
--- nothing stood at the path, and nothing is to stand, and it is refused as edited; or no memory was left
-abbrev pub IsNothing : Entry → Fault → Type 0
-IsNothing e (Refused why) = (is_something e ≡ false) × (why ≡ refusal.Edited e.path)
-IsNothing e Memory = Unit {0}
+-- nothing stood at the path, and nothing is to stand, and it is refused as edited
+abbrev pub IsNothing : Entry → Refusal → Type 0
+IsNothing e why = (is_something e ≡ false) × (why ≡ refusal.Edited e.path)

@@ -18,7 +18,7 @@ use Rattle.local_db.specs.declared.db.Db.{Db}
 use Rattle.update_job.specs.declared.comparing.Change.{Change}
 use Rattle.update_job.specs.Changes.{AreChanges}
 use Rattle.system_core.specs.RootWriting.{Goes}
-use Rattle.job_targets.specs.Gathering.{IsDamage}
+use Rattle.job_targets.specs.Gathering.{IsDamage, IsStopBy}
 use Rattle.system_core.specs.Last.{ChangesNothing, PassesLast}
 use Rattle.system_core.specs.JobWriting.{done}
 use Rattle.system_core.specs.declared.done.Done.{Done}
@@ -104,9 +104,4 @@ IsErasureRefusal _ = ⊥
 
 -- how an erasure may stop: no file of it is damaged, and it searches no contents
 abbrev pub IsErasureStop : Stop → Type 0
-IsErasureStop (Refused why) = IsErasureRefusal why
-IsErasureStop Memory = Unit {0}
-IsErasureStop Failed = Unit {0}
-IsErasureStop (Damaged path) = ⊥
-IsErasureStop FarFailed = ⊥
-IsErasureStop (FarDamaged path) = ⊥
+IsErasureStop = IsStopBy IsErasureRefusal

@@ -6,27 +6,13 @@ ghost use Rattle.std.specs.declared.cmp.Ordering.TheVariants.{Less};
 ghost use Rattle.rollback_stack.specs.journal-log.declared.put.Put as declared;
 ghost use Rattle.rollback_stack.specs.journal-log.Targets.{is_target};
 ghost use Rattle.local_db.specs.Steps.{IsUnion};
-ghost use Rattle.system_core.specs.Inserting.{HasBytes, HasRoom, bytes_of, put_of_db, without};
+ghost use Rattle.system_core.specs.Inserting.{HasBytes, HasRoom, put_of_db, without};
 
-use local_db::{Db, database_path, distinct_databases, encode};
-use rollback_stack::cny_base::{Bytes, Fault, Mode, OutOfMemory, Path};
+use local_db::{Db, database_path, encode_within};
+use rollback_stack::cny_base::{Mode, OutOfMemory, Path};
 use rollback_stack::journal_log::{Put, Puts, Want};
 use rollback_stack::tree_disk::byte_ranges;
 use std::alloc::Global;
-
-// The bytes of a database that has room.
-fn database_bytes(alloc: Global, db: &Db) -> Result<Bytes, OutOfMemory>
-    requires { HasRoom db.now }
-    ensures { IfOk result (λ bytes. bytes ≡ bytes_of db.now) }
-{
-    // The numbers don't change the length.
-    distinct_databases();
-    match encode(alloc, db) {
-        Ok(bytes) => Ok(bytes),
-        Err(Fault::Memory) => Err(OutOfMemory),
-        Err(Fault::Refused(_)) => unreachable!(),
-    }
-}
 
 /// The write of a database that has room, with mode 0644.
 pub(crate) fn database_put(alloc: Global, db: &Db) -> Result<Put, OutOfMemory>
@@ -35,7 +21,7 @@ pub(crate) fn database_put(alloc: Global, db: &Db) -> Result<Put, OutOfMemory>
     ensures bytes { OnOk result (HasBytes db.now) }
 {
     let path = database_path(alloc)?;
-    let bytes = database_bytes(alloc, db)?;
+    let bytes = encode_within(alloc, db)?;
     byte_ranges(bytes.get());
     let Some(mode) = Mode::new(0o644) else {
         unreachable!()

@@ -14,9 +14,11 @@ ghost use Rattle.local_db.specs.Stores.{HoldsDatabase, IsDatabase, StoresIn};
 ghost use Rattle.rollback_stack.specs.job-record.Changed.{AreChangedNames};
 ghost use Rattle.rollback_stack.specs.Entries.{AreEntries};
 ghost use Rattle.rollback_stack.specs.Pushing.{IsPushStop};
+ghost use Rattle.rollback_stack.specs.change-set.Contents.{IfRefused};
+ghost use Rattle.system_core.specs.Opening.{IsAtRest};
 ghost use Rattle.system_core.specs.RootWriting.{Goes};
-ghost use Rattle.system_core.specs.Last.{ChangesNothing, IsRefusedOrMemory, PassesLast};
-ghost use Rattle.system_core.specs.JobWriting.{AnswersJob, AreTargets, CanPutJob, CanWriteJob, IsJobFrom, IsJobOf, IsJobStop, IsSettled, JobEnds};
+ghost use Rattle.system_core.specs.Last.{ChangesNothing, IsRefusedLast, PassesLast};
+ghost use Rattle.system_core.specs.JobWriting.{AnswersJob, AreTargets, CanPutJob, CanWriteJob, IsJobFrom, IsJobOf, IsJobStop, JobEnds};
 
 use crate::last::{database_of, db_after};
 use crate::names::changed_names;
@@ -65,7 +67,7 @@ fn job_of(
     ensures some { IfOk result (λ found. IfSome found (λ job. IsJobOf db.now list job.names.items job.db job.bytes)) }
     ensures passes { IfOk result (λ found. IfSome found (λ job. PassesLast db.now list puts.now)) }
     ensures none { IfOk result (λ found. IfNone found (ChangesNothing db.now list puts.now)) }
-    ensures refused { IfErr result (IsRefusedOrMemory db.now list puts.now) }
+    ensures refused { IfErr result (IfRefused (IsRefusedLast db.now list puts.now)) }
 {
     // Troves that are equal by their texts are one trove.
     distinct_troves();
@@ -106,7 +108,7 @@ fn put_job<T: TreeDisk>(
     ensures goes { IsTrue T.disk.tells → (s : SystemState) → StoresIn Two (T.disk.reads root.old) s → IsJobFrom s targets before.now db.now
         → Goes T.disk Two s (after_job targets db.now.installed s) targets root.old root.new result }
     // Also on a root that stores no system.
-    ensures rests { IsTrue T.disk.tells → OnOk result (IsSettled T.disk root.new) }
+    ensures rests { IsTrue T.disk.tells → OnOk result (IsAtRest T.disk root.new) }
     ensures stops { IfErr result (IsPushStop T.disk.tells (Rose (T.disk.faults root.old) (T.disk.faults root.new))) }
     ensures later { T.disk.faults root.old ≤ T.disk.faults root.new }
 {
@@ -149,7 +151,7 @@ pub fn write_job<T: TreeDisk>(
     ensures holds { IsTrue T.disk.tells → (s : SystemState) → StoresIn Two (T.disk.reads root.old) s
         → IfOk result (λ number. HoldsDatabase Two (T.disk.reads root.new) db.new.installed db.new.oldest db.new.newest) }
     // After Ok the root is at rest, also where it stores no system.
-    ensures rests { IsTrue T.disk.tells → OnOk result (IsSettled T.disk root.new) }
+    ensures rests { IsTrue T.disk.tells → OnOk result (IsAtRest T.disk root.new) }
     // On every disk.
     ensures answers { AnswersJob db.old list puts db.new result }
     ensures rules { IsDatabase Two db.new.installed db.new.oldest db.new.newest }

@@ -1,8 +1,9 @@
 //! Entries at whose path something stands before or after the job.
 ghost use Rattle.std.specs.Prelude.{◌≡◌, true, IfErr, OnOk, All};
 ghost use Rattle.rollback_stack.specs.Entries.{entries_of};
+ghost use Rattle.rollback_stack.specs.change-set.Contents.{IfRefused};
 ghost use Rattle.system_core.specs.JobWriting.{IsSomething};
-ghost use Rattle.system_core.specs.Something.{is_something, HasNothing, IsNothing};
+ghost use Rattle.system_core.specs.Something.{is_something, IsNothing, LacksOne};
 
 use job_targets::Entry;
 use rollback_stack::cny_base::{Fault, Refusal, Text};
@@ -22,7 +23,7 @@ fn is_something(entry: &Entry) -> bool
 // `Edited` where nothing stands at the path that is to go.
 fn check_entry(alloc: Global, entry: &Entry) -> Result<(), Fault>
     ensures something { OnOk result (is_something entry.now ≡ true) }
-    ensures refused { IfErr result (IsNothing entry.now) }
+    ensures refused { IfErr result (IfRefused (IsNothing entry.now)) }
 {
     if is_something(entry) {
         return Ok(());
@@ -35,7 +36,7 @@ fn check_entry(alloc: Global, entry: &Entry) -> Result<(), Fault>
 /// another one it is a path that was taken away since the plan was made.)
 pub(crate) fn check_something(alloc: Global, entries: &[Entry]) -> Result<(), Fault>
     ensures something { OnOk result (All IsSomething (entries_of entries.now)) }
-    ensures refused { IfErr result (HasNothing entries.now) }
+    ensures refused { IfErr result (IfRefused (LacksOne entries.now)) }
 {
     for entry in entries {
         check_entry(alloc, entry)?;

@@ -1,7 +1,5 @@
 use Rattle.std.proofs.Common.{take, All}
-use Rattle.cny_dep.specs.Dep.{Dependency}
-use Rattle.cny_dep.specs.Satisfies.{Satisfies}
 use Rattle.dep_closure.proofs.providing.is_met_by_any.Given as goal
 
-abbrev pub invariant-loop-provide : goal.invariant-loop-provide
-invariant-loop-provide l = All (λ (p : Dependency). Satisfies p l.require → ⊥) (take l.provide-index l.provides)
+abbrev pub invariant-loop-one : goal.invariant-loop-one
+invariant-loop-one g l = All (λ (x : g.row.T.Denot). g.T.Meets.is_met x l.require → ⊥) (take l.one-index l.ones)

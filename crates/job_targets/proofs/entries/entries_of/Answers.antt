@@ -1,6 +1,7 @@
 use Rattle.std.proofs.Common.{refl}
 use Rattle.local_db.proofs.tree-disk.StepLaws.{tests_answer, tests_memory, tests_stop, tests_value}
-use Rattle.job_targets.proofs.Listed.{at_next, entries_next, small_at}
+use Rattle.job_targets.specs.Targets.{HasEntry}
+use Rattle.job_targets.proofs.Listed.{at_next, small_at, zip_next}
 use Rattle.tree_scan.proofs.tree-disk.Deciding.{tests_next}
 use Rattle.job_targets.proofs.entries.entries_of.Goals as goal
 
@@ -14,7 +15,7 @@ loop-one-preserved g c =
       so_far = tests_answer run (λ tells. refl);
       are = λ tells. at_next (g.T.TreeDisk.disk.reads c.args.root.now) c.args.planned.now c.loop-one.one-index c.one-item.result c.loop-one.entries.items c.in_ok-entry.entry c.push.new.self.items
           c.loop-one-test.true c.one-item.is c.in_ok-push.ensures.items (c.loop-one.invariant.are tells) (tests_value run tells);
-      have = entries_next c.args.planned.now c.loop-one.one-index c.one-item.result c.loop-one.entries.items c.in_ok-entry.entry c.push.new.self.items
+      have = zip_next HasEntry c.args.planned.now c.loop-one.one-index c.one-item.result c.loop-one.entries.items c.in_ok-entry.entry c.push.new.self.items
           c.loop-one-test.true c.one-item.is c.in_ok-push.ensures.items c.loop-one.invariant.have c.in_ok-entry.ensures.has;
     }
 

@@ -5,7 +5,7 @@ use Rattle.local_db.specs.trove-stream.declared.parts.TroveParts.{TroveParts}
 use Rattle.local_db.specs.trove-stream.Installed.{IsRising, trove_of}
 use Rattle.past_jobs.specs.Past.{AreChangedIds}
 use Rattle.past_jobs.specs.Table.{trove_at, troves_of}
-use Rattle.past_jobs.proofs.Back.{sound_past, sound_left, rising_made, absent_made, all_made, all_left, one_new, past_new, held_new, too_large, after_ids, before_ids}
+use Rattle.past_jobs.proofs.Back.{sound_past, sound_left, rising_made, absent_made, all_made, all_left, list_before, too_large}
 use Rattle.change_rel.proofs.cny-dep.Faults.{handed_on}
 use Rattle.change_rel.specs.trove-stream.Either.{or_else}
 use Rattle.past_jobs.proofs.past_list.taken_back.Goals as goal
@@ -42,38 +42,17 @@ returns-then-table-most_bytes-clause-bad c = λ h before past.
     (λ name. c.in_ok-add_all.ensures.troves name ∙ ap (λ (l : List TroveParts). or_else (trove_of name l) (trove_at c.take_all.new.table.troves name)) c.as_slice-2.ensures.value)
     c.one_result.ensures (subst (λ (k : ℕ). k < c.add_all.new.table.len) c.most_bytes.ensures c.if-table-most_bytes.true) before past
 
-pub returns-clause-held : goal.returns-clause-held
-returns-clause-held c =
-    held_new c.args.format c.args.table.troves c.take_all.new.table.troves c.args.table.marks c.take_all.new.table.marks c.args.table.len c.take_all.new.table.len c.args.deltas.now c.in_ok-taken.taken.made.items c.requires.held c.requires.rising c.in_ok-taken.ensures.indexed c.in_ok-taken.ensures.troves c.in_ok-taken.ensures.made
+pub returns : goal.returns
+returns c =
+    let is = list_before c.args.format c.args.table.troves c.take_all.new.table.troves c.args.table.marks c.take_all.new.table.marks c.args.table.len c.take_all.new.table.len c.args.deltas.now c.in_ok-taken.taken.made.items c.requires.held c.requires.rising c.in_ok-taken.ensures.indexed c.in_ok-taken.ensures.troves c.in_ok-taken.ensures.made
     c.add_all.new.table.troves c.add_all.new.table.marks c.add_all.new.table.len c.in_ok-add_all.ensures.indexed c.in_ok-add_all.ensures.sound
     (λ name. c.in_ok-add_all.ensures.troves name ∙ ap (λ (l : List TroveParts). or_else (trove_of name l) (trove_at c.take_all.new.table.troves name)) c.as_slice-2.ensures.value)
-    (subst (λ (k : ℕ). c.add_all.new.table.len ≤ k) c.most_bytes.ensures c.if-table-most_bytes.false)
-
-pub returns-clause-past : goal.returns-clause-past
-returns-clause-past c =
-    past_new c.args.format c.args.table.troves c.take_all.new.table.troves c.args.table.marks c.take_all.new.table.marks c.args.table.len c.take_all.new.table.len c.args.deltas.now c.in_ok-taken.taken.made.items c.requires.held c.requires.rising c.in_ok-taken.ensures.indexed c.in_ok-taken.ensures.troves c.in_ok-taken.ensures.made
-    c.add_all.new.table.troves c.add_all.new.table.marks c.add_all.new.table.len c.in_ok-add_all.ensures.indexed c.in_ok-add_all.ensures.sound
-    (λ name. c.in_ok-add_all.ensures.troves name ∙ ap (λ (l : List TroveParts). or_else (trove_of name l) (trove_at c.take_all.new.table.troves name)) c.as_slice-2.ensures.value)
-    (subst (λ (k : ℕ). c.add_all.new.table.len ≤ k) c.most_bytes.ensures c.if-table-most_bytes.false)
-
-pub returns-clause-only : goal.returns-clause-only
-returns-clause-only c =
-    one_new c.args.format c.args.table.troves c.take_all.new.table.troves c.args.table.marks c.take_all.new.table.marks c.args.table.len c.take_all.new.table.len c.args.deltas.now c.in_ok-taken.taken.made.items c.requires.held c.requires.rising c.in_ok-taken.ensures.indexed c.in_ok-taken.ensures.troves c.in_ok-taken.ensures.made
-    c.add_all.new.table.troves c.add_all.new.table.marks c.add_all.new.table.len c.in_ok-add_all.ensures.indexed c.in_ok-add_all.ensures.sound
-    (λ name. c.in_ok-add_all.ensures.troves name ∙ ap (λ (l : List TroveParts). or_else (trove_of name l) (trove_at c.take_all.new.table.troves name)) c.as_slice-2.ensures.value)
-    c.one_result.ensures
-
-pub returns-clause-before : goal.returns-clause-before
-returns-clause-before c =
-    subst (AreChangedIds (troves_of c.add_all.new.table.troves) (troves_of c.args.table.troves)) (sym (c.new.ensures ∙ c.in_ok-before.ensures ∙ ap (map (λ (t : TroveParts). t.id)) c.as_slice.ensures.value))
-    (before_ids c.args.format c.args.table.troves c.take_all.new.table.troves c.args.table.marks c.take_all.new.table.marks c.args.table.len c.take_all.new.table.len c.args.deltas.now c.in_ok-taken.taken.made.items c.requires.held c.requires.rising c.in_ok-taken.ensures.indexed c.in_ok-taken.ensures.troves c.in_ok-taken.ensures.made
-    c.add_all.new.table.troves c.add_all.new.table.marks c.add_all.new.table.len c.in_ok-add_all.ensures.indexed c.in_ok-add_all.ensures.sound
-    (λ name. c.in_ok-add_all.ensures.troves name ∙ ap (λ (l : List TroveParts). or_else (trove_of name l) (trove_at c.take_all.new.table.troves name)) c.as_slice-2.ensures.value)
-    c.one_result.ensures)
-
-pub returns-clause-after : goal.returns-clause-after
-returns-clause-after c =
-    subst (AreChangedIds (troves_of c.args.table.troves) (troves_of c.add_all.new.table.troves)) (sym (c.new-2.ensures ∙ c.in_ok-taken.ensures.after))
-    (after_ids c.args.format c.args.table.troves c.take_all.new.table.troves c.args.table.marks c.take_all.new.table.marks c.args.table.len c.take_all.new.table.len c.args.deltas.now c.in_ok-taken.taken.made.items c.requires.held c.requires.rising c.in_ok-taken.ensures.indexed c.in_ok-taken.ensures.troves c.in_ok-taken.ensures.made
-    c.add_all.new.table.troves c.add_all.new.table.marks c.add_all.new.table.len c.in_ok-add_all.ensures.indexed c.in_ok-add_all.ensures.sound
-    (λ name. c.in_ok-add_all.ensures.troves name ∙ ap (λ (l : List TroveParts). or_else (trove_of name l) (trove_at c.take_all.new.table.troves name)) c.as_slice-2.ensures.value))
+    c.one_result.ensures (subst (λ (k : ℕ). c.add_all.new.table.len ≤ k) c.most_bytes.ensures c.if-table-most_bytes.false) in
+    record {
+      held = is.is_held;
+      past = is.past;
+      only = is.only;
+      before = subst (AreChangedIds (troves_of c.add_all.new.table.troves) (troves_of c.args.table.troves)) (sym (c.new.ensures ∙ c.in_ok-before.ensures ∙ ap (map (λ (t : TroveParts). t.id)) c.as_slice.ensures.value)) is.before;
+      after = subst (AreChangedIds (troves_of c.args.table.troves) (troves_of c.add_all.new.table.troves)) (sym (c.new-2.ensures ∙ c.in_ok-taken.ensures.after)) is.after;
+      bad = λ h before past. absurd (cc h);
+    }

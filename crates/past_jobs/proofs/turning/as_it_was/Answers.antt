@@ -9,6 +9,6 @@ pub returns-clause-value : goal.returns-clause-value
 returns-clause-value c =
     subst (λ (o : Option (Bor TroveParts)). TakesBackAt (Some (was c.args.was.now)) (option_copied o) (Some c.in_ok-copy-2.field-0)) (sym c.in-Some.is) (
       c.in_ok-copy-2.ensures,
-      sym c.id.ensures.value ∙ c.is_same_id.ensures.0 c.if-not-is_same_id.false ∙ c.id-2.ensures.value,
+      sym c.id.ensures.value ∙ c.is_same.ensures.0 c.if-not-is_same.false ∙ c.id-2.ensures.value,
       λ e. false≢true (sym c.if-branch.false ∙ c.in_ok-are_same.ensures.1 e),
     )

@@ -7,4 +7,4 @@ use Rattle.past_jobs.proofs.turning.before_coming.Goals as goal
 pub returns-clause-value : goal.returns-clause-value
 returns-clause-value c =
     subst (λ (o : Option (Bor TroveParts)). TakesBackAt (Some (came c.args.id.now)) (option_copied o) None) (sym c.in-Some.is)
-    (sym c.id.ensures.value ∙ c.is_same_id.ensures.0 c.if-not-is_same_id.false)
+    (sym c.id.ensures.value ∙ c.is_same.ensures.0 c.if-not-is_same.false)

@@ -4,7 +4,7 @@ use Rattle.repo_load.specs.tree-disk.Rows.{is_dir_at}
 use Rattle.repo_load.specs.tree-disk.Tree.{Tree}
 use Rattle.repo_load.specs.Files.{commit_file, contents_dir}
 use Rattle.repository.specs.Preparing.{content, IsWrittenName}
-use Rattle.repository.proofs.Preparations.{makes_stopped, prepares_makes, prepares_stop}
+use Rattle.tree_journal.proofs.Preparing.{makes_stopped, prepares_makes, prepares_stop}
 use Rattle.repository.proofs.Putting.{carried_is_unnamed}
 use Rattle.repository.proofs.Readying.{behind_prepared, dir_made, dirs_prepared, is_ready, unnamed_prepared}
 use Rattle.repository.proofs.Within.{behind_written, dirs_written}

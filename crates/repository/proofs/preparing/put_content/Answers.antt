@@ -5,7 +5,7 @@ use Rattle.repo_load.specs.tree-disk.Tree.{Name}
 use Rattle.repo_load.specs.content-store.Store.{content_path, stored}
 use Rattle.repo_load.specs.Files.{contents_dir}
 use Rattle.repository.proofs.Placing.{can_put, dir_stays, none_at, put_confined, put_stops}
-use Rattle.repository.proofs.Preparations.{makes_stopped, prepares_stop, prepares_then}
+use Rattle.tree_journal.proofs.Preparing.{makes_stopped, prepares_stop, prepares_then}
 use Rattle.repository.proofs.preparing.put_content.Goals as goal
 
 pub returns-in_err-clear : goal.returns-in_err-clear

@@ -4,7 +4,7 @@ use Rattle.std.proofs.lemmas.List.Elements.{All-nil}
 use Rattle.repo_load.proofs.tree-disk.ConfinedLaws.{confined_on, confined_start, confined_wider}
 use Rattle.change_set.specs.declared.change.Carried.{Carried}
 use Rattle.repository.specs.Preparing.{AreStored, IsCarriedName, IsStored}
-use Rattle.repository.proofs.Preparations.{prepares_stop}
+use Rattle.tree_journal.proofs.Preparing.{prepares_stop}
 use Rattle.repository.proofs.Putting.{carried_dir_kept, hash_at, put_is_carried, stored_more}
 use Rattle.repository.proofs.preparing.put_contents.Goals as goal
 

@@ -1,5 +1,5 @@
 use Rattle.std.proofs.Common.{sym, ◌∙◌}
-use Rattle.repository.proofs.Preparations.{prepares_weaker}
+use Rattle.tree_journal.proofs.Preparing.{prepares_weaker}
 use Rattle.repository.proofs.Putting.{nothing_put}
 use Rattle.repository.proofs.preparing.put_new.Goals as goal
 

@@ -1,8 +1,8 @@
-use Rattle.std.proofs.Common.{◌++◌, sym, ◌∙◌, arith}
-use Rattle.repo_load.specs.cny-base.declared.refusal.Refusal.TheVariants.{MissingRef}
-use Rattle.repo_load.specs.trove-parts.Id.{id_text_of}
+use Rattle.std.proofs.Common.{◌++◌, Some, sym, ap, ◌∙◌, arith}
+use Rattle.repo_load.specs.cny-base.declared.refusal.Fault.TheVariants.{Memory}
+use Rattle.repo_load.specs.cny-base.declared.refusal.Refusal.{Refusal}
 use Rattle.repository.specs.Tests.{missing_ref}
-use Rattle.repository.proofs.Lists.{verdict_of}
+use Rattle.repository.proofs.Lists.{verdict_stop}
 use Rattle.repository.proofs.References.{ids_end, ids_on, ids_stop}
 use Rattle.repository.proofs.refs.check_ids.Goals as goal
 
@@ -10,8 +10,12 @@ pub returns-then-not-is_there : goal.returns-then-not-is_there
 returns-then-not-is_there c =
     let all = c.args.committed.now.troves ++ c.args.added.now.troves in
     let id = c.id-item.result in
-    verdict_of (missing_ref all c.args.ids.now) (MissingRef (id_text_of id)) c.missing.result
-    (sym c.loop-id.invariant ∙ ids_stop all c.args.ids.now c.loop-id.id-index id (omega arith) c.id-item.is (sym c.is_there.ensures ∙ c.if-not-is_there.true)) c.missing.ensures
+    sym c.loop-id.invariant ∙ ids_stop all c.args.ids.now c.loop-id.id-index id (omega arith) c.id-item.is (sym c.is_there.ensures ∙ c.if-not-is_there.true) ∙ ap (λ (refused : Refusal). Some refused) (sym c.in_ok-refusal.ensures)
+
+pub returns-in_err-refusal : goal.returns-in_err-refusal
+returns-in_err-refusal c =
+    let test = missing_ref (c.args.committed.now.troves ++ c.args.added.now.troves) c.args.ids.now in
+    verdict_stop test test Memory c.from_residual.result tt c.from_residual.ensures.1 (λ refusal is. is)
 
 pub loop-id-preserved : goal.loop-id-preserved
 loop-id-preserved c =

@@ -9,15 +9,16 @@ use Rattle.std.proofs.lemmas.List.Elements.{All-nil, All-push}
 use Rattle.std.proofs.lemmas.Map.Iter.{iter_end, rest_more, rest_so_far}
 use Rattle.std.proofs.lemmas.Map.Views.{All-turn}
 use Rattle.job_targets.specs.cny-base.Count.{Rose}
-use Rattle.job_targets.specs.Old.{IsDamagedOld, IsOldStop}
+use Rattle.job_targets.specs.Old.{IsDamagedOld}
 use Rattle.job_targets.proofs.tree-disk.Moments.{rose_before}
 use Rattle.job_targets.specs.tree-disk.Tree.{Name, Tree}
 use Rattle.past_jobs.specs.declared.found.FoundMark.{FoundMark}
 use Rattle.rollback_stack.specs.Inverse.{HoldsOld}
+use Rattle.rollback_stack.specs.JobReading.{IsReadStop}
 use Rattle.rollback_stack.specs.Wanting.{HasWanted, IsFirstDamaged}
 use Rattle.rollback_stack.proofs.Finding.{all_wanted, none_wanted, one_held, one_wanted}
-use Rattle.rollback_stack.proofs.Later.{old_stop_then, read_as, read_start, read_then}
-use Rattle.rollback_stack.proofs.Stops.{if_err_from, no_ok}
+use Rattle.rollback_stack.proofs.Later.{read_as, read_start, read_stop_then, read_stopped, read_then}
+use Rattle.change_rel.proofs.cny-base.Faults.{passed_on}
 use Rattle.rollback_stack.proofs.back.old_nodes.Goals as goal
 
 pub loop-path-init : goal.loop-path-init
@@ -54,8 +55,7 @@ loop-path-preserved g c =
     }
 
 pub returns-in_err-want_found-clause-value : goal.returns-in_err-want_found-clause-value
-returns-in_err-want_found-clause-value g c tells =
-    read_as (read_then g.met.D.TreeDisk.laws (c.loop-path.invariant.read tells) (c.in_err-want_found.ensures.value tells)) (no_ok _ _ c.from_residual.result c.from_residual.ensures.1)
+returns-in_err-want_found-clause-value g c tells = read_stopped g.met.D.TreeDisk.laws _ _ c.from_residual.result (c.loop-path.invariant.read tells) (c.in_err-want_found.ensures.value tells) c.from_residual.ensures.1
 
 pub returns-in_err-want_found-clause-stops : goal.returns-in_err-want_found-clause-stops
 returns-in_err-want_found-clause-stops g c =
@@ -74,8 +74,8 @@ returns-in_err-want_found-clause-stops g c =
     gives.6 gives.0 c.loop-path.yielded_by c.in-Some.is c.next.ensures.steps in
     let rose = Rose (faults c.loop-path.disk) (faults c.want_found.new.disk) in
     let later = Rose (faults c.args.disk.now) (faults c.want_found.new.disk) in
-    if_err_from (IsOldStop told (IsFirstDamaged x found) later) c.from_residual.result e c.from_residual.ensures.1
-    (old_stop_then told (IsDamagedOld y f.number f.mark) (IsFirstDamaged x found) rose later e
+    passed_on (IsReadStop told (IsFirstDamaged x found) later) e c.from_residual.result
+    (read_stop_then told (IsDamagedOld y f.number f.mark) (IsFirstDamaged x found) rose later e
     (λ tells path damaged. record {
       front = map deref_pair c.loop-path.yielded;
       place = p;
@@ -90,7 +90,7 @@ returns-in_err-want_found-clause-stops g c =
       damaged = subst (λ (t : Tree). IsDamagedOld t f.number f.mark path) (so_far.read tells).same.reads damaged;
     })
     (λ r. rose_before (faults c.args.disk.now) (faults c.loop-path.disk) (faults c.want_found.new.disk) so_far.later r)
-    c.in_err-want_found.ensures.stops)
+    c.in_err-want_found.ensures.stops) c.from_residual.ensures.1
 
 pub returns-clause-value : goal.returns-clause-value
 returns-clause-value g c tells =

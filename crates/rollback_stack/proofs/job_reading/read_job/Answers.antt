@@ -1,13 +1,12 @@
 use Rattle.std.proofs.Common.{subst, sym}
 use Rattle.std.specs.Prelude.{IfErr, IfOk}
-use Rattle.std.proofs.lemmas.Result.{err_from_is_err_and}
 use Rattle.local_db.specs.cny-base.Count.{Rose}
 use Rattle.local_db.specs.declared.format.Format.{Format}
 use Rattle.rollback_stack.specs.declared.job_reading.Job.{Job}
 use Rattle.rollback_stack.specs.JobEntries.{entries_of}
 use Rattle.rollback_stack.specs.JobReading.{HoldsRecord, IsCheckStop, IsDamagedJob, IsJob, IsJobOf, IsReadStop, IsText}
 use Rattle.rollback_stack.proofs.HoldingRecords.{holds, stop_of_text, stop_without_text}
-use Rattle.change_rel.proofs.cny-base.Faults.{if_err_from}
+use Rattle.change_rel.proofs.cny-base.Faults.{passed_on}
 use Rattle.local_db.proofs.Holding.{if_err_map, if_ok_map}
 use Rattle.rollback_stack.proofs.job_reading.read_job.Goals as goal
 
@@ -17,9 +16,8 @@ returns-in_err-found-clause-stops g c =
     let x = g.D.TreeDisk.disk.reads c.args.disk.now in
     let rose = Rose (g.D.TreeDisk.disk.faults c.args.disk.now) (g.D.TreeDisk.disk.faults c.read_record.new.disk) in
     let after = c.args.list.now.troves in
-    if_err_from (IsReadStop told (IsDamagedJob c.args.format x c.args.number after) rose) c.from_residual.result c.in_err-found.field-0.0
-    (err_from_is_err_and c.from_residual.result c.from_residual.ensures.1)
-    (stop_without_text c.args.format x c.args.number after c.records_by_lists.ensures.read told rose c.in_err-found.field-0.0 c.in_err-found.ensures.stops)
+    passed_on (IsReadStop told (IsDamagedJob c.args.format x c.args.number after) rose) c.in_err-found.field-0.0 c.from_residual.result
+    (stop_without_text c.args.format x c.args.number after c.records_by_lists.ensures.read told rose c.in_err-found.field-0.0 c.in_err-found.ensures.stops) c.from_residual.ensures.1
 
 pub check_record-requires-clause-text : goal.check_record-requires-clause-text
 check_record-requires-clause-text g c = subst (λ (f : Format). IsText f c.args.number c.in_ok-found.found) (sym c.requires.format) c.in_ok-found.ensures.text

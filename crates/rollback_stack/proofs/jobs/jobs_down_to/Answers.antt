@@ -6,8 +6,8 @@ use Rattle.local_db.specs.declared.format.Format.TheVariants.{Two}
 use Rattle.job_targets.proofs.tree-disk.Moments.{rose_before}
 use Rattle.job_targets.specs.tree-disk.Tree.{Tree}
 use Rattle.rollback_stack.specs.Taking.{HasTakenJob, IsJobsStop}
-use Rattle.rollback_stack.proofs.Later.{read_as, read_start, read_then}
-use Rattle.rollback_stack.proofs.Stops.{if_err_from, no_ok}
+use Rattle.rollback_stack.proofs.Later.{read_as, read_start, read_stopped, read_then}
+use Rattle.change_rel.proofs.cny-base.Faults.{passed_on}
 use Rattle.rollback_stack.proofs.TakenBack.{take_stops}
 use Rattle.rollback_stack.proofs.TakingJobs.{none_taken, one_taken}
 use Rattle.rollback_stack.proofs.jobs.jobs_down_to.Goals as goal
@@ -23,8 +23,7 @@ loop-below-init g c = record {
 }
 
 pub returns-in_err-take_job-clause-value : goal.returns-in_err-take_job-clause-value
-returns-in_err-take_job-clause-value g c tells =
-    read_as (read_then g.met.D.TreeDisk.laws (c.loop-below.invariant.read tells) (c.in_err-take_job.ensures.value tells)) (no_ok _ _ c.from_residual-in_err-take_job.result c.from_residual-in_err-take_job.ensures.1)
+returns-in_err-take_job-clause-value g c tells = read_stopped g.met.D.TreeDisk.laws _ _ c.from_residual-in_err-take_job.result (c.loop-below.invariant.read tells) (c.in_err-take_job.ensures.value tells) c.from_residual-in_err-take_job.ensures.1
 
 pub returns-in_err-take_job-clause-stops : goal.returns-in_err-take_job-clause-stops
 returns-in_err-take_job-clause-stops g c =
@@ -39,11 +38,11 @@ returns-in_err-take_job-clause-stops g c =
     let made = c.requires.job.made in
     let rose = Rose (faults c.loop-below.disk) (faults c.take_job.new.disk) in
     let later = Rose (faults c.args.disk.now) (faults c.take_job.new.disk) in
-    if_err_from (IsJobsStop told x db c.args.number later) c.from_residual-in_err-take_job.result e c.from_residual-in_err-take_job.ensures.1
+    passed_on (IsJobsStop told x db c.args.number later) e c.from_residual-in_err-take_job.result
     (take_stops told x y db c.args.number below c.loop-below.back.list.troves c.loop-below.back.found rose later e
     (λ r. rose_before (faults c.args.disk.now) (faults c.loop-below.disk) (faults c.take_job.new.disk) so_far.later r)
     (λ tells. (so_far.read tells).same.reads) so_far.taken (omega (arith, c.loop-below-test.true, made))
-    c.in_err-take_job.ensures.stops)
+    c.in_err-take_job.ensures.stops) c.from_residual-in_err-take_job.ensures.1
 
 pub loop-below-preserved : goal.loop-below-preserved
 loop-below-preserved g c =

@@ -9,7 +9,7 @@ use Rattle.past_jobs.specs.Jobs.{AreFound}
 use Rattle.past_jobs.specs.Outcome.{CanUndoNext}
 use Rattle.rollback_stack.specs.Taking.{IsTakeStop}
 use Rattle.rollback_stack.proofs.Later.{read_as, read_then}
-use Rattle.rollback_stack.proofs.Stops.{if_err_from}
+use Rattle.change_rel.proofs.cny-base.Faults.{passed_on}
 use Rattle.rollback_stack.proofs.TakenBack.{take_read, take_refused}
 use Rattle.rollback_stack.proofs.jobs.take_job.Goals as goal
 
@@ -22,8 +22,8 @@ returns-in_err-job-clause-stops g c =
     let x = g.D.TreeDisk.disk.reads c.args.disk.now in
     let rose = Rose (g.D.TreeDisk.disk.faults c.args.disk.now) (g.D.TreeDisk.disk.faults c.read_job.new.disk) in
     let e = c.in_err-job.field-0.0 in
-    if_err_from (IsTakeStop told x c.args.number c.args.back.now.list.troves c.args.back.now.found rose) c.from_residual.result e c.from_residual.ensures.1
-    (take_read told x c.args.number c.args.back.now.list.troves c.args.back.now.found rose rose e (λ r. r) c.in_err-job.ensures.stops)
+    passed_on (IsTakeStop told x c.args.number c.args.back.now.list.troves c.args.back.now.found rose) e c.from_residual.result
+    (take_read told x c.args.number c.args.back.now.list.troves c.args.back.now.found rose rose e (λ r. r) c.in_err-job.ensures.stops) c.from_residual.ensures.1
 
 pub returns-in_err-check_undo-clause-stops : goal.returns-in_err-check_undo-clause-stops
 returns-in_err-check_undo-clause-stops g c =
@@ -37,11 +37,11 @@ returns-in_err-check_undo-clause-stops g c =
     let after = c.args.back.now.list.troves in
     let before = c.read_job.new.list.troves in
     let es = entries_of c.in_ok-job.job.changes.items in
-    if_err_from (IsTakeStop told x c.args.number after c.args.back.now.found later) c.from_residual-in_err-check_undo.result e c.from_residual-in_err-check_undo.ensures.1
+    passed_on (IsTakeStop told x c.args.number after c.args.back.now.found later) e c.from_residual-in_err-check_undo.result
     (take_refused told x y c.args.number after before es c.as_slice-own.result.now c.args.back.now.found rose later e
     (λ r. rose_before (faults c.args.disk.now) (faults c.read_job.new.disk) (faults c.check_undo.new.disk) c.in_ok-job.ensures.later r)
     (λ tells. (c.in_ok-job.ensures.value tells).answer) (c.as_slice-own.ensures.value ∙ c.in_ok-changes.ensures) (λ tells. (c.in_ok-job.ensures.value tells).same.reads)
-    c.in_err-check_undo.ensures.stops)
+    c.in_err-check_undo.ensures.stops) c.from_residual-in_err-check_undo.ensures.1
 
 pub returns-clause-installed : goal.returns-clause-installed
 returns-clause-installed g c = c.in_ok-job.ensures.job.checks.list

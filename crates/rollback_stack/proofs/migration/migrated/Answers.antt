@@ -5,7 +5,7 @@ use Rattle.job_targets.specs.tree-disk.Tree.{Tree}
 use Rattle.rollback_stack.specs.Migrated.{AreWritesOf, IsMigratedStop, IsOldDatabase}
 use Rattle.rollback_stack.proofs.Later.{read_as, read_then}
 use Rattle.rollback_stack.proofs.Migrating.{migration_is, no_database_stop, records_stop}
-use Rattle.rollback_stack.proofs.Stops.{if_err_from}
+use Rattle.change_rel.proofs.cny-base.Faults.{passed_on}
 use Rattle.rollback_stack.proofs.migration.migrated.Goals as goal
 
 pub returns-in_err-found-clause-stops : goal.returns-in_err-found-clause-stops
@@ -14,7 +14,7 @@ returns-in_err-found-clause-stops g c =
     let x = g.D.TreeDisk.disk.reads c.args.disk.now in
     let rose = Rose (g.D.TreeDisk.disk.faults c.args.disk.now) (g.D.TreeDisk.disk.faults c.old_database.new.disk) in
     let e = c.in_err-found.field-0.0 in
-    if_err_from (IsMigratedStop told x rose) c.from_residual.result e c.from_residual.ensures.1 (no_database_stop told x rose e c.in_err-found.ensures.stops)
+    passed_on (IsMigratedStop told x rose) e c.from_residual.result (no_database_stop told x rose e c.in_err-found.ensures.stops) c.from_residual.ensures.1
 
 pub returns-in_err-puts-clause-stops : goal.returns-in_err-puts-clause-stops
 returns-in_err-puts-clause-stops g c =
@@ -26,11 +26,11 @@ returns-in_err-puts-clause-stops g c =
     let rose = Rose (faults c.old_database.new.disk) (faults c.writes_of.new.disk) in
     let later = Rose (faults c.args.disk.now) (faults c.writes_of.new.disk) in
     let e = c.in_err-puts.field-0.0 in
-    if_err_from (IsMigratedStop told x later) c.from_residual-in_err-puts.result e c.from_residual-in_err-puts.ensures.1
+    passed_on (IsMigratedStop told x later) e c.from_residual-in_err-puts.result
     (records_stop told x y db rose later e
     (λ tells. (subst (IsOldDatabase x) c.in-Some.is (c.in_ok-found.ensures.value tells).answer).1)
     (λ r. rose_before (faults c.args.disk.now) (faults c.old_database.new.disk) (faults c.writes_of.new.disk) c.in_ok-found.ensures.later r)
-    (λ tells. (c.in_ok-found.ensures.value tells).same.reads) c.in_err-puts.ensures.stops)
+    (λ tells. (c.in_ok-found.ensures.value tells).same.reads) c.in_err-puts.ensures.stops) c.from_residual-in_err-puts.ensures.1
 
 pub returns-clause-value : goal.returns-clause-value
 returns-clause-value g c tells =

@@ -1,13 +1,13 @@
 use Rattle.std.proofs.Common.{◌∙◌, sym, subst}
 use Rattle.job_targets.specs.cny-base.Count.{Rose}
 use Rattle.rollback_stack.specs.JobEntries.{entries_of}
-use Rattle.rollback_stack.specs.JobReading.{IsDamagedJob, IsReadStop, IsText}
+use Rattle.rollback_stack.specs.JobReading.{IsCheckStop, IsDamagedJob, IsJobOf, IsReadStop, IsText}
 use Rattle.local_db.specs.declared.format.Format.{Format}
 use Rattle.local_db.specs.declared.format.Format.TheVariants.{One, Two}
 use Rattle.job_targets.specs.tree-disk.Tree.{Name}
 use Rattle.rollback_stack.specs.Migrated.{HasFile}
 use Rattle.rollback_stack.proofs.Later.{read_as}
-use Rattle.rollback_stack.proofs.Stops.{if_err_from}
+use Rattle.change_rel.proofs.cny-base.Faults.{passed_on}
 use Rattle.rollback_stack.proofs.HoldingRecords.{holds, stop_of_text, stop_without_text}
 use Rattle.rollback_stack.proofs.migration.want_record.Goals as goal
 
@@ -30,8 +30,8 @@ returns-in_err-found-clause-stops g c =
     let rose = Rose (g.D.TreeDisk.disk.faults c.args.disk.now) (g.D.TreeDisk.disk.faults c.read_record.new.disk) in
     let after = c.args.list.now.troves in
     let e = c.in_err-found.field-0.0 in
-    if_err_from (IsReadStop told (IsDamagedJob One x c.args.number after) rose) c.from_residual.result e c.from_residual.ensures.1
-    (stop_without_text One x c.args.number after c.records_by_lists.ensures.read told rose e c.in_err-found.ensures.stops)
+    passed_on (IsReadStop told (IsDamagedJob One x c.args.number after) rose) e c.from_residual.result
+    (stop_without_text One x c.args.number after c.records_by_lists.ensures.read told rose e c.in_err-found.ensures.stops) c.from_residual.ensures.1
 
 pub returns-in_err-job-clause-stops : goal.returns-in_err-job-clause-stops
 returns-in_err-job-clause-stops g c =
@@ -42,9 +42,9 @@ returns-in_err-job-clause-stops g c =
     let n = c.args.number in
     let r = c.in_ok-found.found in
     let e = c.in_err-job.field-0.0 in
-    if_err_from (IsReadStop told (IsDamagedJob One x n after) rose) c.from_residual-in_err-job.result e c.from_residual-in_err-job.ensures.1
+    passed_on (IsReadStop told (IsDamagedJob One x n after) rose) e c.from_residual-in_err-job.result
     (stop_of_text One x n after c.records_by_lists.ensures.read c.distinct_records.ensures.unique told rose r (λ tells. (c.in_ok-found.ensures.value tells).answer) e
-    (subst (λ (f : Format). Rattle.rollback_stack.specs.JobReading.IsCheckStop f n r after e) c.requires.format c.in_err-job.ensures.stops))
+    (subst (λ (f : Format). IsCheckStop f n r after e) c.requires.format c.in_err-job.ensures.stops)) c.from_residual-in_err-job.ensures.1
 
 pub returns-clause-value : goal.returns-clause-value
 returns-clause-value g c tells =
@@ -57,7 +57,7 @@ returns-clause-value g c tells =
     let es = entries_of job.changes.items in
     let run = c.in_ok-found.ensures.value tells in
     let t = c.in_ok-found.ensures.text.text in
-    let is = subst (λ (f : Format). Rattle.rollback_stack.specs.JobReading.IsJobOf f n r after before job) c.requires.format c.in_ok-job.ensures.value in
+    let is = subst (λ (f : Format). IsJobOf f n r after before job) c.requires.format c.in_ok-job.ensures.value in
     read_as run (record {
       es = es;
       bytes = c.in_ok-bytes.bytes;

@@ -7,9 +7,8 @@ use Rattle.job_targets.proofs.tree-disk.Moments.{rose_before}
 use Rattle.job_targets.specs.tree-disk.Tree.{Tree}
 use Rattle.rollback_stack.specs.Migrated.{AreRewritten, HasRewritten}
 use Rattle.rollback_stack.specs.Numbers.{job_count}
-use Rattle.rollback_stack.proofs.Later.{read_as, read_start, read_then}
-use Rattle.rollback_stack.proofs.Migrating.{read_stop_map}
-use Rattle.rollback_stack.proofs.Stops.{if_err_from, no_ok}
+use Rattle.rollback_stack.proofs.Later.{read_as, read_start, read_stop_then, read_stopped, read_then}
+use Rattle.change_rel.proofs.cny-base.Faults.{passed_on}
 use Rattle.rollback_stack.proofs.Noting.{count_is, none_of_none}
 use Rattle.rollback_stack.proofs.Rewriting.{all_rewritten, damaged_after, least, most, none_added, none_rewritten, one_rewritten}
 use Rattle.rollback_stack.proofs.migration.want_records.Goals as goal
@@ -24,8 +23,7 @@ loop-below-init g c = record {
 }
 
 pub returns-in_err-want_record-clause-value : goal.returns-in_err-want_record-clause-value
-returns-in_err-want_record-clause-value g c tells =
-    read_as (read_then g.met.D.TreeDisk.laws (c.loop-below.invariant.read tells) (c.in_err-want_record.ensures.value tells)) (no_ok _ _ c.from_residual-in_err-want_record.result c.from_residual-in_err-want_record.ensures.1)
+returns-in_err-want_record-clause-value g c tells = read_stopped g.met.D.TreeDisk.laws _ _ c.from_residual-in_err-want_record.result (c.loop-below.invariant.read tells) (c.in_err-want_record.ensures.value tells) c.from_residual-in_err-want_record.ensures.1
 
 pub returns-in_err-want_record-clause-stops : goal.returns-in_err-want_record-clause-stops
 returns-in_err-want_record-clause-stops g c =
@@ -43,12 +41,12 @@ returns-in_err-want_record-clause-stops g c =
     let counts = count_is db.oldest db.newest c.requires.ends c.if-db-eq0.false in
     let rose = Rose (faults c.loop-below.disk) (faults c.want_record.new.disk) in
     let later = Rose (faults c.args.disk.now) (faults c.want_record.new.disk) in
-    if_err_from (IsReadStop told (IsDamagedRecord One x count db.newest db.installed) later) c.from_residual-in_err-want_record.result e c.from_residual-in_err-want_record.ensures.1
-    (read_stop_map told (IsDamagedJob One y number list) (IsDamagedRecord One x count db.newest db.installed) rose later e
+    passed_on (IsReadStop told (IsDamagedRecord One x count db.newest db.installed) later) e c.from_residual-in_err-want_record.result
+    (read_stop_then told (IsDamagedJob One y number list) (IsDamagedRecord One x count db.newest db.installed) rose later e
     (λ tells path damaged. damaged_after x db.newest below count db.installed list c.args.wants.now c.loop-below.wants path (so_far.rewritten tells) (omega (arith, counts, c.loop-below-test.true))
     (subst (λ (t : Tree). IsDamagedJob One t number list path) (so_far.read tells).same.reads damaged))
     (λ r. rose_before (faults c.args.disk.now) (faults c.loop-below.disk) (faults c.want_record.new.disk) so_far.later r)
-    c.in_err-want_record.ensures.stops)
+    c.in_err-want_record.ensures.stops) c.from_residual-in_err-want_record.ensures.1
 
 pub loop-below-preserved : goal.loop-below-preserved
 loop-below-preserved g c =

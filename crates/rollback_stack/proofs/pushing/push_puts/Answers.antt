@@ -2,7 +2,6 @@ use Rattle.std.proofs.Common.{List, All, sym, subst, ◌∙◌}
 use Rattle.std.specs.List.Sorted.{IsStrictlySortedBy}
 use Rattle.local_db.specs.Record.{Entry, IsEntry, IsRecord, entry_cmp}
 use Rattle.local_db.specs.declared.format.Format.TheVariants.{Two}
-use Rattle.rollback_stack.specs.Saving.{dropped_below}
 use Rattle.rollback_stack.proofs.Pushed.{confined_as, keeps_start, next_as, saved_as, stopped_push}
 use Rattle.rollback_stack.proofs.pushing.push_puts.Goals as goal
 
@@ -27,13 +26,10 @@ pub save_job-requires-clause-given : goal.save_job-requires-clause-given
 save_job-requires-clause-given g c = c.requires.entries.given
 
 pub returns-in_err-save_job-clause-confined : goal.returns-in_err-save_job-clause-confined
-returns-in_err-save_job-clause-confined g c tells =
-    confined_as c.args.db.now.newest c.dropped_number-dropped.result (dropped_below c.args.db.now.oldest) c.dropped_number-dropped.ensures (c.in_err-save_job.ensures.saves.confined tells)
+returns-in_err-save_job-clause-confined g c tells = confined_as c.args.db.now.newest c.dropped_number-dropped.ensures (c.in_err-save_job.ensures.saves.confined tells)
 
 pub returns-in_err-save_job-clause-keeps : goal.returns-in_err-save_job-clause-keeps
-returns-in_err-save_job-clause-keeps g c f s next tells synced stores =
-    c.in_err-save_job.ensures.keeps f s
-    (next_as s c.args.db.now.newest c.dropped_number-dropped.result (dropped_below c.args.db.now.oldest) c.dropped_number-dropped.ensures next) tells synced stores
+returns-in_err-save_job-clause-keeps g c f s next tells synced stores = c.in_err-save_job.ensures.keeps f s (next_as c.dropped_number-dropped.ensures next) tells synced stores
 
 pub returns-in_err-save_job-clause-stops : goal.returns-in_err-save_job-clause-stops
 returns-in_err-save_job-clause-stops g c =
@@ -46,18 +42,14 @@ returns-clause-pushed g c tells = record {
   text = subst (λ (es : List Entry). IsRecord Two c.args.db.now.newest c.args.before.now c.args.db.now.installed es c.in_ok-bytes.bytes)
       (c.as_slice.ensures.value ∙ c.in_ok-changes.ensures.given c.requires.entries.given) c.in_ok-bytes.ensures;
   puts_are = c.in_ok-puts.ensures;
-  ready = saved_as c.args.db.now.newest c.dropped_number-dropped.result (dropped_below c.args.db.now.oldest) c.args.entries.now (g.D.TreeDisk.disk.reads c.save_job.new.disk)
-      c.dropped_number-dropped.ensures (c.in_ok-save_job.ensures.saves.ends tells);
+  ready = saved_as c.dropped_number-dropped.ensures (c.in_ok-save_job.ensures.saves.ends tells);
 }
 
 pub returns-clause-confined : goal.returns-clause-confined
-returns-clause-confined g c tells =
-    confined_as c.args.db.now.newest c.dropped_number-dropped.result (dropped_below c.args.db.now.oldest) c.dropped_number-dropped.ensures (c.in_ok-save_job.ensures.saves.confined tells)
+returns-clause-confined g c tells = confined_as c.args.db.now.newest c.dropped_number-dropped.ensures (c.in_ok-save_job.ensures.saves.confined tells)
 
 pub returns-clause-keeps : goal.returns-clause-keeps
-returns-clause-keeps g c f s next tells synced stores =
-    c.in_ok-save_job.ensures.keeps f s
-    (next_as s c.args.db.now.newest c.dropped_number-dropped.result (dropped_below c.args.db.now.oldest) c.dropped_number-dropped.ensures next) tells synced stores
+returns-clause-keeps g c f s next tells synced stores = c.in_ok-save_job.ensures.keeps f s (next_as c.dropped_number-dropped.ensures next) tells synced stores
 
 pub returns-clause-written : goal.returns-clause-written
 returns-clause-written g c = record { number = c.args.db.now.newest; mode = 420; bytes = c.in_ok-bytes.bytes; puts_are = c.in_ok-puts.ensures }

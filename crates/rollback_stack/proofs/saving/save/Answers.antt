@@ -1,4 +1,4 @@
-use Rattle.rollback_stack.proofs.Preparations.{makes_stopped, prepares_stop, prepares_then}
+use Rattle.job_targets.proofs.tree-journal.Preparing.{makes_stopped, prepares_stop, prepares_then}
 use Rattle.rollback_stack.proofs.Putting.{can_put, content_name, dir_name, may_still, put_stops}
 use Rattle.std.proofs.Common.{◌∙◌, ap}
 use Rattle.sha1.specs.Sha1.{sha1}

@@ -12,7 +12,7 @@ use Rattle.job_targets.specs.declared.entry.Entry.{Entry}
 use Rattle.rollback_stack.specs.Saving.{HoldsOld}
 use Rattle.rollback_stack.proofs.Keeping.{base_stays}
 use Rattle.rollback_stack.proofs.Places.{saved_parent}
-use Rattle.rollback_stack.proofs.Preparations.{prepares_stop}
+use Rattle.job_targets.proofs.tree-journal.Preparing.{prepares_stop}
 use Rattle.rollback_stack.proofs.Saved.{are_saved, entry_within, holds_more_in, holds_none, may_hold_in}
 use Rattle.job_targets.proofs.Paths.{saved_short}
 use Rattle.rollback_stack.proofs.saving.save_all.Goals as goal

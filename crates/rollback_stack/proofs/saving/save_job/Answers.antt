@@ -1,5 +1,5 @@
 use Rattle.rollback_stack.proofs.Keeping.{base_ready, is_saved_job, keeps_system, saved_ready, saving_within}
-use Rattle.rollback_stack.proofs.Preparations.{makes_stopped, prepares_stop, prepares_then}
+use Rattle.job_targets.proofs.tree-journal.Preparing.{makes_stopped, prepares_stop, prepares_then}
 use Rattle.std.proofs.Common.{arith}
 use Rattle.job_targets.proofs.tree-disk.ConfinedLaws.{confined_then, confined_wider}
 use Rattle.rollback_stack.proofs.saving.save_job.Goals as goal

@@ -1,5 +1,5 @@
 use Rattle.std.proofs.Common.{sym}
-use Rattle.rollback_stack.proofs.Preparations.{prepares_weaker}
+use Rattle.job_targets.proofs.tree-journal.Preparing.{prepares_weaker}
 use Rattle.rollback_stack.proofs.Saved.{nothing_saved, own_name, own_saved, run_stopped}
 use Rattle.rollback_stack.proofs.saving.save_old.Goals as goal
 

@@ -1,24 +1,22 @@
 use Rattle.std.proofs.Common.{◌-◌, sym, ◌∙◌, subst, arith}
 use Rattle.job_targets.specs.cny-base.Count.{Rose}
 use Rattle.rollback_stack.specs.JobEntries as records
-use Rattle.rollback_stack.specs.JobReading.{HoldsRecord, IsDamagedJob}
+use Rattle.rollback_stack.specs.JobReading.{HoldsRecord, IsDamagedJob, IsDamagedRecord}
 use Rattle.local_db.specs.declared.format.Format.TheVariants.{Two}
 use Rattle.job_targets.proofs.tree-disk.Moments.{rose_before}
 use Rattle.job_targets.specs.tree-disk.Tree.{Tree}
 use Rattle.rollback_stack.specs.Numbers.{job_count}
 use Rattle.rollback_stack.specs.Reading.{AreNotes, IsAllStop}
-use Rattle.rollback_stack.proofs.Later.{read_as, read_then}
-use Rattle.rollback_stack.proofs.Stops.{all_read, if_err_from, no_ok}
+use Rattle.rollback_stack.proofs.Later.{read_as, read_stop_then, read_stopped, read_then}
+use Rattle.change_rel.proofs.cny-base.Faults.{passed_on}
 use Rattle.rollback_stack.proofs.Noting.{all_noted, count_is, damaged_next, noted_as, one_noted}
 use Rattle.rollback_stack.proofs.stack.all.Goals as goal
 
 pub returns-in_err-job-clause-value : goal.returns-in_err-job-clause-value
-returns-in_err-job-clause-value g c tells =
-    read_as (read_then g.met.D.TreeDisk.laws (c.loop-below.invariant.read tells) (c.in_err-job.ensures.value tells)) (no_ok _ _ c.from_residual-in_err-job.result c.from_residual-in_err-job.ensures.1)
+returns-in_err-job-clause-value g c tells = read_stopped g.met.D.TreeDisk.laws _ _ c.from_residual-in_err-job.result (c.loop-below.invariant.read tells) (c.in_err-job.ensures.value tells) c.from_residual-in_err-job.ensures.1
 
 pub returns-in_err-push-clause-value : goal.returns-in_err-push-clause-value
-returns-in_err-push-clause-value g c tells =
-    read_as (read_then g.met.D.TreeDisk.laws (c.loop-below.invariant.read tells) (c.in_ok-job.ensures.value tells)) (no_ok _ _ c.from_residual-in_err-push.result c.from_residual-in_err-push.ensures.1)
+returns-in_err-push-clause-value g c tells = read_stopped g.met.D.TreeDisk.laws _ _ c.from_residual-in_err-push.result (c.loop-below.invariant.read tells) (c.in_ok-job.ensures.value tells) c.from_residual-in_err-push.ensures.1
 
 pub returns-in_err-job-clause-stops : goal.returns-in_err-job-clause-stops
 returns-in_err-job-clause-stops g c =
@@ -35,13 +33,13 @@ returns-in_err-job-clause-stops g c =
     let counts = count_is db.oldest db.newest c.requires.db.ends c.if-db-eq0.false in
     let rose = Rose (faults c.loop-below.disk) (faults c.read_job.new.disk) in
     let later = Rose (faults c.args.disk.now) (faults c.read_job.new.disk) in
-    if_err_from (IsAllStop told x count db.newest db.installed later) c.from_residual-in_err-job.result e c.from_residual-in_err-job.ensures.1
-    (all_read told (IsDamagedJob Two (g.D.TreeDisk.disk.reads c.loop-below.disk) number list) rose later x count db.newest db.installed e
+    passed_on (IsAllStop told x count db.newest db.installed later) e c.from_residual-in_err-job.result
+    (read_stop_then told (IsDamagedJob Two (g.D.TreeDisk.disk.reads c.loop-below.disk) number list) (IsDamagedRecord Two x count db.newest db.installed) rose later e
     (λ tells path damaged.
     let here = subst (λ (t : Tree). IsDamagedJob Two t number list path) (so_far.read tells).same.reads damaged in
     damaged_next x db.newest below count db.installed list c.loop-below.notes.items path (so_far.noted tells) (omega (arith, counts, c.loop-below-test.true)) here.0 here.1)
     (λ r. rose_before (faults c.args.disk.now) (faults c.loop-below.disk) (faults c.read_job.new.disk) so_far.later r)
-    c.in_err-job.ensures.stops)
+    c.in_err-job.ensures.stops) c.from_residual-in_err-job.ensures.1
 
 pub loop-below-preserved : goal.loop-below-preserved
 loop-below-preserved g c =

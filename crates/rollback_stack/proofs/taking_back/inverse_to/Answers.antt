@@ -10,7 +10,7 @@ use Rattle.job_targets.specs.trove-stream.declared.parts.TroveParts.{TroveParts}
 use Rattle.rollback_stack.specs.Inverse.{IsBackStop}
 use Rattle.rollback_stack.specs.Wanting.{AreWanted}
 use Rattle.rollback_stack.proofs.Later.{read_as, read_then}
-use Rattle.rollback_stack.proofs.Stops.{if_err_from}
+use Rattle.change_rel.proofs.cny-base.Faults.{passed_on}
 use Rattle.rollback_stack.proofs.TakenBack.{back_to, content_stop, job_stop, no_job}
 use Rattle.rollback_stack.proofs.taking_back.inverse_to.Goals as goal
 
@@ -20,8 +20,8 @@ returns-in_err-check_number-clause-stops g c =
     let x = g.D.TreeDisk.disk.reads c.args.disk.now in
     let rose = Rose (g.D.TreeDisk.disk.faults c.args.disk.now) (g.D.TreeDisk.disk.faults c.args.disk.now) in
     let e = c.in_err-check_number.field-0.0 in
-    if_err_from (IsBackStop told x c.args.db.now c.args.number rose) c.from_residual.result e c.from_residual.ensures.1
-    (no_job told x c.args.db.now c.args.number rose e c.in_err-check_number.ensures.stops)
+    passed_on (IsBackStop told x c.args.db.now c.args.number rose) e c.from_residual.result
+    (no_job told x c.args.db.now c.args.number rose e c.in_err-check_number.ensures.stops) c.from_residual.ensures.1
 
 pub returns-in_err-back-clause-stops : goal.returns-in_err-back-clause-stops
 returns-in_err-back-clause-stops g c =
@@ -29,8 +29,8 @@ returns-in_err-back-clause-stops g c =
     let x = g.D.TreeDisk.disk.reads c.args.disk.now in
     let rose = Rose (g.D.TreeDisk.disk.faults c.args.disk.now) (g.D.TreeDisk.disk.faults c.jobs_down_to.new.disk) in
     let e = c.in_err-back.field-0.0 in
-    if_err_from (IsBackStop told x c.args.db.now c.args.number rose) c.from_residual-in_err-back.result e c.from_residual-in_err-back.ensures.1
-    (job_stop told x c.args.db.now c.args.number rose e c.in_ok-check_number.ensures.job c.in_err-back.ensures.stops)
+    passed_on (IsBackStop told x c.args.db.now c.args.number rose) e c.from_residual-in_err-back.result
+    (job_stop told x c.args.db.now c.args.number rose e c.in_ok-check_number.ensures.job c.in_err-back.ensures.stops) c.from_residual-in_err-back.ensures.1
 
 pub returns-in_err-wants-clause-stops : goal.returns-in_err-wants-clause-stops
 returns-in_err-wants-clause-stops g c =
@@ -42,10 +42,10 @@ returns-in_err-wants-clause-stops g c =
     let rose = Rose (faults c.jobs_down_to.new.disk) (faults c.old_nodes.new.disk) in
     let later = Rose (faults c.args.disk.now) (faults c.old_nodes.new.disk) in
     let e = c.in_err-wants.field-0.0 in
-    if_err_from (IsBackStop told x c.args.db.now c.args.number later) c.from_residual-in_err-wants.result e c.from_residual-in_err-wants.ensures.1
+    passed_on (IsBackStop told x c.args.db.now c.args.number later) e c.from_residual-in_err-wants.result
     (content_stop told x y c.args.db.now c.args.number back.list.troves back.found rose later e c.in_ok-check_number.ensures.job (λ tells. (c.in_ok-back.ensures.value tells).answer)
     (λ r. rose_before (faults c.args.disk.now) (faults c.jobs_down_to.new.disk) (faults c.old_nodes.new.disk) c.in_ok-back.ensures.later r)
-    (λ tells. (c.in_ok-back.ensures.value tells).same.reads) c.in_err-wants.ensures.stops)
+    (λ tells. (c.in_ok-back.ensures.value tells).same.reads) c.in_err-wants.ensures.stops) c.from_residual-in_err-wants.ensures.1
 
 pub returns-clause-fits : goal.returns-clause-fits
 returns-clause-fits g c =

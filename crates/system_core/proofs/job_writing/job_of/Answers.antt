@@ -3,7 +3,7 @@ use Rattle.local_db.specs.declared.format.Format.TheVariants.{Two}
 use Rattle.local_db.specs.Formats.{Fits}
 use Rattle.local_db.specs.declared.db.Db.{Db}
 use Rattle.system_core.proofs.JobChanges.{same_lists, something}
-use Rattle.system_core.proofs.JobEnding.{last_fault, passes_size}
+use Rattle.system_core.proofs.JobEnding.{job_is, last_fault, passes_size}
 use Rattle.system_core.proofs.job_writing.job_of.Goals as goal
 
 pub returns-then-is_nothing-clause-none : goal.returns-then-is_nothing-clause-none
@@ -25,12 +25,9 @@ returns-in_err-bytes-clause-refused c =
     (ap (λ (d : Db). d.installed) c.db_after-after.ensures) c.in_err-bytes.ensures.refused
 
 pub returns-clause-some : goal.returns-clause-some
-returns-clause-some c = record {
-  db_is = c.db_after-after.ensures;
-  names_are = c.in_ok-names.ensures;
-  fits = subst (Fits Two) (ap (λ (d : Db). d.installed) c.db_after-after.ensures) c.in_ok-bytes.ensures.fits;
-  text = c.in_ok-bytes.ensures.value;
-}
+returns-clause-some c =
+    job_is c.args.db.now c.args.list c.in_ok-names.names.items c.db_after-after.result c.in_ok-bytes.bytes c.db_after-after.ensures c.in_ok-bytes.ensures.room c.requires.db c.requires.list
+    c.in_ok-bytes.ensures.fits c.in_ok-names.ensures c.in_ok-bytes.ensures.value
 
 pub returns-clause-passes : goal.returns-clause-passes
 returns-clause-passes c = record {

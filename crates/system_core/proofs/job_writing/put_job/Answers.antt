@@ -7,7 +7,7 @@ use Rattle.local_db.specs.declared.format.Format.TheVariants.{Two}
 use Rattle.local_db.specs.Steps.{after_job, IsUnion}
 use Rattle.rollback_stack.specs.Saving.{dropped_below}
 use Rattle.system_core.specs.JobWriting.{database_write}
-use Rattle.system_core.proofs.JobRunning.{after_stored, can_write, joined, next_job, settled, stopped_before}
+use Rattle.system_core.proofs.JobRunning.{after_stored, can_write, joined, next_job, only_pushed, settled}
 use Rattle.system_core.proofs.Resting.{put_rests}
 use Rattle.system_core.proofs.JobEnding.{last_stops}
 use Rattle.system_core.proofs.job_writing.put_job.Goals as goal
@@ -16,20 +16,10 @@ pub push_puts-requires-clause-dir : goal.push_puts-requires-clause-dir
 push_puts-requires-clause-dir g c tells = (c.requires.told tells).pinned
 
 pub returns-in_err-pushed-clause-goes : goal.returns-in_err-pushed-clause-goes
-returns-in_err-pushed-clause-goes g c tells s stores from =
-    let can = c.requires.told tells in
-    let db = c.args.db.now in
-    let puts = c.args.targets in
-    stopped_before db.newest (dropped_below db.oldest) puts c.args.root.now c.push_puts.new.disk can.flag_clear can.synced (c.in_err-pushed.ensures.confined tells) s (after_job puts db.installed s)
-    (c.in_err-pushed.ensures.keeps Two s (next_job puts c.args.before.now db s from) tells (λ q counted. can.synced q) stores) _ c.from_residual.result c.from_residual.ensures.1
+returns-in_err-pushed-clause-goes g c tells s stores from = only_pushed tells (c.requires.told tells) (c.in_err-pushed.ensures.confined tells) c.in_err-pushed.ensures.keeps stores from _ c.from_residual.ensures.1
 
 pub returns-in_err-all-clause-goes : goal.returns-in_err-all-clause-goes
-returns-in_err-all-clause-goes g c tells s stores from =
-    let can = c.requires.told tells in
-    let db = c.args.db.now in
-    let puts = c.args.targets in
-    stopped_before db.newest (dropped_below db.oldest) puts c.args.root.now c.push_puts.new.disk can.flag_clear can.synced (c.in_ok-pushed.ensures.confined tells) s (after_job puts db.installed s)
-    (c.in_ok-pushed.ensures.keeps Two s (next_job puts c.args.before.now db s from) tells (λ q counted. can.synced q) stores) _ c.from_residual-in_err-all.result c.from_residual-in_err-all.ensures.1
+returns-in_err-all-clause-goes g c tells s stores from = only_pushed tells (c.requires.told tells) (c.in_ok-pushed.ensures.confined tells) c.in_ok-pushed.ensures.keeps stores from _ c.from_residual-in_err-all.ensures.1
 
 pub write_all-requires : goal.write_all-requires
 write_all-requires g c = record {

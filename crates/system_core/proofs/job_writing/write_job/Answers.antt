@@ -1,8 +1,8 @@
-use Rattle.std.proofs.Common.{refl, sym, subst}
+use Rattle.std.proofs.Common.{refl, sym, subst, arith}
 use Rattle.job_targets.specs.Agree.{AllAgree}
 use Rattle.rollback_stack.specs.job-record.Changed.{AreChangedNames}
 use Rattle.rollback_stack.specs.Entries.{AreEntries}
-use Rattle.system_core.proofs.JobEnding.{can_put, holds_after, is_database, is_first, job_from, names_db, next_is, pushed_stops, refused_job, refused_stops, stopped_answer, stopped_job, written_job}
+use Rattle.system_core.proofs.JobEnding.{can_put, holds_after, job_from, pushed_stops, refused_job, refused_stops, stopped_answer, stopped_job, written_job}
 use Rattle.system_core.proofs.job_writing.write_job.Goals as goal
 
 pub returns-in_err-job-clause-ends : goal.returns-in_err-job-clause-ends
@@ -17,20 +17,15 @@ pub returns-in_err-job-clause-answers : goal.returns-in_err-job-clause-answers
 returns-in_err-job-clause-answers g c = stopped_answer c.args.db.now c.args.db.now c.args.list c.args.puts c.from_residual.result _ refl c.from_residual.ensures.1
 
 pub put_job-requires-clause-db : goal.put_job-requires-clause-db
-put_job-requires-clause-db g c =
-    let job = c.in-Some.job in
-    is_database c.args.db.now c.args.list c.args.puts c.args.entries job.names.items job.db job.bytes (rw c.in-Some.is at c.in_ok-job.ensures.some) (let passes = rw c.in-Some.is at c.in_ok-job.ensures.passes in passes.room) c.requires.db c.requires.list
+put_job-requires-clause-db g c = let made = rw c.in-Some.is at c.in_ok-job.ensures.some in made.database
 
 pub put_job-requires-clause-job : goal.put_job-requires-clause-job
-put_job-requires-clause-job g c =
-    let job = c.in-Some.job in
-    is_first c.args.db.now c.args.list c.args.puts c.args.entries job.names.items job.db job.bytes (rw c.in-Some.is at c.in_ok-job.ensures.some) (let passes = rw c.in-Some.is at c.in_ok-job.ensures.passes in passes.room) c.requires.db c.requires.list
+put_job-requires-clause-job g c = let made = rw c.in-Some.is at c.in_ok-job.ensures.some in let next = made.next in omega (arith, next)
 
 pub put_job-requires-clause-names : goal.put_job-requires-clause-names
 put_job-requires-clause-names g c =
-    let job = c.in-Some.job in
-    subst (AreChangedNames c.args.db.now.installed job.db.installed) (sym c.as_slice.ensures.value)
-    (names_db c.args.db.now c.args.list c.args.puts c.args.entries job.names.items job.db job.bytes (rw c.in-Some.is at c.in_ok-job.ensures.some) (let passes = rw c.in-Some.is at c.in_ok-job.ensures.passes in passes.room) c.requires.db c.requires.list)
+    let made = rw c.in-Some.is at c.in_ok-job.ensures.some in
+    subst (AreChangedNames c.args.db.now.installed c.in-Some.job.db.installed) (sym c.as_slice.ensures.value) made.names_are
 
 pub put_job-requires-clause-entries : goal.put_job-requires-clause-entries
 put_job-requires-clause-entries g c = subst AreEntries (sym c.get.ensures) c.requires.targets.entries
@@ -41,18 +36,16 @@ put_job-requires-clause-agree g c = subst AllAgree (sym c.get.ensures) c.require
 pub put_job-requires-clause-told : goal.put_job-requires-clause-told
 put_job-requires-clause-told g c tells =
     let job = c.in-Some.job in
-    can_put c.args.db.now c.args.list c.args.puts c.args.entries job.names.items job.db job.bytes (rw c.in-Some.is at c.in_ok-job.ensures.some) (let passes = rw c.in-Some.is at c.in_ok-job.ensures.passes in passes.room) c.requires.db c.requires.list
-    g.met.T.TreeDisk.laws c.args.root.now (c.requires.told tells) c.get.result.now c.get.ensures
+    can_put c.args.db.now c.args.list c.args.puts c.args.entries job.names.items job.db job.bytes (rw c.in-Some.is at c.in_ok-job.ensures.some) g.met.T.TreeDisk.laws c.args.root.now (c.requires.told tells) c.get.result.now c.get.ensures
 
 pub returns-in_err-put_job-clause-ends : goal.returns-in_err-put_job-clause-ends
 returns-in_err-put_job-clause-ends g c tells s stores =
     let job = c.in-Some.job in
     let is = (rw c.in-Some.is at c.in_ok-job.ensures.some) in
-    let room = (let passes = rw c.in-Some.is at c.in_ok-job.ensures.passes in passes.room) in
     let can = c.requires.told tells in
-    let from = job_from c.args.db.now c.args.list c.args.puts c.args.entries job.names.items job.db job.bytes is room c.requires.db c.requires.list
-    c.distinct_databases.ensures.unique (g.T.TreeDisk.disk.reads c.args.root.now) s can.holds stores in
-    stopped_job c.args.db.now c.args.list c.args.puts c.args.entries job.names.items job.db job.bytes is room c.requires.db c.requires.list g.met.T.TreeDisk.laws c.args.root.now can
+    let from = job_from c.args.db.now c.args.list c.args.puts c.args.entries job.names.items job.db job.bytes is c.distinct_databases.ensures.unique
+    (g.T.TreeDisk.disk.reads c.args.root.now) s can.holds stores in
+    stopped_job c.args.db.now c.args.list c.args.puts c.args.entries job.names.items job.db job.bytes is g.met.T.TreeDisk.laws c.args.root.now can
     c.distinct_databases.ensures.unique c.put_job.new.root s stores _ _ c.from_residual-in_err-put_job.result c.from_residual-in_err-put_job.ensures.1 tells c.in_err-put_job.ensures.stops
     (c.in_err-put_job.ensures.goes tells s stores from)
 
@@ -67,30 +60,24 @@ pub returns-clause-ends : goal.returns-clause-ends
 returns-clause-ends g c tells s stores =
     let job = c.in-Some.job in
     let is = (rw c.in-Some.is at c.in_ok-job.ensures.some) in
-    let room = (let passes = rw c.in-Some.is at c.in_ok-job.ensures.passes in passes.room) in
     let can = c.requires.told tells in
-    let from = job_from c.args.db.now c.args.list c.args.puts c.args.entries job.names.items job.db job.bytes is room c.requires.db c.requires.list
-    c.distinct_databases.ensures.unique (g.T.TreeDisk.disk.reads c.args.root.now) s can.holds stores in
-    written_job c.args.db.now c.args.list c.args.puts c.args.entries job.names.items job.db job.bytes is room c.requires.db c.requires.list g.met.T.TreeDisk.laws c.args.root.now can
+    let from = job_from c.args.db.now c.args.list c.args.puts c.args.entries job.names.items job.db job.bytes is c.distinct_databases.ensures.unique
+    (g.T.TreeDisk.disk.reads c.args.root.now) s can.holds stores in
+    written_job c.args.db.now c.args.list c.args.puts c.args.entries job.names.items job.db job.bytes is g.met.T.TreeDisk.laws c.args.root.now can
     c.distinct_databases.ensures.unique c.put_job.new.root s stores job.db.newest refl (c.in_ok-put_job.ensures.goes tells s stores from)
 
 pub returns-clause-holds : goal.returns-clause-holds
 returns-clause-holds g c tells s stores =
     let job = c.in-Some.job in
     let is = (rw c.in-Some.is at c.in_ok-job.ensures.some) in
-    let room = (let passes = rw c.in-Some.is at c.in_ok-job.ensures.passes in passes.room) in
     let can = c.requires.told tells in
-    let from = job_from c.args.db.now c.args.list c.args.puts c.args.entries job.names.items job.db job.bytes is room c.requires.db c.requires.list
-    c.distinct_databases.ensures.unique (g.T.TreeDisk.disk.reads c.args.root.now) s can.holds stores in
-    holds_after c.args.db.now c.args.list c.args.puts c.args.entries job.names.items job.db job.bytes is room c.requires.db c.requires.list g.met.T.TreeDisk.laws c.args.root.now can
+    let from = job_from c.args.db.now c.args.list c.args.puts c.args.entries job.names.items job.db job.bytes is c.distinct_databases.ensures.unique
+    (g.T.TreeDisk.disk.reads c.args.root.now) s can.holds stores in
+    holds_after c.args.db.now c.args.list c.args.puts c.args.entries job.names.items job.db job.bytes is g.met.T.TreeDisk.laws c.args.root.now can
     c.distinct_databases.ensures.unique c.put_job.new.root s stores (c.in_ok-put_job.ensures.goes tells s stores from)
 
 pub returns-clause-answers : goal.returns-clause-answers
-returns-clause-answers g c =
-    let job = c.in-Some.job in
-    (next_is c.args.db.now c.args.list c.args.puts c.args.entries job.names.items job.db job.bytes (rw c.in-Some.is at c.in_ok-job.ensures.some) (let passes = rw c.in-Some.is at c.in_ok-job.ensures.passes in passes.room) c.requires.db c.requires.list, (let made = rw c.in-Some.is at c.in_ok-job.ensures.some in made.db_is), (rw c.in-Some.is at c.in_ok-job.ensures.passes))
+returns-clause-answers g c = let made = rw c.in-Some.is at c.in_ok-job.ensures.some in (made.next, made.db_is, (rw c.in-Some.is at c.in_ok-job.ensures.passes))
 
 pub returns-clause-rules : goal.returns-clause-rules
-returns-clause-rules g c =
-    let job = c.in-Some.job in
-    is_database c.args.db.now c.args.list c.args.puts c.args.entries job.names.items job.db job.bytes (rw c.in-Some.is at c.in_ok-job.ensures.some) (let passes = rw c.in-Some.is at c.in_ok-job.ensures.passes in passes.room) c.requires.db c.requires.list
+returns-clause-rules g c = let made = rw c.in-Some.is at c.in_ok-job.ensures.some in made.database

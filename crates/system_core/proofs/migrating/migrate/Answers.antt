@@ -2,7 +2,7 @@ use Rattle.std.proofs.Common.{Err, Ok}
 use Rattle.system_core.specs.Migrating.{IsMigratingStop, Migrates}
 use Rattle.system_core.proofs.Rewritten.{migrated_stops, migrates_read, migrates_written, may_write, on_ok, read_only, was_new, was_written, written_stop}
 use Rattle.local_db.proofs.cny-base.Passing.{err_is}
-use Rattle.rollback_stack.proofs.Stops.{if_err_from as err_passed}
+use Rattle.local_db.proofs.cny-base.Faults.{passed_on}
 use Rattle.system_core.proofs.migrating.migrate.Goals as goal
 
 pub returns-in_err-found-clause-migrates : goal.returns-in_err-found-clause-migrates
@@ -13,8 +13,8 @@ returns-in_err-found-clause-migrates g c tells =
 
 pub returns-in_err-found-clause-stops : goal.returns-in_err-found-clause-stops
 returns-in_err-found-clause-stops g c =
-    err_passed (IsMigratingStop g.T.TreeDisk.disk c.args.root.now c.migrated.new.disk) c.from_residual.result c.in_err-found.field-0.0 c.from_residual.ensures.1
-    (migrated_stops g.T.TreeDisk.disk c.args.root.now c.migrated.new.disk c.in_err-found.field-0.0 c.in_err-found.ensures.stops (λ tells. read_only (c.in_err-found.ensures.value tells).same (c.in_err-found.ensures.value tells).time))
+    passed_on (IsMigratingStop g.T.TreeDisk.disk c.args.root.now c.migrated.new.disk) c.in_err-found.field-0.0 c.from_residual.result
+    (migrated_stops g.T.TreeDisk.disk c.args.root.now c.migrated.new.disk c.in_err-found.field-0.0 c.in_err-found.ensures.stops (λ tells. read_only (c.in_err-found.ensures.value tells).same (c.in_err-found.ensures.value tells).time)) c.from_residual.ensures.1
 
 pub returns-in_default-clause-migrates : goal.returns-in_default-clause-migrates
 returns-in_default-clause-migrates g c tells =

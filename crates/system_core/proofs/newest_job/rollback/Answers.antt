@@ -1,7 +1,7 @@
 use Rattle.std.proofs.Common.{ℕ, Result, Err, Ok, sym, subst}
 use Rattle.rollback_stack.specs.cny-base.Count.{Rose}
 use Rattle.rollback_stack.specs.cny-base.declared.stop.Stop.{Stop}
-use Rattle.rollback_stack.proofs.Stops.{if_err_from}
+use Rattle.local_db.proofs.cny-base.Faults.{passed_on}
 use Rattle.local_db.specs.SystemState.{newest}
 use Rattle.system_core.specs.Restoring.{Restores}
 use Rattle.system_core.specs.RestoringAll.{AreUnedited, RestoresTo}
@@ -36,8 +36,8 @@ returns-in_err-rollback_to-clause-restores g c tells s o olds stores stack unedi
 pub returns-in_err-rollback_to-clause-stops : goal.returns-in_err-rollback_to-clause-stops
 returns-in_err-rollback_to-clause-stops g c tells =
     let db = c.args.db.now in
-    if_err_from (StopsTo g.T.TreeDisk.disk db db.newest c.args.root.now c.rollback_to.new.root) c.from_residual.result c.in_err-rollback_to.field-0.0 c.from_residual.ensures.1
-    (c.in_err-rollback_to.ensures.stops tells)
+    passed_on (StopsTo g.T.TreeDisk.disk db db.newest c.args.root.now c.rollback_to.new.root) c.in_err-rollback_to.field-0.0 c.from_residual.result
+    (c.in_err-rollback_to.ensures.stops tells) c.from_residual.ensures.1
 
 pub returns-in_err-rollback_to-clause-causes : goal.returns-in_err-rollback_to-clause-causes
 returns-in_err-rollback_to-clause-causes g c =
@@ -45,8 +45,8 @@ returns-in_err-rollback_to-clause-causes g c =
     let db = c.args.db.now in
     let rose = Rose (disk.faults c.args.root.now) (disk.faults c.rollback_to.new.root) in
     let e = c.in_err-rollback_to.field-0.0 in
-    if_err_from (HasCause (IsRefusalKind db) rose) c.from_residual.result e c.from_residual.ensures.1
-    (newest_cause db c.requires.db rose e c.in_err-rollback_to.ensures.causes)
+    passed_on (HasCause (IsRefusalKind db) rose) e c.from_residual.result
+    (newest_cause db c.requires.db rose e c.in_err-rollback_to.ensures.causes) c.from_residual.ensures.1
 
 pub returns-clause-rolls : goal.returns-clause-rolls
 returns-clause-rolls g c tells s stores =

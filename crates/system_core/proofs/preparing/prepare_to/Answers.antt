@@ -2,7 +2,7 @@ use Rattle.std.proofs.Common.{refl}
 use Rattle.rollback_stack.specs.cny-base.Count.{Rose}
 use Rattle.rollback_stack.specs.Inverse.{IsBackStop}
 use Rattle.rollback_stack.proofs.Later.{read_as}
-use Rattle.rollback_stack.proofs.Stops.{if_err_from}
+use Rattle.local_db.proofs.cny-base.Faults.{passed_on}
 use Rattle.system_core.proofs.PreparedAll.{step_to_is}
 use Rattle.system_core.proofs.preparing.prepare_to.Goals as goal
 
@@ -11,7 +11,7 @@ returns-in_err-back-clause-stops g c =
     let disk = g.D.TreeDisk.disk in
     let old = c.args.disk.now in
     let rose = Rose (disk.faults old) (disk.faults c.inverse_to.new.disk) in
-    if_err_from (IsBackStop disk.tells (disk.reads old) c.args.db.now c.args.number rose) c.from_residual.result c.in_err-back.field-0.0 c.from_residual.ensures.1 c.in_err-back.ensures.stops
+    passed_on (IsBackStop disk.tells (disk.reads old) c.args.db.now c.args.number rose) c.in_err-back.field-0.0 c.from_residual.result c.in_err-back.ensures.stops c.from_residual.ensures.1
 
 pub database_put-requires : goal.database_put-requires
 database_put-requires g c = c.in_ok-back.ensures.fits

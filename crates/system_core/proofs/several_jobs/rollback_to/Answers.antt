@@ -3,7 +3,7 @@ use Rattle.rollback_stack.specs.cny-base.Count.{Rose}
 use Rattle.rollback_stack.specs.cny-base.declared.stop.Stop.{Stop}
 use Rattle.rollback_stack.proofs.tree-disk.Moments.{rose_before}
 use Rattle.rollback_stack.proofs.Later.{read_as}
-use Rattle.rollback_stack.proofs.Stops.{if_err_from}
+use Rattle.local_db.proofs.cny-base.Faults.{passed_on}
 use Rattle.system_core.specs.RestoringAll.{RestoresTo}
 use Rattle.system_core.specs.Rollback.{HasCause}
 use Rattle.system_core.specs.Several.{IsRefusalKindTo, RollsBackTo, StopsTo, jobs_to, paths_of_jobs, rolled_back_to}
@@ -53,8 +53,8 @@ returns-in_err-step-clause-stops g c tells =
     let mid = c.prepare_to.new.disk in
     let e = c.in_err-step.field-0.0 in
     let rose = Rose (disk.faults old) (disk.faults mid) in
-    if_err_from (StopsTo disk c.args.db.now c.args.number old mid) c.from_residual.result e c.from_residual.ensures.1
-    (stops_to disk c.args.db.now c.args.number old mid rose e tells (c.in_err-step.ensures.value tells) c.in_err-step.ensures.stops)
+    passed_on (StopsTo disk c.args.db.now c.args.number old mid) e c.from_residual.result
+    (stops_to disk c.args.db.now c.args.number old mid rose e tells (c.in_err-step.ensures.value tells) c.in_err-step.ensures.stops) c.from_residual.ensures.1
 
 pub returns-in_err-step-clause-causes : goal.returns-in_err-step-clause-causes
 returns-in_err-step-clause-causes g c =
@@ -62,8 +62,8 @@ returns-in_err-step-clause-causes g c =
     let old = c.args.root.now in
     let rose = Rose (disk.faults old) (disk.faults c.prepare_to.new.disk) in
     let e = c.in_err-step.field-0.0 in
-    if_err_from (HasCause (IsRefusalKindTo c.args.db.now c.args.number) rose) c.from_residual.result e c.from_residual.ensures.1
-    (cause_to disk.tells (disk.reads old) c.args.db.now c.args.number rose e c.in_err-step.ensures.stops)
+    passed_on (HasCause (IsRefusalKindTo c.args.db.now c.args.number) rose) e c.from_residual.result
+    (cause_to disk.tells (disk.reads old) c.args.db.now c.args.number rose e c.in_err-step.ensures.stops) c.from_residual.ensures.1
 
 pub write_all-requires : goal.write_all-requires
 write_all-requires g c = record {
@@ -103,8 +103,8 @@ returns-in_err-write_all-clause-stops g c tells =
     let old = c.args.root.now in
     let new = c.write_all.new.root in
     let e = c.in_err-write_all.field-0.0 in
-    if_err_from (StopsTo disk c.args.db.now c.args.number old new) c.from_residual-in_err-write_all.result e c.from_residual-in_err-write_all.ensures.1
-    (written_to disk c.args.db.now c.args.number old new e (c.in_ok-step.step, (c.in_ok-step.ensures.value tells).answer) c.in_err-write_all.ensures.stops)
+    passed_on (StopsTo disk c.args.db.now c.args.number old new) e c.from_residual-in_err-write_all.result
+    (written_to disk c.args.db.now c.args.number old new e (c.in_ok-step.step, (c.in_ok-step.ensures.value tells).answer) c.in_err-write_all.ensures.stops) c.from_residual-in_err-write_all.ensures.1
 
 pub returns-in_err-write_all-clause-causes : goal.returns-in_err-write_all-clause-causes
 returns-in_err-write_all-clause-causes g c =
@@ -114,8 +114,8 @@ returns-in_err-write_all-clause-causes g c =
     let new = c.write_all.new.root in
     let rose = Rose (disk.faults old) (disk.faults new) in
     let e = c.in_err-write_all.field-0.0 in
-    if_err_from (HasCause (IsRefusalKindTo c.args.db.now c.args.number) rose) c.from_residual-in_err-write_all.result e c.from_residual-in_err-write_all.ensures.1
-    (cause_written (IsRefusalKindTo c.args.db.now c.args.number) rose e c.in_err-write_all.ensures.stops (λ failed. rose_before (disk.faults old) (disk.faults mid) (disk.faults new) c.in_ok-step.ensures.later (c.in_err-write_all.ensures.failed (ap Err failed))))
+    passed_on (HasCause (IsRefusalKindTo c.args.db.now c.args.number) rose) e c.from_residual-in_err-write_all.result
+    (cause_written (IsRefusalKindTo c.args.db.now c.args.number) rose e c.in_err-write_all.ensures.stops (λ failed. rose_before (disk.faults old) (disk.faults mid) (disk.faults new) c.in_ok-step.ensures.later (c.in_err-write_all.ensures.failed (ap Err failed)))) c.from_residual-in_err-write_all.ensures.1
 
 pub returns-clause-rolls : goal.returns-clause-rolls
 returns-clause-rolls g c tells s stores =

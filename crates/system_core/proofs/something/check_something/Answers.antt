@@ -6,16 +6,17 @@ use Rattle.rollback_stack.specs.cny-base.declared.refusal.Fault.{Fault}
 use Rattle.rollback_stack.specs.cny-base.declared.refusal.Fault.TheVariants as fault
 use Rattle.job_targets.specs.declared.entry.Entry.{Entry}
 use Rattle.rollback_stack.specs.Entries.{entry_of}
+use Rattle.rollback_stack.specs.change-set.Contents.{IfRefused}
 use Rattle.system_core.specs.JobWriting.{IsSomething}
-use Rattle.system_core.specs.Something.{HasNothing, IsNothing}
+use Rattle.system_core.specs.Something.{IsNothing, LacksOne}
 use Rattle.system_core.proofs.Lacking.{IsSomeEntry, something_of}
 use Rattle.system_core.proofs.something.check_something.Goals as goal
 
-lacking : {T : Type 0} (es : List Entry) (k : ℕ) (e : Entry) (why : Fault) (r : Result T Fault) → k < length es → e ≡ get_or es k e → IsErrAnd r (λ f. f ≡ why) → IsNothing e why → IfErr r (HasNothing es)
+lacking : {T : Type 0} (es : List Entry) (k : ℕ) (e : Entry) (why : Fault) (r : Result T Fault) → k < length es → e ≡ get_or es k e → IsErrAnd r (λ f. f ≡ why) → IfRefused (IsNothing e) why → IfErr r (IfRefused (LacksOne es))
 lacking es k e why (Ok x) lt is same nothing = absurd same
-lacking es k e why (Err f) lt is same nothing = subst (HasNothing es) (sym same) (by why nothing)
+lacking es k e why (Err f) lt is same nothing = subst (IfRefused (LacksOne es)) (sym same) (by why nothing)
   where
-    by : (why : Fault) → IsNothing e why → HasNothing es why
+    by : (why : Fault) → IfRefused (IsNothing e) why → IfRefused (LacksOne es) why
     by (fault.Refused refusal) nothing = record { entry = e; among = (k, lt, sym is); nothing = nothing.0; refusal_is = nothing.1 }
     by fault.Memory nothing = tt
 
