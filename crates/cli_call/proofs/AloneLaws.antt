@@ -1,24 +1,33 @@
 -- The clause of a command that works on one disk alone, where it only reads it.
-use Rattle.std.proofs.Common.{◌≡◌, ℕ, Bool, List, Result, Ok, Err, refl, ap, inl, arith}
+use Rattle.std.proofs.Common.{◌≡◌, ℕ, Bool, List, Result, Ok, Err, refl, ap, inl, subst, arith}
 use Rattle.std.specs.Prelude.{IsTrue}
 use Rattle.std.specs.FinMap.{get}
-use Rattle.system_core.specs.cny-base.declared.refusal.Refusal.{Refusal}
-use Rattle.system_core.specs.tree-disk.Clear.{is_within}
-use Rattle.system_core.specs.tree-disk.Confined.{Among}
-use Rattle.system_core.specs.tree-disk.Tree.{Tree}
-use Rattle.system_core.specs.tree-disk.Disk.{DiskModel, IsDisk, HasRead}
-use Rattle.system_core.proofs.tree-disk.ConfinedLaws.{confined_read}
-use Rattle.system_core.proofs.tree-disk.Unfailed.{unfailed_weaker}
-use Rattle.cli_call.specs.declared.failure.Failure.{Failure}
-use Rattle.cli_call.specs.declared.failure.Failure.TheVariants as failure
+use Rattle.cny_laws.specs.system-core.cny-base.declared.refusal.Fault.{Fault}
+use Rattle.cny_laws.specs.system-core.cny-base.declared.refusal.Fault.TheVariants as fault
+use Rattle.cny_laws.specs.system-core.cny-base.declared.refusal.Refusal.{Refusal}
+use Rattle.cny_laws.specs.system-core.tree-disk.Clear.{is_within}
+use Rattle.cny_laws.specs.system-core.tree-disk.Confined.{Among}
+use Rattle.cny_laws.specs.system-core.tree-disk.Tree.{Name, Tree}
+use Rattle.cny_laws.specs.system-core.tree-disk.Disk.{DiskModel, IsDisk, HasRead}
+use Rattle.cny_laws.proofs.system-core.tree-disk.ConfinedLaws.{confined_read}
+use Rattle.cny_laws.proofs.system-core.tree-disk.Unfailed.{unfailed_weaker}
+use Rattle.cny_laws.specs.declared.failure.Failure.{Failure}
+use Rattle.cny_laws.specs.declared.failure.Failure.TheVariants as failure
 use Rattle.repo_load.specs.Files.{repository_base}
-use Rattle.cli_call.specs.Alone.{ActsOnRepository, AnswersByTree, HasTree, PerformsAlone}
+use Rattle.cli_call.specs.Alone.{ActsOnRepository, AnswersByTree, PerformsAlone}
+use Rattle.cny_laws.specs.Call.{HasTree}
 use Rattle.cli_call.specs.Command.{AreReady, Disks, Answers, HasCause, end_of}
 use Rattle.cli_call.proofs.CommandLaws.{answers_more, goes_read, read_shown, shown_more}
-use Rattle.cli_call.specs.State.{State, nothing, Effect, Meaning}
-use Rattle.cli_call.specs.Store.{IsStore, RestsAt}
-use Rattle.cli_call.specs.Stores.{root_store, repository_store}
+use Rattle.cny_laws.specs.Failures.{failure_of_fault}
+use Rattle.cny_laws.specs.State.{State, nothing, Effect, Meaning}
+use Rattle.cny_laws.specs.Store.{IsStore, NamesDamaged, RestsAt}
+use Rattle.cny_laws.specs.Stores.{root_store, repository_store}
 use Rattle.cli_call.proofs.StoreLaws.{nothing_done}
+
+-- a fault of a reader names no damaged file
+pub fault_undamaged : {X : Type 0} (f : Fault) (path : Name) → ◌≡◌ {A = Result X Failure} (Err (failure_of_fault f)) (Err (failure.Damaged path)) → ⊥
+fault_undamaged (fault.Refused r) path is = cc is
+fault_undamaged fault.Memory path is = cc is
 
 -- what it answers from each state of which this is so, where the root is told
 abbrev pub AnswersWhere : Bool → (State → Type 0) → Meaning → List ℕ → Result (List ℕ) Failure → Type 0
@@ -50,9 +59,11 @@ abbrev pub AnswersAlone : {T : Type 0} → DiskModel T → Meaning → List ℕ 
 AnswersAlone root_disk m input root result = AnswersWhere root_disk.tells (λ s. RestsAt root_store root_disk root s.root) m input result
 
 module _ {T P : Type 0} {root_disk : DiskModel T} (repo_disk : DiskModel P) (root_laws : IsDisk root_disk) (root_store_laws : IsStore root_store) (m : Meaning) (input : List ℕ) (old new : Disks T P) where
-  pub alone_reading : (result : Result (List ℕ) Failure) → new.repo ≡ old.repo → (IsTrue root_disk.tells → HasRead root_disk old.root new.root (Unit {0})) → AnswersAlone root_disk m input old.root result → PerformsAlone root_disk repo_disk m input old new result
-  alone_reading result same read answers = record {
+  pub alone_reading : (result : Result (List ℕ) Failure) → new.repo ≡ old.repo → (IsTrue root_disk.tells → HasRead root_disk old.root new.root (Unit {0})) → AnswersAlone root_disk m input old.root result
+      → NamesDamaged root_store root_disk new.root result → PerformsAlone root_disk repo_disk m input old new result
+  alone_reading result same read answers damaged = record {
     repo = same;
+    damaged = damaged;
     told = λ told s rests. record {
       next = s;
       answers = where_answers (λ t. RestsAt root_store root_disk old.root t.root) m input s told rests result answers;
@@ -73,6 +84,7 @@ pub alone_more : {T P : Type 0} {root_disk : DiskModel T} {repo_disk : DiskModel
     → (old new : Disks T P) (result : Result (List ℕ) Failure) → PerformsAlone root_disk repo_disk one from old new result → PerformsAlone root_disk repo_disk two input old new result
 alone_more {root_disk = root_disk} one two from input more old new result done = record {
   repo = done.repo;
+  damaged = done.damaged;
   told = λ told s rests. let d = done.told told s rests in record {
     next = d.next;
     answers = answers_more (more s) s d.next result d.answers;
@@ -111,6 +123,7 @@ module _ {T P : Type 0} {root_disk : DiskModel T} {repo_disk : DiskModel P} (rep
     root = refl;
     later = omega arith;
     cause = cause_apart result h;
+    damaged = λ path is. absurd (subst (AnswersApart repo_disk m input at.repo) is h);
     rest = λ le told. (ready.repo told).settled;
     same = λ none told. refl;
     within = λ told. confined_read repo_laws (Among (is_within repository_base)) (nothing_done repo_laws at.repo);

@@ -1,20 +1,22 @@
 -- How a command ends that answers from what was opened, and reads nothing more.
 use Rattle.std.proofs.Common.{◌≡◌, ℕ, List, Result, Ok, Err, refl, ap, ◌∙◌, inl}
 use Rattle.std.specs.Prelude.{IsTrue}
-use Rattle.system_core.specs.cny-base.declared.refusal.Fault.{Fault}
-use Rattle.system_core.specs.cny-base.declared.refusal.Fault.TheVariants as fault
-use Rattle.system_core.specs.cny-base.declared.refusal.Refusal.{Refusal}
-use Rattle.system_core.specs.tree-disk.Disk.{DiskModel, IsDisk}
-use Rattle.cli_call.specs.declared.failure.Failure.{Failure}
-use Rattle.cli_call.specs.declared.failure.Failure.TheVariants as failure
-use Rattle.cli_call.specs.Alone.{ActsOnRepository, AnswersByLists, HasLists, PerformsAlone}
+use Rattle.cny_laws.specs.system-core.cny-base.declared.refusal.Fault.{Fault}
+use Rattle.cny_laws.specs.system-core.cny-base.declared.refusal.Fault.TheVariants as fault
+use Rattle.cny_laws.specs.system-core.cny-base.declared.refusal.Refusal.{Refusal}
+use Rattle.cny_laws.specs.system-core.tree-disk.Disk.{DiskModel, IsDisk}
+use Rattle.cny_laws.specs.system-core.tree-disk.Tree.{Name}
+use Rattle.cny_laws.specs.declared.failure.Failure.{Failure}
+use Rattle.cny_laws.specs.declared.failure.Failure.TheVariants as failure
+use Rattle.cli_call.specs.Alone.{ActsOnRepository, AnswersByLists, PerformsAlone}
+use Rattle.cny_laws.specs.Call.{HasLists}
 use Rattle.cli_call.specs.Answer.{AnswersSo}
 use Rattle.cli_call.specs.Command.{Disks, AreReady, HasCause, Performs, StandsFor}
-use Rattle.cli_call.specs.Failures.{failure_of_fault}
-use Rattle.cli_call.specs.State.{nothing, Effect, Meaning, State}
-use Rattle.cli_call.specs.Store.{IsStore, RestsAt}
-use Rattle.cli_call.specs.Stores.{root_store, repository_store}
-use Rattle.cli_call.proofs.AloneLaws.{AnswersAlone, AnswersApart, alone_reading, answered_apart}
+use Rattle.cny_laws.specs.Failures.{failure_of_fault}
+use Rattle.cny_laws.specs.State.{nothing, Effect, Meaning, State}
+use Rattle.cny_laws.specs.Store.{IsStore, RestsAt}
+use Rattle.cny_laws.specs.Stores.{root_store, repository_store}
+use Rattle.cli_call.proofs.AloneLaws.{AnswersAlone, AnswersApart, alone_reading, answered_apart, fault_undamaged}
 use Rattle.cli_call.proofs.CommandLaws.{AnswersReading, none_read, performs_reading}
 use Rattle.cli_call.proofs.RootLaws.{root_laws}
 use Rattle.cli_call.proofs.StoreLaws.{nothing_done}
@@ -23,6 +25,11 @@ use Rattle.cli_call.proofs.StoreLaws.{nothing_done}
 abbrev pub result_of : Result (List ℕ) Fault → Result (List ℕ) Failure
 result_of (Ok text) = Ok text
 result_of (Err f) = Err (failure_of_fault f)
+
+-- no damaged file is named
+undamaged : (r : Result (List ℕ) Fault) (path : Name) → result_of r ≡ Err (failure.Damaged path) → ⊥
+undamaged (Ok text) path is = cc is
+undamaged (Err f) path is = fault_undamaged f path is
 
 -- by what the outcome is on each state that both disks store
 module _ {T P : Type 0} {root_disk : DiskModel T} {repo_disk : DiskModel P} (root_disk_laws : IsDisk root_disk) (repo_disk_laws : IsDisk repo_disk) (store_laws : IsStore repository_store) (meaning : Meaning) (input : List ℕ)
@@ -50,7 +57,7 @@ module _ {T P : Type 0} {root_disk : DiskModel T} (repo_disk : DiskModel P) (roo
   answers_alone (Err fault.Memory) is = tt
 
   pub answered_alone : (r : Result (List ℕ) Fault) → AnswersSo outcome r → PerformsAlone root_disk repo_disk meaning input m m (result_of r)
-  answered_alone r is = alone_reading repo_disk root_disk_laws root_laws meaning input m m (result_of r) refl (λ told. nothing_done root_disk_laws m.root) (answers_alone r is)
+  answered_alone r is = alone_reading repo_disk root_disk_laws root_laws meaning input m m (result_of r) refl (λ told. nothing_done root_disk_laws m.root) (answers_alone r is) (λ path named. absurd (undamaged r path named))
 
 -- by what it is on each state that the repository stores, whatever the root's disk tells or stores
 module _ {T P : Type 0} {root_disk : DiskModel T} {repo_disk : DiskModel P} (repo_disk_laws : IsDisk repo_disk) (store_laws : IsStore repository_store) (meaning : Meaning) (input : List ℕ) (m : Disks T P) (ready : AreReady root_disk repo_disk m)

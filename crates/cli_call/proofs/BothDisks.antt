@@ -1,17 +1,17 @@
 -- Two disks opened one after the other.
 use Rattle.std.proofs.Common.{◌≡◌, Result, Ok, Err, IfOk, refl, sym, ◌∙◌, subst, inl, inr}
-use Rattle.system_core.specs.cny-base.declared.stop.Stop.{Stop}
-use Rattle.system_core.specs.tree-disk.Disk.{DiskModel}
+use Rattle.cny_laws.specs.system-core.cny-base.declared.stop.Stop.{Stop}
+use Rattle.cny_laws.specs.system-core.tree-disk.Disk.{DiskModel}
 use Rattle.local_db.specs.declared.db.Db.{Db}
 use Rattle.repo_index.specs.Catalogue.{CatalogueParts}
 use Rattle.repo_load.specs.Files.{HoldsCatalogue}
 use Rattle.repo_load.specs.Loading.{IsCatalogue}
-use Rattle.cli_call.specs.declared.failure.Failure.{Failure}
-use Rattle.cli_call.specs.Call.{OpensBoth}
-use Rattle.cli_call.specs.Opening.{Opens, no_test}
-use Rattle.cli_call.specs.RootOpening.{OpensSystem}
-use Rattle.cli_call.specs.Stops.{root_result, repository_result}
-use Rattle.cli_call.specs.Stores.{repository_store}
+use Rattle.cny_laws.specs.declared.failure.Failure.{Failure}
+use Rattle.cli_call.specs.Runs.{OpensBoth}
+use Rattle.cny_laws.specs.Opening.{Opens, no_test}
+use Rattle.cny_laws.specs.RootOpening.{OpensSystem}
+use Rattle.cny_laws.specs.Stops.{root_result, repository_result}
+use Rattle.cny_laws.specs.Stores.{repository_store}
 use Rattle.cli_call.proofs.RootResults.{same_failure}
 
 pub same_value : {X : Type 0} {a b : X} → ◌≡◌ {A = Result X Failure} (Ok a) (Ok b) → a ≡ b

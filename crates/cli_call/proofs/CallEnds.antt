@@ -1,23 +1,23 @@
 -- How a call ends on a state, from how its command's function and the reading of its input ended.
 use Rattle.std.proofs.Common.{◌≡◌, ◌≤◌, ℕ, Bool, List, Option, Some, Result, Ok, Err, IfSome, refl, sym, ap, ◌∙◌, subst, inl, inr, arith}
-use Rattle.system_core.specs.cny-base.declared.refusal.Refusal.{Refusal}
-use Rattle.system_core.specs.cny-base.declared.stop.Stop.{Stop}
+use Rattle.cny_laws.specs.system-core.cny-base.declared.refusal.Refusal.{Refusal}
+use Rattle.cny_laws.specs.system-core.cny-base.declared.stop.Stop.{Stop}
 use Rattle.cny_flow.specs.Flow.{SourceState, SinkState}
-use Rattle.system_core.specs.tree-disk.Tree.{Tree}
-use Rattle.cli_call.specs.declared.failure.Failure.{Failure}
-use Rattle.cli_call.specs.Command.{IsShown}
-use Rattle.system_core.specs.FixedDirs.{fixed_dirs}
+use Rattle.cny_laws.specs.system-core.tree-disk.Tree.{Tree}
+use Rattle.cny_laws.specs.declared.failure.Failure.{Failure}
+use Rattle.cny_laws.specs.Shown.{IsShown}
+use Rattle.cny_laws.specs.system-core.FixedDirs.{fixed_dirs}
 use Rattle.cli_call.proofs.InputLaws.{left_err, left_ok, some_so}
 use Rattle.cli_call.specs.Line.{Ends}
 use Rattle.cli_call.proofs.LineLaws.{takes_so}
-use Rattle.cli_call.specs.Reading.{given, left_by, Gives, ReadsGiven}
-use Rattle.cli_call.specs.Report.{End, status_of}
-use Rattle.cli_call.specs.State.{State, Effect, Meaning, tree_of, IsNext, Then}
-use Rattle.cli_call.specs.Stops.{root_failure, repository_failure}
-use Rattle.cli_call.specs.WholeCall.{Outcome, left_when, left_of, CallEnds, HasEffect, OwnOutcome}
+use Rattle.cny_laws.specs.Reading.{given, left_by, Gives, ReadsGiven}
+use Rattle.cny_laws.specs.Report.{End, status_of}
+use Rattle.cny_laws.specs.State.{State, Effect, Meaning, tree_of, IsNext, Then}
+use Rattle.cny_laws.specs.Stops.{root_failure, repository_failure}
+use Rattle.cny_laws.specs.WholeCall.{Outcome, left_when, left_of, CallEnds, HasEffect, OwnOutcome}
 use Rattle.cli_call.proofs.CommandLaws.{next_more, shown_more, takes_more}
-use Rattle.system_core.specs.cny-base.declared.stop.Stop.TheVariants as stop
-use Rattle.cli_call.specs.declared.failure.Failure.TheVariants as failure
+use Rattle.cny_laws.specs.system-core.cny-base.declared.stop.Stop.TheVariants as stop
+use Rattle.cny_laws.specs.declared.failure.Failure.TheVariants as failure
 
 -- a status up to 4 comes then
 pub small : (end : End) → HasEffect end → status_of end ≤ 4

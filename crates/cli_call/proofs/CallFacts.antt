@@ -1,37 +1,38 @@
 -- What is known of a call by how it ended, whatever the disks store.
 use Rattle.std.proofs.Common.{◌≡◌, ℕ, false, List, Result, Ok, Err, sym, ap, ◌∙◌, subst, ⊎_elim, arith}
 use Rattle.std.specs.Prelude.{◌⊎◌, IsTrue}
-use Rattle.system_core.specs.cny-base.declared.refusal.Refusal.{Refusal}
-use Rattle.system_core.specs.cny-base.declared.stop.Stop.{Stop}
-use Rattle.system_core.specs.tree-disk.Tree.{Tree}
-use Rattle.system_core.specs.tree-disk.Disk.{DiskModel, IsDisk}
-use Rattle.system_core.specs.tree-disk.Clear.{is_within}
-use Rattle.system_core.specs.tree-disk.Confined.{Among, Confined}
-use Rattle.system_core.proofs.tree-disk.ConfinedLaws.{confined_start, confined_then, confined_wider}
-use Rattle.system_core.proofs.tree-disk.Moments.{rose_before}
-use Rattle.system_core.specs.tree-disk.Steps.{no_name}
-use Rattle.system_core.specs.tree-journal.Recovery.{is_committed}
+use Rattle.cny_laws.specs.system-core.cny-base.declared.refusal.Refusal.{Refusal}
+use Rattle.cny_laws.specs.system-core.cny-base.declared.stop.Stop.{Stop}
+use Rattle.cny_laws.specs.system-core.tree-disk.Tree.{Tree}
+use Rattle.cny_laws.specs.system-core.tree-disk.Disk.{DiskModel, IsDisk}
+use Rattle.cny_laws.specs.system-core.tree-disk.Clear.{is_within}
+use Rattle.cny_laws.specs.system-core.tree-disk.Confined.{Among, Confined}
+use Rattle.cny_laws.proofs.system-core.tree-disk.ConfinedLaws.{confined_start, confined_then, confined_wider}
+use Rattle.cny_laws.proofs.system-core.tree-disk.Moments.{rose_before}
+use Rattle.cny_laws.specs.system-core.tree-disk.Steps.{no_name}
+use Rattle.cny_laws.specs.system-core.tree-journal.Recovery.{is_committed}
 use Rattle.repo_load.specs.Files.{repository_base}
-use Rattle.cli_call.specs.declared.failure.Failure.{Failure}
-use Rattle.cli_call.specs.declared.opened.Opened.{Opened}
-use Rattle.cli_call.specs.Call.{CallState, OpensRoot, OpensRepository, AreOpened, StopsReading, RunsWith, NotOpened, RunsCall}
-use Rattle.cli_call.specs.Command.{disks, ChangesNothing}
-use Rattle.system_core.specs.FixedDirs.{fixed_dirs}
+use Rattle.cny_laws.specs.declared.failure.Failure.{Failure}
+use Rattle.cny_laws.specs.declared.opened.Opened.{Opened}
+use Rattle.cny_laws.specs.Call.{CallState, OpensRoot, OpensRepository, AreOpened, NotOpened}
+use Rattle.cli_call.specs.Runs.{StopsReading, RunsWith, RunsCall}
+use Rattle.cli_call.specs.Command.{disks}
+use Rattle.cny_laws.specs.Report.{ChangesNothing, End}
+use Rattle.cny_laws.specs.system-core.FixedDirs.{fixed_dirs}
 use Rattle.cli_call.specs.Line.{Moment, LineCause, RunsLine}
 use Rattle.cli_call.proofs.LineLaws.{keeps_still}
-use Rattle.cli_call.specs.Reading.{ReadsGiven}
-use Rattle.system_core.specs.tree-journal.Recovered.{RecoversToNone, IsKept}
-use Rattle.cli_call.specs.Report.{End}
-use Rattle.cli_call.specs.RootOpening.{IsRootKept}
-use Rattle.cli_call.specs.State.{Meaning, Scope}
-use Rattle.cli_call.specs.Stops.{root_failure, repository_failure}
-use Rattle.cli_call.specs.Stores.{root_store, repository_store}
+use Rattle.cny_laws.specs.Reading.{ReadsGiven}
+use Rattle.cny_laws.specs.system-core.tree-journal.Recovered.{RecoversToNone, IsKept}
+use Rattle.cny_laws.specs.RootOpening.{IsRootKept}
+use Rattle.cny_laws.specs.State.{Meaning, Scope}
+use Rattle.cny_laws.specs.Stops.{root_failure, repository_failure}
+use Rattle.cny_laws.specs.Stores.{root_store, repository_store}
 use Rattle.local_db.specs.declared.db.Db.{Db}
-use Rattle.cli_call.specs.WholeCall.{OnlyRead, CallCause, CallFacts}
+use Rattle.cny_laws.specs.WholeCall.{OnlyRead, CallCause, CallFacts}
 use Rattle.cny_flow.specs.Flow.{SourceState, SinkState}
-use Rattle.system_core.proofs.Opened.{kept_so}
-use Rattle.system_core.specs.cny-base.declared.stop.Stop.TheVariants as stop
-use Rattle.cli_call.specs.declared.failure.Failure.TheVariants as failure
+use Rattle.cny_laws.proofs.system-core.Opened.{kept_so}
+use Rattle.cny_laws.specs.system-core.cny-base.declared.stop.Stop.TheVariants as stop
+use Rattle.cny_laws.specs.declared.failure.Failure.TheVariants as failure
 
 never_fixed : {r : Refusal} {d : Result (Unit {0}) Refusal} → d ≡ Ok tt → d ≡ Err r → ⊥
 never_fixed a b = cc (a, b)

@@ -1,30 +1,31 @@
 -- What is known of a call, with the input of which it is said.
 use Rattle.std.proofs.Common.{◌≡◌, Bool, true, List, ℕ, Ok, Err, sym, ap, subst, inl, inr, refl}
-use Rattle.system_core.specs.tree-disk.Clear.{is_within}
-use Rattle.system_core.specs.tree-disk.Confined.{Among, Confined}
+use Rattle.cny_laws.specs.system-core.tree-disk.Clear.{is_within}
+use Rattle.cny_laws.specs.system-core.tree-disk.Confined.{Among, Confined}
 use Rattle.cny_flow.specs.Flow.{SourceState}
-use Rattle.system_core.specs.tree-disk.Tree.{Name}
-use Rattle.system_core.specs.tree-disk.Disk.{DiskModel, HasRead, IsDisk}
-use Rattle.system_core.proofs.tree-disk.ConfinedLaws.{confined_start}
+use Rattle.cny_laws.specs.system-core.tree-disk.Tree.{Name}
+use Rattle.cny_laws.specs.system-core.tree-disk.Disk.{DiskModel, HasRead, IsDisk}
+use Rattle.cny_laws.proofs.system-core.tree-disk.ConfinedLaws.{confined_start}
 use Rattle.repo_load.specs.Files.{repository_base}
-use Rattle.cli_call.specs.declared.failure.Failure.{Failure}
-use Rattle.cli_call.specs.declared.failure.Failure.TheVariants as failure
-use Rattle.cli_call.specs.declared.opened.Opened.{Opened}
-use Rattle.cli_call.specs.Call.{CallState, AreOpened, StopsReading, RunsWith, RunsOpen, NotOpened, RunsCall}
-use Rattle.cli_call.specs.WholeCall.{CallFrom, FromStates, IsOnRepository, IsOnRoot, Reaches}
+use Rattle.cny_laws.specs.declared.failure.Failure.{Failure}
+use Rattle.cny_laws.specs.declared.failure.Failure.TheVariants as failure
+use Rattle.cny_laws.specs.declared.opened.Opened.{Opened}
+use Rattle.cny_laws.specs.Call.{CallState, AreOpened, NotOpened}
+use Rattle.cli_call.specs.Runs.{StopsReading, RunsWith, RunsOpen, RunsCall}
+use Rattle.cny_laws.specs.WholeCall.{CallFrom, FromStates, IsOnRepository, IsOnRoot, Reaches}
 use Rattle.cli_call.proofs.CallEnds.{own_ends, own_unread}
 use Rattle.cli_call.proofs.CallStates.{from_unopened, from_unread, from_run}
 use Rattle.cli_call.specs.Command.{disks}
 use Rattle.cli_call.proofs.InputLaws.{any_input, read_input_of}
 use Rattle.cli_call.specs.Line.{LineCause, Moment}
-use Rattle.cli_call.specs.Reading.{IsInput, ReadsGiven}
-use Rattle.cli_call.specs.Report.{End}
+use Rattle.cny_laws.specs.Reading.{IsInput, ReadsGiven}
+use Rattle.cny_laws.specs.Report.{End}
 use Rattle.cli_call.proofs.RepositoryStates.{opened_root, repository_run, repository_unopened, repository_unread, unopened_root}
 use Rattle.cli_call.proofs.RootStates.{root_unopened, root_unread, root_run, unopened_only, opened_only}
-use Rattle.cli_call.specs.State.{Meaning, Scope}
-use Rattle.cli_call.specs.Store.{IsSettled, IsStore}
+use Rattle.cny_laws.specs.State.{Meaning, Scope}
+use Rattle.cny_laws.specs.Store.{IsSettled, IsStore}
 use Rattle.cli_call.proofs.StoreLaws.{nothing_done}
-use Rattle.cli_call.specs.Stores.{repository_store, root_store}
+use Rattle.cny_laws.specs.Stores.{repository_store, root_store}
 
 module _ {T P : Type 0} (root_disk : DiskModel T) (repo_disk : DiskModel P) where
   pub record CallKnown (scope : Scope) (m : Meaning) (before now : CallState T P) (end : End) : Type 0 where
@@ -82,11 +83,15 @@ module _ {T P : Type 0} {root_disk : DiskModel T} {repo_disk : DiskModel P} (roo
             opened = opened;
             opens = opens;
             reads = inl (record { failure = stops.failure; is = refl; gives = read.gives; reads = stops.reads; same_root = same_root; same_repo = same_repo; silent = ap (λ (x : Moment T P). x.out) stops.same });
-            same = λ none. record { root = λ told. ap root_disk.reads same_root; repo = λ told. ap repo_disk.reads same_repo };
+            root_same = λ none told. ap root_disk.reads same_root;
+            repo_same = λ none told. ap repo_disk.reads same_repo;
             repo_left = λ is. same_repo;
+            root_left = λ is. same_root;
             repo_within = λ told. subst (λ (d : P). Confined repo_disk (Among (is_within repository_base)) repo d) (sym same_repo) (confined_start repo_laws (Among (is_within repository_base)) repo);
             root_rests = λ small told. subst (λ (d : T). IsSettled root_disk root_store.base d) (sym same_root) (opens.opens_root.opened told).settled;
             repo_rests = λ small told. subst (λ (d : P). IsSettled repo_disk repository_store.base d) (sym same_repo) (opens.opens.opened told).settled;
+            root_damaged = λ is path named. absurd (not_damaged m.takes_input before.input now.input stops.failure path stops.reads named);
+            repo_damaged = λ is path named. absurd (not_damaged m.takes_input before.input now.input stops.failure path stops.reads named);
             damaged = λ path is. absurd (not_damaged m.takes_input before.input now.input stops.failure path stops.reads is);
             by_lists = λ is. record { same_root = same_root; same_repo = same_repo; ends = λ s has. own_unread m s read.input before.out now.out stops.failure stops.reads read.gives };
             by_tree = λ is. record {
@@ -120,11 +125,15 @@ module _ {T P : Type 0} {root_disk : DiskModel T} {repo_disk : DiskModel P} (roo
             opened = opened;
             opens = opens;
             reads = inr (record { bytes = runs.bytes; gives = read.gives; reads = runs.reads });
-            same = λ none. record { root = (runs.runs.same none).root; repo = (runs.runs.same none).repo };
+            root_same = λ none. (runs.runs.same none).root;
+            repo_same = λ none. (runs.runs.same none).repo;
             repo_left = λ is. (runs.runs.alone is).repo;
+            root_left = λ is. (runs.runs.apart is).root;
             repo_within = runs.runs.within;
             root_rests = λ small. (runs.runs.rest small).root;
             repo_rests = λ small. (runs.runs.rest small).repo;
+            root_damaged = λ is. (runs.runs.alone is).damaged;
+            repo_damaged = λ is. (runs.runs.apart is).damaged;
             damaged = λ path is. (subst (λ (x : End). LineCause root_disk repo_disk begun ended x) is runs.runs.cause).0;
             by_lists = λ is. let by = runs.runs.by_lists is in record { same_root = by.root; same_repo = by.repo; ends = λ s has. own_ends m s read.input runs.bytes read.gives before.out now.out s end (by.ends s has) };
             by_tree = λ is. let by = runs.runs.by_tree is in record { read = by.root; same_repo = by.repo; ends = λ told s has. own_ends m s read.input runs.bytes read.gives before.out now.out s end (by.ends told s has) };

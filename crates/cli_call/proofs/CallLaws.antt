@@ -3,34 +3,35 @@ use Rattle.std.proofs.Common.{◌≡◌, ◌+◌, ℕ, Bool, true, false, cond, 
 use Rattle.std.specs.Prelude.{◌⊎◌}
 use Rattle.std.proofs.lemmas.Bool.{ltb-false}
 use Rattle.std.proofs.lemmas.List.{drop_all}
-use Rattle.system_core.specs.cny-base.declared.refusal.Refusal.TheVariants.{TooLarge}
-use Rattle.system_core.specs.cny-base.declared.refusal.What.TheVariants.{Input}
+use Rattle.cny_laws.specs.system-core.cny-base.declared.refusal.Refusal.TheVariants.{TooLarge}
+use Rattle.cny_laws.specs.system-core.cny-base.declared.refusal.What.TheVariants.{Input}
 use Rattle.cny_flow.specs.Flow.{SinkState}
-use Rattle.system_core.specs.tree-disk.Disk.{DiskModel, IsDisk}
-use Rattle.system_core.specs.tree-disk.Confined.{Among}
-use Rattle.system_core.proofs.tree-disk.ConfinedLaws.{confined_start, leaves_weaker}
-use Rattle.system_core.specs.tree-disk.Steps.{no_name}
-use Rattle.system_core.proofs.tree-disk.Unfailed.{unfailed_start}
-use Rattle.cli_call.specs.declared.failure.Failure.{Failure}
-use Rattle.cli_call.specs.declared.opened.Opened.{Opened}
+use Rattle.cny_laws.specs.system-core.tree-disk.Disk.{DiskModel, IsDisk}
+use Rattle.cny_laws.specs.system-core.tree-disk.Confined.{Among}
+use Rattle.cny_laws.proofs.system-core.tree-disk.ConfinedLaws.{confined_start, leaves_weaker}
+use Rattle.cny_laws.specs.system-core.tree-disk.Steps.{no_name}
+use Rattle.cny_laws.proofs.system-core.tree-disk.Unfailed.{unfailed_start}
+use Rattle.cny_laws.specs.declared.failure.Failure.{Failure}
+use Rattle.cny_laws.specs.declared.opened.Opened.{Opened}
 use Rattle.cli_call.specs.Command.{disks, AreReady}
-use Rattle.cli_call.specs.Call.{CallState, AreOpened, RunsCall}
+use Rattle.cny_laws.specs.Call.{CallState, AreOpened}
+use Rattle.cli_call.specs.Runs.{RunsCall}
 use Rattle.cli_call.proofs.BlockedEnds.{meets_log}
 use Rattle.cli_call.proofs.CallFacts.{call_facts}
 use Rattle.cli_call.proofs.CallKnown.{call_known}
-use Rattle.cli_call.specs.Input.{input_limit, within_limit, left_after_reading}
+use Rattle.cny_laws.specs.Input.{input_limit, within_limit, left_after_reading}
 use Rattle.cli_call.proofs.InputLaws.{some_so}
-use Rattle.cli_call.specs.Reading.{ReadsGiven}
-use Rattle.cli_call.specs.Report.{End, Reports}
-use Rattle.cli_call.specs.State.{Meaning, tree_of, Scope}
+use Rattle.cny_laws.specs.Reading.{ReadsGiven}
+use Rattle.cny_laws.specs.Report.{End, Reports}
+use Rattle.cny_laws.specs.State.{Meaning, tree_of, Scope}
 use Rattle.cli_call.proofs.RootLaws.{reached_dirs}
-use Rattle.cli_call.specs.RootOpening.{ShowsBetween}
-use Rattle.cli_call.specs.Store.{IsStore}
+use Rattle.cny_laws.specs.RootOpening.{ShowsBetween}
+use Rattle.cny_laws.specs.Store.{IsStore}
 use Rattle.cli_call.proofs.StoreLaws.{as_state, nothing_done, none_yet}
-use Rattle.cli_call.specs.Stores.{root_store, repository_store}
-use Rattle.cli_call.specs.WholeCall.{IsCall}
-use Rattle.system_core.specs.cny-base.declared.stop.Stop.TheVariants as stop
-use Rattle.cli_call.specs.declared.failure.Failure.TheVariants as failure
+use Rattle.cny_laws.specs.Stores.{root_store, repository_store}
+use Rattle.cny_laws.specs.WholeCall.{IsCall}
+use Rattle.cny_laws.specs.system-core.cny-base.declared.stop.Stop.TheVariants as stop
+use Rattle.cny_laws.specs.declared.failure.Failure.TheVariants as failure
 
 -- what is left of an input within its limit
 nothing_left : (input bytes : List ℕ) (b : Bool) → nat_lt input_limit (length input) ≡ b → cond b (Err (TooLarge Input (input_limit + 1))) (Ok input) ≡ Ok bytes → left_after_reading input ≡ []
@@ -82,7 +83,7 @@ whole_call {root_disk = root_disk} {repo_disk = repo_disk} root_laws repo_laws s
         read_to_end = λ ok on. read_whole root_disk repo_disk m before now scope on end ok runs;
         reaches = known.reaches;
         facts = facts;
-        log = meets_log root_disk repo_disk scope m known.input before now end known.reaches facts;
+        log = meets_log root_disk repo_disk scope m known.input before now end known.reaches facts known.from;
         from = known.from;
         on_root = known.on_root;
         on_repository = known.on_repository;

@@ -1,25 +1,26 @@
 -- The clauses of a command that changes the root alone, from what the root went through from each state that it stored.
 use Rattle.std.proofs.Common.{◌≡◌, ◌≤◌, ℕ, List, Result, refl, sym, ap, subst, inl, inr, ⊎_elim, arith}
 use Rattle.std.specs.Prelude.{IsTrue}
-use Rattle.system_core.specs.cny-base.declared.refusal.Refusal.{Refusal}
-use Rattle.system_core.specs.tree-disk.Tree.{Tree}
-use Rattle.system_core.specs.tree-disk.Disk.{DiskModel, IsDisk, HasRead}
-use Rattle.system_core.specs.tree-disk.Clear.{is_within}
-use Rattle.system_core.specs.tree-disk.Confined.{Among, Confined}
-use Rattle.system_core.proofs.tree-disk.ConfinedLaws.{confined_start}
-use Rattle.system_core.specs.tree-disk.Unfailed.{UnlessFailed}
+use Rattle.cny_laws.specs.system-core.cny-base.declared.refusal.Refusal.{Refusal}
+use Rattle.cny_laws.specs.system-core.tree-disk.Tree.{Tree}
+use Rattle.cny_laws.specs.system-core.tree-disk.Disk.{DiskModel, IsDisk, HasRead}
+use Rattle.cny_laws.specs.system-core.tree-disk.Clear.{is_within}
+use Rattle.cny_laws.specs.system-core.tree-disk.Confined.{Among, Confined}
+use Rattle.cny_laws.proofs.system-core.tree-disk.ConfinedLaws.{confined_start}
+use Rattle.cny_laws.specs.system-core.tree-disk.Unfailed.{UnlessFailed}
 use Rattle.repo_load.specs.Files.{repository_base}
 use Rattle.local_db.specs.Stores.{RecoversToSystem}
-use Rattle.system_core.specs.RootWriting.{RecoversToEither}
-use Rattle.cli_call.specs.declared.failure.Failure.{Failure}
+use Rattle.cny_laws.specs.system-core.RootWriting.{RecoversToEither}
+use Rattle.cny_laws.specs.declared.failure.Failure.{Failure}
 use Rattle.cli_call.specs.Alone.{PerformsAlone}
-use Rattle.cli_call.specs.Command.{Disks, AreReady, ChangesNothing, HasCause, Goes, Answers, KeepsOthers, IsShown, Performs, end_of}
+use Rattle.cli_call.specs.Command.{Disks, AreReady, HasCause, Goes, Answers, Performs, end_of}
+use Rattle.cny_laws.specs.Report.{ChangesNothing, status_of}
+use Rattle.cny_laws.specs.Shown.{KeepsOthers, IsShown}
 use Rattle.cli_call.proofs.CommandLaws.{goes_read}
-use Rattle.cli_call.specs.Report.{status_of}
-use Rattle.cli_call.specs.State.{RootState, State, Effect, Meaning}
-use Rattle.cli_call.specs.Store.{IsStore, IsSettled, OneOf, Recovers, RestsAt}
+use Rattle.cny_laws.specs.State.{RootState, State, Effect, Meaning}
+use Rattle.cny_laws.specs.Store.{IsStore, IsSettled, NamesDamaged, OneOf, Recovers, RestsAt}
 use Rattle.cli_call.proofs.StoreLaws.{nothing_done, read_settled}
-use Rattle.cli_call.specs.Stores.{root_store, repository_store}
+use Rattle.cny_laws.specs.Stores.{root_store, repository_store}
 
 -- What the root went through from a state that it stored, and what was answered.
 pub record ChangesRoot {T : Type 0} (root_disk : DiskModel T) (IsOutcome : Result Effect Refusal → Type 0) (s : State) (old new : T) (result : Result (List ℕ) Failure) : Type 0 where
@@ -38,9 +39,10 @@ of_either s t image either = ⊎_elim (λ one. inl (of_system s image one)) (λ 
 
 module _ {T P : Type 0} {root_disk : DiskModel T} (repo_disk : DiskModel P) (m : Meaning) (input : List ℕ) (old new : Disks T P) (result : Result (List ℕ) Failure) (same_repo : new.repo ≡ old.repo)
     (changes : IsTrue root_disk.tells → (s : State) → RestsAt root_store root_disk old.root s.root → ChangesRoot root_disk (m.IsOutcome s input) s old.root new.root result) where
-  pub alone_on_root : PerformsAlone root_disk repo_disk m input old new result
-  alone_on_root = record {
+  pub alone_on_root : NamesDamaged root_store root_disk new.root result → PerformsAlone root_disk repo_disk m input old new result
+  alone_on_root damaged = record {
     repo = same_repo;
+    damaged = damaged;
     told = λ told s rests. let c = changes told s rests in record {
       next = record { root = c.next; repository = s.repository };
       answers = c.answers;

@@ -2,25 +2,26 @@
 use Rattle.std.proofs.Common.{◌≡◌, ◌≤◌, ℕ, List, Result, Ok, Err, refl, sym, ap, subst, inl, inr, arith}
 use Rattle.std.specs.Prelude.{IsTrue}
 use Rattle.std.specs.FinMap.{get}
-use Rattle.system_core.specs.cny-base.declared.refusal.Refusal.{Refusal}
-use Rattle.system_core.specs.tree-disk.Tree.{Tree}
-use Rattle.system_core.specs.tree-disk.Disk.{DiskModel, IsDisk, HasRead}
-use Rattle.system_core.specs.tree-disk.Clear.{is_within}
-use Rattle.system_core.specs.tree-disk.Confined.{Among}
-use Rattle.system_core.proofs.tree-disk.ConfinedLaws.{confined_read, leaves_weaker}
-use Rattle.system_core.proofs.tree-disk.Laws.{same_tree}
-use Rattle.system_core.specs.tree-disk.Steps.{no_name}
-use Rattle.system_core.specs.tree-disk.Unfailed.{UnlessFailed}
-use Rattle.system_core.proofs.tree-disk.Unfailed.{unfailed_confined, unfailed_weaker}
+use Rattle.cny_laws.specs.system-core.cny-base.declared.refusal.Refusal.{Refusal}
+use Rattle.cny_laws.specs.system-core.tree-disk.Tree.{Tree}
+use Rattle.cny_laws.specs.system-core.tree-disk.Disk.{DiskModel, IsDisk, HasRead}
+use Rattle.cny_laws.specs.system-core.tree-disk.Clear.{is_within}
+use Rattle.cny_laws.specs.system-core.tree-disk.Confined.{Among}
+use Rattle.cny_laws.proofs.system-core.tree-disk.ConfinedLaws.{confined_read, leaves_weaker}
+use Rattle.cny_laws.proofs.system-core.tree-disk.Laws.{same_tree}
+use Rattle.cny_laws.specs.system-core.tree-disk.Steps.{no_name}
+use Rattle.cny_laws.specs.system-core.tree-disk.Unfailed.{UnlessFailed}
+use Rattle.cny_laws.proofs.system-core.tree-disk.Unfailed.{unfailed_confined, unfailed_weaker}
 use Rattle.repo_load.specs.Files.{repository_base}
-use Rattle.cli_call.specs.declared.failure.Failure.{Failure}
-use Rattle.cli_call.specs.declared.failure.Failure.TheVariants as failure
+use Rattle.cny_laws.specs.declared.failure.Failure.{Failure}
+use Rattle.cny_laws.specs.declared.failure.Failure.TheVariants as failure
 use Rattle.cli_call.specs.Alone.{ActsOnRepository}
-use Rattle.cli_call.specs.Command.{Disks, AreReady, Rest, ReadsSame, StandsFor, HasCause, Goes, Answers, IsShown, Performs, PerformsFrom, end_of}
-use Rattle.cli_call.specs.Report.{End}
-use Rattle.cli_call.specs.State.{State, nothing, Effect, IsNext, Meaning, Takes}
-use Rattle.cli_call.specs.Store.{Store, IsStore, RestsAt}
-use Rattle.cli_call.specs.Stores.{root_store, repository_store}
+use Rattle.cli_call.specs.Command.{Disks, AreReady, Rest, ReadsSame, StandsFor, HasCause, Goes, Answers, Performs, PerformsFrom, end_of}
+use Rattle.cny_laws.specs.Shown.{IsShown}
+use Rattle.cny_laws.specs.Report.{End}
+use Rattle.cny_laws.specs.State.{State, nothing, Effect, IsNext, Meaning, Takes}
+use Rattle.cny_laws.specs.Store.{Store, IsStore, RestsAt}
+use Rattle.cny_laws.specs.Stores.{root_store, repository_store}
 use Rattle.cli_call.proofs.StoreLaws.{nothing_done, read_settled, rest_lives, rest_read_on, rest_reads}
 
 -- a call that only reads shows one tree
@@ -185,6 +186,7 @@ acts_more one two from input old new result more acts = record {
   root = acts.root;
   later = acts.later;
   cause = acts.cause;
+  damaged = acts.damaged;
   rest = acts.rest;
   same = acts.same;
   within = acts.within;

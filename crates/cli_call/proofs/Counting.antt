@@ -2,16 +2,16 @@
 use Rattle.std.proofs.Common.{◌≡◌, inl, ⊎_elim, false, List, ℕ, length, ap, ◌∙◌, subst}
 use Rattle.std.specs.Prelude.{IsTrue}
 use Rattle.std.specs.FinMap.{get}
-use Rattle.system_core.specs.tree-disk.Tree.{Name, Tree}
-use Rattle.system_core.specs.journal-log.Own.{is_own}
+use Rattle.cny_laws.specs.system-core.tree-disk.Tree.{Name, Tree}
+use Rattle.cny_laws.specs.system-core.journal-log.Own.{is_own}
 use Rattle.repo_index.specs.Catalogue.{CatalogueParts, records_content}
 use Rattle.repo_load.specs.Counts.{Counts}
 use Rattle.repo_load.specs.Damage.{IsDamagedCommit}
 use Rattle.repo_load.specs.Files.{repository_base, HoldsCatalogue, StoresRepository}
 use Rattle.repo_load.specs.State.{catalogue_of, troves_of, RepositoryState}
 use Rattle.repo_load.specs.Contents.{IsDamagedContent}
-use Rattle.cli_call.specs.Store.{IsStore}
-use Rattle.cli_call.specs.Stores.{repository_store, HasDamagedContent, HasUnsoundContent}
+use Rattle.cny_laws.specs.Store.{IsStore}
+use Rattle.cny_laws.specs.Stores.{repository_store, HasDamagedContent, HasUnsoundContent}
 use Rattle.repo_load.proofs.Holding.{some_bytes as same_bytes}
 
 -- what `stored_state` and `counted_names` say

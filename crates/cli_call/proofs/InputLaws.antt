@@ -1,11 +1,11 @@
 -- The input of a call: the told one, or bytes of which reading gives the same.
 use Rattle.std.proofs.Common.{◌≡◌, ℕ, Bool, true, false, List, [], Option, Some, None, Result, Ok, Err, IfSome, refl, sym, ap, ◌∙◌, subst}
-use Rattle.system_core.specs.cny-base.declared.refusal.Refusal.{Refusal}
+use Rattle.cny_laws.specs.system-core.cny-base.declared.refusal.Refusal.{Refusal}
 use Rattle.cny_flow.specs.Flow.{SourceState}
-use Rattle.cli_call.specs.declared.failure.Failure.{Failure}
-use Rattle.cli_call.specs.declared.failure.Failure.TheVariants as failure
-use Rattle.cli_call.specs.Input.{IsOfSome}
-use Rattle.cli_call.specs.Reading.{left_by, Gives, IsInput, ReadFrom, ReadsGiven}
+use Rattle.cny_laws.specs.declared.failure.Failure.{Failure}
+use Rattle.cny_laws.specs.declared.failure.Failure.TheVariants as failure
+use Rattle.cny_laws.specs.Input.{IsOfSome}
+use Rattle.cny_laws.specs.Reading.{left_by, Gives, IsInput, ReadFrom, ReadsGiven}
 
 pub some_is : (o : Option (List ℕ)) {Q : List ℕ → Type 0} → ((input : List ℕ) → o ≡ Some input → Q input) → IfSome o Q
 some_is None f = tt

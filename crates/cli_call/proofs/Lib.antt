@@ -23,9 +23,13 @@ pub mod OpeningRoot
 pub mod LoadingRepository
 pub mod BothDisks
 pub mod Counting
-pub use Rattle.system_core.proofs.job-record
-pub use Rattle.system_core.proofs.past-jobs
+pub mod ReadingEnds
+pub mod AfterReading
+pub mod SetFaults
+pub use Rattle.cny_laws.proofs.system-core.job-record
+pub use Rattle.cny_laws.proofs.system-core.past-jobs
+pub use Rattle.cny_laws.proofs as cny-laws
 pub use Rattle.local_db.proofs as local-db
-pub use Rattle.system_core.proofs as system-core
-pub use Rattle.system_core.proofs.trove-stream
-pub use Rattle.system_core.proofs.tree-disk
+pub use Rattle.cny_laws.proofs.system-core as system-core
+pub use Rattle.cny_laws.proofs.system-core.trove-stream
+pub use Rattle.cny_laws.proofs.system-core.tree-disk

@@ -1,17 +1,18 @@
 -- A command with what it writes, from what its own function did and from what was written.
-use Rattle.std.proofs.Common.{◌≡◌, ◌≤◌, ℕ, true, List, Option, Some, None, Result, Ok, Err, refl, sym, subst, inr, arith}
+use Rattle.std.proofs.Common.{◌≡◌, ◌≤◌, ℕ, true, List, Option, Some, None, Result, Ok, Err, refl, sym, ap, subst, inr, arith}
 use Rattle.std.specs.Io.KnownBytes.{Appends, Keeps}
-use Rattle.system_core.specs.cny-base.declared.refusal.Refusal.{Refusal}
+use Rattle.cny_laws.specs.system-core.cny-base.declared.refusal.Refusal.{Refusal}
 use Rattle.cny_flow.specs.Flow.{SinkState, AppendsPart}
-use Rattle.system_core.specs.tree-disk.Disk.{DiskModel}
-use Rattle.cli_call.specs.declared.failure.Failure.{Failure}
-use Rattle.cli_call.specs.declared.failure.Failure.TheVariants as failure
+use Rattle.cny_laws.specs.system-core.tree-disk.Disk.{DiskModel}
+use Rattle.cny_laws.specs.system-core.tree-disk.Tree.{Name}
+use Rattle.cny_laws.specs.declared.failure.Failure.{Failure}
+use Rattle.cny_laws.specs.declared.failure.Failure.TheVariants as failure
 use Rattle.cli_call.specs.Alone.{ActsOnRepository, AnswersByLists, AnswersByTree, PerformsAlone}
-use Rattle.cli_call.specs.Command.{Disks, ChangesNothing, HasCause, Goes, Answers, Performs, end_of}
+use Rattle.cli_call.specs.Command.{Disks, HasCause, Goes, Answers, Performs, end_of}
+use Rattle.cny_laws.specs.Report.{ChangesNothing, End, status_of}
 use Rattle.cli_call.specs.Line.{Moment, Writes, Ends, LineCause, RunsLine}
-use Rattle.cli_call.specs.Report.{End, status_of}
-use Rattle.cli_call.specs.State.{Scope, State, Effect, Meaning, Takes}
-use Rattle.cli_call.specs.Store.{Store}
+use Rattle.cny_laws.specs.State.{Scope, State, Effect, Meaning, Takes}
+use Rattle.cny_laws.specs.Store.{Store}
 
 pub keeps_same : (a : Option (List ℕ)) → Keeps a a
 keeps_same None = tt
@@ -48,11 +49,11 @@ error_cause root_disk repo_disk old new before now _ keeps h = absurd h
 module _ {T P : Type 0} {root_disk : DiskModel T} {repo_disk : DiskModel P} {m : Meaning} {input : List ℕ} {old new : Disks T P} (before now : SinkState) (scope : Scope) where
   -- a line ended as its command did, or by the write: what the command did is what the line did
   line_ends : (result : Result (List ℕ) Failure) (end : End) → before.faults ≤ now.faults → LineCause root_disk repo_disk (with_out old before) (with_out new now) end
-      → (status_of end ≤ 4 → status_of (end_of result) ≤ 4) → (ChangesNothing end → ChangesNothing (end_of result))
+      → (status_of end ≤ 4 → status_of (end_of result) ≤ 4) → (ChangesNothing end → ChangesNothing (end_of result)) → ((path : Name) → end ≡ Err (failure.Damaged path) → result ≡ Err (failure.Damaged path))
       → ((s next : State) → Answers (m.IsOutcome s input) s next result → Ends (m.IsOutcome s input) s next before now end)
       → Performs root_disk repo_disk m input old new result → (scope.of_root ≡ true → PerformsAlone root_disk repo_disk m input old new result) → (scope.of_repository ≡ true → ActsOnRepository root_disk repo_disk m input old new result) → (scope.of_lists ≡ true → AnswersByLists root_disk repo_disk m input old new result) → (scope.of_tree ≡ true → AnswersByTree root_disk repo_disk m input old new result)
       → RunsLine root_disk repo_disk scope m input (with_out old before) (with_out new now) end
-  line_ends result end later cause fewer nothing ends performs alone apart lists tree = record {
+  line_ends result end later cause fewer nothing named ends performs alone apart lists tree = record {
     root_later = performs.root_later;
     repo_later = performs.repo_later;
     out_later = later;
@@ -71,6 +72,7 @@ module _ {T P : Type 0} {root_disk : DiskModel T} {repo_disk : DiskModel P} {m :
     };
     alone = λ is. let a = alone is in record {
       repo = a.repo;
+      damaged = λ path same. a.damaged path (named path same);
       told = λ told s rests. let f = a.told told s rests in record {
         next = f.next;
         ends = ends s f.next f.answers;
@@ -82,6 +84,7 @@ module _ {T P : Type 0} {root_disk : DiskModel T} {repo_disk : DiskModel P} {m :
     };
     apart = λ is. let a = apart is in record {
       root = a.root;
+      damaged = λ path same. a.damaged path (named path same);
       told = λ told s rests. let f = a.told told s rests in record {
         next = f.next;
         ends = ends s (record { root = s.root; repository = f.next }) f.answers;
@@ -96,17 +99,17 @@ module _ {T P : Type 0} {root_disk : DiskModel T} {repo_disk : DiskModel P} {m :
       → RunsLine root_disk repo_disk scope m input (with_out old before) (with_out new now) (Err e)
   error_line e later same performs alone apart lists tree =
       let keeps = keeps_still before now same in
-      line_ends (Err e) (Err e) later (error_cause root_disk repo_disk old new before now e keeps performs.cause) (λ le. le) (λ none. none)
+      line_ends (Err e) (Err e) later (error_cause root_disk repo_disk old new before now e keeps performs.cause) (λ le. le) (λ none. none) (λ path is. let one : e ≡ failure.Damaged path = cc is in ap Err one)
       (λ s next answers. error_ends (m.IsOutcome s input) s next before now e keeps answers) performs alone apart lists tree
 
   -- the whole line
   pub line_written : (result : Result (List ℕ) Failure) (end : End) → Performs root_disk repo_disk m input old new result → (scope.of_root ≡ true → PerformsAlone root_disk repo_disk m input old new result) → (scope.of_repository ≡ true → ActsOnRepository root_disk repo_disk m input old new result) → (scope.of_lists ≡ true → AnswersByLists root_disk repo_disk m input old new result) → (scope.of_tree ≡ true → AnswersByTree root_disk repo_disk m input old new result) → Writes result before now end
       → RunsLine root_disk repo_disk scope m input (with_out old before) (with_out new now) end
   line_written (Err e) end performs alone apart lists tree writes = subst (λ (x : End). RunsLine root_disk repo_disk scope m input (with_out old before) (with_out new now) x) (sym writes.wrote.0) (error_line e writes.later writes.wrote.1 performs alone apart lists tree)
-  line_written (Ok text) (Ok x) performs alone apart lists tree writes = line_ends (Ok text) (Ok x) writes.later tt (λ le. le) (λ none. none)
+  line_written (Ok text) (Ok x) performs alone apart lists tree writes = line_ends (Ok text) (Ok x) writes.later tt (λ le. le) (λ none. none) (λ path is. absurd (cc is))
       (λ s next answers. takes_so (λ bytes is. subst (λ b. Appends before.written now.written b) (sym is) writes.wrote) answers) performs alone apart lists tree
-  line_written (Ok text) (Err failure.OutputFault) performs alone apart lists tree writes = line_ends (Ok text) (Err failure.OutputFault) writes.later writes.wrote.0 (λ le. omega arith) (λ none. none)
+  line_written (Ok text) (Err failure.OutputFault) performs alone apart lists tree writes = line_ends (Ok text) (Err failure.OutputFault) writes.later writes.wrote.0 (λ le. omega arith) (λ none. none) (λ path is. absurd (cc is))
       (λ s next answers. takes_so (λ bytes is. subst (λ b. AppendsPart before.written now.written b) (sym is) writes.wrote.1) answers) performs alone apart lists tree
-  line_written (Ok text) (Err failure.Memory) performs alone apart lists tree writes = line_ends (Ok text) (Err failure.Memory) writes.later writes.wrote (λ le. absurd (omega (arith, le))) (λ none. none)
+  line_written (Ok text) (Err failure.Memory) performs alone apart lists tree writes = line_ends (Ok text) (Err failure.Memory) writes.later writes.wrote (λ le. absurd (omega (arith, le))) (λ none. none) (λ path is. absurd (cc is))
       (λ s next answers. (inr (takes_so (λ bytes is. tt) answers), writes.wrote)) performs alone apart lists tree
   line_written (Ok text) _ performs alone apart lists tree writes = absurd writes.wrote

@@ -1,19 +1,19 @@
 -- The repository, recovered and loaded.
 use Rattle.std.proofs.Common.{◌≡◌, Result, Ok, Err, IfOk, IfErr, refl, sym, subst, inr}
 use Rattle.std.specs.Prelude.{IsTrue}
-use Rattle.system_core.specs.cny-base.declared.stop.Stop.{Stop}
-use Rattle.system_core.specs.cny-base.declared.stop.Stop.TheVariants as stop
-use Rattle.system_core.specs.tree-disk.Tree.{Tree}
-use Rattle.system_core.specs.tree-disk.Disk.{DiskModel, IsDisk, HasRead}
-use Rattle.system_core.proofs.tree-disk.Moments.{rose_before}
+use Rattle.cny_laws.specs.system-core.cny-base.declared.stop.Stop.{Stop}
+use Rattle.cny_laws.specs.system-core.cny-base.declared.stop.Stop.TheVariants as stop
+use Rattle.cny_laws.specs.system-core.tree-disk.Tree.{Tree}
+use Rattle.cny_laws.specs.system-core.tree-disk.Disk.{DiskModel, IsDisk, HasRead}
+use Rattle.cny_laws.proofs.system-core.tree-disk.Moments.{rose_before}
 use Rattle.repo_index.specs.Catalogue.{CatalogueParts}
 use Rattle.repo_load.specs.Damage.{IsDamagedCommit}
 use Rattle.repo_load.specs.Files.{HoldsCatalogue}
 use Rattle.repo_load.specs.Looks.{Looks}
-use Rattle.cli_call.specs.Opening.{IsOpen, Opens, OpeningStops, no_test}
-use Rattle.system_core.specs.tree-journal.Recovered.{RecoversAt, IsKept}
+use Rattle.cny_laws.specs.Opening.{IsOpen, Opens, OpeningStops, no_test}
+use Rattle.cny_laws.specs.system-core.tree-journal.Recovered.{RecoversAt, IsKept}
 use Rattle.cli_call.proofs.StoreLaws.{nothing_done}
-use Rattle.cli_call.specs.Stores.{repository_store}
+use Rattle.cny_laws.specs.Stores.{repository_store}
 use Rattle.cli_call.proofs.OpeningDisks.{is_open, opens_loaded, recovered_on}
 
 module _ {P : Type 0} {disk : DiskModel P} (laws : IsDisk disk) (old mid new : P) (recovers : RecoversAt disk repository_store.base old mid (Ok tt)) where

@@ -2,26 +2,26 @@
 use Rattle.std.proofs.Common.{◌≡◌, ◌≤◌, Bool, true, false, Result, Ok, Err, IfOk, IfErr, refl, sym, ap, ◌∙◌, subst, inl, inr, ⊎_elim, arith}
 use Rattle.std.specs.Prelude.{IsTrue}
 use Rattle.std.specs.FinMap.{get}
-use Rattle.system_core.specs.cny-base.declared.refusal.Refusal.{Refusal}
-use Rattle.system_core.specs.cny-base.declared.stop.Stop.{Stop}
-use Rattle.system_core.specs.cny-base.declared.stop.Stop.TheVariants as stop
-use Rattle.system_core.specs.tree-disk.Tree.{Tree}
-use Rattle.system_core.specs.tree-disk.Disk.{DiskModel, IsDisk, IsImageOf, HasRead}
-use Rattle.system_core.specs.tree-disk.Confined.{Among, LeavesOnly}
-use Rattle.system_core.proofs.tree-disk.ConfinedLaws.{confined_read, confined_then, leaves_then, leaves_step, leaves_weaker}
-use Rattle.system_core.specs.tree-disk.Moments.{same_images}
-use Rattle.system_core.proofs.tree-disk.Moments.{rose_before}
-use Rattle.system_core.specs.tree-disk.Steps.{no_name}
-use Rattle.system_core.specs.tree-disk.Unfailed.{UnlessFailed}
-use Rattle.system_core.proofs.tree-disk.Unfailed.{unfailed_then, unfailed_weaker}
-use Rattle.system_core.specs.tree-journal.Recovery.{is_committed, RecoversTo, at_rest, by_log, RecoversAsThen, IsRecovered, IsDamagedAt}
-use Rattle.system_core.specs.tree-journal.Recovering.{IsVisibleIn}
-use Rattle.system_core.specs.tree-journal.Staging.{outcome}
+use Rattle.cny_laws.specs.system-core.cny-base.declared.refusal.Refusal.{Refusal}
+use Rattle.cny_laws.specs.system-core.cny-base.declared.stop.Stop.{Stop}
+use Rattle.cny_laws.specs.system-core.cny-base.declared.stop.Stop.TheVariants as stop
+use Rattle.cny_laws.specs.system-core.tree-disk.Tree.{Tree}
+use Rattle.cny_laws.specs.system-core.tree-disk.Disk.{DiskModel, IsDisk, IsImageOf, HasRead}
+use Rattle.cny_laws.specs.system-core.tree-disk.Confined.{Among, LeavesOnly}
+use Rattle.cny_laws.proofs.system-core.tree-disk.ConfinedLaws.{confined_read, confined_then, leaves_then, leaves_step, leaves_weaker}
+use Rattle.cny_laws.specs.system-core.tree-disk.Moments.{same_images}
+use Rattle.cny_laws.proofs.system-core.tree-disk.Moments.{rose_before}
+use Rattle.cny_laws.specs.system-core.tree-disk.Steps.{no_name}
+use Rattle.cny_laws.specs.system-core.tree-disk.Unfailed.{UnlessFailed}
+use Rattle.cny_laws.proofs.system-core.tree-disk.Unfailed.{unfailed_then, unfailed_weaker}
+use Rattle.cny_laws.specs.system-core.tree-journal.Recovery.{is_committed, RecoversTo, at_rest, by_log, RecoversAsThen, IsRecovered, IsDamagedAt}
+use Rattle.cny_laws.specs.system-core.tree-journal.Recovering.{IsVisibleIn}
+use Rattle.cny_laws.specs.system-core.tree-journal.Staging.{outcome}
 use Rattle.cli_call.proofs.CommandLaws.{read_shown}
-use Rattle.cli_call.specs.Opening.{IsOpen, Opens, OpeningStops}
-use Rattle.system_core.specs.tree-journal.Recovered.{RecoversAt, RecoveryStops, RecoversToNone, IsKept, RefusesLog}
-use Rattle.cli_call.specs.Store.{Store}
-use Rattle.system_core.proofs.Opened.{visible_itself}
+use Rattle.cny_laws.specs.Opening.{IsOpen, Opens, OpeningStops}
+use Rattle.cny_laws.specs.system-core.tree-journal.Recovered.{RecoversAt, RecoveryStops, RecoversToNone, IsKept, RefusesLog}
+use Rattle.cny_laws.specs.Store.{Store}
+use Rattle.cny_laws.proofs.system-core.Opened.{visible_itself}
 
 module _ {D X : Type 0} (store : Store X) {disk : DiskModel D} (laws : IsDisk disk) where
   -- a call that only reads leaves what a crash might leave before, and shows what stood before

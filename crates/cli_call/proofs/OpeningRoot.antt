@@ -2,33 +2,33 @@
 use Rattle.std.proofs.Common.{◌≡◌, ◌≤◌, Bool, true, false, Result, Ok, Err, IfOk, IfErr, refl, sym, ◌∙◌, subst, inl, inr, ⊎_elim}
 use Rattle.std.specs.Prelude.{◌⊎◌, IsTrue}
 use Rattle.std.specs.FinMap.{get}
-use Rattle.system_core.specs.cny-base.Reserved.{private_directory, is_reserved}
-use Rattle.system_core.specs.cny-base.declared.refusal.Refusal.{Refusal}
-use Rattle.system_core.specs.cny-base.declared.stop.Stop.{Stop}
-use Rattle.system_core.specs.cny-base.declared.stop.Stop.TheVariants as stop
-use Rattle.system_core.specs.tree-disk.Tree.{Name, Tree, AgreesOutside}
-use Rattle.system_core.specs.tree-disk.Disk.{DiskModel, HasRead}
-use Rattle.system_core.specs.tree-disk.Confined.{Among, Confined}
-use Rattle.system_core.proofs.tree-disk.ConfinedLaws.{leaves_weaker}
-use Rattle.system_core.proofs.tree-disk.Laws.{same_tree}
-use Rattle.system_core.specs.tree-disk.Steps.{no_name}
-use Rattle.system_core.specs.journal-log.Own.{StoresSame}
-use Rattle.system_core.specs.tree-journal.Recovery.{is_committed, RecoversTo, at_rest, by_log}
+use Rattle.cny_laws.specs.system-core.cny-base.Reserved.{private_directory, is_reserved}
+use Rattle.cny_laws.specs.system-core.cny-base.declared.refusal.Refusal.{Refusal}
+use Rattle.cny_laws.specs.system-core.cny-base.declared.stop.Stop.{Stop}
+use Rattle.cny_laws.specs.system-core.cny-base.declared.stop.Stop.TheVariants as stop
+use Rattle.cny_laws.specs.system-core.tree-disk.Tree.{Name, Tree, AgreesOutside}
+use Rattle.cny_laws.specs.system-core.tree-disk.Disk.{DiskModel, HasRead}
+use Rattle.cny_laws.specs.system-core.tree-disk.Confined.{Among, Confined}
+use Rattle.cny_laws.proofs.system-core.tree-disk.ConfinedLaws.{leaves_weaker}
+use Rattle.cny_laws.proofs.system-core.tree-disk.Laws.{same_tree}
+use Rattle.cny_laws.specs.system-core.tree-disk.Steps.{no_name}
+use Rattle.cny_laws.specs.system-core.journal-log.Own.{StoresSame}
+use Rattle.cny_laws.specs.system-core.tree-journal.Recovery.{is_committed, RecoversTo, at_rest, by_log}
 use Rattle.local_db.specs.declared.db.Db.{Db}
-use Rattle.system_core.specs.rollback-stack.Migrated.{is_up_to_date}
+use Rattle.cny_laws.specs.system-core.rollback-stack.Migrated.{is_up_to_date}
 use Rattle.local_db.specs.declared.format.Format.TheVariants.{Two}
 use Rattle.local_db.specs.Names.{database}
 use Rattle.local_db.specs.Stores.{IsDatabase, RecoversToSystem}
-use Rattle.system_core.specs.FixedDirs.{fixed_dirs}
-use Rattle.system_core.specs.Migrating.{RecoversInAFormat}
-use Rattle.system_core.specs.Ready.{HasReadied, IsReadyStop, MakesReady, MeetsDamagedStore}
-use Rattle.system_core.specs.tree-journal.Recovered.{RecoversToNone}
-use Rattle.cli_call.specs.Opening.{OpeningStops}
-use Rattle.cli_call.specs.RootOpening.{IsOfOldFormat, IsDecided, IsRootKept, IsRootOpen, OpensFrom, OpensSystem}
-use Rattle.cli_call.specs.State.{RootState}
-use Rattle.cli_call.specs.Store.{Recovers, HasDamageAtOpening}
-use Rattle.cli_call.specs.Stores.{root_store}
-use Rattle.system_core.proofs.Sameness.{not_own}
+use Rattle.cny_laws.specs.system-core.FixedDirs.{fixed_dirs}
+use Rattle.cny_laws.specs.system-core.Migrating.{RecoversInAFormat}
+use Rattle.cny_laws.specs.system-core.Ready.{HasReadied, IsReadyStop, MakesReady, MeetsDamagedStore}
+use Rattle.cny_laws.specs.system-core.tree-journal.Recovered.{RecoversToNone}
+use Rattle.cny_laws.specs.Opening.{OpeningStops}
+use Rattle.cny_laws.specs.RootOpening.{IsOfOldFormat, IsDecided, IsRootKept, IsRootOpen, OpensFrom, OpensSystem}
+use Rattle.cny_laws.specs.State.{RootState}
+use Rattle.cny_laws.specs.Store.{Recovers, HasDamageAtOpening}
+use Rattle.cny_laws.specs.Stores.{root_store}
+use Rattle.cny_laws.proofs.system-core.Sameness.{not_own}
 
 -- ---- names and trees
 

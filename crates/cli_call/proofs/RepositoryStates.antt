@@ -1,27 +1,28 @@
 -- What is known of a call of a command that works on the repository alone, from a state whose repository its disk recovers to.
-use Rattle.cli_call.specs.Call.{AreOpened, CallState, NotOpened, OpensRepository, OpensRoot, StopsForRoot}
-use Rattle.cli_call.specs.WholeCall.{CallEnds, CallOnRepository, HasEffect, OwnOutcome}
+use Rattle.cny_laws.specs.Call.{AreOpened, CallState, NotOpened, OpensRepository, OpensRoot, StopsForRoot}
+use Rattle.cny_laws.specs.WholeCall.{CallEnds, CallOnRepository, HasEffect, OwnOutcome}
 use Rattle.local_db.specs.declared.db.Db.{Db}
-use Rattle.system_core.specs.tree-disk.Disk.{DiskModel, IsDisk}
-use Rattle.cli_call.specs.Report.{End}
+use Rattle.cny_laws.specs.system-core.tree-disk.Disk.{DiskModel, IsDisk}
+use Rattle.cny_laws.specs.Report.{End}
 use Rattle.std.proofs.Common.{Err, List, Ok, Result, ap, inl, inr, refl, subst, sym, true, ℕ, ⊎_elim, ◌∙◌, ◌≡◌}
-use Rattle.cli_call.specs.Reading.{Gives, ReadsGiven, given}
-use Rattle.cli_call.specs.Store.{IsStore, Recovers, RestsAt}
+use Rattle.cny_laws.specs.Reading.{Gives, ReadsGiven, given}
+use Rattle.cny_laws.specs.Store.{IsStore, OneOf, Recovers, RestsAt}
 use Rattle.std.specs.Prelude.{IsTrue}
-use Rattle.system_core.specs.tree-disk.Confined.{LeavesOnly}
-use Rattle.cli_call.specs.State.{Meaning, Scope, State}
+use Rattle.cny_laws.specs.system-core.tree-disk.Confined.{LeavesOnly}
+use Rattle.cny_laws.proofs.system-core.tree-disk.ConfinedLaws.{leaves_weaker}
+use Rattle.cny_laws.specs.State.{Meaning, Scope, State}
 use Rattle.cli_call.specs.Line.{Moment, RunsLine}
-use Rattle.system_core.specs.tree-journal.Recovery.{RecoversAsThen}
-use Rattle.system_core.specs.cny-base.declared.stop.Stop.{Stop}
+use Rattle.cny_laws.specs.system-core.tree-journal.Recovery.{RecoversAsThen}
+use Rattle.cny_laws.specs.system-core.cny-base.declared.stop.Stop.{Stop}
 use Rattle.cli_call.specs.Command.{disks}
-use Rattle.cli_call.proofs.StoreLaws.{kept_recovers, never_damaged, none_yet, opened_rests, rest_reads}
-use Rattle.system_core.proofs.Opened.{never_blocked}
-use Rattle.cli_call.specs.declared.failure.Failure.{Failure}
-use Rattle.cli_call.specs.declared.opened.Opened.{Opened}
+use Rattle.cli_call.proofs.StoreLaws.{kept_recovers, never_damaged, none_yet, nothing_done, opened_rests, rest_lives, rest_reads}
+use Rattle.cny_laws.proofs.system-core.Opened.{never_blocked}
+use Rattle.cny_laws.specs.declared.failure.Failure.{Failure}
+use Rattle.cny_laws.specs.declared.opened.Opened.{Opened}
 use Rattle.cli_call.proofs.CallEnds.{next_any, own_ends, own_unread, no_repo_effect, no_root_effect, no_unread_effect, small}
-use Rattle.cli_call.specs.Stops.{repository_failure}
-use Rattle.cli_call.specs.Stores.{repository_store}
-use Rattle.system_core.specs.cny-base.declared.stop.Stop.TheVariants as stop
+use Rattle.cny_laws.specs.Stops.{repository_failure}
+use Rattle.cny_laws.specs.Stores.{repository_store}
+use Rattle.cny_laws.specs.system-core.cny-base.declared.stop.Stop.TheVariants as stop
 
 -- the repository wasn't opened
 stop_ends : {T P : Type 0} (root_disk : DiskModel T) {repo_disk : DiskModel P} → IsStore repository_store → (m : Meaning) (before now : CallState T P) (input : List ℕ) → IsTrue repo_disk.tells → (s : State) → Recovers repository_store (repo_disk.reads before.repo) s.repository
@@ -45,18 +46,20 @@ module _ {T P : Type 0} {root_disk : DiskModel T} {repo_disk : DiskModel P} (rep
         ends = inl stopped;
         is_next = inl refl;
         repo = inl (subst (λ (d : P). LeavesOnly repo_disk before.repo d (RecoversAsThen repo_disk repository_store.base before.repo)) (sym at.same) (none_yet repo_disk_laws repository_store.base before.repo));
+        pair = inl (record { failure = stopped.failure; is = stopped.is; stops = inl stopped.stops; unread = stopped.unread; silent = stopped.silent });
         rests = λ h. absurd (no_root_effect at.stop (subst HasEffect (stopped.is ∙ ap Err at.is) h));
         reads = inl (subst (λ (d : P). Recovers repository_store (repo_disk.reads d) s.repository) (sym at.same) recovers);
       }
 
   -- ---- the root was opened, and the repository wasn't
 
-  repository_stopped : (e : Stop) → OpensRepository root_disk repo_disk before.repo now.repo (Err e) → CallOnRepository root_disk repo_disk m input s before now (Err (repository_failure e))
-  repository_stopped e opens = record {
+  repository_stopped : (e : Stop) → OpensRepository root_disk repo_disk before.repo now.repo (Err e) → NotOpened root_disk repo_disk before now (Err (repository_failure e)) → CallOnRepository root_disk repo_disk m input s before now (Err (repository_failure e))
+  repository_stopped e opens stopped = record {
     next = s.repository;
     ends = inr (stop_ends root_disk repo_laws m before now input repo_told s recovers e opens);
     is_next = inl refl;
     repo = inl (opens.images repo_told);
+    pair = inl stopped;
     rests = λ h. absurd (no_repo_effect e h);
     reads = inl (kept_recovers repo_laws (repo_disk.reads before.repo) (repo_disk.reads now.repo) s.repository (opens.kept repo_told) recovers);
   }
@@ -64,7 +67,9 @@ module _ {T P : Type 0} {root_disk : DiskModel T} {repo_disk : DiskModel P} (rep
   pub repository_unopened : (end : End) → NotOpened root_disk repo_disk before now end → CallOnRepository root_disk repo_disk m input s before now end
   repository_unopened end stops = ⊎_elim
       (λ at. root_stopped end (record { failure = stops.failure; is = stops.is; stops = at; unread = stops.unread; silent = stops.silent }))
-      (λ at. subst (λ (x : End). CallOnRepository root_disk repo_disk m input s before now x) (sym (stops.is ∙ ap Err at.is)) (repository_stopped at.stop at.opens))
+      (λ at.
+      let is : end ≡ Err (repository_failure at.stop) = stops.is ∙ ap Err at.is in
+      subst (λ (x : End). CallOnRepository root_disk repo_disk m input s before now x) (sym is) (repository_stopped at.stop at.opens (subst (λ (x : End). NotOpened root_disk repo_disk before now x) is stops)))
       stops.stops
 
   -- ---- both were opened
@@ -88,6 +93,14 @@ module _ {T P : Type 0} {root_disk : DiskModel T} {repo_disk : DiskModel P} (rep
           ends = inr (own_unread m s input before.out now.out e reads gives);
           is_next = inl refl;
           repo = inl (subst (λ (d : P). LeavesOnly repo_disk before.repo d (RecoversAsThen repo_disk repository_store.base before.repo)) (sym same_repo) (opens.opens.images repo_told));
+          pair = inr (record {
+            root = root;
+            repo = repo;
+            opened = opened;
+            opens = opens;
+            root_lives = tt;
+            repo_lives = subst (λ (d : P). LeavesOnly repo_disk repo d (OneOf repository_store s.repository s.repository)) (sym same_repo) (leaves_weaker (λ image h. inl h) (rest_lives repo_laws repo_disk_laws repo repo s.repository (nothing_done repo_disk_laws repo) repo_rests));
+          });
           rests = λ h. absurd (no_unread_effect e reads h);
           reads = inl (subst (λ (d : P). Recovers repository_store (repo_disk.reads d) s.repository) (sym same_repo) (rest_reads repo_laws repo s.repository repo_rests));
         }
@@ -103,6 +116,7 @@ module _ {T P : Type 0} {root_disk : DiskModel T} {repo_disk : DiskModel P} (rep
           ends = inr ended;
           is_next = next_any (OwnOutcome m s input) s after before.out now.out end ended;
           repo = inr (record { opened = repo; opening = opens.opens.images repo_told; lives = f.repo.images });
+          pair = inr (record { root = root; repo = repo; opened = opened; opens = opens; root_lives = tt; repo_lives = f.repo.images });
           rests = λ h. f.repo.rests (small end h);
           reads = f.repo.reads;
         }

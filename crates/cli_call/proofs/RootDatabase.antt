@@ -1,10 +1,10 @@
 -- The database that a root holds in format 2 is that of each system that it stores.
 use Rattle.std.proofs.Common.{◌≡◌, ◌+◌, ℕ, List, [], ◌∷◌, Option, Some, None, refl, sym, ap, ◌∙◌, subst, ⊎_elim, arith}
 use Rattle.std.specs.FinMap.{get}
-use Rattle.system_core.specs.content-store.Store.{file_bytes}
-use Rattle.system_core.specs.cny-base.declared.node.Node.{Node}
-use Rattle.system_core.specs.trove-stream.declared.parts.TroveParts.{TroveParts}
-use Rattle.system_core.specs.tree-disk.Tree.{Tree}
+use Rattle.cny_laws.specs.system-core.content-store.Store.{file_bytes}
+use Rattle.cny_laws.specs.system-core.cny-base.declared.node.Node.{Node}
+use Rattle.cny_laws.specs.system-core.trove-stream.declared.parts.TroveParts.{TroveParts}
+use Rattle.cny_laws.specs.system-core.tree-disk.Tree.{Tree}
 use Rattle.local_db.specs.declared.db.Db.{Db}
 use Rattle.local_db.specs.declared.format.Format.{Format}
 use Rattle.local_db.specs.declared.format.Format.TheVariants.{One, Two}
@@ -12,7 +12,7 @@ use Rattle.local_db.specs.Formats.{database_bytes}
 use Rattle.local_db.specs.Names.{database}
 use Rattle.local_db.specs.Stores.{HoldsDatabase, HoldsStack, IsDatabase, SameDatabase, StoresIn, StoresSystem, absent, written}
 use Rattle.local_db.specs.SystemState.{AreNumbered, StackItem, SystemState, newest, oldest}
-use Rattle.system_core.proofs.Held.{OneDatabase}
+use Rattle.cny_laws.proofs.system-core.Held.{OneDatabase}
 use Rattle.repo_load.proofs.Holding.{some_bytes as same_bytes}
 
 -- the tree stores the system in format 2, and this is its database

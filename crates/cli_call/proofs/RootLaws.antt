@@ -1,20 +1,20 @@
 -- The laws of the root's store; what follows of a root that recovers to a system, and of one that was opened.
 use Rattle.std.proofs.Common.{◌≡◌, refl, sym, ◌∙◌, inl, inr, ⊎_elim, codes}
-use Rattle.system_core.specs.cny-base.Reserved.{is_reserved}
-use Rattle.system_core.specs.tree-disk.Tree.{Tree, AgreesOutside, WellFormed}
-use Rattle.system_core.specs.tree-disk.Disk.{DiskModel}
+use Rattle.cny_laws.specs.system-core.cny-base.Reserved.{is_reserved}
+use Rattle.cny_laws.specs.system-core.tree-disk.Tree.{Tree, AgreesOutside, WellFormed}
+use Rattle.cny_laws.specs.system-core.tree-disk.Disk.{DiskModel}
 use Rattle.local_db.specs.declared.db.Db.{Db}
 use Rattle.local_db.specs.declared.format.Format.TheVariants.{One, Two}
 use Rattle.local_db.specs.Stores.{StoresSystem}
 use Rattle.local_db.proofs.Frame.{stores_still}
 use Rattle.local_db.proofs.Places.{own_doesnt_count}
-use Rattle.system_core.specs.FixedDirs.{fixed_dirs}
-use Rattle.system_core.proofs.FixedDirsLaws.{same_fixed}
-use Rattle.cli_call.specs.RootOpening.{IsRootOpen, RecoversOutside}
-use Rattle.cli_call.specs.State.{RootState, tree_of}
-use Rattle.cli_call.specs.Store.{IsStore, Recovers, RestsAt}
+use Rattle.cny_laws.specs.system-core.FixedDirs.{fixed_dirs}
+use Rattle.cny_laws.proofs.system-core.FixedDirsLaws.{same_fixed}
+use Rattle.cny_laws.specs.RootOpening.{IsRootOpen, RecoversOutside}
+use Rattle.cny_laws.specs.State.{RootState, tree_of}
+use Rattle.cny_laws.specs.Store.{IsStore, Recovers, RestsAt}
 use Rattle.cli_call.proofs.StoreLaws.{settled_rests}
-use Rattle.cli_call.specs.Stores.{root_store}
+use Rattle.cny_laws.specs.Stores.{root_store}
 use Rattle.local_db.proofs.FileNames.{base_is_path as directory_path}
 
 pub root_laws : IsStore root_store

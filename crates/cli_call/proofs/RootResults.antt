@@ -1,8 +1,8 @@
 -- What a call of the root's disk ended with, where it is an end of a command.
 use Rattle.std.proofs.Common.{◌≡◌, Result, Ok, Err}
-use Rattle.system_core.specs.cny-base.declared.stop.Stop.{Stop}
-use Rattle.cli_call.specs.declared.failure.Failure.{Failure}
-use Rattle.cli_call.specs.Stops.{root_result}
+use Rattle.cny_laws.specs.system-core.cny-base.declared.stop.Stop.{Stop}
+use Rattle.cny_laws.specs.declared.failure.Failure.{Failure}
+use Rattle.cny_laws.specs.Stops.{root_result}
 
 pub same_failure : {X : Type 0} {f e : Failure} → ◌≡◌ {A = Result X Failure} (Err f) (Err e) → f ≡ e
 same_failure h = cc h

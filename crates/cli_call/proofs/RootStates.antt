@@ -2,36 +2,38 @@
 use Rattle.std.proofs.Common.{◌≡◌, ◌≤◌, ℕ, true, List, Some, Result, Ok, Err, IfSome, refl, sym, ap, ◌∙◌, subst, inl, inr, ⊎_elim, arith}
 use Rattle.std.specs.Prelude.{◌⊎◌, IsTrue}
 use Rattle.std.specs.FinMap.{get}
-use Rattle.system_core.specs.cny-base.declared.refusal.Refusal.{Refusal}
-use Rattle.system_core.specs.cny-base.declared.stop.Stop.{Stop}
+use Rattle.cny_laws.specs.system-core.cny-base.declared.refusal.Refusal.{Refusal}
+use Rattle.cny_laws.specs.system-core.cny-base.declared.stop.Stop.{Stop}
 use Rattle.cny_flow.specs.Flow.{SourceState}
-use Rattle.system_core.specs.tree-disk.Disk.{DiskModel, IsDisk}
-use Rattle.system_core.specs.tree-disk.Confined.{LeavesOnly}
-use Rattle.system_core.specs.tree-disk.Unfailed.{UnlessFailed}
-use Rattle.system_core.proofs.tree-disk.Unfailed.{unfailed_start, unfailed_weaker}
-use Rattle.system_core.specs.tree-journal.Recovery.{RecoversAsThen}
+use Rattle.cny_laws.specs.system-core.tree-disk.Disk.{DiskModel, IsDisk}
+use Rattle.cny_laws.specs.system-core.tree-disk.Confined.{LeavesOnly}
+use Rattle.cny_laws.specs.system-core.tree-disk.Unfailed.{UnlessFailed}
+use Rattle.cny_laws.proofs.system-core.tree-disk.ConfinedLaws.{leaves_weaker}
+use Rattle.cny_laws.proofs.system-core.tree-disk.Unfailed.{unfailed_start, unfailed_weaker}
+use Rattle.cny_laws.specs.system-core.tree-journal.Recovery.{RecoversAsThen}
 use Rattle.local_db.specs.declared.db.Db.{Db}
-use Rattle.cli_call.specs.declared.failure.Failure.{Failure}
-use Rattle.cli_call.specs.declared.opened.Opened.{Opened}
-use Rattle.cli_call.specs.Call.{CallState, OpensRoot, AreOpened, NotOpened, StopsForRepository}
-use Rattle.cli_call.specs.WholeCall.{CallEnds, HasEffect, Outcome, left_when, left_of, IsOpenedOnly, CallOnRoot}
+use Rattle.cny_laws.specs.declared.failure.Failure.{Failure}
+use Rattle.cny_laws.specs.declared.opened.Opened.{Opened}
+use Rattle.cny_laws.specs.Call.{CallState, OpensRoot, AreOpened, NotOpened, StopsForRoot, StopsForRepository}
+use Rattle.cny_laws.specs.WholeCall.{CallEnds, HasEffect, Outcome, left_when, left_of, IsOpenedOnly, CallOnRoot}
 use Rattle.cli_call.proofs.CallEnds.{small, next_any, no_root_effect, no_repo_effect, no_unread_effect, outcome_of, dir_missing, run_ends, shown_so, unread_ends}
-use Rattle.cli_call.specs.Command.{disks, IsShown, KeepsOthers}
-use Rattle.system_core.specs.FixedDirs.{fixed_dirs}
+use Rattle.cli_call.specs.Command.{disks}
+use Rattle.cny_laws.specs.Shown.{IsShown, KeepsOthers}
+use Rattle.cny_laws.specs.system-core.FixedDirs.{fixed_dirs}
 use Rattle.cli_call.proofs.InputLaws.{some_is}
 use Rattle.cli_call.specs.Line.{Moment, RunsLine}
-use Rattle.cli_call.specs.Reading.{given, Gives, ReadsGiven}
-use Rattle.system_core.specs.tree-journal.Recovered.{IsKept}
-use Rattle.cli_call.specs.Report.{End, status_of}
+use Rattle.cny_laws.specs.Reading.{given, Gives, ReadsGiven}
+use Rattle.cny_laws.specs.system-core.tree-journal.Recovered.{IsKept}
+use Rattle.cny_laws.specs.Report.{End, status_of}
 use Rattle.cli_call.proofs.RootLaws.{root_laws, state_dirs, opened_root_rests}
-use Rattle.cli_call.specs.RootOpening.{IsRootOpen}
-use Rattle.cli_call.specs.State.{State, Meaning, tree_of, Scope}
-use Rattle.cli_call.specs.Stops.{root_failure}
-use Rattle.cli_call.specs.Store.{Recovers, IsEntryOr, RestsAt}
-use Rattle.cli_call.proofs.StoreLaws.{never_damaged, rest_reads, none_yet}
-use Rattle.cli_call.specs.Stores.{root_store, repository_store}
-use Rattle.system_core.proofs.Opened.{kept_so, never_blocked}
-use Rattle.system_core.specs.cny-base.declared.stop.Stop.TheVariants as stop
+use Rattle.cny_laws.specs.RootOpening.{IsRootOpen}
+use Rattle.cny_laws.specs.State.{State, Meaning, tree_of, Scope}
+use Rattle.cny_laws.specs.Stops.{root_failure}
+use Rattle.cny_laws.specs.Store.{OneOf, Recovers, IsEntryOr, RestsAt}
+use Rattle.cli_call.proofs.StoreLaws.{never_damaged, nothing_done, rest_lives, rest_reads, none_yet}
+use Rattle.cny_laws.specs.Stores.{root_store, repository_store}
+use Rattle.cny_laws.proofs.system-core.Opened.{kept_so, never_blocked}
+use Rattle.cny_laws.specs.system-core.cny-base.declared.stop.Stop.TheVariants as stop
 
 -- ---- the fixed directories of the state
 
@@ -70,19 +72,20 @@ module _ {T P : Type 0} {root_disk : DiskModel T} (repo_disk : DiskModel P) (roo
 module _ {T P : Type 0} {root_disk : DiskModel T} {repo_disk : DiskModel P} (root_disk_laws : IsDisk root_disk) (scope : Scope) (m : Meaning) (before now : CallState T P)
     (input : List ℕ) (root_told : IsTrue root_disk.tells) (s : State) (recovers : Recovers root_store (root_disk.reads before.root) s.root) where
   -- the root was opened at most
-  root_stopped : (e : Stop) → OpensRoot root_disk repo_disk before.root now.root (Err e) → CallOnRoot root_disk repo_disk m input s before now (Err (root_failure e))
-  root_stopped e opens = record {
+  root_stopped : (e : Stop) → OpensRoot root_disk repo_disk before.root now.root (Err e) → StopsForRoot root_disk repo_disk before now (Err (root_failure e)) → CallOnRoot root_disk repo_disk m input s before now (Err (root_failure e))
+  root_stopped e opens stopped = record {
     next = s;
     ends = inr (root_ends repo_disk root_disk_laws m before now input root_told s recovers e opens);
     is_next = inl refl;
     stays = refl;
     root = inl (opens.from root_told s.root recovers).images;
+    pair = inl (record { failure = stopped.failure; is = stopped.is; stops = inl stopped.stops; unread = stopped.unread; silent = stopped.silent });
     rests = λ h. absurd (no_root_effect e h);
     reads = inl (opens.from root_told s.root recovers).reads;
     outside = λ clear q out left. (opens.from root_told s.root recovers).outside clear q out;
     seen = record {
       ready = now.root;
-      reached = inr refl;
+      reached = inr (refl, stopped);
       recovery_later = opens.later;
       command_later = omega arith;
       recovery = (opens.from root_told s.root recovers).seen;
@@ -101,12 +104,13 @@ module _ {T P : Type 0} {root_disk : DiskModel T} {repo_disk : DiskModel P} (roo
         is_next = inl refl;
         stays = refl;
         root = inl (first.from root_told s.root recovers).images;
+        pair = inl (record { failure = stopped.failure; is = stopped.is; stops = inr stopped.stops; unread = stopped.unread; silent = stopped.silent });
         rests = λ h. absurd (no_repo_effect at.stop (subst HasEffect (stopped.is ∙ ap Err at.is) h));
         reads = inl (first.from root_told s.root recovers).reads;
         outside = λ clear q out left. (first.from root_told s.root recovers).outside clear q out;
         seen = record {
           ready = now.root;
-          reached = inr refl;
+          reached = inl (first.opened root_told).reached;
           recovery_later = first.later;
           command_later = omega arith;
           recovery = (first.from root_told s.root recovers).seen;
@@ -117,7 +121,10 @@ module _ {T P : Type 0} {root_disk : DiskModel T} {repo_disk : DiskModel P} (roo
 
   pub root_unopened : (end : End) → NotOpened root_disk repo_disk before now end → CallOnRoot root_disk repo_disk m input s before now end
   root_unopened end stops = ⊎_elim
-      (λ at. subst (λ (x : End). CallOnRoot root_disk repo_disk m input s before now x) (sym (stops.is ∙ ap Err at.is)) (root_stopped at.stop at.opens))
+      (λ at.
+      let is : end ≡ Err (root_failure at.stop) = stops.is ∙ ap Err at.is in
+      let stopped : StopsForRoot root_disk repo_disk before now end = record { failure = stops.failure; is = stops.is; stops = at; unread = stops.unread; silent = stops.silent } in
+      subst (λ (x : End). CallOnRoot root_disk repo_disk m input s before now x) (sym is) (root_stopped at.stop at.opens (subst (λ (x : End). StopsForRoot root_disk repo_disk before now x) is stopped)))
       (λ at. repository_stopped end (record { failure = stops.failure; is = stops.is; stops = at; unread = stops.unread; silent = stops.silent }))
       stops.stops
 
@@ -146,6 +153,14 @@ module _ {T P : Type 0} {root_disk : DiskModel T} {repo_disk : DiskModel P} (roo
           is_next = inl refl;
           stays = refl;
           root = inl (subst (λ (d : T). LeavesOnly root_disk before.root d (IsEntryOr root_store root_disk before.root s.root)) (sym same_root) (opens.opens_root.from root_told s.root recovers).images);
+          pair = inr (record {
+            root = root;
+            repo = repo;
+            opened = opened;
+            opens = opens;
+            root_lives = subst (λ (d : T). LeavesOnly root_disk root d (OneOf root_store s.root s.root)) (sym same_root) (leaves_weaker (λ image h. inl h) (rest_lives root_laws root_disk_laws root root s.root (nothing_done root_disk_laws root) root_rests));
+            repo_lives = tt;
+          });
           rests = λ h. absurd (no_unread_effect e reads h);
           reads = inl (subst (λ (d : T). Recovers root_store (root_disk.reads d) s.root) (sym same_root) (rest_reads root_laws root s.root root_rests));
           outside = λ clear q out left. ap (λ (d : T). get (root_disk.reads d) q) same_root ∙ (opens.opens_root.from root_told s.root recovers).outside clear q out;
@@ -173,6 +188,7 @@ module _ {T P : Type 0} {root_disk : DiskModel T} {repo_disk : DiskModel P} (roo
           is_next = next_any (Outcome m s input) s f.next before.out now.out end ended;
           stays = f.stays;
           root = inr (record { opened = root; opening = (opens.opens_root.from root_told s.root recovers).images; lives = f.root.images });
+          pair = inr (record { root = root; repo = repo; opened = opened; opens = opens; root_lives = f.root.images; repo_lives = tt });
           rests = λ h. f.root.rests (small end h);
           reads = f.root.reads;
           outside = λ clear q out left. others q out left ∙ (opens.opens_root.from root_told s.root recovers).outside clear q out;

@@ -1,18 +1,18 @@
 -- What follows of a disk at rest, and of a disk that recovers to a state.
 use Rattle.std.proofs.Common.{◌≡◌, false, Result, refl, sym, ap, ◌∙◌, subst, inl, inr, ⊎_elim, arith}
 use Rattle.std.specs.Prelude.{IsTrue}
-use Rattle.system_core.specs.cny-base.declared.refusal.Refusal.{Refusal}
-use Rattle.system_core.specs.tree-disk.Tree.{Name, Tree}
-use Rattle.system_core.specs.tree-disk.Disk.{DiskModel, IsDisk, IsImageOf, HasRead}
-use Rattle.system_core.specs.tree-disk.Confined.{IsSynced, LeavesOnly}
-use Rattle.system_core.proofs.tree-disk.ConfinedLaws.{leaves_step}
-use Rattle.system_core.specs.tree-disk.Moments.{same_images, same_start, time_start}
-use Rattle.system_core.specs.journal-log.Own.{gate, StoresSame}
-use Rattle.system_core.specs.tree-journal.Recovery.{is_flag, is_committed, RecoversTo, at_rest, by_log, RecoversAsThen}
-use Rattle.cli_call.specs.Opening.{IsOpen, MeetsDamage}
-use Rattle.system_core.specs.tree-journal.Recovered.{IsKept}
-use Rattle.cli_call.specs.Store.{Store, IsStore, Recovers, IsEntryOr, HasDamagedFile, HasDamageAtOpening, IsSettled, RestsAt}
-use Rattle.system_core.proofs.Opened.{never_damaged_log}
+use Rattle.cny_laws.specs.system-core.cny-base.declared.refusal.Refusal.{Refusal}
+use Rattle.cny_laws.specs.system-core.tree-disk.Tree.{Name, Tree}
+use Rattle.cny_laws.specs.system-core.tree-disk.Disk.{DiskModel, IsDisk, IsImageOf, HasRead}
+use Rattle.cny_laws.specs.system-core.tree-disk.Confined.{IsSynced, LeavesOnly}
+use Rattle.cny_laws.proofs.system-core.tree-disk.ConfinedLaws.{leaves_step}
+use Rattle.cny_laws.specs.system-core.tree-disk.Moments.{same_images, same_start, time_start}
+use Rattle.cny_laws.specs.system-core.journal-log.Own.{gate, StoresSame}
+use Rattle.cny_laws.specs.system-core.tree-journal.Recovery.{is_flag, is_committed, RecoversTo, at_rest, by_log, RecoversAsThen}
+use Rattle.cny_laws.specs.Opening.{IsOpen, MeetsDamage}
+use Rattle.cny_laws.specs.system-core.tree-journal.Recovered.{IsKept}
+use Rattle.cny_laws.specs.Store.{Store, IsStore, Recovers, IsEntryOr, HasDamagedFile, HasDamageAtOpening, IsSettled, RestsAt}
+use Rattle.cny_laws.proofs.system-core.Opened.{never_damaged_log}
 
 -- nothing was done
 pub nothing_done : {D : Type 0} {disk : DiskModel D} → IsDisk disk → (d : D) → HasRead disk d d (Unit {0})

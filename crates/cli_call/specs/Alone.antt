@@ -1,31 +1,20 @@
 -- What the function of a command does that works on one of the disks alone, or on the lists alone that were read when they were opened.
 use Rattle.std.specs.Prelude.{◌≡◌, ℕ, ◌≤◌, IsTrue, List, Result}
-use Rattle.system_core.specs.cny-base.Reserved.{is_reserved}
-use Rattle.system_core.specs.cny-base.declared.refusal.Refusal.{Refusal}
-use Rattle.system_core.specs.tree-disk.Clear.{is_within}
-use Rattle.system_core.specs.tree-disk.Confined.{Among, Confined}
-use Rattle.system_core.specs.tree-disk.Disk.{DiskModel, HasRead}
-use Rattle.system_core.specs.tree-disk.Tree.{AgreesOutside}
-use Rattle.system_core.specs.tree-disk.Unfailed.{UnlessFailed}
+use Rattle.cny_laws.specs.system-core.cny-base.declared.refusal.Refusal.{Refusal}
+use Rattle.cny_laws.specs.system-core.tree-disk.Clear.{is_within}
+use Rattle.cny_laws.specs.system-core.tree-disk.Confined.{Among, Confined}
+use Rattle.cny_laws.specs.system-core.tree-disk.Disk.{DiskModel, HasRead}
+use Rattle.cny_laws.specs.system-core.tree-disk.Unfailed.{UnlessFailed}
 use Rattle.repo_load.specs.Files.{repository_base}
-use Rattle.repo_load.specs.State.{troves_of, RepositoryState}
-use Rattle.cli_call.specs.declared.failure.Failure.{Failure}
-use Rattle.cli_call.specs.declared.opened.Opened.{Opened}
-use Rattle.cli_call.specs.Command.{Disks, ChangesNothing, Goes, Answers, HasCause, KeepsOthers, IsShown, end_of}
-use Rattle.cli_call.specs.Report.{status_of}
-use Rattle.cli_call.specs.State.{State, Effect, Meaning, tree_of}
-use Rattle.cli_call.specs.Store.{IsSettled, RestsAt}
-use Rattle.cli_call.specs.Stores.{root_store, repository_store}
-
--- the state has the lists that were read when the disks were opened: the installed troves, and those of the catalogue
-pub record HasLists (opened : Opened) (s : State) : Type 0 where
-  pub installed : s.root.installed ≡ opened.db.installed
-  pub committed : troves_of s.repository.commits ≡ opened.catalogue.troves
-
--- and its tree is what the root reads outside its private directory
-pub record HasTree {T : Type 0} (root_disk : DiskModel T) (root : T) (opened : Opened) (s : State) : Type 0 where
-  pub lists : HasLists opened s
-  pub outer : AgreesOutside is_reserved (root_disk.reads root) (tree_of s.root)
+use Rattle.repo_load.specs.State.{RepositoryState}
+use Rattle.cny_laws.specs.declared.failure.Failure.{Failure}
+use Rattle.cli_call.specs.Command.{Disks, Goes, Answers, HasCause, end_of}
+use Rattle.cny_laws.specs.Report.{ChangesNothing, status_of}
+use Rattle.cny_laws.specs.Shown.{KeepsOthers, IsShown}
+use Rattle.cny_laws.specs.State.{State, Effect, Meaning}
+use Rattle.cny_laws.specs.Store.{IsSettled, NamesDamaged, RestsAt}
+use Rattle.cny_laws.specs.Stores.{root_store, repository_store}
+use Rattle.cny_laws.specs.Call.{HasLists, HasTree}
 
 module _ {T P : Type 0} (root_disk : DiskModel T) (repo_disk : DiskModel P) where
   -- From a state whose root the root's disk stores, whatever repository the state has: the state after it, and what the root went
@@ -39,9 +28,10 @@ module _ {T P : Type 0} (root_disk : DiskModel T) (repo_disk : DiskModel P) wher
     pub seen : UnlessFailed root_disk old new (IsShown IsOutcome s (root_disk.reads old))
 
   -- THE SECOND CLAUSE of the function of a command that works on the root alone: whatever the repository's disk tells or stores, it
-  -- wasn't touched, and the command was performed as on every repository.
+  -- wasn't touched, and the command was performed as on every repository; a file that it names as damaged is one of the root.
   pub record PerformsAlone (m : Meaning) (input : List ℕ) (old new : Disks T P) (result : Result (List ℕ) Failure) : Type 0 where
     pub repo : new.repo ≡ old.repo
+    pub damaged : NamesDamaged root_store root_disk new.root result
     pub told : IsTrue root_disk.tells → (s : State) → RestsAt root_store root_disk old.root s.root → PerformsOnRoot (m.IsOutcome s input) s old.root new.root result
 
   -- From a state whose repository the repository's disk stores, whatever root the state has: the repository after it, what was answered,
@@ -52,11 +42,13 @@ module _ {T P : Type 0} (root_disk : DiskModel T) (repo_disk : DiskModel P) wher
     pub goes : Goes repository_store repo_disk s.repository next old new (end_of result)
 
   -- THE CLAUSE of the function of a command that works on the repository alone: whatever the root's disk tells or stores, it wasn't
-  -- touched, and the command was performed as on every root. (That it was performed so as any command is, follows.)
+  -- touched, and the command was performed as on every root; a file that it names as damaged is one of the repository. (That it was
+  -- performed so as any command is, follows.)
   pub record ActsOnRepository (m : Meaning) (input : List ℕ) (old new : Disks T P) (result : Result (List ℕ) Failure) : Type 0 where
     pub root : new.root ≡ old.root
     pub later : repo_disk.faults old.repo ≤ repo_disk.faults new.repo
     pub cause : HasCause root_disk repo_disk old new result
+    pub damaged : NamesDamaged repository_store repo_disk new.repo result
     pub rest : status_of (end_of result) ≤ 4 → IsTrue repo_disk.tells → IsSettled repo_disk repository_store.base new.repo
     pub same : ChangesNothing (end_of result) → IsTrue repo_disk.tells → repo_disk.reads new.repo ≡ repo_disk.reads old.repo
     pub within : IsTrue repo_disk.tells → Confined repo_disk (Among (is_within repository_base)) old.repo new.repo

@@ -1,9 +1,9 @@
 -- Commands that answer bytes and change nothing.
 use Rattle.std.specs.Prelude.{◌≡◌, ℕ, List, Result, Ok, Err}
-use Rattle.system_core.specs.cny-base.declared.refusal.Fault.{Fault}
-use Rattle.system_core.specs.cny-base.declared.refusal.Fault.TheVariants as fault
-use Rattle.system_core.specs.cny-base.declared.refusal.Refusal.{Refusal}
-use Rattle.cli_call.specs.State.{nothing, Effect}
+use Rattle.cny_laws.specs.system-core.cny-base.declared.refusal.Fault.{Fault}
+use Rattle.cny_laws.specs.system-core.cny-base.declared.refusal.Fault.TheVariants as fault
+use Rattle.cny_laws.specs.system-core.cny-base.declared.refusal.Refusal.{Refusal}
+use Rattle.cny_laws.specs.State.{nothing, Effect}
 
 -- nothing changes, and these bytes are answered
 abbrev pub answer : List ℕ → Effect

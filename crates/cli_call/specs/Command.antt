@@ -1,29 +1,26 @@
 -- What a command's own function does over two disks that are open.
-use Rattle.std.specs.Prelude.{◌≡◌, ◌⊎◌, ℕ, ◌≤◌, ◌<◌, false, IsTrue, List, Result, Ok, Err, Contains}
-use Rattle.std.specs.FinMap.{get}
-use Rattle.system_core.specs.cny-base.Count.{Rose}
-use Rattle.system_core.specs.cny-base.Reserved.{is_reserved}
-use Rattle.system_core.specs.cny-base.declared.refusal.Refusal.{Refusal}
-use Rattle.system_core.specs.tree-disk.Tree.{Name, Tree}
-use Rattle.system_core.specs.tree-disk.Disk.{DiskModel}
-use Rattle.system_core.specs.tree-disk.Clear.{is_within}
-use Rattle.system_core.specs.tree-disk.Confined.{Among, Confined, IsSynced, LeavesOnly}
-use Rattle.system_core.specs.tree-disk.Unfailed.{UnlessFailed}
+use Rattle.std.specs.Prelude.{◌≡◌, ◌⊎◌, ℕ, ◌≤◌, false, IsTrue, List, Result, Ok, Err}
+use Rattle.cny_laws.specs.system-core.cny-base.Count.{Rose}
+use Rattle.cny_laws.specs.system-core.cny-base.declared.refusal.Refusal.{Refusal}
+use Rattle.cny_laws.specs.system-core.tree-disk.Tree.{Name}
+use Rattle.cny_laws.specs.system-core.tree-disk.Disk.{DiskModel}
+use Rattle.cny_laws.specs.system-core.tree-disk.Clear.{is_within}
+use Rattle.cny_laws.specs.system-core.tree-disk.Confined.{Among, Confined, IsSynced, LeavesOnly}
+use Rattle.cny_laws.specs.system-core.tree-disk.Unfailed.{UnlessFailed}
 use Rattle.repo_load.specs.Files.{repository_base, HoldsCatalogue}
 use Rattle.repo_load.specs.Loading.{IsCatalogue}
 use Rattle.local_db.specs.declared.format.Format.TheVariants.{Two}
 use Rattle.local_db.specs.Stores.{HoldsDatabase, IsDatabase}
-use Rattle.local_db.specs.SystemState.{StackItem, is_listed, newest}
-use Rattle.system_core.specs.tree-journal.Recovery.{is_committed}
-use Rattle.cli_call.specs.declared.failure.Failure.{Failure}
-use Rattle.cli_call.specs.declared.failure.Failure.TheVariants as failure
-use Rattle.cli_call.specs.declared.opened.Opened.{Opened}
-use Rattle.system_core.specs.FixedDirs.{fixed_dirs}
-use Rattle.cli_call.specs.Report.{End, status_of}
-use Rattle.cli_call.specs.RootOpening.{ShowsBetween}
-use Rattle.cli_call.specs.State.{RootState, State, Effect, Meaning, tree_of, after, Takes, IsNext, OneDisk}
-use Rattle.cli_call.specs.Store.{Store, OneOf, HasDamagedFile, IsSettled, RestsAt}
-use Rattle.cli_call.specs.Stores.{root_store, repository_store}
+use Rattle.cny_laws.specs.system-core.tree-journal.Recovery.{is_committed}
+use Rattle.cny_laws.specs.declared.failure.Failure.{Failure}
+use Rattle.cny_laws.specs.declared.failure.Failure.TheVariants as failure
+use Rattle.cny_laws.specs.declared.opened.Opened.{Opened}
+use Rattle.cny_laws.specs.system-core.FixedDirs.{fixed_dirs}
+use Rattle.cny_laws.specs.Report.{End, status_of, ChangesNothing}
+use Rattle.cny_laws.specs.State.{State, Effect, Meaning, Takes, IsNext, OneDisk}
+use Rattle.cny_laws.specs.Store.{Store, OneOf, HasDamagedFile, IsSettled, RestsAt}
+use Rattle.cny_laws.specs.Stores.{root_store, repository_store}
+use Rattle.cny_laws.specs.Shown.{KeepsOthers, IsShown}
 
 -- ---- two disks that are open
 
@@ -53,13 +50,6 @@ abbrev pub end_of : Result (List ℕ) Failure → End
 end_of (Ok text) = Ok tt
 end_of (Err e) = Err e
 
--- the ends before which nothing was changed
-abbrev pub ChangesNothing : End → Type 0
-ChangesNothing (Err (failure.Refused r)) = Unit {0}
-ChangesNothing (Err failure.InputFault) = Unit {0}
-ChangesNothing (Err (failure.Damaged path)) = Unit {0}
-ChangesNothing _ = ⊥
-
 -- ---- by a state that the disks store
 
 -- What one disk goes through, from a state to another: at every moment a crash leaves a tree that recovers to one of the two; after
@@ -80,30 +70,6 @@ Answers IsOutcome s next (Err failure.Usage) = ⊥
 Answers IsOutcome s next (Err failure.InputFault) = ⊥
 Answers IsOutcome s next (Err failure.OutputFault) = ⊥
 Answers IsOutcome s next (Err (failure.Damaged path)) = ⊥
-
--- the path of none of the jobs of the one stack that are newer than those of the other
-abbrev pub IsNoPath : List StackItem → List StackItem → Name → Type 0
-IsNoPath stack other q = (o : StackItem) → Contains stack o → newest other < o.number → is_listed o.paths q ≡ false
-
--- From the one system to the other this name isn't touched: its node is the same, and it is no path of a job that was taken back or
--- added.
-pub record LeavesName (s t : RootState) (q : Name) : Type 0 where
-  pub node : get (tree_of t) q ≡ get (tree_of s) q
-  pub undone : IsNoPath s.stack t.stack q
-  pub added : IsNoPath t.stack s.stack q
-
--- no effect that is an outcome touches this name of the root
-abbrev pub IsLeft : (Result Effect Refusal → Type 0) → State → Name → Type 0
-IsLeft IsOutcome s q = (e : Effect) → IsOutcome (Ok e) → LeavesName s.root (after s e.change).root q
-
--- Each name of the root outside its private directory that no such effect touches reads as before, however the command ends.
-abbrev pub KeepsOthers : (Result Effect Refusal → Type 0) → State → Tree → Tree → Type 0
-KeepsOthers IsOutcome s before now = (q : Name) → is_reserved q ≡ false → IsLeft IsOutcome s q → get now q ≡ get before q
-
--- What readers of the root see: the tree before; or, at each name outside its private directory, the node of the state, that of an
--- effect which is an outcome, or nothing where just one of the two is a directory.
-abbrev pub IsShown : (Result Effect Refusal → Type 0) → State → Tree → Tree → Type 0
-IsShown IsOutcome s before t = (t ≡ before) ⊎ ((e : Effect) × IsOutcome (Ok e) × ShowsBetween (tree_of s.root) (tree_of (after s e.change).root) t)
 
 module _ {T P : Type 0} (root_disk : DiskModel T) (repo_disk : DiskModel P) where
   -- both disks rest and store the state

@@ -1,34 +1,26 @@
-pub mod Failures
-pub mod Input
-pub mod Report
-pub mod Stops
-pub mod Store
-pub mod State
 pub mod Answer
-pub mod Stores
-pub mod Reading
-pub mod Opening
-pub mod RootOpening
 pub mod Command
 pub mod Alone
 pub mod Line
-pub mod Call
-pub mod WholeCall
-pub use Rattle.system_core.specs.change-rel
-pub use Rattle.system_core.specs.change-set
-pub use Rattle.system_core.specs.cny-base
-pub use Rattle.system_core.specs.conflict-plan
-pub use Rattle.system_core.specs.content-store
-pub use Rattle.system_core.specs.file-stream
-pub use Rattle.system_core.specs.job-record
-pub use Rattle.system_core.specs.past-jobs
-pub use Rattle.system_core.specs.job-targets
-pub use Rattle.system_core.specs.journal-log
+pub mod Runs
+pub mod SetInput
+pub mod ManifestInput
+pub use Rattle.cny_laws.specs as cny-laws
+pub use Rattle.cny_laws.specs.system-core.change-rel
+pub use Rattle.cny_laws.specs.system-core.change-set
+pub use Rattle.cny_laws.specs.system-core.cny-base
+pub use Rattle.cny_laws.specs.system-core.conflict-plan
+pub use Rattle.cny_laws.specs.system-core.content-store
+pub use Rattle.cny_laws.specs.system-core.file-stream
+pub use Rattle.cny_laws.specs.system-core.job-record
+pub use Rattle.cny_laws.specs.system-core.past-jobs
+pub use Rattle.cny_laws.specs.system-core.job-targets
+pub use Rattle.cny_laws.specs.system-core.journal-log
 pub use Rattle.local_db.specs as local-db
-pub use Rattle.system_core.specs.rollback-stack
-pub use Rattle.system_core.specs as system-core
-pub use Rattle.system_core.specs.tree-disk
-pub use Rattle.system_core.specs.tree-journal
-pub use Rattle.system_core.specs.tree-scan
-pub use Rattle.system_core.specs.trove-parts
-pub use Rattle.system_core.specs.trove-stream
+pub use Rattle.cny_laws.specs.system-core.rollback-stack
+pub use Rattle.cny_laws.specs.system-core as system-core
+pub use Rattle.cny_laws.specs.system-core.tree-disk
+pub use Rattle.cny_laws.specs.system-core.tree-journal
+pub use Rattle.cny_laws.specs.system-core.tree-scan
+pub use Rattle.cny_laws.specs.system-core.trove-parts
+pub use Rattle.cny_laws.specs.system-core.trove-stream

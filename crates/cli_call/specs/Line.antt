@@ -1,24 +1,25 @@
 -- A command over two disks that are open, with what it writes.
 use Rattle.std.specs.Prelude.{◌≡◌, ℕ, ◌≤◌, true, IsTrue, List, Result, Ok, Err}
 use Rattle.std.specs.Io.KnownBytes.{Appends, Keeps}
-use Rattle.system_core.specs.cny-base.Count.{Rose}
-use Rattle.system_core.specs.cny-base.declared.refusal.Refusal.{Refusal}
+use Rattle.cny_laws.specs.system-core.cny-base.Count.{Rose}
+use Rattle.cny_laws.specs.system-core.cny-base.declared.refusal.Refusal.{Refusal}
 use Rattle.cny_flow.specs.Flow.{SinkModel, SinkState, sink_state, AppendsPart}
-use Rattle.system_core.specs.tree-disk.Clear.{is_within}
-use Rattle.system_core.specs.tree-disk.Confined.{Among, Confined}
-use Rattle.system_core.specs.tree-disk.Disk.{DiskModel, HasRead}
+use Rattle.cny_laws.specs.system-core.tree-disk.Clear.{is_within}
+use Rattle.cny_laws.specs.system-core.tree-disk.Confined.{Among, Confined}
+use Rattle.cny_laws.specs.system-core.tree-disk.Disk.{DiskModel, HasRead}
 use Rattle.repo_load.specs.Files.{repository_base}
 use Rattle.repo_load.specs.State.{RepositoryState}
-use Rattle.system_core.specs.tree-disk.Unfailed.{UnlessFailed}
-use Rattle.cli_call.specs.declared.failure.Failure.{Failure}
-use Rattle.cli_call.specs.declared.failure.Failure.TheVariants as failure
-use Rattle.cli_call.specs.declared.opened.Opened.{Opened}
-use Rattle.cli_call.specs.Alone.{HasLists, HasTree}
-use Rattle.cli_call.specs.Command.{Disks, disks, Goes, KeepsOthers, IsShown, StandsFor, Rest, ReadsSame, HasDamage, ChangesNothing}
-use Rattle.cli_call.specs.Report.{End, status_of}
-use Rattle.cli_call.specs.State.{Scope, State, Effect, Meaning, Takes, IsNext, OneDisk}
-use Rattle.cli_call.specs.Store.{RestsAt}
-use Rattle.cli_call.specs.Stores.{root_store, repository_store}
+use Rattle.cny_laws.specs.system-core.tree-disk.Unfailed.{UnlessFailed}
+use Rattle.cny_laws.specs.declared.failure.Failure.{Failure}
+use Rattle.cny_laws.specs.declared.failure.Failure.TheVariants as failure
+use Rattle.cny_laws.specs.declared.opened.Opened.{Opened}
+use Rattle.cny_laws.specs.Call.{HasLists, HasTree}
+use Rattle.cli_call.specs.Command.{Disks, disks, Goes, StandsFor, Rest, ReadsSame, HasDamage}
+use Rattle.cny_laws.specs.Shown.{KeepsOthers, IsShown}
+use Rattle.cny_laws.specs.Report.{ChangesNothing, End, status_of}
+use Rattle.cny_laws.specs.State.{Scope, State, Effect, Meaning, Takes, IsNext, OneDisk}
+use Rattle.cny_laws.specs.Store.{NamesDamaged, RestsAt}
+use Rattle.cny_laws.specs.Stores.{root_store, repository_store}
 
 -- ---- writing
 
@@ -90,6 +91,7 @@ module _ {T P : Type 0} (root_disk : DiskModel T) (repo_disk : DiskModel P) wher
 
   pub record LineAlone (m : Meaning) (input : List ℕ) (old new : Moment T P) (end : End) : Type 0 where
     pub repo : new.at.repo ≡ old.at.repo
+    pub damaged : NamesDamaged root_store root_disk new.at.root end
     pub told : IsTrue root_disk.tells → (s : State) → RestsAt root_store root_disk old.at.root s.root → LineOnRoot (m.IsOutcome s input) s old new end
 
   -- The same of the repository alone, from a state whose repository its disk stores, whatever root the state has.
@@ -100,6 +102,7 @@ module _ {T P : Type 0} (root_disk : DiskModel T) (repo_disk : DiskModel P) wher
 
   pub record LineApart (m : Meaning) (input : List ℕ) (old new : Moment T P) (end : End) : Type 0 where
     pub root : new.at.root ≡ old.at.root
+    pub damaged : NamesDamaged repository_store repo_disk new.at.repo end
     pub told : IsTrue repo_disk.tells → (s : State) → RestsAt repository_store repo_disk old.at.repo s.repository → LineOnRepository (m.IsOutcome s input) s old new end
 
   -- By the lists alone that were read when the disks were opened.

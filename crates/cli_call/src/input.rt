@@ -1,15 +1,15 @@
 //! Reading the input to its end.
 ghost use Rattle.std.specs.Prelude.{◌≡◌, ◌⊎◌, ◌≤◌, ◌+◌, ◌-◌, ◌<◌, IfOk, IsErrOf, length, OnErr, List, ℕ, ◌++◌};
 ghost use Rattle.std.specs.Io.KnownBytes.{Consumes, IsAtEnd};
-ghost use Rattle.system_core.specs.cny-base.Count.{Rose};
+ghost use Rattle.cny_laws.specs.system-core.cny-base.Count.{Rose};
 ghost use Rattle.cny_flow.specs.Flow.{source_state};
-ghost use Rattle.cli_call.specs.Input.{input_limit, IsOfSome, ReadsInput};
-ghost use Rattle.cli_call.specs.Reading.{ReadsGiven};
+ghost use Rattle.cny_laws.specs.Input.{input_limit, IsOfSome, ReadsInput};
+ghost use Rattle.cny_laws.specs.Reading.{ReadsGiven};
 
-use crate::failure::Failure;
 use cny_flow::{FlowFault, Source};
+use cny_laws::Failure;
+use cny_laws::system_core::cny_base::{Bytes, INPUT_LIMIT, Refusal, What};
 use std::alloc::Global;
-use system_core::cny_base::{Bytes, INPUT_LIMIT, Refusal, What};
 
 const PIECE: usize = 4096;
 

@@ -1,6 +1,6 @@
 //! The laws of what the disks store.
-ghost use Rattle.cli_call.specs.Store.{IsStore};
-ghost use Rattle.cli_call.specs.Stores.{repository_store};
+ghost use Rattle.cny_laws.specs.Store.{IsStore};
+ghost use Rattle.cny_laws.specs.Stores.{repository_store};
 
 use repo_load::{counted_names, stored_state};
 

@@ -2,27 +2,27 @@
 //! its end is reported. Such a call keeps all its promises whatever the command means, on status, texts, both disks, crashes and
 //! readers.
 //!
-//! Begin with the definitions: `specs/Store` and `specs/Stores` (what a disk stores), `specs/State` (what a command means),
-//! `specs/Command` (the clause of each command's own function) and `specs/WholeCall` (what a whole call promises).
+//! Begin with `specs/Command` (the clause of each command's own function) and `specs/Runs` (a call by its steps). What a whole call
+//! promises is told by `cny_laws`. What an input decides, for commands of the root and of the repository, is in `specs/SetInput` and
+//! `specs/ManifestInput`.
 #![tactic(auto)]
 
-mod failure;
 mod input;
 mod laws;
-mod opened;
 mod opening;
 mod reporting;
 mod stops;
 mod texts;
 mod writing;
 
-pub use failure::Failure;
+pub use cny_laws::system_core::{
+    change_set, cny_base, content_store, tree_disk, trove_parts, trove_stream,
+};
+pub use cny_laws::{Failure, Opened};
 pub use input::read_given;
 pub use laws::store_laws;
-pub use opened::Opened;
 pub use opening::open_disks;
 pub use reporting::report;
 pub use stops::{on_repository, on_root};
-pub use system_core::{change_set, cny_base, content_store, tree_disk, trove_parts, trove_stream};
 pub use texts::joined;
 pub use writing::write_answer;

@@ -2,21 +2,20 @@
 ghost use Rattle.std.specs.Prelude.{IfOk};
 ghost use Rattle.repo_load.specs.Files.{HoldsCatalogue};
 ghost use Rattle.repo_load.specs.Loading.{IsCatalogue};
-ghost use Rattle.cli_call.specs.Call.{OpensBoth};
-ghost use Rattle.cli_call.specs.Opening.{no_test, Opens};
-ghost use Rattle.cli_call.specs.RootOpening.{OpensSystem};
-ghost use Rattle.cli_call.specs.Stores.{repository_store};
+ghost use Rattle.cli_call.specs.Runs.{OpensBoth};
+ghost use Rattle.cny_laws.specs.Opening.{no_test, Opens};
+ghost use Rattle.cny_laws.specs.RootOpening.{OpensSystem};
+ghost use Rattle.cny_laws.specs.Stores.{repository_store};
 
-use crate::failure::Failure;
-use crate::opened::Opened;
 use crate::stops::{on_repository, on_root};
+use cny_laws::system_core::cny_base::Stop;
+use cny_laws::system_core::tree_disk::TreeDisk;
+use cny_laws::system_core::{ready, recover_disk};
+use cny_laws::{Failure, Opened};
 use local_db::Db;
 use repo_index::Catalogue;
 use repo_load::{base_path, load};
 use std::alloc::Global;
-use system_core::cny_base::Stop;
-use system_core::tree_disk::TreeDisk;
-use system_core::{ready, recover_disk};
 
 // Makes the root ready for a command, and answers its database.
 fn open_root<T: TreeDisk>(alloc: Global, root: &mut T) -> Result<Db, Stop>

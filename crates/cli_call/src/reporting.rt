@@ -1,16 +1,16 @@
 //! The status and the line that a call ends with.
 ghost use Rattle.std.specs.Prelude.{◌≡◌, ◌⊎◌, ◌++◌, IfOk, MatchBool, string_bytes, ◌∷◌, []};
 ghost use Rattle.std.specs.Io.KnownBytes.{Appends, Keeps};
-ghost use Rattle.system_core.specs.cny-base.Count.{Rose};
+ghost use Rattle.cny_laws.specs.system-core.cny-base.Count.{Rose};
 ghost use Rattle.cny_flow.specs.Flow.{sink_state};
-ghost use Rattle.cli_call.specs.Report.{failure_text, status_of, IsAnswer, Reports};
+ghost use Rattle.cny_laws.specs.Report.{failure_text, status_of, IsAnswer, Reports};
 
-use crate::failure::Failure;
 use crate::texts::joined;
 use cny_flow::{FlowFault, Sink};
+use cny_laws::Failure;
+use cny_laws::system_core::cny_base::{OutOfMemory, Text};
 use cny_report::refusal_text;
 use std::alloc::Global;
-use system_core::cny_base::{OutOfMemory, Text};
 
 fn text_of_failure(alloc: Global, failure: &Failure) -> Result<Text, OutOfMemory>
     ensures { IfOk result (λ text. text ≡ failure_text failure.now) }

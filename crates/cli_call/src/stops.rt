@@ -1,10 +1,10 @@
 //! The stops of each disk, as failures of a call.
 ghost use Rattle.std.specs.Prelude.{◌≡◌};
-ghost use Rattle.cli_call.specs.Stops as spec;
-ghost use Rattle.cli_call.specs.Stops.{root_result, repository_result};
+ghost use Rattle.cny_laws.specs.Stops as spec;
+ghost use Rattle.cny_laws.specs.Stops.{root_result, repository_result};
 
-use crate::failure::Failure;
-use system_core::cny_base::Stop;
+use cny_laws::Failure;
+use cny_laws::system_core::cny_base::Stop;
 
 fn root_failure(stop: Stop) -> Failure
     ensures { result ≡ spec.root_failure stop }

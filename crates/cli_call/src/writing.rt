@@ -2,9 +2,9 @@
 ghost use Rattle.cny_flow.specs.Flow.{sink_state};
 ghost use Rattle.cli_call.specs.Line.{Writes};
 
-use crate::failure::Failure;
 use cny_flow::{FlowFault, Sink};
-use system_core::cny_base::Bytes;
+use cny_laws::Failure;
+use cny_laws::system_core::cny_base::Bytes;
 
 /// Writes what a command answered, by one call of the sink; where that is no byte, or the command failed, by none.
 pub fn write_answer<O: Sink>(answered: Result<Bytes, Failure>, out: &mut O) -> Result<(), Failure>

@@ -2,25 +2,25 @@
 use Rattle.std.proofs.Common.{◌≡◌, inl, inr, ⊎_elim, ℕ, true, false, List, [], Option, Contains, refl, sym, ◌∙◌, ap, subst, codes, arith}
 use Rattle.std.proofs.lemmas.List.Elements.{All-nil}
 use Rattle.std.specs.FinMap.{get}
-use Rattle.cli_call.specs.cny-base.Reserved.{private_directory, is_reserved, is_pinned}
-use Rattle.cli_call.specs.cny-base.declared.node.Node.{Node}
-use Rattle.cli_call.specs.trove-stream.declared.parts.TroveParts.{TroveParts}
-use Rattle.cli_call.specs.tree-disk.Tree.{Name, Tree, put, WellFormed, AgreesOutside}
-use Rattle.cli_call.specs.tree-disk.Disk.{DiskModel}
-use Rattle.cli_call.proofs.tree-disk.Laws.{same_itself, get_put_other}
-use Rattle.cli_call.proofs.tree-disk.ClearLaws.{within_itself}
-use Rattle.cli_call.specs.journal-log.declared.put.Put.{Put}
-use Rattle.cli_call.specs.journal-log.Own.{gate, log, is_own}
-use Rattle.cli_call.specs.tree-journal.CanBePut.{CanBePut}
-use Rattle.cli_call.specs.tree-journal.Recovery.{is_flag, is_committed, HoldsLog, RecoversTo, at_rest, by_log}
+use Rattle.system_core.specs.cny-base.Reserved.{private_directory, is_reserved, is_pinned}
+use Rattle.system_core.specs.cny-base.declared.node.Node.{Node}
+use Rattle.system_core.specs.trove-stream.declared.parts.TroveParts.{TroveParts}
+use Rattle.system_core.specs.tree-disk.Tree.{Name, Tree, put, WellFormed, AgreesOutside}
+use Rattle.system_core.specs.tree-disk.Disk.{DiskModel}
+use Rattle.system_core.proofs.tree-disk.Laws.{same_itself, get_put_other}
+use Rattle.system_core.proofs.tree-disk.ClearLaws.{within_itself}
+use Rattle.system_core.specs.journal-log.declared.put.Put.{Put}
+use Rattle.system_core.specs.journal-log.Own.{gate, log, is_own}
+use Rattle.system_core.specs.tree-journal.CanBePut.{CanBePut}
+use Rattle.system_core.specs.tree-journal.Recovery.{is_flag, is_committed, HoldsLog, RecoversTo, at_rest, by_log}
 use Rattle.local_db.specs.declared.format.Format.{Format}
 use Rattle.local_db.specs.declared.format.Format.TheVariants.{One, Two}
 use Rattle.local_db.specs.Names.{database}
 use Rattle.local_db.specs.SystemState.{SystemState, newest, oldest, IsSystemState}
 use Rattle.local_db.specs.Stores.{HoldsDatabase, absent, written, StoresIn, StoresSystem, RecoversToSystem}
-use Rattle.cli_call.specs.system-core.FixedDirs.{fixed_dirs}
-use Rattle.cli_call.specs.Store.{RestsAt}
-use Rattle.cli_call.specs.Stores.{root_store}
+use Rattle.system_core.specs.FixedDirs.{fixed_dirs}
+use Rattle.cny_laws.specs.Store.{RestsAt}
+use Rattle.cny_laws.specs.Stores.{root_store}
 use Rattle.local_db.proofs.Frame.{file_stays, olds_stay, stores_same}
 use Rattle.local_db.proofs.Jobs.{stack_reserved}
 use Rattle.local_db.proofs.Places.{database_reserved, own_reserved}

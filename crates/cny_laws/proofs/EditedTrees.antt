@@ -4,18 +4,18 @@ use Rattle.std.specs.Prelude.{is_some}
 use Rattle.std.proofs.lemmas.Bool.{cases_Bool}
 use Rattle.std.proofs.lemmas.List.Elements.{All-contains}
 use Rattle.std.specs.FinMap.{get}
-use Rattle.cli_call.specs.cny-base.Below.{is_below}
-use Rattle.cli_call.specs.cny-base.Path.{is_path, parent, root}
-use Rattle.cli_call.specs.cny-base.Reserved.{is_reserved}
-use Rattle.cli_call.specs.cny-base.declared.node.Node.{Node}
-use Rattle.cli_call.specs.tree-disk.Tree.{Name, Tree, same_name, put, is_dir, may_stand, WellFormed, AgreesOutside}
-use Rattle.cli_call.specs.tree-disk.Laws.{same_means, get_put}
-use Rattle.cli_call.proofs.tree-disk.Laws.{get_put_other}
-use Rattle.cli_call.specs.journal-log.declared.put.Put.{Put}
-use Rattle.cli_call.specs.journal-log.Targets.{is_dir_want, is_target}
-use Rattle.cli_call.specs.tree-journal.CanBePut.{CanBePut, AllCanBePut}
-use Rattle.change_rel.proofs.cny-base.Below.{child_below}
-use Rattle.change_rel.proofs.cny-base.Parent.{parent_is_path}
+use Rattle.system_core.specs.cny-base.Below.{is_below}
+use Rattle.system_core.specs.cny-base.Path.{is_path, parent, root}
+use Rattle.system_core.specs.cny-base.Reserved.{is_reserved}
+use Rattle.system_core.specs.cny-base.declared.node.Node.{Node}
+use Rattle.system_core.specs.tree-disk.Tree.{Name, Tree, same_name, put, is_dir, may_stand, WellFormed, AgreesOutside}
+use Rattle.system_core.specs.tree-disk.Laws.{same_means, get_put}
+use Rattle.system_core.proofs.tree-disk.Laws.{get_put_other}
+use Rattle.system_core.specs.journal-log.declared.put.Put.{Put}
+use Rattle.system_core.specs.journal-log.Targets.{is_dir_want, is_target}
+use Rattle.system_core.specs.tree-journal.CanBePut.{CanBePut, AllCanBePut}
+use Rattle.local_db.proofs.cny-base.Below.{child_below}
+use Rattle.local_db.proofs.cny-base.Parent.{parent_is_path}
 use Rattle.local_db.proofs.Putting.{parent_outer}
 use Rattle.local_db.proofs.Writes.{not_both}
 use Rattle.local_db.proofs.tree-journal.WriteSets.{target_at}

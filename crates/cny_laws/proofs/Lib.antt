@@ -1,18 +1,4 @@
 pub mod EditedTrees
 pub mod EditedSystems
-pub mod Tests
-pub mod Splits
-pub mod Listings
-pub mod Commits
-pub mod Jobs
-pub mod Configurations
-pub mod Meanings
-pub mod Sets
 pub mod SeveralEdits
-pub mod LocalSets
-pub mod Requirements
-pub mod Targets
-pub mod JobOutcomes
-pub mod Updates
-pub mod Rollbacks
-pub mod Descriptions
+pub use Rattle.system_core.proofs as system-core

@@ -3,20 +3,20 @@ use Rattle.std.proofs.Common.{◌≡◌, inl, inr, ⊎_elim, Bool, true, false, 
 use Rattle.std.proofs.lemmas.Bool.{cases_Bool}
 use Rattle.std.proofs.lemmas.List.Elements.{All-contains}
 use Rattle.std.specs.FinMap.{get}
-use Rattle.cli_call.specs.cny-base.Reserved.{private_directory, is_reserved}
-use Rattle.cli_call.specs.cny-base.declared.node.Node.{Node}
-use Rattle.cli_call.specs.tree-disk.Clear.{is_within}
-use Rattle.cli_call.specs.tree-disk.Laws.{get_put}
-use Rattle.cli_call.specs.tree-disk.Tree.{Name, Tree, same_name, is_dir, WellFormed, AgreesOutside}
-use Rattle.cli_call.proofs.tree-disk.Laws.{get_put_other}
-use Rattle.cli_call.specs.journal-log.declared.put.Put.{Put}
-use Rattle.cli_call.specs.journal-log.LogBytes.{IsLogText}
-use Rattle.cli_call.specs.journal-log.Own.{staged, StoresSame}
-use Rattle.cli_call.specs.journal-log.Targets.{is_target, with_targets}
-use Rattle.cli_call.specs.journal-log.WriteSet.{CanBeNamed}
-use Rattle.cli_call.specs.tree-journal.CanBePut.{AllCanBePut}
-use Rattle.cli_call.specs.tree-journal.Recovery.{is_committed, HoldsLog, RecoversTo, at_rest, by_log}
-use Rattle.cli_call.specs.tree-journal.Staging.{outcome, resolve, AllStaged}
+use Rattle.system_core.specs.cny-base.Reserved.{private_directory, is_reserved}
+use Rattle.system_core.specs.cny-base.declared.node.Node.{Node}
+use Rattle.system_core.specs.tree-disk.Clear.{is_within}
+use Rattle.system_core.specs.tree-disk.Laws.{get_put}
+use Rattle.system_core.specs.tree-disk.Tree.{Name, Tree, same_name, is_dir, WellFormed, AgreesOutside}
+use Rattle.system_core.proofs.tree-disk.Laws.{get_put_other}
+use Rattle.system_core.specs.journal-log.declared.put.Put.{Put}
+use Rattle.system_core.specs.journal-log.LogBytes.{IsLogText}
+use Rattle.system_core.specs.journal-log.Own.{staged, StoresSame}
+use Rattle.system_core.specs.journal-log.Targets.{is_target, with_targets}
+use Rattle.system_core.specs.journal-log.WriteSet.{CanBeNamed}
+use Rattle.system_core.specs.tree-journal.CanBePut.{AllCanBePut}
+use Rattle.system_core.specs.tree-journal.Recovery.{is_committed, HoldsLog, RecoversTo, at_rest, by_log}
+use Rattle.system_core.specs.tree-journal.Staging.{outcome, resolve, AllStaged}
 use Rattle.local_db.specs.declared.format.Format.{Format}
 use Rattle.local_db.specs.declared.format.Format.TheVariants.{One, Two}
 use Rattle.local_db.specs.Names.{database}
@@ -31,7 +31,7 @@ use Rattle.local_db.proofs.journal-log.Decoding.{one_log}
 use Rattle.local_db.proofs.tree-journal.OwnNames.{in_staged}
 use Rattle.local_db.proofs.tree-journal.Staged.{dir_resolved, outcome_outside, outcome_target, resolve_all_same, target_resolved, all_staged_same}
 use Rattle.local_db.proofs.tree-journal.WriteSets.{with_targets_inside}
-use Rattle.cli_call.proofs.system-core.Sameness.{not_own}
+use Rattle.system_core.proofs.Sameness.{not_own}
 use Rattle.cny_laws.specs.Edits.{Edit, edited_tree, edited, with_tree, all_edited, edits_beside, AreEdits}
 use Rattle.cny_laws.proofs.EditedTrees.{same_or_other, differs_by, reserved_kept, agree_edited, put_formed}
 use Rattle.cny_laws.proofs.EditedSystems.{database_stays, flag_kept, log_kept, outside, recovers_at_rest, the_system}

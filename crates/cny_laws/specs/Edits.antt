@@ -1,12 +1,12 @@
 -- What an edit makes of a tree, and of what a root stores: between calls others put a node at a path, or take one away.
 use Rattle.std.specs.Prelude.{◌≡◌, false, cond, List, [], ◌∷◌, Option}
-use Rattle.cli_call.specs.cny-base.Reserved.{is_reserved, is_pinned}
-use Rattle.cli_call.specs.cny-base.declared.node.Node.{Node}
-use Rattle.cli_call.specs.tree-disk.Tree.{Name, Tree, put, WellFormed}
-use Rattle.cli_call.specs.tree-disk.Disk.{DiskModel}
-use Rattle.cli_call.specs.tree-disk.Confined.{IsSynced}
-use Rattle.cli_call.specs.journal-log.declared.put.Put.{Put}
-use Rattle.cli_call.specs.journal-log.Targets.{is_target}
+use Rattle.system_core.specs.cny-base.Reserved.{is_reserved, is_pinned}
+use Rattle.system_core.specs.cny-base.declared.node.Node.{Node}
+use Rattle.system_core.specs.tree-disk.Tree.{Name, Tree, put, WellFormed}
+use Rattle.system_core.specs.tree-disk.Disk.{DiskModel}
+use Rattle.system_core.specs.tree-disk.Confined.{IsSynced}
+use Rattle.system_core.specs.journal-log.declared.put.Put.{Put}
+use Rattle.system_core.specs.journal-log.Targets.{is_target}
 use Rattle.local_db.specs.SystemState.{SystemState}
 
 -- ---- edits

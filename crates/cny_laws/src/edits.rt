@@ -1,19 +1,19 @@
 //! What an edit by others, between calls, makes of what a root stores.
 ghost use Rattle.std.specs.Prelude.{◌≡◌, true, false, List};
 ghost use Rattle.std.specs.FinMap.{get};
-ghost use Rattle.cli_call.specs.cny-base.Reserved.{private_directory};
-ghost use Rattle.cli_call.specs.tree-disk.Tree.{Name, Tree, same_name};
-ghost use Rattle.cli_call.specs.journal-log.declared.put.Put.{Put};
-ghost use Rattle.cli_call.specs.tree-journal.CanBePut.{AllCanBePut};
-ghost use Rattle.cli_call.specs.tree-journal.Recovery.{is_committed, HoldsLog};
+ghost use Rattle.system_core.specs.cny-base.Reserved.{private_directory};
+ghost use Rattle.system_core.specs.tree-disk.Tree.{Name, Tree, same_name};
+ghost use Rattle.system_core.specs.journal-log.declared.put.Put.{Put};
+ghost use Rattle.system_core.specs.tree-journal.CanBePut.{AllCanBePut};
+ghost use Rattle.system_core.specs.tree-journal.Recovery.{is_committed, HoldsLog};
 ghost use Rattle.local_db.specs.SystemState.{SystemState};
 ghost use Rattle.local_db.specs.Stores.{StoresSystem, RecoversToSystem};
-ghost use Rattle.cli_call.specs.system-core.FixedDirs.{fixed_dirs};
-ghost use Rattle.cli_call.specs.Store.{RestsAt};
-ghost use Rattle.cli_call.specs.Stores.{root_store};
+ghost use Rattle.system_core.specs.FixedDirs.{fixed_dirs};
+ghost use Rattle.cny_laws.specs.Store.{RestsAt};
+ghost use Rattle.cny_laws.specs.Stores.{root_store};
 ghost use Rattle.cny_laws.specs.Edits.{Edit, edited_tree, edited, with_tree, all_edited, edits_beside, IsEdit, AreEdits, HasEdited};
 
-use cli_call::tree_disk::TreeDisk;
+use system_core::tree_disk::TreeDisk;
 
 /// A tree that stores a system stores with an edit the system with the edited tree; nothing else of the system changes, and no other
 /// name of the tree.

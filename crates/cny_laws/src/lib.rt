@@ -1,13 +1,15 @@
-//! Laws of the machine that the commands are: what an edit by others makes of what a root stores, and that a command has at most one
-//! outcome on a state and an input. They are functions that do nothing, whose clauses are the laws.
+//! What a call of a command promises, said of any command: what the two disks store and how they are opened, what a command means, how a
+//! call ends, what stands then, and what an edit by others makes of what a root stores.
+//!
+//! Begin with the definitions: `specs/Store` and `specs/Stores` (what a disk stores), `specs/State` (what a command means),
+//! `specs/Call` (how the disks are opened) and `specs/WholeCall` (what a whole call promises).
 #![tactic(auto)]
 
 mod edits;
-mod outcomes;
+mod failure;
+mod opened;
 
 pub use edits::{edited_root, edited_system, recovers_edited};
-pub use outcomes::{
-    one_commit, one_cook, one_description, one_erasure, one_installation, one_list_committed,
-    one_list_installed, one_list_jobs, one_local_change, one_moving, one_rollback, one_sending,
-    one_update, one_update_by_input, one_verification, stored_states,
-};
+pub use failure::Failure;
+pub use opened::Opened;
+pub use system_core;

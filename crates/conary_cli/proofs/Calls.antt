@@ -2,16 +2,17 @@
 use Rattle.std.proofs.Common.{◌≡◌, ℕ, ◌≤◌, Bool, List, Result, Ok, Err, refl, sym, ap, subst, inl, inr, ⊎_elim, arith}
 use Rattle.cny_flow.specs.Flow.{SourceState, SinkState}
 use Rattle.cli_call.specs.tree-disk.Disk.{DiskModel, IsDisk}
-use Rattle.cli_call.specs.declared.failure.Failure.{Failure}
-use Rattle.cli_call.specs.declared.failure.Failure.TheVariants as failure
-use Rattle.cli_call.specs.Call.{CallState, RunsOpen}
+use Rattle.cli_call.specs.cny-laws.declared.failure.Failure.{Failure}
+use Rattle.cli_call.specs.cny-laws.declared.failure.Failure.TheVariants as failure
+use Rattle.cli_call.specs.cny-laws.Call.{CallState}
+use Rattle.cli_call.specs.Runs.{RunsOpen}
 use Rattle.cli_call.proofs.CallLaws.{memory_call, whole_call}
 use Rattle.cli_call.specs.Line.{Moment, RunsLine}
-use Rattle.cli_call.specs.Reading.{ReadsGiven}
-use Rattle.cli_call.specs.Report.{End, Reports, status_of}
-use Rattle.cli_call.specs.State.{Meaning, Scope}
-use Rattle.cli_call.specs.Store.{IsStore}
-use Rattle.cli_call.specs.Stores.{repository_store}
+use Rattle.cli_call.specs.cny-laws.Reading.{ReadsGiven}
+use Rattle.cli_call.specs.cny-laws.Report.{End, Reports, status_of}
+use Rattle.cli_call.specs.cny-laws.State.{Meaning, Scope}
+use Rattle.cli_call.specs.cny-laws.Store.{IsStore}
+use Rattle.cli_call.specs.cny-laws.Stores.{repository_store}
 use Rattle.conary_cli.specs.declared.words.Command.{Command}
 use Rattle.conary_cli.specs.Commands.{meaning, scope_of, RunsWords, RunsSome, IsWholeCall, IsSomeCall}
 use Rattle.conary_cli.specs.Records.{EndsOpened}

@@ -13,24 +13,24 @@ use Rattle.cny_manifest.specs.Makes.{Makes}
 use Rattle.cli_call.specs.tree-disk.Disk.{DiskModel}
 use Rattle.cli_call.specs.change-set.declared.change.ChangeSet.{ChangeSet}
 use Rattle.cli_call.specs.change-set.ChangeSet.{IsSetStream}
-use Rattle.cli_call.specs.Call.{CallState, StopsForRepository}
+use Rattle.cli_call.specs.cny-laws.Call.{CallState, StopsForRepository}
 use Rattle.cli_call.specs.system-core.FixedDirs.{fixed_dirs}
-use Rattle.cli_call.specs.Input.{input_limit, within_limit}
-use Rattle.cli_call.specs.Reading.{given}
-use Rattle.cli_call.specs.State.{State, Effect, Meaning, tree_of, Then}
-use Rattle.cli_call.specs.Report.{End, status_of}
-use Rattle.cli_call.specs.Store.{RestsAt}
-use Rattle.cli_call.specs.Stores.{root_store}
-use Rattle.cli_call.specs.WholeCall.{CallEnds, FromRoots, FromStates, HasEffect, IsCall, Outcome, RestBoth}
-use Rattle.cli_call.specs.declared.failure.Failure.TheVariants as failure
+use Rattle.cli_call.specs.cny-laws.Input.{input_limit, within_limit}
+use Rattle.cli_call.specs.cny-laws.Reading.{given}
+use Rattle.cli_call.specs.cny-laws.State.{State, Effect, Meaning, tree_of, Then}
+use Rattle.cli_call.specs.cny-laws.Report.{End, status_of}
+use Rattle.cli_call.specs.cny-laws.Store.{RestsAt}
+use Rattle.cli_call.specs.cny-laws.Stores.{root_store}
+use Rattle.cli_call.specs.cny-laws.WholeCall.{CallEnds, FromRoots, FromStates, HasEffect, IsCall, Outcome, RestBoth}
+use Rattle.cli_call.specs.cny-laws.declared.failure.Failure.TheVariants as failure
 use Rattle.conary_cli.specs.declared.words.Command.{Command}
 use Rattle.conary_cli.specs.declared.words.Command.TheVariants as command
 use Rattle.conary_cli.specs.Commands.{meaning, is_of_root, scope_of}
 use Rattle.conary_cli.specs.FormDecides.{HasEnd, DecidesForm, DecidesSet, DecidesUpdate, FormDecides, IsAnswered, IsAnsweredOnRoot}
 use Rattle.root_commands.specs.Install.{first_reserved, InstallsMade, UnlessReserved, install}
 use Rattle.root_commands.specs.Update.{UpdatesBy, update_input}
-use Rattle.repo_commands.specs.ManifestInput.{OfManifest}
-use Rattle.repo_commands.specs.SetInput.{OfChangeSet}
+use Rattle.cli_call.specs.ManifestInput.{OfManifest}
+use Rattle.cli_call.specs.SetInput.{OfChangeSet}
 use Rattle.repo_commands.specs.ShowChangeSet.{described, IsDescribed, show_change_set}
 
 -- ---- the outcome by the form

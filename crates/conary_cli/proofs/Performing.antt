@@ -3,7 +3,7 @@ use Rattle.std.proofs.Common.{◌≡◌, ℕ, Bool, true, false, List, Result, r
 use Rattle.std.specs.Prelude.{IsTrue}
 use Rattle.std.proofs.lemmas.Bool.{false≢true}
 use Rattle.cli_call.specs.tree-disk.Disk.{DiskModel, IsDisk}
-use Rattle.cli_call.specs.declared.failure.Failure.{Failure}
+use Rattle.cli_call.specs.cny-laws.declared.failure.Failure.{Failure}
 use Rattle.cli_call.specs.Alone.{ActsOnRepository, AnswersByLists, AnswersByTree, PerformsAlone}
 use Rattle.cli_call.specs.Command.{AreReady, Disks, Performs}
 use Rattle.cli_call.proofs.CommandLaws.{acts_performed}

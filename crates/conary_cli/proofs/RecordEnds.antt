@@ -5,12 +5,12 @@ use Rattle.cny_flow.specs.Flow.{SourceState, SinkState}
 use Rattle.cli_call.specs.local-db.declared.db.Db.{Db}
 use Rattle.cli_call.specs.tree-disk.Disk.{DiskModel}
 use Rattle.cli_call.specs.tree-disk.Tree.{Tree}
-use Rattle.cli_call.specs.declared.failure.Failure.{Failure}
-use Rattle.cli_call.specs.declared.failure.Failure.TheVariants as failure
-use Rattle.cli_call.specs.Call.{CallState}
+use Rattle.cli_call.specs.cny-laws.declared.failure.Failure.{Failure}
+use Rattle.cli_call.specs.cny-laws.declared.failure.Failure.TheVariants as failure
+use Rattle.cli_call.specs.cny-laws.Call.{CallState}
 use Rattle.cli_call.specs.Line.{Wrote}
-use Rattle.cli_call.specs.Reading.{ReadsGiven}
-use Rattle.cli_call.specs.Report.{End}
+use Rattle.cli_call.specs.cny-laws.Reading.{ReadsGiven}
+use Rattle.cli_call.specs.cny-laws.Report.{End}
 use Rattle.conary_cli.specs.declared.words.Command.{Command}
 use Rattle.conary_cli.specs.declared.words.Command.TheVariants as command
 use Rattle.root_commands.specs.Records.{NoneIs}

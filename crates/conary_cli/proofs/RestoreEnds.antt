@@ -17,14 +17,14 @@ use Rattle.cli_call.proofs.system-core.Restored.{left_alone, put_into}
 use Rattle.cli_call.proofs.system-core.Sequence.{after_list, after_tree, after_whole}
 use Rattle.cli_call.specs.system-core.FixedDirs.{fixed_dirs}
 use Rattle.root_commands.specs.RollingBack.{TakesBackTo, roll_back, take_back}
-use Rattle.cli_call.specs.Call.{CallState}
-use Rattle.cli_call.specs.Reading.{given}
-use Rattle.cli_call.specs.State.{on_root, Change, Effect, State, Then, after, tree_of}
-use Rattle.cli_call.specs.Store.{RestsAt}
-use Rattle.cli_call.specs.Stores.{root_store}
-use Rattle.cli_call.specs.declared.failure.Failure.TheVariants as failure
-use Rattle.cli_call.specs.Report.{End, status_of}
-use Rattle.cli_call.specs.WholeCall.{CallEnds, HasEffect, IsCall, Outcome}
+use Rattle.cli_call.specs.cny-laws.Call.{CallState}
+use Rattle.cli_call.specs.cny-laws.Reading.{given}
+use Rattle.cli_call.specs.cny-laws.State.{on_root, Change, Effect, State, Then, after, tree_of}
+use Rattle.cli_call.specs.cny-laws.Store.{RestsAt}
+use Rattle.cli_call.specs.cny-laws.Stores.{root_store}
+use Rattle.cli_call.specs.cny-laws.declared.failure.Failure.TheVariants as failure
+use Rattle.cli_call.specs.cny-laws.Report.{End, status_of}
+use Rattle.cli_call.specs.cny-laws.WholeCall.{CallEnds, HasEffect, IsCall, Outcome}
 use Rattle.conary_cli.specs.declared.words.Command.{Command}
 use Rattle.conary_cli.specs.Commands.{is_of_root, meaning, scope_of}
 use Rattle.conary_cli.specs.Restores.{RestoresBy, RestoresNewest, RestoresTo, RollbackRestores}

@@ -3,14 +3,15 @@ use Rattle.std.specs.Prelude.{◌≡◌, ◌⊎◌, ℕ, Bool, true, false, not,
 use Rattle.cli_call.specs.cny-base.declared.options.Options.{Options}
 use Rattle.cny_flow.specs.Flow.{SinkState}
 use Rattle.cli_call.specs.tree-disk.Disk.{DiskModel}
-use Rattle.cli_call.specs.declared.failure.Failure.{Failure}
-use Rattle.cli_call.specs.declared.failure.Failure.TheVariants as failure
-use Rattle.cli_call.specs.Call.{CallState, RunsCall}
-use Rattle.cli_call.specs.Report.{End}
+use Rattle.cli_call.specs.cny-laws.declared.failure.Failure.{Failure}
+use Rattle.cli_call.specs.cny-laws.declared.failure.Failure.TheVariants as failure
+use Rattle.cli_call.specs.cny-laws.Call.{CallState}
+use Rattle.cli_call.specs.Runs.{RunsCall}
+use Rattle.cli_call.specs.cny-laws.Report.{End}
 use Rattle.cli_call.specs.Alone.{ActsOnRepository, AnswersByLists, AnswersByTree, PerformsAlone}
 use Rattle.cli_call.specs.Command.{Disks, Performs}
-use Rattle.cli_call.specs.State.{Meaning, Scope}
-use Rattle.cli_call.specs.WholeCall.{IsCall, IsNoCall}
+use Rattle.cli_call.specs.cny-laws.State.{Meaning, Scope}
+use Rattle.cli_call.specs.cny-laws.WholeCall.{IsCall, IsNoCall}
 use Rattle.repo_commands.specs.Commit.{commit}
 use Rattle.repo_commands.specs.Cook.{cook}
 use Rattle.repo_commands.specs.Listing.{list_committed}

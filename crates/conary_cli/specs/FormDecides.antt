@@ -10,16 +10,16 @@ use Rattle.cli_call.specs.tree-disk.Disk.{DiskModel}
 use Rattle.cli_call.specs.change-set.declared.change.ChangeSet.{ChangeSet}
 use Rattle.cli_call.specs.change-set.ChangeSet.{IsSetStream}
 use Rattle.cli_call.specs.change-set.FirstFault.{IsFirstFault}
-use Rattle.cli_call.specs.Call.{CallState, StopsForRepository}
+use Rattle.cli_call.specs.cny-laws.Call.{CallState, StopsForRepository}
 use Rattle.cli_call.specs.system-core.FixedDirs.{fixed_dirs}
-use Rattle.cli_call.specs.Input.{input_limit}
-use Rattle.cli_call.specs.State.{State, Effect, after, tree_of}
-use Rattle.cli_call.specs.Report.{End, status_of}
-use Rattle.cli_call.specs.Store.{RestsAt}
-use Rattle.cli_call.specs.Stores.{root_store}
-use Rattle.cli_call.specs.WholeCall.{FromStates, FromRoots, RestBoth}
-use Rattle.cli_call.specs.declared.failure.Failure.TheVariants as failure
-use Rattle.repo_commands.specs.SetInput.{IsNoSetStream}
+use Rattle.cli_call.specs.cny-laws.Input.{input_limit}
+use Rattle.cli_call.specs.cny-laws.State.{State, Effect, after, tree_of}
+use Rattle.cli_call.specs.cny-laws.Report.{End, status_of}
+use Rattle.cli_call.specs.cny-laws.Store.{RestsAt}
+use Rattle.cli_call.specs.cny-laws.Stores.{root_store}
+use Rattle.cli_call.specs.cny-laws.WholeCall.{FromStates, FromRoots, RestBoth}
+use Rattle.cli_call.specs.cny-laws.declared.failure.Failure.TheVariants as failure
+use Rattle.cli_call.specs.SetInput.{IsNoSetStream}
 use Rattle.conary_cli.specs.declared.words.Command.{Command}
 use Rattle.conary_cli.specs.declared.words.Command.TheVariants as command
 use Rattle.root_commands.specs.Install.{first_reserved, InstallsMade, UnlessReserved}

@@ -4,9 +4,9 @@ use Rattle.cli_call.specs.local-db.declared.db.Db.{Db}
 use Rattle.cli_call.specs.rollback-stack.Inverse.{IsDamagedJob}
 use Rattle.cli_call.specs.tree-disk.Disk.{DiskModel}
 use Rattle.cli_call.specs.tree-disk.Tree.{Name, Tree}
-use Rattle.cli_call.specs.declared.failure.Failure.{Failure}
-use Rattle.cli_call.specs.Call.{CallState, NotOpened, OpensRoot}
-use Rattle.cli_call.specs.Report.{End, status_of}
+use Rattle.cli_call.specs.cny-laws.declared.failure.Failure.{Failure}
+use Rattle.cli_call.specs.cny-laws.Call.{CallState, NotOpened, OpensRoot}
+use Rattle.cli_call.specs.cny-laws.Report.{End, status_of}
 use Rattle.conary_cli.specs.declared.words.Command.{Command}
 use Rattle.conary_cli.specs.declared.words.Command.TheVariants as command
 use Rattle.root_commands.specs.Records.{FindsNone, IsDamagedBack, IsDamagedOfAll, last_job}

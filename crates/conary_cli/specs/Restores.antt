@@ -9,13 +9,13 @@ use Rattle.cli_call.specs.system-core.Restoring.{IsException, IsRestored, IsUned
 use Rattle.cli_call.specs.system-core.RestoringAll.{AreRestored, AreUnedited, IsExceptionTo}
 use Rattle.cli_call.specs.system-core.Several.{HasJob, jobs_to}
 use Rattle.cli_call.specs.system-core.FixedDirs.{fixed_dirs}
-use Rattle.cli_call.specs.Call.{CallState, StopsForRepository}
-use Rattle.cli_call.specs.State.{RootState, tree_of}
-use Rattle.cli_call.specs.Store.{RestsAt}
-use Rattle.cli_call.specs.Stores.{root_store}
-use Rattle.cli_call.specs.declared.failure.Failure.TheVariants as failure
-use Rattle.cli_call.specs.Report.{End, status_of}
-use Rattle.cli_call.specs.WholeCall.{FromStates, FromRoots}
+use Rattle.cli_call.specs.cny-laws.Call.{CallState, StopsForRepository}
+use Rattle.cli_call.specs.cny-laws.State.{RootState, tree_of}
+use Rattle.cli_call.specs.cny-laws.Store.{RestsAt}
+use Rattle.cli_call.specs.cny-laws.Stores.{root_store}
+use Rattle.cli_call.specs.cny-laws.declared.failure.Failure.TheVariants as failure
+use Rattle.cli_call.specs.cny-laws.Report.{End, status_of}
+use Rattle.cli_call.specs.cny-laws.WholeCall.{FromStates, FromRoots}
 use Rattle.conary_cli.specs.declared.words.Command.{Command}
 use Rattle.conary_cli.specs.declared.words.Command.TheVariants as command
 use Rattle.cli_call.specs.system-core.Job.{db_of}

@@ -11,8 +11,8 @@ use Rattle.repo_shadow.specs.declared.way.Way.{Way}
 use Rattle.repo_shadow.specs.declared.way.Way.TheVariants as way
 use Rattle.trove_spec.specs.declared.given.GivenSpec.{GivenSpec}
 use Rattle.cli_call.specs.cny-base.declared.refusal.Refusal.TheVariants.{NotBuilt}
-use Rattle.cli_call.specs.declared.failure.Failure.{Failure}
-use Rattle.cli_call.specs.declared.failure.Failure.TheVariants as failure
+use Rattle.cli_call.specs.cny-laws.declared.failure.Failure.{Failure}
+use Rattle.cli_call.specs.cny-laws.declared.failure.Failure.TheVariants as failure
 use Rattle.conary_cli.specs.declared.words.Command.{Command}
 use Rattle.conary_cli.specs.declared.words.Command.TheVariants as command
 use Rattle.conary_cli.specs.declared.words.Form.{Form}

@@ -1,7 +1,7 @@
 //! What follows of the promise of a call.
 ghost use Rattle.std.specs.Prelude.{◌≤◌, List, ℕ};
 ghost use Rattle.cny_flow.specs.Flow.{SinkState};
-ghost use Rattle.cli_call.specs.Call.{CallState};
+ghost use Rattle.cli_call.specs.cny-laws.Call.{CallState};
 ghost use Rattle.conary_cli.specs.declared.words.Command.{Command};
 ghost use Rattle.conary_cli.specs.Commands.{IsCommandCall, IsSomeCall};
 ghost use Rattle.conary_cli.specs.FormDecides.{FormDecides};

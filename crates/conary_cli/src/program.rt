@@ -1,9 +1,10 @@
 //! A whole call of the program.
 ghost use Rattle.std.specs.Prelude.{string_bytes, map, IsTrue, Result};
-ghost use Rattle.cli_call.specs.declared.failure.Failure.{Failure};
+ghost use Rattle.cli_call.specs.cny-laws.declared.failure.Failure.{Failure};
 ghost use Rattle.conary_cli.specs.declared.words.Command.{Command};
 ghost use Rattle.cny_flow.specs.Flow.{sink_state, source_state};
-ghost use Rattle.cli_call.specs.Call.{call_state, RunsCall, RunsOpen};
+ghost use Rattle.cli_call.specs.cny-laws.Call.{call_state};
+ghost use Rattle.cli_call.specs.Runs.{RunsCall, RunsOpen};
 ghost use Rattle.cli_call.specs.Command.{disks, AreReady};
 ghost use Rattle.cli_call.specs.Line.{moment, RunsLine};
 ghost use Rattle.conary_cli.specs.Commands.{meaning, scope_of, IsSomeCall, IsWholeCall, RunsSome, RunsWords};

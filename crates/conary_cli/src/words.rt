@@ -4,7 +4,7 @@ ghost use Rattle.std.specs.List.{list_all};
 ghost use Rattle.cli_call.specs.cny-base.Name.{is_name};
 ghost use Rattle.cli_call.specs.cny-base.declared.text.TextFault.TheVariants as TextFault;
 ghost use Rattle.trove_spec.specs.Spec.{IsSpecText};
-ghost use Rattle.cli_call.specs.declared.failure.Failure.{Failure};
+ghost use Rattle.cli_call.specs.cny-laws.declared.failure.Failure.{Failure};
 ghost use Rattle.conary_cli.specs.declared.words.Command.{Command};
 ghost use Rattle.conary_cli.specs.Words.{AreGiven, AreSomething, AreWords, is_input, is_resolve, IsUpdate, IsUpdateWith, update_form, update_of, update_with, behind, form_of, IsGiven, IsLabelWord, IsMove, IsSend, is_short_word, are_names, is_planned_command, job_number, erase_of, erase_with, installed_of, jobs_of, local_of, verify_with, option_at, options_at, rollback_of, verify_of, command_of, commit_of, cook_of, install_of, list_of, show_of, OrMemory, ReadsOnly, ReadsWords, not_built};
 

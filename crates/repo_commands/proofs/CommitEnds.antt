@@ -23,16 +23,16 @@ use Rattle.repository.specs.Outcome.{committed_contents, AtEveryMoment, EndsSo, 
 use Rattle.repository.specs.Steps.{after_commit, IsOldOrNew, IsStep, RecoversToEither, RecoversToRepository}
 use Rattle.repository.specs.Tests.{IsRefused, Passes}
 use Rattle.cny_report.specs.Troves.{committed_text}
-use Rattle.cli_call.specs.declared.failure.Failure.{Failure}
-use Rattle.cli_call.specs.declared.failure.Failure.TheVariants as failure
+use Rattle.cli_call.specs.cny-laws.declared.failure.Failure.{Failure}
+use Rattle.cli_call.specs.cny-laws.declared.failure.Failure.TheVariants as failure
 use Rattle.cli_call.specs.Alone.{ActsOnRepository}
-use Rattle.cli_call.specs.Command.{Disks, AreReady, Answers, ChangesNothing, Goes, HasCause, end_of}
+use Rattle.cli_call.specs.Command.{Disks, AreReady, Answers, Goes, HasCause, end_of}
+use Rattle.cli_call.specs.cny-laws.Report.{ChangesNothing, status_of}
 use Rattle.cli_call.proofs.CommandLaws.{goes_read}
-use Rattle.cli_call.specs.Report.{status_of}
-use Rattle.cli_call.specs.State.{State, IsNext, Takes}
-use Rattle.cli_call.specs.Stops.{repository_failure, repository_result}
-use Rattle.cli_call.specs.Store.{HasDamagedFile, IsSettled, IsStore, OneOf, Recovers, RestsAt}
-use Rattle.cli_call.specs.Stores.{repository_store}
+use Rattle.cli_call.specs.cny-laws.State.{State, IsNext, Takes}
+use Rattle.cli_call.specs.cny-laws.Stops.{repository_failure, repository_result}
+use Rattle.cli_call.specs.cny-laws.Store.{HasDamagedFile, IsSettled, IsStore, OneOf, Recovers, RestsAt}
+use Rattle.cli_call.specs.cny-laws.Stores.{repository_store}
 use Rattle.cli_call.proofs.StoreLaws.{read_settled}
 use Rattle.repo_commands.specs.Commit.{commit_of, committed, Commits}
 
@@ -135,6 +135,7 @@ module _ {T P : Type 0} {root_disk : DiskModel T} {repo_disk : DiskModel P} (rep
     root = root_same;
     later = done.later;
     cause = tt;
+    damaged = λ path named. absurd (cc named);
     rest = λ le told. done_settled ids done told;
     same = λ none told. absurd none;
     within = done.within;
@@ -157,6 +158,7 @@ module _ {T P : Type 0} {root_disk : DiskModel T} {repo_disk : DiskModel P} (rep
     root = root_same;
     later = done.later;
     cause = tt;
+    damaged = λ path named. absurd (cc named);
     rest = λ le told. done_settled ids done told;
     same = λ none told. absurd none;
     within = done.within;
@@ -179,6 +181,7 @@ module _ {T P : Type 0} {root_disk : DiskModel T} {repo_disk : DiskModel P} (rep
     root = root_same;
     later = done.later;
     cause = tt;
+    damaged = λ path named. absurd (cc named);
     rest = λ le told. read_settled (done.ends told).0 (ready.repo told).settled.flag_clear (ready.repo told).settled.synced;
     same = λ none told. (done.ends told).0.same.reads;
     within = done.within;
@@ -197,6 +200,7 @@ module _ {T P : Type 0} {root_disk : DiskModel T} {repo_disk : DiskModel P} (rep
       root = root_same;
       later = done.later;
       cause = cause;
+      damaged = λ path named. absurd (quiet (subst (λ (x : Result (List ℕ) Failure). ChangesNothing (end_of x)) (sym named) tt));
       rest = λ le told. absurd (low le);
       same = λ none told. absurd (quiet none);
       within = done.within;
@@ -238,6 +242,7 @@ module _ {T P : Type 0} {root_disk : DiskModel T} {repo_disk : DiskModel P} (rep
     root = root_same;
     later = done.later;
     cause = (inr (damaged_file path done));
+    damaged = λ file named. let same : path ≡ file = cc named in subst (λ (p : Name). IsTrue repo_disk.tells → HasDamagedFile repository_store (repo_disk.reads new.repo) p) same (damaged_file path done);
     rest = λ le told. absurd (omega (arith, le));
     same = λ none told. (done.ends told).0.same.reads;
     within = done.within;

@@ -10,17 +10,17 @@ use Rattle.cny_manifest.specs.FirstFault.{IsFaultOf}
 use Rattle.cny_manifest.specs.Makes.{Makes}
 use Rattle.repo_load.specs.State.{troves_of}
 use Rattle.repo_index.specs.Steps.{IsErrOrMemory}
-use Rattle.cli_call.specs.declared.failure.Failure.{Failure}
+use Rattle.cli_call.specs.cny-laws.declared.failure.Failure.{Failure}
 use Rattle.cli_call.specs.Alone.{ActsOnRepository}
 use Rattle.cli_call.specs.Command.{Disks, AreReady}
 use Rattle.cli_call.proofs.Answered.{fault_acted}
 use Rattle.cli_call.proofs.CommandLaws.{acts_more}
-use Rattle.cli_call.specs.Failures.{failure_of_fault}
-use Rattle.cli_call.specs.Store.{IsStore}
-use Rattle.cli_call.specs.Stores.{repository_store}
+use Rattle.cli_call.specs.cny-laws.Failures.{failure_of_fault}
+use Rattle.cli_call.specs.cny-laws.Store.{IsStore}
+use Rattle.cli_call.specs.cny-laws.Stores.{repository_store}
 use Rattle.repo_commands.specs.Commit.{commit_of}
 use Rattle.repo_commands.specs.Cook.{cook, cooked_set, CommitsSet}
-use Rattle.repo_commands.proofs.ReadingEnds.{CatalogueIs, troves_at}
+use Rattle.cli_call.proofs.ReadingEnds.{CatalogueIs, troves_at}
 
 module _ {T P : Type 0} {root_disk : DiskModel T} {repo_disk : DiskModel P} (repo_disk_laws : IsDisk repo_disk) (store_laws : IsStore repository_store) (law : CatalogueIs) (next : Bool) (input : List ℕ)
     (old : Disks T P) (ready : AreReady root_disk repo_disk old) where

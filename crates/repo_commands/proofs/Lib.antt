@@ -1,16 +1,9 @@
 pub mod ListingEnds
-pub mod SetFaults
 pub mod CommitEnds
 pub mod MadeVersions
 pub mod KeptContents
 pub mod CookEnds
-pub mod ReadingEnds
-pub mod AfterReading
 pub mod SendingEnds
 pub mod ShowEnds
 pub mod CommittedTroves
 pub mod MovingEnds
-pub use Rattle.cli_call.proofs.job-record
-pub use Rattle.cli_call.proofs.past-jobs
-pub use Rattle.cli_call.proofs.trove-stream
-pub use Rattle.cli_call.proofs.tree-disk

@@ -6,10 +6,10 @@ use Rattle.cli_call.specs.Alone.{ActsOnRepository}
 use Rattle.cli_call.specs.Command.{Disks, AreReady}
 use Rattle.cli_call.specs.Answer.{AnswersSo}
 use Rattle.cli_call.proofs.Answered.{acted, result_of}
-use Rattle.cli_call.specs.Store.{IsStore}
-use Rattle.cli_call.specs.Stores.{repository_store}
+use Rattle.cli_call.specs.cny-laws.Store.{IsStore}
+use Rattle.cli_call.specs.cny-laws.Stores.{repository_store}
 use Rattle.repo_commands.specs.Listing.{listed, list_committed}
-use Rattle.repo_commands.proofs.ReadingEnds.{CatalogueIs, troves_at}
+use Rattle.cli_call.proofs.ReadingEnds.{CatalogueIs, troves_at}
 
 module _ {T P : Type 0} {root_disk : DiskModel T} {repo_disk : DiskModel P} (law : CatalogueIs) (name : Option (List ℕ)) (input : List ℕ) (m : Disks T P) (ready : AreReady root_disk repo_disk m) where
   pub lists_performed : IsDisk repo_disk → IsStore repository_store → (r : Result (List ℕ) Fault) → AnswersSo (listed name m.opened.catalogue.troves) r → ActsOnRepository root_disk repo_disk (list_committed name) input m m (result_of r)

@@ -18,20 +18,20 @@ use Rattle.repo_shadow.specs.declared.way.Way.{Way}
 use Rattle.repo_shadow.specs.Moved.{IsMovedExpansion, IsUnmoved}
 use Rattle.repo_commands.specs.Commit.{commit_of, Commits}
 use Rattle.trove_spec.specs.RootConfig.{HasConfig, ReadsConfig}
-use Rattle.cli_call.specs.declared.failure.Failure.{Failure}
-use Rattle.cli_call.specs.declared.opened.Opened.{Opened}
+use Rattle.cli_call.specs.cny-laws.declared.failure.Failure.{Failure}
+use Rattle.cli_call.specs.cny-laws.declared.opened.Opened.{Opened}
 use Rattle.cli_call.specs.Command.{Disks, disks, AreReady, Performs, StandsFor}
 use Rattle.cli_call.proofs.CommandLaws.{AreRead}
-use Rattle.cli_call.specs.Failures.{failure_of_fault}
-use Rattle.cli_call.specs.State.{tree_of, Effect, State}
-use Rattle.cli_call.specs.Store.{IsStore}
-use Rattle.cli_call.specs.Stores.{repository_store}
+use Rattle.cli_call.specs.cny-laws.Failures.{failure_of_fault}
+use Rattle.cli_call.specs.cny-laws.State.{tree_of, Effect, State}
+use Rattle.cli_call.specs.cny-laws.Store.{IsStore}
+use Rattle.cli_call.specs.cny-laws.Stores.{repository_store}
 use Rattle.trove_spec.specs.declared.given.GivenSpec.{GivenSpec}
 use Rattle.trove_spec.specs.AndThen.{AndThen, EndsAs}
 use Rattle.trove_spec.specs.Meant.{Means}
 use Rattle.repo_commands.specs.Moving.{move, set_of, IsMoved, Moves}
-use Rattle.repo_commands.proofs.AfterReading.{performs_since}
-use Rattle.repo_commands.proofs.ReadingEnds.{CatalogueIs, config_of, fault_ends, root_read, troves_are}
+use Rattle.cli_call.proofs.AfterReading.{performs_since}
+use Rattle.cli_call.proofs.ReadingEnds.{CatalogueIs, config_of, fault_ends, root_read, troves_are}
 use Rattle.repository.proofs.change-set.Carrying.{no_carried as nothing_rises}
 
 -- a set without contents carries just those of its parts

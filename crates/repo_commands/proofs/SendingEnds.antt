@@ -18,21 +18,21 @@ use Rattle.repo_load.specs.State.{troves_of, RepositoryState}
 use Rattle.repository.specs.Between.{HasStored, IsBetween}
 use Rattle.repository.specs.Damage.{IsDamagedBetween}
 use Rattle.trove_spec.specs.RootConfig.{HasConfig, ReadsConfig}
-use Rattle.cli_call.specs.declared.failure.Failure.TheVariants as failure
-use Rattle.cli_call.specs.declared.opened.Opened.{Opened}
+use Rattle.cli_call.specs.cny-laws.declared.failure.Failure.TheVariants as failure
+use Rattle.cli_call.specs.cny-laws.declared.opened.Opened.{Opened}
 use Rattle.cli_call.specs.Command.{disks, AreReady, Performs, StandsFor}
 use Rattle.cli_call.proofs.CommandLaws.{AreRead, performs_reading}
-use Rattle.cli_call.specs.Failures.{failure_of_fault}
+use Rattle.cli_call.specs.cny-laws.Failures.{failure_of_fault}
 use Rattle.cli_call.proofs.RootLaws.{root_laws}
-use Rattle.cli_call.specs.State.{nothing, tree_of, Effect, State}
-use Rattle.cli_call.specs.Stops.{repository_result}
-use Rattle.cli_call.specs.Store.{HasDamagedFile, IsStore}
-use Rattle.cli_call.specs.Stores.{HasUnsoundContent, repository_store}
+use Rattle.cli_call.specs.cny-laws.State.{nothing, tree_of, Effect, State}
+use Rattle.cli_call.specs.cny-laws.Stops.{repository_result}
+use Rattle.cli_call.specs.cny-laws.Store.{HasDamagedFile, IsStore}
+use Rattle.cli_call.specs.cny-laws.Stores.{HasUnsoundContent, repository_store}
 use Rattle.trove_spec.specs.declared.given.GivenSpec.{GivenSpec}
 use Rattle.trove_spec.specs.AndThen.{AndThen, EndsAs}
 use Rattle.trove_spec.specs.Meant.{Expands, ExpandsFrom}
 use Rattle.repo_commands.specs.Sending.{changeset, IsSent, IsSentFrom, IsWritten, IsAnswered, Sends, SendsFrom}
-use Rattle.repo_commands.proofs.ReadingEnds.{CatalogueIs, config_of, fault_ends, root_read, troves_are}
+use Rattle.cli_call.proofs.ReadingEnds.{CatalogueIs, config_of, fault_ends, root_read, troves_are}
 use Rattle.repository.proofs.BetweenCarrying.{records_sized}
 
 -- the laws that are called upon

@@ -7,8 +7,8 @@ use Rattle.repo_load.specs.State.{catalogue_of, RepositoryState}
 use Rattle.repository.specs.Steps.{after_commit, ids_of}
 use Rattle.repository.specs.Tests.{IsRefused, Passes}
 use Rattle.cny_report.specs.Troves.{committed_text}
-use Rattle.cli_call.specs.State.{on_repository, Effect, Meaning}
-use Rattle.repo_commands.specs.SetInput.{OfChangeSet}
+use Rattle.cli_call.specs.cny-laws.State.{on_repository, Effect, Meaning}
+use Rattle.cli_call.specs.SetInput.{OfChangeSet}
 
 -- these troves are committed with the contents of a change set, and told
 abbrev pub committed : RepositoryState → ChangeSet → List TroveParts → Effect

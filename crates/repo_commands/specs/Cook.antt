@@ -8,9 +8,9 @@ use Rattle.cli_call.specs.change-set.declared.change.Part.TheVariants.{Whole}
 use Rattle.cny_manifest.specs.declared.made.Made.{Made}
 use Rattle.repo_load.specs.State.{troves_of, RepositoryState}
 use Rattle.repo_index.specs.Next.{next_troves}
-use Rattle.cli_call.specs.State.{Effect, Meaning}
+use Rattle.cli_call.specs.cny-laws.State.{Effect, Meaning}
 use Rattle.repo_commands.specs.Commit.{Commits}
-use Rattle.repo_commands.specs.ManifestInput.{OfManifest}
+use Rattle.cli_call.specs.ManifestInput.{OfManifest}
 
 -- the troves as they are, or with the version that comes next on their branch
 abbrev pub cooked_troves : Bool → List TroveParts → List TroveParts → Result (List TroveParts) Refusal

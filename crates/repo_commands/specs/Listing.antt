@@ -8,7 +8,7 @@ use Rattle.repo_index.specs.Catalogue.{named}
 use Rattle.repo_load.specs.State.{troves_of}
 use Rattle.cny_report.specs.Troves.{troves_text}
 use Rattle.cli_call.specs.Answer.{answer}
-use Rattle.cli_call.specs.State.{Effect, Meaning}
+use Rattle.cli_call.specs.cny-laws.State.{Effect, Meaning}
 
 -- the line of a trove, if there is one
 abbrev pub line_of : Option TroveParts → List ℕ

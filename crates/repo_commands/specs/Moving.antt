@@ -12,7 +12,7 @@ use Rattle.repo_shadow.specs.declared.way.Way.{Way}
 use Rattle.repo_shadow.specs.Moved.{IsMovedExpansion, IsMoveRefusal}
 use Rattle.repo_commands.specs.Commit.{Commits}
 use Rattle.trove_spec.specs.RootConfig.{HasConfig}
-use Rattle.cli_call.specs.State.{tree_of, Effect, Meaning, State}
+use Rattle.cli_call.specs.cny-laws.State.{tree_of, Effect, Meaning, State}
 use Rattle.trove_spec.specs.declared.given.GivenSpec.{GivenSpec}
 use Rattle.trove_spec.specs.AndThen.{AndThen}
 use Rattle.trove_spec.specs.Meant.{Means}

@@ -16,7 +16,7 @@ use Rattle.repo_load.specs.State.{troves_of, RepositoryState}
 use Rattle.repository.specs.Between.{HasStored, IsBetween}
 use Rattle.repository.specs.Damage.{IsDamagedBetween}
 use Rattle.trove_spec.specs.RootConfig.{HasConfig}
-use Rattle.cli_call.specs.State.{nothing, tree_of, Effect, Meaning, State}
+use Rattle.cli_call.specs.cny-laws.State.{nothing, tree_of, Effect, Meaning, State}
 use Rattle.trove_spec.specs.declared.given.GivenSpec.{GivenSpec}
 use Rattle.trove_spec.specs.AndThen.{AndThen}
 use Rattle.trove_spec.specs.Meant.{Expands, ExpandsFrom}

@@ -5,8 +5,8 @@ use Rattle.cli_call.specs.change-set.declared.change.ChangeSet.{ChangeSet}
 use Rattle.cli_call.specs.change-set.ChangeSet.{IsSetStream}
 use Rattle.cli_call.specs.change-set.FirstFault.{IsFirstFault}
 use Rattle.cny_report.specs.Changes.{change_text}
-use Rattle.cli_call.specs.State.{nothing, Effect, Meaning}
-use Rattle.repo_commands.specs.SetInput.{IsNoSetStream}
+use Rattle.cli_call.specs.cny-laws.State.{nothing, Effect, Meaning}
+use Rattle.cli_call.specs.SetInput.{IsNoSetStream}
 
 -- the text of the change set; nothing changes
 abbrev pub described : ChangeSet → Effect

@@ -1,6 +1,6 @@
 //! The commands of the repository, those that take specifications of troves, those that commit what a specification means on
-//! another label, and the one that describes a change set. Each has its meaning in a file of its own in `specs/`, and a function with one clause: that it performs this
-//! meaning.
+//! another label, and the one that describes a change set. Each has its meaning in a file of its own in `specs/`, and a function with
+//! one clause: that it performs this meaning.
 #![tactic(auto)]
 
 mod committing;
@@ -10,7 +10,6 @@ mod moving;
 mod sending;
 mod showing;
 
-pub use cli_call::{change_set, cny_base, content_store, tree_disk, trove_parts, trove_stream};
 pub use committing::{commit_input, commit_set};
 pub use cooking::cook_manifest;
 pub use listing::list_committed;

@@ -1,27 +1,28 @@
 -- How a command ends that answers from the database of the root.
 use Rattle.std.proofs.Common.{◌≡◌, ℕ, List, Result, refl, sym, ap, ◌∙◌, subst}
 use Rattle.std.specs.Prelude.{IsTrue}
-use Rattle.repo_commands.specs.cny-base.declared.refusal.Fault.{Fault}
-use Rattle.repo_commands.specs.cny-base.declared.refusal.Refusal.{Refusal}
-use Rattle.repo_commands.specs.cny-base.Reserved.{is_reserved}
-use Rattle.repo_commands.specs.tree-disk.Disk.{DiskModel, HasRead, IsDisk}
-use Rattle.repo_commands.specs.tree-disk.Tree.{AgreesOutside}
+use Rattle.cli_call.specs.cny-base.declared.refusal.Fault.{Fault}
+use Rattle.cli_call.specs.cny-base.declared.refusal.Refusal.{Refusal}
+use Rattle.cli_call.specs.cny-base.Reserved.{is_reserved}
+use Rattle.cli_call.specs.tree-disk.Disk.{DiskModel, HasRead, IsDisk}
+use Rattle.cli_call.specs.tree-disk.Tree.{AgreesOutside}
 use Rattle.local_db.specs.Installed.{IsInstalled}
 use Rattle.cli_call.proofs.RootLaws.{stored_outside}
-use Rattle.repo_commands.specs.trove-stream.declared.parts.TroveParts.{TroveParts}
+use Rattle.cli_call.specs.trove-stream.declared.parts.TroveParts.{TroveParts}
 use Rattle.local_db.specs.declared.format.Format.TheVariants.{Two}
 use Rattle.local_db.specs.Stores.{StoresIn}
-use Rattle.cli_call.specs.declared.failure.Failure.{Failure}
-use Rattle.cli_call.specs.declared.opened.Opened.{Opened}
-use Rattle.cli_call.specs.Alone.{AnswersByTree, HasTree, PerformsAlone}
+use Rattle.cli_call.specs.cny-laws.declared.failure.Failure.{Failure}
+use Rattle.cli_call.specs.cny-laws.declared.opened.Opened.{Opened}
+use Rattle.cli_call.specs.Alone.{AnswersByTree, PerformsAlone}
+use Rattle.cli_call.specs.cny-laws.Call.{HasTree}
 use Rattle.cli_call.proofs.AloneLaws.{AnswersAlone, AnswersWhere, tree_reading, where_weaker}
 use Rattle.cli_call.proofs.Answered as answers
 use Rattle.cli_call.proofs.Answered.{result_of}
 use Rattle.cli_call.specs.Command.{Disks, disks, AreReady, Performs}
 use Rattle.cli_call.proofs.RootDatabase.{held_database, one_format}
-use Rattle.cli_call.specs.State.{tree_of, Effect, Meaning, RootState, State}
-use Rattle.cli_call.specs.Store.{IsStore, RestsAt}
-use Rattle.cli_call.specs.Stores.{root_store, repository_store}
+use Rattle.cli_call.specs.cny-laws.State.{tree_of, Effect, Meaning, RootState, State}
+use Rattle.cli_call.specs.cny-laws.Store.{IsStore, RestsAt}
+use Rattle.cli_call.specs.cny-laws.Stores.{root_store, repository_store}
 use Rattle.cli_call.specs.Answer.{AnswersSo}
 use Rattle.system_core.proofs.Held.{OneDatabase}
 

@@ -8,12 +8,12 @@ use Rattle.std.proofs.lemmas.List.Elements.{All-contains}
 use Rattle.std.proofs.lemmas.Map.Entries.{place_from_lookup, btree_map_get_place}
 use Rattle.std.proofs.lemmas.Option.{same_Some, none-some}
 use Rattle.std.proofs.lemmas.Slice.Eq.{bytes_eq-Decides}
-use Rattle.repo_commands.specs.trove-parts.declared.id.TroveId.{TroveId}
-use Rattle.repo_commands.specs.trove-stream.declared.parts.TroveParts.{TroveParts}
-use Rattle.repo_commands.specs.trove-stream.Installed.{IsNameless, IsRising, trove_of}
-use Rattle.repo_commands.proofs.trove-stream.Places.{missed}
-use Rattle.repo_commands.specs.past-jobs.Past.{AreChangedIds, IsChanged}
-use Rattle.repo_commands.proofs.job-record.Keyed.{found_is}
+use Rattle.cli_call.specs.trove-parts.declared.id.TroveId.{TroveId}
+use Rattle.cli_call.specs.trove-stream.declared.parts.TroveParts.{TroveParts}
+use Rattle.cli_call.specs.trove-stream.Installed.{IsNameless, IsRising, trove_of}
+use Rattle.cli_call.proofs.trove-stream.Places.{missed}
+use Rattle.cli_call.specs.past-jobs.Past.{AreChangedIds, IsChanged}
+use Rattle.cli_call.proofs.job-record.Keyed.{found_is}
 use Rattle.update_job.specs.declared.comparing.Change.{Change}
 use Rattle.update_job.specs.declared.comparing.Change.TheVariants.{Installed, Updated, Erased}
 use Rattle.update_job.specs.Changes.{name_of, AreChanges, IsChange, IsLost, IsReplaced, Noted, noted}

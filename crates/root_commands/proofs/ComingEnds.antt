@@ -1,18 +1,18 @@
 -- How an update by a change set follows from the job of the troves that it makes.
 use Rattle.std.proofs.Common.{◌≡◌, List, Result, Err, refl, subst, inl, inr}
 use Rattle.std.specs.Prelude.{IsTrue}
-use Rattle.repo_commands.specs.cny-base.declared.options.Options.{Options}
-use Rattle.repo_commands.specs.cny-base.declared.refusal.Fault.{Fault}
-use Rattle.repo_commands.specs.cny-base.declared.refusal.Fault.TheVariants as fault
-use Rattle.repo_commands.specs.cny-base.declared.refusal.Refusal.{Refusal}
-use Rattle.repo_commands.specs.tree-disk.Disk.{DiskModel}
-use Rattle.repo_commands.specs.trove-stream.declared.parts.TroveParts.{TroveParts}
-use Rattle.repo_commands.specs.change-set.Contents.{IfRefused}
-use Rattle.repo_commands.specs.change-set.declared.change.ChangeSet.{ChangeSet}
+use Rattle.cli_call.specs.cny-base.declared.options.Options.{Options}
+use Rattle.cli_call.specs.cny-base.declared.refusal.Fault.{Fault}
+use Rattle.cli_call.specs.cny-base.declared.refusal.Fault.TheVariants as fault
+use Rattle.cli_call.specs.cny-base.declared.refusal.Refusal.{Refusal}
+use Rattle.cli_call.specs.tree-disk.Disk.{DiskModel}
+use Rattle.cli_call.specs.trove-stream.declared.parts.TroveParts.{TroveParts}
+use Rattle.cli_call.specs.change-set.Contents.{IfRefused}
+use Rattle.cli_call.specs.change-set.declared.change.ChangeSet.{ChangeSet}
 use Rattle.update_job.specs.Made.{AreMade, IsFirstRefused}
 use Rattle.cli_call.specs.Command.{Disks, AreReady, StandsFor}
 use Rattle.cli_call.proofs.RootDatabase.{held_database}
-use Rattle.cli_call.specs.State.{Effect, State}
+use Rattle.cli_call.specs.cny-laws.State.{Effect, State}
 use Rattle.root_commands.specs.Update.{UpdatesBy, UpdatesTo}
 use Rattle.system_core.proofs.Held.{OneDatabase}
 

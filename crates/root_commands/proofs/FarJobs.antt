@@ -1,18 +1,18 @@
 -- How a command ends that is a job with the contents of the repository behind it.
 use Rattle.std.proofs.Common.{◌≡◌, ◌≤◌, ℕ, List, Result, Ok, Err, OnOk, IfErr, refl, sym, ap, ◌∙◌, subst, inl, inr, arith}
 use Rattle.std.specs.Prelude.{IsTrue, Option}
-use Rattle.repo_commands.specs.cny-base.Count.{Rose}
-use Rattle.repo_commands.specs.cny-base.declared.options.Options.{Options}
-use Rattle.repo_commands.specs.cny-base.declared.stop.Stop.{Stop}
-use Rattle.repo_commands.specs.cny-base.declared.stop.Stop.TheVariants as stop
-use Rattle.repo_commands.specs.tree-disk.Tree.{Name, Tree}
-use Rattle.repo_commands.specs.tree-disk.Disk.{DiskModel, IsDisk}
-use Rattle.repo_commands.specs.tree-disk.Clear.{is_within}
-use Rattle.repo_commands.specs.tree-disk.Confined.{Among}
-use Rattle.repo_commands.proofs.tree-disk.ConfinedLaws.{confined_read}
-use Rattle.repo_commands.specs.tree-journal.Recovery.{is_committed}
-use Rattle.repo_commands.specs.change-set.declared.change.Carried.{Carried}
-use Rattle.repo_commands.specs.trove-stream.declared.parts.TroveParts.{TroveParts}
+use Rattle.cli_call.specs.cny-base.Count.{Rose}
+use Rattle.cli_call.specs.cny-base.declared.options.Options.{Options}
+use Rattle.cli_call.specs.cny-base.declared.stop.Stop.{Stop}
+use Rattle.cli_call.specs.cny-base.declared.stop.Stop.TheVariants as stop
+use Rattle.cli_call.specs.tree-disk.Tree.{Name, Tree}
+use Rattle.cli_call.specs.tree-disk.Disk.{DiskModel, IsDisk}
+use Rattle.cli_call.specs.tree-disk.Clear.{is_within}
+use Rattle.cli_call.specs.tree-disk.Confined.{Among}
+use Rattle.cli_call.proofs.tree-disk.ConfinedLaws.{confined_read}
+use Rattle.cli_call.specs.tree-journal.Recovery.{is_committed}
+use Rattle.cli_call.specs.change-set.declared.change.Carried.{Carried}
+use Rattle.cli_call.specs.trove-stream.declared.parts.TroveParts.{TroveParts}
 use Rattle.repo_index.specs.Catalogue.{CatalogueParts}
 use Rattle.repo_load.specs.Files.{repository_base, HoldsCatalogue, StoresRepository}
 use Rattle.repo_load.specs.State.{catalogue_of, troves_of, RepositoryState}
@@ -22,24 +22,24 @@ use Rattle.repo_load.specs.declared.repo_contents.RepoContents.{RepoContents}
 use Rattle.local_db.specs.declared.db.Db.{Db}
 use Rattle.local_db.specs.declared.format.Format.TheVariants.{Two}
 use Rattle.local_db.specs.Stores.{StoresIn}
-use Rattle.system_core.specs.JobWriting as settling
+use Rattle.system_core.specs.Opening.{IsAtRest}
 use Rattle.system_core.specs.declared.done.Done.{Done}
 use Rattle.system_core.specs.Job.{Sources, sources_of}
 use Rattle.system_core.specs.Lists.{ListStep, to_updated}
 use Rattle.system_core.specs.Steps as steps
 use Rattle.system_core.specs.Steps.{Ends}
 use Rattle.cny_report.specs.Jobs.{changes_text}
-use Rattle.cli_call.specs.declared.failure.Failure.{Failure}
-use Rattle.cli_call.specs.declared.failure.Failure.TheVariants as failure
-use Rattle.cli_call.specs.declared.opened.Opened.{Opened}
+use Rattle.cli_call.specs.cny-laws.declared.failure.Failure.{Failure}
+use Rattle.cli_call.specs.cny-laws.declared.failure.Failure.TheVariants as failure
+use Rattle.cli_call.specs.cny-laws.declared.opened.Opened.{Opened}
 use Rattle.cli_call.proofs.ChangingRoot.{ChangesRoot}
-use Rattle.cli_call.specs.Command.{disks, AreReady, ChangesNothing, HasCause, Performs, StandsFor, end_of}
+use Rattle.cli_call.specs.Command.{disks, AreReady, HasCause, Performs, StandsFor, end_of}
+use Rattle.cli_call.specs.cny-laws.Report.{ChangesNothing, status_of}
 use Rattle.cli_call.proofs.CommandLaws.{goes_read}
-use Rattle.cli_call.specs.Report.{status_of}
-use Rattle.cli_call.specs.State.{Meaning, RootState, State}
-use Rattle.cli_call.specs.Stops.{root_failure, root_result}
-use Rattle.cli_call.specs.Store.{HasDamagedFile, IsSettled, IsStore}
-use Rattle.cli_call.specs.Stores.{repository_store, root_store}
+use Rattle.cli_call.specs.cny-laws.State.{Meaning, RootState, State}
+use Rattle.cli_call.specs.cny-laws.Stops.{root_failure, root_result}
+use Rattle.cli_call.specs.cny-laws.Store.{HasDamagedFile, IsSettled, IsStore}
+use Rattle.cli_call.specs.cny-laws.Stores.{repository_store, root_store}
 use Rattle.cli_call.proofs.StoreLaws.{read_settled}
 use Rattle.cli_call.proofs.RootResults.{root_ok, same_failure}
 use Rattle.root_commands.specs.Update.{answers_of, update_to, UpdatesTo}
@@ -61,7 +61,7 @@ pub record RepositoryLaws : Type 0 where
 pub record RanFar {T P : Type 0} (root_disk : DiskModel T) (repo_disk : DiskModel P) (options : Options) (carried : List Carried) (troves : List TroveParts) (root root' : T) (far far' : RepoContents P) (now : Db) (r : Result Done Stop) : Type 0 where
   pub ends : IsTrue root_disk.tells → (s : RootState) → StoresIn Two (root_disk.reads root) s
       → Ends root_disk (sources_of carried (let contents = repo_contents repo_disk in contents.answers far) options) (to_updated s.installed troves) s root root' now r
-  pub rests : IsTrue root_disk.tells → OnOk r (settling.IsSettled root_disk root')
+  pub rests : IsTrue root_disk.tells → OnOk r (IsAtRest root_disk root')
   pub refused : IsTrue root_disk.tells → IfErr r (ReadsAtRefusal root_disk root root')
   pub causes : IfErr r (steps.HasCause (repo_contents repo_disk) far far' (Rose (root_disk.faults root) (root_disk.faults root')))
   pub later : root_disk.faults root ≤ root_disk.faults root'

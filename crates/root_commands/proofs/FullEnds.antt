@@ -1,33 +1,33 @@
 -- How `verify` ends with the contents of the repository.
 use Rattle.std.proofs.Common.{◌≡◌, ℕ, List, Result, Ok, Err, OnOk, IfOk, IfErr, refl, sym, ap, ◌∙◌, subst, inl, inr}
 use Rattle.std.specs.Prelude.{IsTrue}
-use Rattle.repo_commands.specs.cny-base.declared.stop.Stop.{Stop}
-use Rattle.repo_commands.specs.cny-base.declared.stop.Stop.TheVariants as stop
-use Rattle.repo_commands.specs.tree-disk.Tree.{Name, Tree}
-use Rattle.repo_commands.specs.tree-disk.Disk.{DiskModel, IsDisk}
-use Rattle.repo_commands.specs.tree-journal.Recovery.{is_committed}
-use Rattle.repo_commands.specs.trove-stream.declared.parts.TroveParts.{TroveParts}
-use Rattle.repo_commands.specs.content-store.Contents.{ContentMap}
+use Rattle.cli_call.specs.cny-base.declared.stop.Stop.{Stop}
+use Rattle.cli_call.specs.cny-base.declared.stop.Stop.TheVariants as stop
+use Rattle.cli_call.specs.tree-disk.Tree.{Name, Tree}
+use Rattle.cli_call.specs.tree-disk.Disk.{DiskModel, IsDisk}
+use Rattle.cli_call.specs.tree-journal.Recovery.{is_committed}
+use Rattle.cli_call.specs.trove-stream.declared.parts.TroveParts.{TroveParts}
+use Rattle.cli_call.specs.content-store.Contents.{ContentMap}
 use Rattle.repo_index.specs.Catalogue.{CatalogueParts}
 use Rattle.repo_load.specs.Files.{HoldsCatalogue, StoresRepository}
 use Rattle.repo_load.specs.State.{catalogue_of, troves_of, RepositoryState}
 use Rattle.repo_load.specs.Contents.{IsDamagedContent}
 use Rattle.repo_load.specs.RepoContents.{repo_contents, HoldsContents}
 use Rattle.repo_load.specs.declared.repo_contents.RepoContents.{RepoContents}
-use Rattle.repo_commands.specs.tree-scan.declared.verification.Verified.{Verified}
+use Rattle.cli_call.specs.tree-scan.declared.verification.Verified.{Verified}
 use Rattle.update_job.specs.Lists.{AreInstalled, IsNotInstalled}
 use Rattle.root_edits.specs.Verify.{asked, verified}
 use Rattle.cny_report.specs.Verified.{verified_text}
-use Rattle.cli_call.specs.declared.failure.Failure.{Failure}
-use Rattle.cli_call.specs.declared.failure.Failure.TheVariants as failure
-use Rattle.cli_call.specs.declared.opened.Opened.{Opened}
+use Rattle.cli_call.specs.cny-laws.declared.failure.Failure.{Failure}
+use Rattle.cli_call.specs.cny-laws.declared.failure.Failure.TheVariants as failure
+use Rattle.cli_call.specs.cny-laws.declared.opened.Opened.{Opened}
 use Rattle.cli_call.specs.Command.{disks, AreReady, HasCause, Performs, StandsFor}
 use Rattle.cli_call.proofs.CommandLaws.{AnswersReading, AreRead, performs_reading}
 use Rattle.cli_call.proofs.RootLaws.{root_laws}
-use Rattle.cli_call.specs.State.{State}
-use Rattle.cli_call.specs.Stops.{root_failure, root_result}
-use Rattle.cli_call.specs.Store.{HasDamagedFile, IsStore}
-use Rattle.cli_call.specs.Stores.{repository_store}
+use Rattle.cli_call.specs.cny-laws.State.{State}
+use Rattle.cli_call.specs.cny-laws.Stops.{root_failure, root_result}
+use Rattle.cli_call.specs.cny-laws.Store.{HasDamagedFile, IsStore}
+use Rattle.cli_call.specs.cny-laws.Stores.{repository_store}
 use Rattle.cli_call.specs.Answer.{answer}
 use Rattle.root_commands.specs.Verifying.{verify_fully}
 use Rattle.root_commands.proofs.Answering.{installed_are}

@@ -2,38 +2,38 @@
 use Rattle.std.proofs.Common.{◌≡◌, ℕ, List, [], ◌∷◌, ◌++◌, map, Option, Some, None, Result, Ok, Err, IfErr, All, refl, sym, ap, ◌∙◌, subst, inl, inr, arith}
 use Rattle.std.specs.Option.{option_or}
 use Rattle.std.proofs.lemmas.List.Elements.{All-head, All-tail, All-weaker}
-use Rattle.repo_commands.specs.cny-base.declared.options.Options.{Options}
-use Rattle.repo_commands.specs.cny-base.declared.refusal.Fault.{Fault}
-use Rattle.repo_commands.specs.cny-base.declared.refusal.Fault.TheVariants as fault
-use Rattle.repo_commands.specs.cny-base.declared.refusal.Refusal.{Refusal}
-use Rattle.repo_commands.specs.cny-base.declared.stop.Stop.{Stop}
-use Rattle.repo_commands.specs.cny-base.declared.stop.Stop.TheVariants as stop
+use Rattle.cli_call.specs.cny-base.declared.options.Options.{Options}
+use Rattle.cli_call.specs.cny-base.declared.refusal.Fault.{Fault}
+use Rattle.cli_call.specs.cny-base.declared.refusal.Fault.TheVariants as fault
+use Rattle.cli_call.specs.cny-base.declared.refusal.Refusal.{Refusal}
+use Rattle.cli_call.specs.cny-base.declared.stop.Stop.{Stop}
+use Rattle.cli_call.specs.cny-base.declared.stop.Stop.TheVariants as stop
 use Rattle.sha1.specs.Sha1.{sha1}
-use Rattle.repo_commands.specs.tree-disk.Disk.{DiskModel, IsDisk}
-use Rattle.repo_commands.specs.trove-stream.declared.parts.TroveParts.{TroveParts}
-use Rattle.repo_commands.specs.trove-stream.Forbidden.{first_forbidden}
-use Rattle.repo_commands.specs.change-set.declared.change.Carried.{Carried}
-use Rattle.repo_commands.specs.change-set.declared.change.Part.TheVariants.{Whole}
-use Rattle.repo_commands.specs.change-set.ChangeSet.{IsContentOf}
-use Rattle.repo_commands.specs.change-set.Contents.{IfRefused}
-use Rattle.repo_commands.specs.content-store.Contents.{empty_contents}
-use Rattle.repo_commands.specs.content-store.declared.contents.NoContents.{NoContents}
+use Rattle.cli_call.specs.tree-disk.Disk.{DiskModel, IsDisk}
+use Rattle.cli_call.specs.trove-stream.declared.parts.TroveParts.{TroveParts}
+use Rattle.cli_call.specs.trove-stream.Forbidden.{first_forbidden}
+use Rattle.cli_call.specs.change-set.declared.change.Carried.{Carried}
+use Rattle.cli_call.specs.change-set.declared.change.Part.TheVariants.{Whole}
+use Rattle.cli_call.specs.change-set.ChangeSet.{IsContentOf}
+use Rattle.cli_call.specs.change-set.Contents.{IfRefused}
+use Rattle.cli_call.specs.content-store.Contents.{empty_contents}
+use Rattle.cli_call.specs.content-store.declared.contents.NoContents.{NoContents}
 use Rattle.cny_manifest.specs.declared.made.Made.{Made}
 use Rattle.cny_manifest.specs.FirstFault.{IsFaultOf}
 use Rattle.cny_manifest.specs.Makes.{HasOwnContents, Makes}
 use Rattle.system_core.specs.declared.done.Done.{Done}
 use Rattle.system_core.specs.Steps.{HasCause, HasOwnCause}
-use Rattle.cli_call.specs.declared.opened.Opened.{Opened}
+use Rattle.cli_call.specs.cny-laws.declared.opened.Opened.{Opened}
 use Rattle.cli_call.specs.Alone.{PerformsAlone}
-use Rattle.cli_call.proofs.AloneLaws.{AnswersAlone}
+use Rattle.cli_call.proofs.AloneLaws.{AnswersAlone, fault_undamaged}
 use Rattle.cli_call.specs.Command as command
 use Rattle.cli_call.specs.Command.{disks, AreReady, Performs}
-use Rattle.cli_call.specs.Failures.{failure_of_fault}
+use Rattle.cli_call.specs.cny-laws.Failures.{failure_of_fault}
 use Rattle.cli_call.proofs.ReadingRoot.{read_alone, read_performed}
-use Rattle.cli_call.specs.State.{Effect, State}
-use Rattle.cli_call.specs.Store.{IsStore}
+use Rattle.cli_call.specs.cny-laws.State.{Effect, State}
+use Rattle.cli_call.specs.cny-laws.Store.{IsStore}
 use Rattle.cli_call.proofs.StoreLaws.{nothing_done}
-use Rattle.cli_call.specs.Stores.{repository_store}
+use Rattle.cli_call.specs.cny-laws.Stores.{repository_store}
 use Rattle.update_job.specs.Allowed.{AreAllowed, IsFirstReserved}
 use Rattle.root_commands.specs.Install.{first_reserved, install, install_made, InstallsMade, UnlessReserved}
 use Rattle.update_job.specs.trove-stream.Forbidden.{IsAllowed}
@@ -89,7 +89,7 @@ module _ {T P : Type 0} {root_disk : DiskModel T} (repo_disk : DiskModel P) (roo
 
   module _ (f : Fault) (refuses : (why : Refusal) → f ≡ fault.Refused why → (s : State) → (install options).IsOutcome s input (Err why)) where
     pub fault_alone : PerformsAlone root_disk repo_disk (install options) input (disks root repo opened) (disks root repo opened) (Err (failure_of_fault f))
-    fault_alone = read_alone repo_disk root_disk_laws root root repo opened (install options) input (λ told. nothing_done root_disk_laws root) (Err (failure_of_fault f)) (answers_fault f refuses)
+    fault_alone = read_alone repo_disk root_disk_laws root root repo opened (install options) input (λ told. nothing_done root_disk_laws root) (Err (failure_of_fault f)) (answers_fault f refuses) (λ path named. absurd (fault_undamaged f path named))
 
     pub fault_performs : IsDisk repo_disk → IsStore repository_store → AreReady root_disk repo_disk (disks root repo opened) → Performs root_disk repo_disk (install options) input (disks root repo opened) (disks root repo opened) (Err (failure_of_fault f))
     fault_performs repo_laws store_laws ready = read_performed repo_disk root_disk_laws root root repo opened (install options) input (λ told. nothing_done root_disk_laws root) (Err (failure_of_fault f)) (answers_fault f refuses)

@@ -2,14 +2,14 @@
 use Rattle.std.proofs.Common.{◌≡◌, ℕ, suc, ◌-◌, ◌<◌, List, [], ◌∷◌, length, Result, Ok, Err, IfErr, All, sym, ap, ◌∙◌, subst, inl, inr, arith}
 use Rattle.std.specs.Prelude.{IsTrue}
 use Rattle.std.proofs.lemmas.List.Elements.{All-head, All-tail}
-use Rattle.repo_commands.specs.cny-base.Count.{Rose}
-use Rattle.repo_commands.specs.cny-base.declared.stop.Stop.{Stop}
-use Rattle.repo_commands.specs.cny-base.declared.stop.Stop.TheVariants as stop
-use Rattle.repo_commands.specs.tree-disk.Disk.{DiskModel, HasRead, Reads}
-use Rattle.repo_commands.specs.tree-disk.Tree.{Name, Tree}
-use Rattle.repo_commands.specs.trove-stream.declared.parts.TroveParts.{TroveParts}
-use Rattle.repo_commands.specs.trove-stream.Installed.{IsRising}
-use Rattle.repo_commands.specs.past-jobs.Past.{AreChangedIds}
+use Rattle.cli_call.specs.cny-base.Count.{Rose}
+use Rattle.cli_call.specs.cny-base.declared.stop.Stop.{Stop}
+use Rattle.cli_call.specs.cny-base.declared.stop.Stop.TheVariants as stop
+use Rattle.cli_call.specs.tree-disk.Disk.{DiskModel, HasRead, Reads}
+use Rattle.cli_call.specs.tree-disk.Tree.{Name, Tree}
+use Rattle.cli_call.specs.trove-stream.declared.parts.TroveParts.{TroveParts}
+use Rattle.cli_call.specs.trove-stream.Installed.{IsRising}
+use Rattle.cli_call.specs.past-jobs.Past.{AreChangedIds}
 use Rattle.local_db.specs.declared.db.Db.{Db}
 use Rattle.local_db.specs.declared.format.Format.TheVariants.{Two}
 use Rattle.local_db.specs.Record as state
@@ -21,15 +21,15 @@ use Rattle.rollback_stack.specs.Reading.{AreNotes, IsAllStop}
 use Rattle.rollback_stack.specs.declared.undo.Note.{Note as Undone}
 use Rattle.system_core.proofs.NewestStored.{job_record}
 use Rattle.cny_report.specs.declared.note.Note.{Note}
-use Rattle.cli_call.specs.declared.failure.Failure.{Failure}
-use Rattle.cli_call.specs.declared.opened.Opened.{Opened}
+use Rattle.cli_call.specs.cny-laws.declared.failure.Failure.{Failure}
+use Rattle.cli_call.specs.cny-laws.declared.opened.Opened.{Opened}
 use Rattle.cli_call.proofs.AloneLaws.{AnswersAlone}
 use Rattle.cli_call.specs.Command.{disks, AreReady, HasCause}
 use Rattle.cli_call.proofs.RootDatabase.{held_database}
-use Rattle.cli_call.specs.State.{RootState}
-use Rattle.cli_call.specs.Stops.{root_result}
-use Rattle.cli_call.specs.Store.{HasDamagedFile}
-use Rattle.cli_call.specs.Stores.{root_store}
+use Rattle.cli_call.specs.cny-laws.State.{RootState}
+use Rattle.cli_call.specs.cny-laws.Stops.{root_result}
+use Rattle.cli_call.specs.cny-laws.Store.{HasDamagedFile, NamesDamaged}
+use Rattle.cli_call.specs.cny-laws.Stores.{root_store}
 use Rattle.cli_call.specs.Answer.{answer}
 use Rattle.root_commands.specs.Jobs.{AreNotesOf, list_jobs}
 use Rattle.root_commands.specs.Noting.{AreNoted, AreToldBy}
@@ -114,6 +114,9 @@ module _ {T P : Type 0} (root_disk : DiskModel T) (repo_disk : DiskModel P) (law
   abbrev pub Caused : Result (List ℕ) Failure → Type 0
   Caused result = HasCause root_disk repo_disk (disks root repo opened) (disks root' repo opened) result
 
+  abbrev pub Named : Result (List ℕ) Failure → Type 0
+  Named result = NamesDamaged root_store root_disk root' result
+
   abbrev pub Damage : Name → Type 0
   Damage path = IsDamagedRecord Two (root_disk.reads root) (job_count opened.db.oldest opened.db.newest) opened.db.newest opened.db.installed path
 
@@ -126,17 +129,21 @@ module _ {T P : Type 0} (root_disk : DiskModel T) (repo_disk : DiskModel P) (law
       } in
       subst (λ (t : Tree). HasDamagedFile root_store t path) (sym (same told)) here
 
-  pub stopped_ends : (e : Stop) → Stopped root_disk opened root root' (Err e) → IfErr (let r : Result (List Undone) Stop = Err e in root_result r) (λ f. Ends (Err f) × Caused (Err f))
+  pub stopped_ends : (e : Stop) → Stopped root_disk opened root root' (Err e) → IfErr (let r : Result (List Undone) Stop = Err e in root_result r) (λ f. Ends (Err f) × Caused (Err f) × Named (Err f))
   stopped_ends (stop.Refused why) h = absurd h
-  stopped_ends stop.Failed h = (tt, h)
-  stopped_ends stop.Memory h = (tt, tt)
-  stopped_ends (stop.Damaged path) h = (λ told s rests. none_damaged law one (root_disk.reads root) opened.db s.root (ready.root told).holds rests.stored path (h told), inl (λ told. damaged_file path told (h told)))
+  stopped_ends stop.Failed h = (tt, h, λ path named. absurd (cc named))
+  stopped_ends stop.Memory h = (tt, tt, λ path named. absurd (cc named))
+  stopped_ends (stop.Damaged path) h = (
+    λ told s rests. none_damaged law one (root_disk.reads root) opened.db s.root (ready.root told).holds rests.stored path (h told),
+    inl (λ told. damaged_file path told (h told)),
+    λ file named told. (let same : path ≡ file = cc named in subst (HasDamagedFile root_store (root_disk.reads root')) same (damaged_file path told (h told))),
+  )
   stopped_ends stop.FarFailed h = absurd h
   stopped_ends (stop.FarDamaged path) h = absurd h
 
-  pub failed_ends : (r : Result (List Undone) Stop) (f : Failure) → root_result r ≡ Err f → Stopped root_disk opened root root' r → Ends (Err f) × Caused (Err f)
+  pub failed_ends : (r : Result (List Undone) Stop) (f : Failure) → root_result r ≡ Err f → Stopped root_disk opened root root' r → Ends (Err f) × Caused (Err f) × Named (Err f)
   failed_ends (Ok found) f is run = absurd (cc is)
-  failed_ends (Err e) f is run = subst (λ (x : Result (List Undone) Failure). IfErr x (λ g. Ends (Err g) × Caused (Err g))) is (stopped_ends e run)
+  failed_ends (Err e) f is run = subst (λ (x : Result (List Undone) Failure). IfErr x (λ g. Ends (Err g) × Caused (Err g) × Named (Err g))) is (stopped_ends e run)
 
   pub found_ends : (jobs : List Undone) (text : List ℕ) → (IsTrue root_disk.tells → AreNotes (root_disk.reads root) (job_count opened.db.oldest opened.db.newest) opened.db.newest opened.db.installed jobs) → AreToldBy jobs text → Ends (Ok text)
   found_ends jobs text are is told s rests = record {

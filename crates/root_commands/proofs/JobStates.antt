@@ -2,15 +2,15 @@
 use Rattle.std.proofs.Common.{◌≡◌, ◌≤◌, ℕ, List, Option, Result, Ok, Err, refl, sym, ap, ◌∙◌, inl, inr, arith}
 use Rattle.std.specs.Prelude.{◌⊎◌}
 use Rattle.std.specs.FinMap.{get}
-use Rattle.repo_commands.specs.cny-base.declared.refusal.Refusal.{Refusal}
-use Rattle.repo_commands.specs.cny-base.declared.stop.Stop.{Stop}
-use Rattle.repo_commands.specs.cny-base.declared.stop.Stop.TheVariants as stop
-use Rattle.repo_commands.specs.tree-disk.Tree.{Tree}
-use Rattle.repo_commands.specs.tree-disk.Disk.{DiskModel, IsDisk, HasRead}
-use Rattle.repo_commands.proofs.tree-disk.ConfinedLaws.{leaves_weaker}
-use Rattle.repo_commands.proofs.tree-disk.Unfailed.{unfailed_weaker}
-use Rattle.repo_commands.specs.journal-log.declared.put.Put.{Put}
-use Rattle.repo_commands.specs.trove-stream.declared.parts.TroveParts.{TroveParts}
+use Rattle.cli_call.specs.cny-base.declared.refusal.Refusal.{Refusal}
+use Rattle.cli_call.specs.cny-base.declared.stop.Stop.{Stop}
+use Rattle.cli_call.specs.cny-base.declared.stop.Stop.TheVariants as stop
+use Rattle.cli_call.specs.tree-disk.Tree.{Tree}
+use Rattle.cli_call.specs.tree-disk.Disk.{DiskModel, IsDisk, HasRead}
+use Rattle.cli_call.proofs.tree-disk.ConfinedLaws.{leaves_weaker}
+use Rattle.cli_call.proofs.tree-disk.Unfailed.{unfailed_weaker}
+use Rattle.cli_call.specs.journal-log.declared.put.Put.{Put}
+use Rattle.cli_call.specs.trove-stream.declared.parts.TroveParts.{TroveParts}
 use Rattle.local_db.specs.declared.db.Db.{Db}
 use Rattle.update_job.specs.declared.comparing.Change.{Change}
 use Rattle.update_job.specs.Changes.{AreChanges}
@@ -24,18 +24,18 @@ use Rattle.system_core.specs.Job.{PassesTests, Sources, db_of}
 use Rattle.system_core.specs.Lists.{ListStep}
 use Rattle.system_core.specs.Steps.{Ends, EndsWith, IsDone, IsOnTheWay, changed, reading, unchanged, writing}
 use Rattle.cny_report.specs.Jobs.{changes_text}
-use Rattle.cli_call.specs.declared.failure.Failure.{Failure}
-use Rattle.cli_call.specs.declared.failure.Failure.TheVariants as failure
+use Rattle.cli_call.specs.cny-laws.declared.failure.Failure.{Failure}
+use Rattle.cli_call.specs.cny-laws.declared.failure.Failure.TheVariants as failure
 use Rattle.cli_call.proofs.ChangingRoot.{ChangesRoot, of_either}
 use Rattle.cli_call.specs.Command.{Answers, end_of}
 use Rattle.cli_call.proofs.CommandLaws.{goes_read, read_shown}
-use Rattle.cli_call.specs.Report.{status_of}
+use Rattle.cli_call.specs.cny-laws.Report.{status_of}
 use Rattle.cli_call.proofs.RootLaws.{root_laws}
-use Rattle.cli_call.specs.State.{nothing, on_root, Effect, RootState, State, Takes}
-use Rattle.cli_call.specs.Stops.{root_failure}
-use Rattle.cli_call.specs.Store.{RestsAt}
+use Rattle.cli_call.specs.cny-laws.State.{nothing, on_root, Effect, RootState, State, Takes}
+use Rattle.cli_call.specs.cny-laws.Stops.{root_failure}
+use Rattle.cli_call.specs.cny-laws.Store.{RestsAt}
 use Rattle.cli_call.proofs.StoreLaws.{settled_rests}
-use Rattle.cli_call.specs.Stores.{root_store}
+use Rattle.cli_call.specs.cny-laws.Stores.{root_store}
 use Rattle.root_commands.specs.JobOutcome.{JobOutcome}
 use Rattle.local_db.proofs.cny-base.Lists.{contains_first}
 use Rattle.local_db.proofs.Systems.{listed_paths as listed_target}

@@ -3,34 +3,36 @@ use Rattle.std.proofs.Common.{◌≡◌, ℕ, List, [], ◌∷◌, Contains, Non
 use Rattle.std.specs.Prelude.{IsTrue}
 use Rattle.std.specs.List.{AllByRecursion}
 use Rattle.std.proofs.lemmas.List.Elements.{All-contains}
-use Rattle.repo_commands.specs.cny-base.Reserved.{is_reserved}
-use Rattle.repo_commands.specs.cny-base.declared.refusal.Fault.{Fault}
-use Rattle.repo_commands.specs.cny-base.declared.refusal.Fault.TheVariants as fault
-use Rattle.repo_commands.specs.cny-base.declared.refusal.Refusal.{Refusal}
-use Rattle.repo_commands.specs.cny-base.declared.stop.Stop.{Stop}
-use Rattle.repo_commands.specs.cny-base.declared.stop.Stop.TheVariants as stop
-use Rattle.repo_commands.specs.tree-disk.Disk.{DiskModel}
-use Rattle.repo_commands.specs.tree-disk.Tree.{Tree, AgreesOutside}
-use Rattle.repo_commands.specs.trove-parts.declared.files.FileAt.{FileAt}
-use Rattle.repo_commands.specs.trove-stream.declared.parts.TroveParts.{TroveParts}
-use Rattle.repo_commands.specs.trove-stream.Forbidden.{first_forbidden}
-use Rattle.repo_commands.specs.change-set.ChangeSet.{HasContents, IsSetStream}
-use Rattle.repo_commands.specs.change-set.TooLarge.{too_large, IsTooLargeOrMemory}
-use Rattle.repo_commands.specs.change-set.declared.change.ChangeSet.{ChangeSet}
-use Rattle.repo_commands.specs.change-set.declared.change.Part.{Part}
-use Rattle.repo_commands.specs.manifest-troves.Contents.{contents_of}
+use Rattle.cli_call.specs.cny-base.Reserved.{is_reserved}
+use Rattle.cli_call.specs.cny-base.declared.refusal.Fault.{Fault}
+use Rattle.cli_call.specs.cny-base.declared.refusal.Fault.TheVariants as fault
+use Rattle.cli_call.specs.cny-base.declared.refusal.Refusal.{Refusal}
+use Rattle.cli_call.specs.cny-base.declared.stop.Stop.{Stop}
+use Rattle.cli_call.specs.cny-base.declared.stop.Stop.TheVariants as stop
+use Rattle.cli_call.specs.tree-disk.Disk.{DiskModel}
+use Rattle.cli_call.specs.tree-disk.Tree.{Tree, AgreesOutside}
+use Rattle.cli_call.specs.trove-parts.declared.files.FileAt.{FileAt}
+use Rattle.cli_call.specs.trove-stream.declared.parts.TroveParts.{TroveParts}
+use Rattle.cli_call.specs.trove-stream.Forbidden.{first_forbidden}
+use Rattle.cli_call.specs.change-set.ChangeSet.{HasContents, IsSetStream}
+use Rattle.cli_call.specs.change-set.TooLarge.{too_large, IsTooLargeOrMemory}
+use Rattle.cli_call.specs.change-set.declared.change.ChangeSet.{ChangeSet}
+use Rattle.cli_call.specs.change-set.declared.change.Part.{Part}
+use Rattle.cny_manifest.specs.manifest-troves.Contents.{contents_of}
 use Rattle.root_edits.specs.Finds.{Ends}
 use Rattle.root_edits.specs.Local.{AreLocalParts, IsLocal, IsLocalPart, IsLocalRefusal, all_contents, all_sights, first_refusal, records}
 use Rattle.root_edits.specs.Reached.{AreReached}
 use Rattle.root_edits.specs.Standing.{Sight, sights}
 use Rattle.local_db.specs.Installed.{IsInstalled}
-use Rattle.cli_call.specs.declared.failure.Failure.{Failure}
-use Rattle.cli_call.specs.declared.opened.Opened.{Opened}
+use Rattle.cli_call.specs.cny-laws.declared.failure.Failure.{Failure}
+use Rattle.cli_call.specs.cny-laws.declared.opened.Opened.{Opened}
 use Rattle.cli_call.proofs.AloneLaws.{AnswersWhere}
 use Rattle.cli_call.specs.Command.{disks, AreReady, HasCause}
-use Rattle.cli_call.specs.Failures.{failure_of_fault}
-use Rattle.cli_call.specs.State.{State, tree_of}
-use Rattle.cli_call.specs.Stops.{root_result}
+use Rattle.cli_call.specs.cny-laws.Failures.{failure_of_fault}
+use Rattle.cli_call.specs.cny-laws.State.{State, tree_of}
+use Rattle.cli_call.specs.cny-laws.Stops.{root_result}
+use Rattle.cli_call.specs.cny-laws.Store.{NamesDamaged}
+use Rattle.cli_call.specs.cny-laws.Stores.{root_store}
 use Rattle.root_commands.specs.LocalChanges.{change_locally}
 use Rattle.root_commands.proofs.Answering.{IsSeen}
 use Rattle.root_commands.proofs.Verified.{AreOuter, files_outer, records_outer}
@@ -102,6 +104,9 @@ module _ {T P : Type 0} (root_disk : DiskModel T) (repo_disk : DiskModel P) (law
   abbrev pub Caused : Result (List ℕ) Failure → Type 0
   Caused result = HasCause root_disk repo_disk (disks root repo opened) (disks root' repo opened) result
 
+  abbrev pub Named : Result (List ℕ) Failure → Type 0
+  Named result = NamesDamaged root_store root_disk root' result
+
   abbrev pub Found : Result ChangeSet Stop → Type 0
   Found r = Ends root_disk.tells (IsLocal opened.db.installed name (root_disk.reads root)) (IsLocalRefusal opened.db.installed name (root_disk.reads root)) r (root_disk.faults root) (root_disk.faults root')
 
@@ -109,17 +114,17 @@ module _ {T P : Type 0} (root_disk : DiskModel T) (repo_disk : DiskModel P) (law
       → IsIt opened.db.installed (root_disk.reads root) → IsIt s.root.installed (tree_of s.root)
   by_state IsIt moved s seen is = moved s.root.installed (root_disk.reads root) (tree_of s.root) seen.outer seen.rules (subst (λ (l : List TroveParts). IsIt l (root_disk.reads root)) seen.list is)
 
-  pub stopped_ends : (e : Stop) → Found (Err e) → IfErr (let r : Result ChangeSet Stop = Err e in root_result r) (λ f. Answered (Err f) × Caused (Err f))
-  stopped_ends (stop.Refused why) h = (λ told s seen. inl (by_state (λ l t. IsLocalRefusal l name t why) (λ l t u same rules is. refused_same t u same l name why rules is) s seen (h told)), tt)
-  stopped_ends stop.Failed h = (tt, h)
-  stopped_ends stop.Memory h = (tt, tt)
+  pub stopped_ends : (e : Stop) → Found (Err e) → IfErr (let r : Result ChangeSet Stop = Err e in root_result r) (λ f. Answered (Err f) × Caused (Err f) × Named (Err f))
+  stopped_ends (stop.Refused why) h = (λ told s seen. inl (by_state (λ l t. IsLocalRefusal l name t why) (λ l t u same rules is. refused_same t u same l name why rules is) s seen (h told)), tt, λ path named. absurd (cc named))
+  stopped_ends stop.Failed h = (tt, h, λ path named. absurd (cc named))
+  stopped_ends stop.Memory h = (tt, tt, λ path named. absurd (cc named))
   stopped_ends (stop.Damaged path) h = absurd h
   stopped_ends stop.FarFailed h = absurd h
   stopped_ends (stop.FarDamaged path) h = absurd h
 
-  pub failed_ends : (r : Result ChangeSet Stop) (f : Failure) → root_result r ≡ Err f → Found r → Answered (Err f) × Caused (Err f)
+  pub failed_ends : (r : Result ChangeSet Stop) (f : Failure) → root_result r ≡ Err f → Found r → Answered (Err f) × Caused (Err f) × Named (Err f)
   failed_ends (Ok set) f is run = absurd (cc is)
-  failed_ends (Err e) f is run = subst (λ (x : Result ChangeSet Failure). IfErr x (λ g. Answered (Err g) × Caused (Err g))) is (stopped_ends e run)
+  failed_ends (Err e) f is run = subst (λ (x : Result ChangeSet Failure). IfErr x (λ g. Answered (Err g) × Caused (Err g) × Named (Err g))) is (stopped_ends e run)
 
   module _ (r : Result ChangeSet Stop) (set : ChangeSet) (is : root_result r ≡ Ok set) (found : Found r) where
     found_local : IsTrue root_disk.tells → IsLocal opened.db.installed name (root_disk.reads root) set

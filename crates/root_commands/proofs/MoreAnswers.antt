@@ -1,25 +1,25 @@
 -- What a job makes of contents that answer something, it makes of contents that answer at least that.
 use Rattle.std.proofs.Common.{ℕ, List, [], ◌∷◌, Option, Some, None, Result, Ok, Err}
-use Rattle.repo_commands.specs.cny-base.declared.options.Options.{Options}
-use Rattle.repo_commands.specs.cny-base.declared.refusal.Refusal.{Refusal}
-use Rattle.repo_commands.specs.cny-base.declared.refusal.Refusal.TheVariants.{MissingContent, TooLarge, Collision}
-use Rattle.repo_commands.specs.cny-base.declared.stop.Stop.{Stop}
-use Rattle.repo_commands.specs.cny-base.declared.stop.Stop.TheVariants.{Refused, Memory, Failed, Damaged, FarFailed, FarDamaged}
-use Rattle.repo_commands.specs.change-set.declared.change.Carried.{Carried}
-use Rattle.repo_commands.specs.conflict-plan.declared.planned.Planned.{Planned}
-use Rattle.repo_commands.specs.content-store.Contents.{Answers}
-use Rattle.repo_commands.specs.file-stream.declared.record.FileRec.{FileRec}
-use Rattle.repo_commands.specs.file-stream.declared.record.FileRec.TheVariants as rec
-use Rattle.repo_commands.specs.journal-log.declared.put.Put.{Put}
-use Rattle.repo_commands.specs.journal-log.declared.put.Want.{Want}
-use Rattle.repo_commands.specs.trove-stream.declared.parts.TroveParts.{TroveParts}
-use Rattle.repo_commands.specs.tree-disk.Tree.{Tree}
-use Rattle.repo_commands.specs.tree-disk.Disk.{DiskModel}
+use Rattle.cli_call.specs.cny-base.declared.options.Options.{Options}
+use Rattle.cli_call.specs.cny-base.declared.refusal.Refusal.{Refusal}
+use Rattle.cli_call.specs.cny-base.declared.refusal.Refusal.TheVariants.{MissingContent, TooLarge, Collision}
+use Rattle.cli_call.specs.cny-base.declared.stop.Stop.{Stop}
+use Rattle.cli_call.specs.cny-base.declared.stop.Stop.TheVariants.{Refused, Memory, Failed, Damaged, FarFailed, FarDamaged}
+use Rattle.cli_call.specs.change-set.declared.change.Carried.{Carried}
+use Rattle.cli_call.specs.conflict-plan.declared.planned.Planned.{Planned}
+use Rattle.cli_call.specs.content-store.Contents.{Answers}
+use Rattle.cli_call.specs.file-stream.declared.record.FileRec.{FileRec}
+use Rattle.cli_call.specs.file-stream.declared.record.FileRec.TheVariants as rec
+use Rattle.cli_call.specs.journal-log.declared.put.Put.{Put}
+use Rattle.cli_call.specs.journal-log.declared.put.Want.{Want}
+use Rattle.cli_call.specs.trove-stream.declared.parts.TroveParts.{TroveParts}
+use Rattle.cli_call.specs.tree-disk.Tree.{Tree}
+use Rattle.cli_call.specs.tree-disk.Disk.{DiskModel}
 use Rattle.local_db.specs.declared.db.Db.{Db}
-use Rattle.repo_commands.specs.job-targets.declared.targets.Targets.{Targets}
-use Rattle.repo_commands.specs.job-targets.Contents.{Finds, FindsBehind, carried_bytes}
-use Rattle.repo_commands.specs.job-targets.Outcome.{AreTargets, IsFirstRefusal, IsMissing, IsUnfound}
-use Rattle.repo_commands.specs.job-targets.Targets.{ArePutsOf, IsTarget}
+use Rattle.cli_call.specs.job-targets.declared.targets.Targets.{Targets}
+use Rattle.cli_call.specs.job-targets.Contents.{Finds, FindsBehind, carried_bytes}
+use Rattle.cli_call.specs.job-targets.Outcome.{AreTargets, IsFirstRefusal, IsMissing, IsUnfound}
+use Rattle.cli_call.specs.job-targets.Targets.{ArePutsOf, IsTarget}
 use Rattle.local_db.specs.SystemState.{SystemState}
 use Rattle.system_core.specs.declared.done.Done.{Done}
 use Rattle.system_core.specs.Job.{IsJobRefusal, IsTestRefusal, IsTested, PassesTests, last, sources_of, unmet, unplanned, untargeted, untested}

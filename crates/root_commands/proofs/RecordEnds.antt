@@ -2,25 +2,25 @@
 use Rattle.std.proofs.Common.{◌≡◌, ⊎_elim, Bool, false, ℕ, zero, suc, ◌+◌, ◌-◌, ◌<◌, ◌≤◌, List, [], ◌∷◌, ◌++◌, length, Option, Some, Result, Ok, Err, IfOk, IfErr, All, refl, sym, ap, ◌∙◌, subst, inl, inr, arith, length-append}
 use Rattle.std.specs.Prelude.{◌⊎◌, IsTrue}
 use Rattle.std.proofs.lemmas.List.Elements.{All-contains}
-use Rattle.repo_commands.specs.cny-base.declared.refusal.Refusal.{Refusal}
-use Rattle.repo_commands.specs.cny-base.declared.refusal.Refusal.TheVariants.{Edited, NoJob, Parent, StackEmpty}
-use Rattle.repo_commands.specs.cny-base.declared.stop.Stop.{Stop}
-use Rattle.repo_commands.specs.cny-base.declared.stop.Stop.TheVariants as stop
-use Rattle.repo_commands.specs.journal-log.declared.put.Put.{Put}
-use Rattle.repo_commands.specs.journal-log.declared.put.Want.{Want}
-use Rattle.repo_commands.specs.journal-log.declared.put.Want.TheVariants as want
-use Rattle.repo_commands.specs.journal-log.Targets.{node_of}
-use Rattle.repo_commands.specs.tree-disk.Disk.{DiskModel}
-use Rattle.repo_commands.specs.tree-disk.Tree.{Name, Tree}
-use Rattle.repo_commands.specs.tree-scan.declared.mark.Mark.{Mark}
-use Rattle.repo_commands.specs.tree-scan.Marks.{fingerprint}
-use Rattle.repo_commands.specs.trove-stream.declared.parts.TroveParts.{TroveParts}
+use Rattle.cli_call.specs.cny-base.declared.refusal.Refusal.{Refusal}
+use Rattle.cli_call.specs.cny-base.declared.refusal.Refusal.TheVariants.{Edited, NoJob, Parent, StackEmpty}
+use Rattle.cli_call.specs.cny-base.declared.stop.Stop.{Stop}
+use Rattle.cli_call.specs.cny-base.declared.stop.Stop.TheVariants as stop
+use Rattle.cli_call.specs.journal-log.declared.put.Put.{Put}
+use Rattle.cli_call.specs.journal-log.declared.put.Want.{Want}
+use Rattle.cli_call.specs.journal-log.declared.put.Want.TheVariants as want
+use Rattle.cli_call.specs.journal-log.Targets.{node_of}
+use Rattle.cli_call.specs.tree-disk.Disk.{DiskModel}
+use Rattle.cli_call.specs.tree-disk.Tree.{Name, Tree}
+use Rattle.cli_call.specs.tree-scan.declared.mark.Mark.{Mark}
+use Rattle.cli_call.specs.tree-scan.Marks.{fingerprint}
+use Rattle.cli_call.specs.trove-stream.declared.parts.TroveParts.{TroveParts}
 use Rattle.local_db.specs.declared.db.Db.{Db}
-use Rattle.repo_commands.specs.job-targets.Old.{IsDamagedOld, IsSaved, is_staged}
+use Rattle.cli_call.specs.job-targets.Old.{IsDamagedOld, IsSaved, is_staged}
 use Rattle.local_db.specs.declared.format.Format.TheVariants.{Two}
 use Rattle.local_db.specs.Record as state
-use Rattle.repo_commands.specs.past-jobs.Jobs.{CanUndoAll, oldest_with, undone_all}
-use Rattle.repo_commands.specs.past-jobs.Marks.{CanUndo, IsEdited, IsUndoRefusal, Marks, marks_of, undone}
+use Rattle.cli_call.specs.past-jobs.Jobs.{CanUndoAll, oldest_with, undone_all}
+use Rattle.cli_call.specs.past-jobs.Marks.{CanUndo, IsEdited, IsUndoRefusal, Marks, marks_of, undone}
 use Rattle.rollback_stack.specs.JobReading.{HoldsNoRecord, HoldsRecord, HoldsRecords}
 use Rattle.rollback_stack.specs.declared.undo.Note.{Note as Undone}
 use Rattle.rollback_stack.specs.declared.undo.Back.{Back}
@@ -29,8 +29,8 @@ use Rattle.rollback_stack.specs.Numbers.{job_count}
 use Rattle.rollback_stack.specs.Reading.{AreNotes, IsAllStop}
 use Rattle.rollback_stack.proofs.Noting.{records_push}
 use Rattle.system_core.specs.Several.{HasTakenBackTo, IsStepTo, StopsTo}
-use Rattle.cli_call.specs.declared.failure.Failure.{Failure}
-use Rattle.cli_call.specs.Stops.{root_failure, root_result}
+use Rattle.cli_call.specs.cny-laws.declared.failure.Failure.{Failure}
+use Rattle.cli_call.specs.cny-laws.Stops.{root_failure, root_result}
 use Rattle.root_commands.specs.Records.{IsDamagedOfAll, IsUnsavedContent, ListsWhole, NoneIs, TakesBackWhole, last_job}
 use Rattle.system_core.proofs.Migration.{OneRecord}
 use Rattle.local_db.proofs.cny-base.Lists.{all_at as all_middle}

@@ -3,12 +3,12 @@ use Rattle.std.proofs.Common.{◌≡◌, ◌≤◌, ◌<◌, ◌+◌, ◌-◌, �
 use Rattle.std.specs.Prelude.{◌⊎◌, ◌||◌, IsTrue, Contains, min}
 use Rattle.std.proofs.lemmas.List.{length-take, take-append-drop}
 use Rattle.std.proofs.lemmas.List.Elements.{Contains-append_left}
-use Rattle.repo_commands.specs.cny-base.Count.{Rose}
-use Rattle.repo_commands.specs.cny-base.declared.refusal.Refusal.{Refusal}
-use Rattle.repo_commands.specs.cny-base.declared.stop.Stop.{Stop}
-use Rattle.repo_commands.specs.cny-base.declared.stop.Stop.TheVariants as stop
-use Rattle.repo_commands.specs.tree-disk.Tree.{Name, Tree, same_name}
-use Rattle.repo_commands.specs.tree-disk.Disk.{DiskModel, IsDisk}
+use Rattle.cli_call.specs.cny-base.Count.{Rose}
+use Rattle.cli_call.specs.cny-base.declared.refusal.Refusal.{Refusal}
+use Rattle.cli_call.specs.cny-base.declared.stop.Stop.{Stop}
+use Rattle.cli_call.specs.cny-base.declared.stop.Stop.TheVariants as stop
+use Rattle.cli_call.specs.tree-disk.Tree.{Name, Tree, same_name}
+use Rattle.cli_call.specs.tree-disk.Disk.{DiskModel, IsDisk}
 use Rattle.local_db.specs.declared.db.Db.{Db}
 use Rattle.local_db.specs.declared.format.Format.TheVariants.{Two}
 use Rattle.local_db.specs.SystemState.{AreNumbered, StackItem, SystemState, is_listed, newest}
@@ -18,16 +18,17 @@ use Rattle.rollback_stack.specs.Inverse.{IsDamagedJob, IsFirstDamagedContent}
 use Rattle.system_core.specs.Rollback.{HasCause}
 use Rattle.system_core.specs.Several.{AreTakenBack, CanTakeBackTo, EndsTo, HasTakenBackTo, IsRefusalKindTo, IsRefusalTo, RollsBackTo, StopsTo, jobs_below, jobs_to, paths_of_jobs, rolled_back_to}
 use Rattle.cny_report.specs.Jobs.{rolled_back_text}
-use Rattle.cli_call.specs.declared.failure.Failure.{Failure}
-use Rattle.cli_call.specs.declared.failure.Failure.TheVariants as failure
-use Rattle.cli_call.specs.declared.opened.Opened.{Opened}
+use Rattle.cli_call.specs.cny-laws.declared.failure.Failure.{Failure}
+use Rattle.cli_call.specs.cny-laws.declared.failure.Failure.TheVariants as failure
+use Rattle.cli_call.specs.cny-laws.declared.opened.Opened.{Opened}
 use Rattle.cli_call.specs.Alone.{PerformsAlone}
-use Rattle.cli_call.specs.Command.{disks, AreReady, LeavesName, Performs}
+use Rattle.cli_call.specs.Command.{disks, AreReady, Performs}
+use Rattle.cli_call.specs.cny-laws.Shown.{LeavesName}
 use Rattle.cli_call.proofs.RootDatabase.{held_database}
-use Rattle.cli_call.specs.State.{RootState}
-use Rattle.cli_call.specs.Stops.{root_result}
-use Rattle.cli_call.specs.Store.{IsSettled, IsStore}
-use Rattle.cli_call.specs.Stores.{repository_store, root_store}
+use Rattle.cli_call.specs.cny-laws.State.{RootState}
+use Rattle.cli_call.specs.cny-laws.Stops.{root_result}
+use Rattle.cli_call.specs.cny-laws.Store.{IsSettled, IsStore}
+use Rattle.cli_call.specs.cny-laws.Stores.{repository_store, root_store}
 use Rattle.root_commands.specs.Records.{last_job}
 use Rattle.root_commands.specs.RollingBack.{meant_number, roll_back, take_back}
 use Rattle.root_commands.proofs.TakingBack.{CausesBack, EndsBack, StopsBack, TakenBack, Ways, failed_alone, failed_performs, memory_alone, memory_performs, told_alone, told_performs}

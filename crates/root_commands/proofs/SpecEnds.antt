@@ -3,13 +3,13 @@ use Rattle.std.proofs.Common.{◌≡◌, ℕ, ◌+◌, ◌<◌, List, [], ◌∷
 use Rattle.std.specs.Prelude.{IsTrue, Contains}
 use Rattle.std.proofs.lemmas.List.{take_more}
 use Rattle.std.proofs.lemmas.List.Elements.{All-contains, All-contains_itself, All-weaker, Contains-append_cases}
-use Rattle.repo_commands.specs.cny-base.declared.options.Options.{Options}
-use Rattle.repo_commands.specs.cny-base.declared.refusal.Fault.{Fault}
-use Rattle.repo_commands.specs.cny-base.declared.refusal.Fault.TheVariants as fault
-use Rattle.repo_commands.specs.cny-base.declared.refusal.Refusal.{Refusal}
-use Rattle.repo_commands.specs.tree-disk.Disk.{DiskModel}
-use Rattle.repo_commands.specs.trove-parts.declared.id.TroveId.{TroveId}
-use Rattle.repo_commands.specs.trove-stream.declared.parts.TroveParts.{TroveParts}
+use Rattle.cli_call.specs.cny-base.declared.options.Options.{Options}
+use Rattle.cli_call.specs.cny-base.declared.refusal.Fault.{Fault}
+use Rattle.cli_call.specs.cny-base.declared.refusal.Fault.TheVariants as fault
+use Rattle.cli_call.specs.cny-base.declared.refusal.Refusal.{Refusal}
+use Rattle.cli_call.specs.tree-disk.Disk.{DiskModel}
+use Rattle.cli_call.specs.trove-parts.declared.id.TroveId.{TroveId}
+use Rattle.cli_call.specs.trove-stream.declared.parts.TroveParts.{TroveParts}
 use Rattle.trove_spec.specs.declared.config.Config.{Config}
 use Rattle.trove_spec.specs.Expansion.{IsExpansion, IsUnexpanded}
 use Rattle.trove_spec.specs.RootConfig.{HasConfig}
@@ -17,12 +17,12 @@ use Rattle.repo_index.specs.Catalogue.{CatalogueParts}
 use Rattle.repo_load.specs.State.{troves_of, AreFollowing, Commit}
 use Rattle.repo_load.specs.Loading.{IsCatalogue}
 use Rattle.cli_call.specs.Command.{Disks, AreReady, StandsFor}
-use Rattle.cli_call.specs.State.{tree_of, Effect, State}
+use Rattle.cli_call.specs.cny-laws.State.{tree_of, Effect, State}
 use Rattle.system_core.specs.Lists.{AreAllowed}
 use Rattle.trove_spec.specs.declared.given.GivenSpec.{GivenSpec}
 use Rattle.trove_spec.specs.AndThen.{AndThen, EndsAs}
 use Rattle.trove_spec.specs.Meant.{Means}
-use Rattle.repo_commands.proofs.ReadingEnds.{CatalogueIs, config_of, troves_are}
+use Rattle.cli_call.proofs.ReadingEnds.{CatalogueIs, config_of, troves_are}
 use Rattle.root_commands.specs.Update.{UpdatesTo}
 use Rattle.root_commands.specs.UpdateSpecs.{AreMeant, MeanAll, ReachAll, UpdatesFrom}
 use Rattle.update_job.specs.trove-stream.Forbidden.{IsAllowed}

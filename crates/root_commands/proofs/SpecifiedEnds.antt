@@ -1,33 +1,33 @@
 -- How a command ends that is a job without contents behind it.
 use Rattle.std.proofs.Common.{◌≡◌, ◌≤◌, ℕ, false, List, Result, Ok, Err, OnOk, IfErr, refl, sym, subst, arith}
 use Rattle.std.specs.Prelude.{IsTrue}
-use Rattle.repo_commands.specs.cny-base.Count.{Rose}
-use Rattle.repo_commands.specs.cny-base.declared.refusal.Refusal.{Refusal}
-use Rattle.repo_commands.specs.cny-base.declared.stop.Stop.{Stop}
-use Rattle.repo_commands.specs.cny-base.declared.stop.Stop.TheVariants as stop
-use Rattle.repo_commands.specs.tree-disk.Disk.{DiskModel, IsDisk, HasRead}
+use Rattle.cli_call.specs.cny-base.Count.{Rose}
+use Rattle.cli_call.specs.cny-base.declared.refusal.Refusal.{Refusal}
+use Rattle.cli_call.specs.cny-base.declared.stop.Stop.{Stop}
+use Rattle.cli_call.specs.cny-base.declared.stop.Stop.TheVariants as stop
+use Rattle.cli_call.specs.tree-disk.Disk.{DiskModel, IsDisk, HasRead}
 use Rattle.local_db.specs.declared.db.Db.{Db}
 use Rattle.local_db.specs.declared.format.Format.TheVariants.{Two}
 use Rattle.local_db.specs.Stores.{StoresIn}
-use Rattle.system_core.specs.JobWriting as settling
+use Rattle.system_core.specs.Opening.{IsAtRest}
 use Rattle.system_core.specs.declared.done.Done.{Done}
 use Rattle.system_core.specs.Answers.{AnswersCall, AnswersRefusal, collided, no_list, untested, last}
 use Rattle.system_core.specs.Job.{Sources}
 use Rattle.system_core.specs.Lists.{ListStep}
 use Rattle.system_core.specs.Steps.{Ends, HasOwnCause}
 use Rattle.cny_report.specs.Jobs.{changes_text}
-use Rattle.cli_call.specs.declared.failure.Failure.{Failure}
-use Rattle.cli_call.specs.declared.failure.Failure.TheVariants as failure
-use Rattle.cli_call.specs.declared.opened.Opened.{Opened}
+use Rattle.cli_call.specs.cny-laws.declared.failure.Failure.{Failure}
+use Rattle.cli_call.specs.cny-laws.declared.failure.Failure.TheVariants as failure
+use Rattle.cli_call.specs.cny-laws.declared.opened.Opened.{Opened}
 use Rattle.cli_call.specs.Alone.{PerformsAlone}
 use Rattle.cli_call.proofs.ChangingRoot.{ChangesRoot, alone_on_root, performs_on_root}
-use Rattle.cli_call.specs.Command.{disks, AreReady, ChangesNothing as KeepsAll, HasCause, Performs, end_of}
-use Rattle.cli_call.specs.Report.{status_of}
-use Rattle.cli_call.specs.State.{Effect, Meaning, RootState, State}
-use Rattle.cli_call.specs.Stops.{root_failure, root_result}
-use Rattle.cli_call.specs.Store.{IsSettled, IsStore, RestsAt}
+use Rattle.cli_call.specs.Command.{disks, AreReady, HasCause, Performs, end_of}
+use Rattle.cli_call.specs.cny-laws.Report.{ChangesNothing as KeepsAll, status_of}
+use Rattle.cli_call.specs.cny-laws.State.{Effect, Meaning, RootState, State}
+use Rattle.cli_call.specs.cny-laws.Stops.{root_failure, root_result}
+use Rattle.cli_call.specs.cny-laws.Store.{IsSettled, IsStore, NamesDamaged, RestsAt}
 use Rattle.cli_call.proofs.StoreLaws.{nothing_done, read_settled}
-use Rattle.cli_call.specs.Stores.{root_store, repository_store}
+use Rattle.cli_call.specs.cny-laws.Stores.{root_store, repository_store}
 use Rattle.cli_call.proofs.RootResults.{root_ok, same_failure}
 use Rattle.root_commands.specs.JobOutcome.{JobOutcome}
 use Rattle.root_commands.proofs.Answering.{stored_two}
@@ -65,7 +65,7 @@ own_undamaged rose _ cause = tt
 -- a job ran: by each system that the root stores, and on each root
 pub record Ran {T : Type 0} (root_disk : DiskModel T) (from : Sources) (step : RootState → ListStep) (root root' : T) (now : Db) (r : Result Done Stop) : Type 0 where
   pub ends : IsTrue root_disk.tells → (s : RootState) → StoresIn Two (root_disk.reads root) s → Ends root_disk from (step s) s root root' now r
-  pub rests : IsTrue root_disk.tells → OnOk r (settling.IsSettled root_disk root')
+  pub rests : IsTrue root_disk.tells → OnOk r (IsAtRest root_disk root')
   pub refused : IsTrue root_disk.tells → IfErr r (ReadsAtRefusal root_disk root root')
   pub causes : IfErr r (HasOwnCause (Rose (root_disk.faults root) (root_disk.faults root')))
   pub later : root_disk.faults root ≤ root_disk.faults root'
@@ -100,6 +100,18 @@ module _ {T P : Type 0} {root_disk : DiskModel T} (root_disk_laws : IsDisk root_
   caused stop.FarFailed ran = absurd ran.causes
   caused (stop.FarDamaged path) ran = absurd ran.causes
 
+  -- no damaged file is named
+  abbrev Named : Result (List ℕ) Failure → Type 0
+  Named f = NamesDamaged root_store root_disk root' f
+
+  names : (e : Stop) → Runs (Err e) → Named (Err (root_failure e))
+  names (stop.Refused why) ran = λ path named. absurd (cc named)
+  names stop.Failed ran = λ path named. absurd (cc named)
+  names stop.Memory ran = λ path named. absurd (cc named)
+  names (stop.Damaged path) ran = absurd ran.causes
+  names stop.FarFailed ran = absurd ran.causes
+  names (stop.FarDamaged path) ran = absurd ran.causes
+
   settles : (e : Stop) → Runs (Err e) → status_of (Err (root_failure e)) ≤ 4 → IsTrue root_disk.tells → IsSettled root_disk root_store.base root'
   settles (stop.Refused why) ran le told = read_settled (ran.refused told) (ready.root told).flag_clear (ready.root told).synced
   settles _ ran le told = absurd (omega (arith, le))
@@ -130,18 +142,18 @@ module _ {T P : Type 0} {root_disk : DiskModel T} (root_disk_laws : IsDisk root_
     abbrev Changes : Result (List ℕ) Failure → Type 0
     Changes f = IsTrue root_disk.tells → (s : State) → RestsAt root_store root_disk root s.root → ChangesRoot root_disk (IsOutcome s.root) s root root' f
 
-    alone_by : (f : Result (List ℕ) Failure) → Changes f → Alone f
-    alone_by f changes = alone_on_root repo_disk means input (disks root repo opened) (disks root' repo opened') f refl changes
+    alone_by : (f : Result (List ℕ) Failure) → Named f → Changes f → Alone f
+    alone_by f named changes = alone_on_root repo_disk means input (disks root repo opened) (disks root' repo opened') f refl changes named
 
     pub failed_alone : (r : Result Done Stop) (f : Failure) → root_result r ≡ Err f → Runs r → Alone (Err f)
     failed_alone (Ok made) f is ran = absurd (cc is)
-    failed_alone (Err e) f is ran = subst (λ (x : Failure). Alone (Err x)) (same_failure {X = Done} is) (alone_by (Err (root_failure e)) (λ told s rests. stopped told s rests e ran))
+    failed_alone (Err e) f is ran = subst (λ (x : Failure). Alone (Err x)) (same_failure {X = Done} is) (alone_by (Err (root_failure e)) (names e ran) (λ told s rests. stopped told s rests e ran))
 
     pub memory_alone : (r : Result Done Stop) (made : Done) → root_result r ≡ Ok made → Runs r → Alone (Err failure.Memory)
-    memory_alone r made is ran = alone_by (Err failure.Memory) (λ told s rests. untold_text told s rests made (subst Runs (root_ok r made is) ran))
+    memory_alone r made is ran = alone_by (Err failure.Memory) (λ path named. absurd (cc named)) (λ told s rests. untold_text told s rests made (subst Runs (root_ok r made is) ran))
 
     pub told_alone : (r : Result Done Stop) (made : Done) (text : List ℕ) → root_result r ≡ Ok made → Runs r → text ≡ changes_text made.changes → Alone (Ok text)
-    told_alone r made text is ran text_is = alone_by (Ok text) (λ told s rests. told_text told s rests made text text_is (subst Runs (root_ok r made is) ran))
+    told_alone r made text is ran text_is = alone_by (Ok text) (λ path named. absurd (cc named)) (λ told s rests. told_text told s rests made text text_is (subst Runs (root_ok r made is) ran))
 
     module _ (repo_disk_laws : IsDisk repo_disk) (repo_laws : IsStore repository_store) where
       performed_by : (f : Result (List ℕ) Failure) → Changes f → root_disk.faults root ≤ root_disk.faults root' → HasCause root_disk repo_disk (disks root repo opened) (disks root' repo opened') f

@@ -2,34 +2,35 @@
 use Rattle.std.proofs.Common.{◌≡◌, ◌≤◌, ℕ, List, Result, Ok, Err, OnOk, IfErr, refl, sym, ap, subst, inl, inr, ⊎_elim, arith}
 use Rattle.std.specs.Prelude.{◌⊎◌, false, IsTrue}
 use Rattle.std.specs.FinMap.{get}
-use Rattle.repo_commands.specs.cny-base.Count.{Rose}
-use Rattle.repo_commands.specs.cny-base.declared.refusal.Refusal.{Refusal}
-use Rattle.repo_commands.specs.cny-base.declared.stop.Stop.{Stop}
-use Rattle.repo_commands.specs.cny-base.declared.stop.Stop.TheVariants as stop
-use Rattle.repo_commands.specs.tree-disk.Tree.{Name, Tree}
-use Rattle.repo_commands.specs.tree-disk.Disk.{DiskModel, IsDisk, HasRead}
-use Rattle.repo_commands.proofs.tree-disk.ConfinedLaws.{leaves_weaker}
-use Rattle.repo_commands.proofs.tree-disk.Unfailed.{unfailed_weaker}
+use Rattle.cli_call.specs.cny-base.Count.{Rose}
+use Rattle.cli_call.specs.cny-base.declared.refusal.Refusal.{Refusal}
+use Rattle.cli_call.specs.cny-base.declared.stop.Stop.{Stop}
+use Rattle.cli_call.specs.cny-base.declared.stop.Stop.TheVariants as stop
+use Rattle.cli_call.specs.tree-disk.Tree.{Name, Tree}
+use Rattle.cli_call.specs.tree-disk.Disk.{DiskModel, IsDisk, HasRead}
+use Rattle.cli_call.proofs.tree-disk.ConfinedLaws.{leaves_weaker}
+use Rattle.cli_call.proofs.tree-disk.Unfailed.{unfailed_weaker}
 use Rattle.local_db.specs.declared.db.Db.{Db}
 use Rattle.local_db.specs.declared.format.Format.TheVariants.{Two}
 use Rattle.local_db.specs.SystemState.{is_listed}
 use Rattle.local_db.specs.Stores.{HoldsDatabase, StoresIn}
 use Rattle.system_core.specs.Rollback.{HasOnlyRead, Moves}
-use Rattle.cli_call.specs.declared.failure.Failure.{Failure}
-use Rattle.cli_call.specs.declared.failure.Failure.TheVariants as failure
-use Rattle.cli_call.specs.declared.opened.Opened.{Opened}
+use Rattle.cli_call.specs.cny-laws.declared.failure.Failure.{Failure}
+use Rattle.cli_call.specs.cny-laws.declared.failure.Failure.TheVariants as failure
+use Rattle.cli_call.specs.cny-laws.declared.opened.Opened.{Opened}
 use Rattle.cli_call.specs.Alone.{PerformsAlone}
 use Rattle.cli_call.proofs.ChangingRoot.{ChangesRoot, alone_on_root, of_either, performs_on_root}
-use Rattle.cli_call.specs.Command.{disks, Answers, AreReady, ChangesNothing, HasCause, LeavesName, Performs, end_of}
+use Rattle.cli_call.specs.Command.{disks, Answers, AreReady, HasCause, Performs, end_of}
+use Rattle.cli_call.specs.cny-laws.Report.{ChangesNothing, status_of}
+use Rattle.cli_call.specs.cny-laws.Shown.{LeavesName}
 use Rattle.cli_call.proofs.CommandLaws.{goes_read, read_shown}
-use Rattle.cli_call.specs.Report.{status_of}
 use Rattle.cli_call.proofs.RootDatabase.{one_format}
 use Rattle.cli_call.proofs.RootLaws.{root_laws}
-use Rattle.cli_call.specs.State.{on_root, Effect, Meaning, RootState, State, Takes}
-use Rattle.cli_call.specs.Stops.{root_failure, root_result}
-use Rattle.cli_call.specs.Store.{HasDamagedFile, IsSettled, IsStore, RestsAt}
+use Rattle.cli_call.specs.cny-laws.State.{on_root, Effect, Meaning, RootState, State, Takes}
+use Rattle.cli_call.specs.cny-laws.Stops.{root_failure, root_result}
+use Rattle.cli_call.specs.cny-laws.Store.{HasDamagedFile, IsSettled, IsStore, NamesDamaged, RestsAt}
 use Rattle.cli_call.proofs.StoreLaws.{read_settled, settled_rests}
-use Rattle.cli_call.specs.Stores.{root_store, repository_store, HasDamagedJob, StoresNone}
+use Rattle.cli_call.specs.cny-laws.Stores.{root_store, repository_store, HasDamagedJob, StoresNone}
 use Rattle.cli_call.proofs.RootResults.{root_ok, same_failure}
 use Rattle.root_commands.proofs.Answering.{stored_two}
 use Rattle.root_commands.specs.RollingBack.{IsBack}
@@ -177,6 +178,17 @@ module _ {T P : Type 0} {root_disk : DiskModel T} (root_disk_laws : IsDisk root_
     caused stop.FarFailed done = absurd done.causes
     caused (stop.FarDamaged path) done = absurd done.causes
 
+    abbrev Named : Result (List ℕ) Failure → Type 0
+    Named f = NamesDamaged root_store root_disk root' f
+
+    names : (e : Stop) → Took (Err e) → Named (Err (root_failure e))
+    names (stop.Refused why) done = λ path named. absurd (cc named)
+    names stop.Failed done = λ path named. absurd (cc named)
+    names stop.Memory done = λ path named. absurd (cc named)
+    names (stop.Damaged path) done = λ file named told. let same : path ≡ file = cc named in subst (HasDamagedFile root_store (root_disk.reads root')) same (damaged_file path done told)
+    names stop.FarFailed done = absurd done.causes
+    names (stop.FarDamaged path) done = absurd done.causes
+
     settles : (e : Stop) → Took (Err e) → status_of (Err (root_failure e)) ≤ 4 → IsTrue root_disk.tells → IsSettled root_disk root_store.base root'
     settles (stop.Refused why) done le told = read_settled (done.stops told) (ready.root told).flag_clear (ready.root told).synced
     settles _ done le told = absurd (omega (arith, le))
@@ -204,18 +216,18 @@ module _ {T P : Type 0} {root_disk : DiskModel T} (root_disk_laws : IsDisk root_
       abbrev Changed : Result (List ℕ) Failure → Type 0
       Changed f = IsTrue root_disk.tells → (s : State) → RestsAt root_store root_disk root s.root → ChangesRoot root_disk (IsOutcome s.root) s root root' f
 
-      alone_by : (f : Result (List ℕ) Failure) → Changed f → Alone f
-      alone_by f changes = alone_on_root repo_disk means input (disks root repo opened) (disks root' repo opened') f refl changes
+      alone_by : (f : Result (List ℕ) Failure) → Named f → Changed f → Alone f
+      alone_by f named changes = alone_on_root repo_disk means input (disks root repo opened) (disks root' repo opened') f refl changes named
 
       pub failed_alone : (r : Result ℕ Stop) (f : Failure) → root_result r ≡ Err f → Took r → Alone (Err f)
       failed_alone (Ok n) f is took = absurd (cc is)
-      failed_alone (Err e) f is took = subst (λ (x : Failure). Alone (Err x)) (same_failure {X = ℕ} is) (alone_by (Err (root_failure e)) (λ told s rests. stopped told s rests e took))
+      failed_alone (Err e) f is took = subst (λ (x : Failure). Alone (Err x)) (same_failure {X = ℕ} is) (alone_by (Err (root_failure e)) (names e took) (λ told s rests. stopped told s rests e took))
 
       pub memory_alone : (r : Result ℕ Stop) (n : ℕ) → root_result r ≡ Ok n → Took r → Alone (Err failure.Memory)
-      memory_alone r n is took = alone_by (Err failure.Memory) (λ told s rests. untold_text told s rests n (subst Took (root_ok r n is) took))
+      memory_alone r n is took = alone_by (Err failure.Memory) (λ path named. absurd (cc named)) (λ told s rests. untold_text told s rests n (subst Took (root_ok r n is) took))
 
       pub told_alone : (r : Result ℕ Stop) (n : ℕ) (text : List ℕ) → root_result r ≡ Ok n → Took r → (IsTrue root_disk.tells → (s : RootState) → StoresIn Two (root_disk.reads root) s → Tells s n → text ≡ text_of s) → Alone (Ok text)
-      told_alone r n text is took text_is = alone_by (Ok text) (λ told s rests. told_text told s rests n text (subst Took (root_ok r n is) took) (text_is told s.root (stored_two law (disks root repo opened) ready told rests)))
+      told_alone r n text is took text_is = alone_by (Ok text) (λ path named. absurd (cc named)) (λ told s rests. told_text told s rests n text (subst Took (root_ok r n is) took) (text_is told s.root (stored_two law (disks root repo opened) ready told rests)))
 
       module _ (repo_disk_laws : IsDisk repo_disk) (repo_laws : IsStore repository_store) where
         done_by : (f : Result (List ℕ) Failure) → Changed f → root_disk.faults root ≤ root_disk.faults root' → Caused f → (status_of (end_of f) ≤ 4 → IsTrue root_disk.tells → IsSettled root_disk root_store.base root')

@@ -2,10 +2,10 @@
 use Rattle.std.proofs.Common.{◌≡◌, ℕ, ◌+◌, ◌<◌, Bool, true, false, cond, List, [], ◌∷◌, ◌++◌, length, get_or, take, Option, Some, None, refl, sym, ap, subst, ◌∙◌}
 use Rattle.std.specs.Option.{option_or}
 use Rattle.std.proofs.lemmas.List.{take_more}
-use Rattle.repo_commands.specs.trove-parts.declared.id.TroveId.{TroveId}
+use Rattle.cli_call.specs.trove-parts.declared.id.TroveId.{TroveId}
 use Rattle.rollback_stack.specs.declared.undo.Note.{Note as Undone}
-use Rattle.repo_commands.proofs.job-record.Keyed.{found_more}
-use Rattle.repo_commands.specs.tree-disk.Tree.{same_name}
+use Rattle.cli_call.proofs.job-record.Keyed.{found_more}
+use Rattle.cli_call.specs.tree-disk.Tree.{same_name}
 use Rattle.update_job.specs.declared.comparing.Change.{Change}
 use Rattle.update_job.specs.declared.comparing.Change.TheVariants.{Installed, Updated, Erased}
 use Rattle.cny_report.specs.declared.note.Note.{Note}

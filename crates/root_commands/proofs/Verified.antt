@@ -4,19 +4,19 @@ use Rattle.std.specs.FinMap.{get}
 use Rattle.std.specs.List.{AllByRecursion, cons_option}
 use Rattle.std.specs.Option.{option_map}
 use Rattle.std.proofs.lemmas.List.Elements.{All-filter, recursion_from_All}
-use Rattle.repo_commands.specs.cny-base.Reserved.{is_reserved}
-use Rattle.repo_commands.specs.file-stream.declared.record.FileRec.{FileRec}
-use Rattle.repo_commands.specs.file-stream.declared.record.FileRec.TheVariants as rec
-use Rattle.repo_commands.specs.trove-parts.declared.files.FileAt.{FileAt}
-use Rattle.repo_commands.specs.trove-stream.declared.parts.TroveParts.{TroveParts}
-use Rattle.repo_commands.specs.trove-stream.Forbidden.{first_forbidden, is_forbidden_file}
-use Rattle.repo_commands.specs.tree-disk.Tree.{Name, Tree, AgreesOutside}
-use Rattle.repo_commands.specs.content-store.Contents.{ContentMap}
+use Rattle.cli_call.specs.cny-base.Reserved.{is_reserved}
+use Rattle.cli_call.specs.file-stream.declared.record.FileRec.{FileRec}
+use Rattle.cli_call.specs.file-stream.declared.record.FileRec.TheVariants as rec
+use Rattle.cli_call.specs.trove-parts.declared.files.FileAt.{FileAt}
+use Rattle.cli_call.specs.trove-stream.declared.parts.TroveParts.{TroveParts}
+use Rattle.cli_call.specs.trove-stream.Forbidden.{first_forbidden, is_forbidden_file}
+use Rattle.cli_call.specs.tree-disk.Tree.{Name, Tree, AgreesOutside}
+use Rattle.cli_call.specs.content-store.Contents.{ContentMap}
 use Rattle.local_db.specs.Installed.{IsInstalled}
-use Rattle.repo_commands.specs.tree-scan.declared.mark.Mark.{Mark}
-use Rattle.repo_commands.specs.tree-scan.declared.mark.Mark.TheVariants as mark
-use Rattle.repo_commands.specs.tree-scan.declared.verification.Found.{Found}
-use Rattle.repo_commands.specs.tree-scan.Marks.{fingerprint}
+use Rattle.cli_call.specs.tree-scan.declared.mark.Mark.{Mark}
+use Rattle.cli_call.specs.tree-scan.declared.mark.Mark.TheVariants as mark
+use Rattle.cli_call.specs.tree-scan.declared.verification.Found.{Found}
+use Rattle.cli_call.specs.tree-scan.Marks.{fingerprint}
 use Rattle.root_edits.specs.Verify.{asked, change_at, finding_of, findings, found_at, is_asked, verified}
 use Rattle.root_edits.specs.Local.{records}
 use Rattle.local_db.proofs.cny-base.Bools.{first_false}

@@ -1,25 +1,25 @@
 -- How `verify` ends without contents.
 use Rattle.std.proofs.Common.{◌≡◌, ℕ, List, None, Result, Ok, Err, IfErr, refl, ap, ◌∙◌, subst}
 use Rattle.std.specs.Prelude.{IsTrue}
-use Rattle.repo_commands.specs.cny-base.declared.stop.Stop.{Stop}
-use Rattle.repo_commands.specs.cny-base.declared.stop.Stop.TheVariants as stop
-use Rattle.repo_commands.specs.tree-disk.Disk.{DiskModel}
-use Rattle.repo_commands.specs.trove-stream.declared.parts.TroveParts.{TroveParts}
-use Rattle.repo_commands.specs.content-store.Contents.{ContentMap, ContentsModel, empty_contents}
-use Rattle.repo_commands.specs.content-store.declared.contents.NoContents.{NoContents}
-use Rattle.repo_commands.specs.tree-scan.declared.verification.Verified.{Verified}
+use Rattle.cli_call.specs.cny-base.declared.stop.Stop.{Stop}
+use Rattle.cli_call.specs.cny-base.declared.stop.Stop.TheVariants as stop
+use Rattle.cli_call.specs.tree-disk.Disk.{DiskModel}
+use Rattle.cli_call.specs.trove-stream.declared.parts.TroveParts.{TroveParts}
+use Rattle.cli_call.specs.content-store.Contents.{ContentMap, ContentsModel, empty_contents}
+use Rattle.cli_call.specs.content-store.declared.contents.NoContents.{NoContents}
+use Rattle.cli_call.specs.tree-scan.declared.verification.Verified.{Verified}
 use Rattle.update_job.specs.Lists.{AreInstalled, IsNotInstalled}
 use Rattle.root_edits.specs.Search.{Searches}
 use Rattle.root_edits.specs.Verify.{asked, verified, IsVerified, LacksOne}
 use Rattle.cny_report.specs.Verified.{verified_text}
-use Rattle.cli_call.specs.declared.failure.Failure.{Failure}
-use Rattle.cli_call.specs.declared.opened.Opened.{Opened}
+use Rattle.cli_call.specs.cny-laws.declared.failure.Failure.{Failure}
+use Rattle.cli_call.specs.cny-laws.declared.opened.Opened.{Opened}
 use Rattle.cli_call.proofs.AloneLaws.{AnswersWhere}
 use Rattle.cli_call.specs.Command.{disks, AreReady, Disks, HasCause}
-use Rattle.cli_call.specs.State.{State, tree_of}
-use Rattle.cli_call.specs.Stops.{root_result}
-use Rattle.cli_call.specs.Store.{RestsAt}
-use Rattle.cli_call.specs.Stores.{root_store}
+use Rattle.cli_call.specs.cny-laws.State.{State, tree_of}
+use Rattle.cli_call.specs.cny-laws.Stops.{root_result}
+use Rattle.cli_call.specs.cny-laws.Store.{NamesDamaged, RestsAt}
+use Rattle.cli_call.specs.cny-laws.Stores.{root_store}
 use Rattle.cli_call.specs.Answer.{answer}
 use Rattle.root_commands.specs.Verifying.{no_contents, verify_installed}
 use Rattle.root_commands.proofs.Answering.{rests_seen, IsSeen}
@@ -51,18 +51,21 @@ module _ {T P : Type 0} (root_disk : DiskModel T) (repo_disk : DiskModel P) (law
   abbrev pub Caused : Result (List ℕ) Failure → Type 0
   Caused result = HasCause root_disk repo_disk (disks root repo opened) (disks root' repo opened) result
 
+  abbrev pub Named : Result (List ℕ) Failure → Type 0
+  Named result = NamesDamaged root_store root_disk root' result
+
   -- it stopped
-  pub stopped_ends : (e : Stop) → Searched root_disk (empty_contents {C = NoContents}) names opened.db.installed root root' far far' (Err e) → IfErr (let r : Result Verified Stop = Err e in root_result r) (λ f. Ends (Err f) × Caused (Err f))
-  stopped_ends (stop.Refused why) run = (λ told s seen. subst (λ (l : List TroveParts). IsNotInstalled l names why) seen.list run.ends, tt)
-  stopped_ends stop.Failed run = (tt, run.ends)
-  stopped_ends stop.Memory run = (tt, tt)
+  pub stopped_ends : (e : Stop) → Searched root_disk (empty_contents {C = NoContents}) names opened.db.installed root root' far far' (Err e) → IfErr (let r : Result Verified Stop = Err e in root_result r) (λ f. Ends (Err f) × Caused (Err f) × Named (Err f))
+  stopped_ends (stop.Refused why) run = (λ told s seen. subst (λ (l : List TroveParts). IsNotInstalled l names why) seen.list run.ends, tt, λ path named. absurd (cc named))
+  stopped_ends stop.Failed run = (tt, run.ends, λ path named. absurd (cc named))
+  stopped_ends stop.Memory run = (tt, tt, λ path named. absurd (cc named))
   stopped_ends (stop.Damaged path) run = absurd run.ends
   stopped_ends stop.FarFailed run = absurd (none_rose run.ends)
   stopped_ends (stop.FarDamaged path) run = absurd (run.ends.damaged refl)
 
-  pub failed_ends : (r : Result Verified Stop) (f : Failure) → root_result r ≡ Err f → Searched root_disk (empty_contents {C = NoContents}) names opened.db.installed root root' far far' r → Ends (Err f) × Caused (Err f)
+  pub failed_ends : (r : Result Verified Stop) (f : Failure) → root_result r ≡ Err f → Searched root_disk (empty_contents {C = NoContents}) names opened.db.installed root root' far far' r → Ends (Err f) × Caused (Err f) × Named (Err f)
   failed_ends (Ok found) f is run = absurd (cc is)
-  failed_ends (Err e) f is run = subst (λ (x : Result Verified Failure). IfErr x (λ g. Ends (Err g) × Caused (Err g))) is (stopped_ends e run)
+  failed_ends (Err e) f is run = subst (λ (x : Result Verified Failure). IfErr x (λ g. Ends (Err g) × Caused (Err g) × Named (Err g))) is (stopped_ends e run)
 
   -- it found this
   module _ (found : Verified) (mapped : (map : ContentMap) → IsTrue root_disk.tells → ((name : List ℕ) → map name ≡ None) → found ≡ verified map (root_disk.reads root) (asked names opened.db.installed))

@@ -1,9 +1,9 @@
 -- What `erase` means.
 use Rattle.std.specs.Prelude.{ℕ, false, List, []}
-use Rattle.repo_commands.specs.cny-base.declared.options.Options.{Options}
+use Rattle.cli_call.specs.cny-base.declared.options.Options.{Options}
 use Rattle.system_core.specs.Job.{no_answers, sources_of}
 use Rattle.system_core.specs.Lists.{to_erased}
-use Rattle.cli_call.specs.State.{Meaning}
+use Rattle.cli_call.specs.cny-laws.State.{Meaning}
 use Rattle.root_commands.specs.JobOutcome.{JobOutcome}
 
 -- the troves of these names are taken away, with what they reach and no other installed trove keeps

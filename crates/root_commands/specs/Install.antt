@@ -1,16 +1,16 @@
 -- What `install` means.
 use Rattle.std.specs.Prelude.{◌≡◌, ℕ, true, false, List, [], ◌∷◌, Option, Some, None, Result, Err}
 use Rattle.std.specs.Option.{option_or}
-use Rattle.repo_commands.specs.cny-base.declared.options.Options.{Options}
-use Rattle.repo_commands.specs.cny-base.declared.refusal.Refusal.{Refusal}
-use Rattle.repo_commands.specs.cny-base.declared.refusal.Refusal.TheVariants as refusal
-use Rattle.repo_commands.specs.trove-stream.declared.parts.TroveParts.{TroveParts}
-use Rattle.repo_commands.specs.trove-stream.Forbidden.{first_forbidden}
+use Rattle.cli_call.specs.cny-base.declared.options.Options.{Options}
+use Rattle.cli_call.specs.cny-base.declared.refusal.Refusal.{Refusal}
+use Rattle.cli_call.specs.cny-base.declared.refusal.Refusal.TheVariants as refusal
+use Rattle.cli_call.specs.trove-stream.declared.parts.TroveParts.{TroveParts}
+use Rattle.cli_call.specs.trove-stream.Forbidden.{first_forbidden}
 use Rattle.cny_manifest.specs.declared.made.Made.{Made}
 use Rattle.system_core.specs.Job.{no_answers, sources_of}
 use Rattle.system_core.specs.Lists.{to_updated}
-use Rattle.cli_call.specs.State.{Effect, Meaning, RootState}
-use Rattle.repo_commands.specs.ManifestInput.{OfManifest}
+use Rattle.cli_call.specs.cny-laws.State.{Effect, Meaning, RootState}
+use Rattle.cli_call.specs.ManifestInput.{OfManifest}
 use Rattle.root_commands.specs.JobOutcome.{JobOutcome}
 
 -- the first path that no trove may record, trove by trove

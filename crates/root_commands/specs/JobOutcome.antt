@@ -1,8 +1,8 @@
 -- What a job makes of a system, and what is answered.
 use Rattle.std.specs.Prelude.{◌≡◌, ◌⊎◌, List, Result, Ok, Err}
-use Rattle.repo_commands.specs.cny-base.declared.refusal.Refusal.{Refusal}
-use Rattle.repo_commands.specs.journal-log.declared.put.Put.{Put}
-use Rattle.repo_commands.specs.trove-stream.declared.parts.TroveParts.{TroveParts}
+use Rattle.cli_call.specs.cny-base.declared.refusal.Refusal.{Refusal}
+use Rattle.cli_call.specs.journal-log.declared.put.Put.{Put}
+use Rattle.cli_call.specs.trove-stream.declared.parts.TroveParts.{TroveParts}
 use Rattle.update_job.specs.declared.comparing.Change.{Change}
 use Rattle.update_job.specs.Changes.{AreChanges}
 use Rattle.local_db.specs.Steps.{after_job}
@@ -11,7 +11,7 @@ use Rattle.system_core.specs.Job.{PassesTests, Sources, db_of}
 use Rattle.system_core.specs.Lists.{ListStep}
 use Rattle.system_core.specs.Steps.{IsRefusal}
 use Rattle.cny_report.specs.Jobs.{changes_text}
-use Rattle.cli_call.specs.State.{nothing, on_root, Change as Step, Effect, RootState}
+use Rattle.cli_call.specs.cny-laws.State.{nothing, on_root, Change as Step, Effect, RootState}
 
 -- Neither the tree nor the list changes; or the root has the system after the job.
 abbrev pub IsChangeBy : RootState → List TroveParts → List Put → Step → Type 0

@@ -1,12 +1,12 @@
 -- What `rblist` means.
 use Rattle.std.specs.Prelude.{◌≡◌, false, List, [], ◌∷◌, length, Result, Ok, Err}
-use Rattle.repo_commands.specs.cny-base.declared.refusal.Refusal.{Refusal}
-use Rattle.repo_commands.specs.trove-stream.declared.parts.TroveParts.{TroveParts}
+use Rattle.cli_call.specs.cny-base.declared.refusal.Refusal.{Refusal}
+use Rattle.cli_call.specs.trove-stream.declared.parts.TroveParts.{TroveParts}
 use Rattle.local_db.specs.SystemState.{StackItem}
 use Rattle.update_job.specs.Changes.{AreChanges}
 use Rattle.cny_report.specs.declared.note.Note.{Note}
 use Rattle.cny_report.specs.Jobs.{undos_text}
-use Rattle.cli_call.specs.State.{Effect, Meaning, RootState}
+use Rattle.cli_call.specs.cny-laws.State.{Effect, Meaning, RootState}
 use Rattle.cli_call.specs.Answer.{answer}
 
 -- what is told of a job, by the list after it: its number, how it changed the list, and how many paths it changed

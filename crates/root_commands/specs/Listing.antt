@@ -1,12 +1,12 @@
 -- What `q` means.
 use Rattle.std.specs.Prelude.{◌≡◌, ℕ, false, List, Option, Some, None, Result, Ok, Err}
-use Rattle.repo_commands.specs.cny-base.declared.refusal.Refusal.{Refusal}
-use Rattle.repo_commands.specs.cny-base.declared.refusal.Refusal.TheVariants as refusal
-use Rattle.repo_commands.specs.trove-stream.declared.parts.TroveParts.{TroveParts}
-use Rattle.repo_commands.specs.trove-stream.Installed.{trove_of}
+use Rattle.cli_call.specs.cny-base.declared.refusal.Refusal.{Refusal}
+use Rattle.cli_call.specs.cny-base.declared.refusal.Refusal.TheVariants as refusal
+use Rattle.cli_call.specs.trove-stream.declared.parts.TroveParts.{TroveParts}
+use Rattle.cli_call.specs.trove-stream.Installed.{trove_of}
 use Rattle.cny_report.specs.Records.{trove_text}
 use Rattle.cny_report.specs.Troves.{troves_text}
-use Rattle.cli_call.specs.State.{Effect, Meaning}
+use Rattle.cli_call.specs.cny-laws.State.{Effect, Meaning}
 use Rattle.cli_call.specs.Answer.{answer}
 
 -- what the trove records, if there is one

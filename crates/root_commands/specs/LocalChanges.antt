@@ -1,11 +1,11 @@
 -- What `localcs` means.
 use Rattle.std.specs.Prelude.{◌≡◌, ◌⊎◌, ℕ, false, List, None, Some, Result, Ok, Err}
-use Rattle.repo_commands.specs.cny-base.declared.refusal.Refusal.{Refusal}
-use Rattle.repo_commands.specs.change-set.ChangeSet.{IsSetStream}
-use Rattle.repo_commands.specs.change-set.TooLarge.{too_large}
-use Rattle.repo_commands.specs.change-set.declared.change.ChangeSet.{ChangeSet}
+use Rattle.cli_call.specs.cny-base.declared.refusal.Refusal.{Refusal}
+use Rattle.cli_call.specs.change-set.ChangeSet.{IsSetStream}
+use Rattle.cli_call.specs.change-set.TooLarge.{too_large}
+use Rattle.cli_call.specs.change-set.declared.change.ChangeSet.{ChangeSet}
 use Rattle.root_edits.specs.Local.{IsLocal, IsLocalRefusal}
-use Rattle.cli_call.specs.State.{nothing, tree_of, Effect, Meaning, RootState}
+use Rattle.cli_call.specs.cny-laws.State.{nothing, tree_of, Effect, Meaning, RootState}
 
 -- nothing changes, and the stream of the change set is answered; or the set is too large to have one
 abbrev pub IsAnswered : ChangeSet → Result Effect Refusal → Type 0

@@ -3,14 +3,14 @@ use Rattle.std.specs.Prelude.{◌≡◌, ℕ, Bool, true, false, if◌then◌els
 use Rattle.std.specs.List.{find}
 use Rattle.std.specs.Option.{option_or}
 use Rattle.std.specs.Str.{bytes_eq}
-use Rattle.repo_commands.specs.trove-parts.declared.id.TroveId.{TroveId}
-use Rattle.repo_commands.specs.trove-stream.declared.parts.TroveParts.{TroveParts}
-use Rattle.repo_commands.specs.tree-disk.Tree.{same_name}
-use Rattle.repo_commands.specs.trove-stream.Installed.{IsRising}
+use Rattle.cli_call.specs.trove-parts.declared.id.TroveId.{TroveId}
+use Rattle.cli_call.specs.trove-stream.declared.parts.TroveParts.{TroveParts}
+use Rattle.cli_call.specs.tree-disk.Tree.{same_name}
+use Rattle.cli_call.specs.trove-stream.Installed.{IsRising}
 use Rattle.update_job.specs.declared.comparing.Change.{Change}
 use Rattle.update_job.specs.declared.comparing.Change.TheVariants.{Installed, Updated, Erased}
 use Rattle.update_job.specs.Changes.{AreChanges, Noted, noted}
-use Rattle.repo_commands.specs.past-jobs.Past.{AreChangedIds}
+use Rattle.cli_call.specs.past-jobs.Past.{AreChangedIds}
 use Rattle.rollback_stack.specs.declared.undo.Note.{Note as Undone}
 use Rattle.cny_report.specs.declared.note.Note.{Note}
 use Rattle.cny_report.specs.Jobs.{undos_text}

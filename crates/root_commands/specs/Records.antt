@@ -3,16 +3,16 @@ use Rattle.std.specs.Prelude.{◌≡◌, ◌⊎◌, ℕ, ◌+◌, List, length, 
 use Rattle.rollback_stack.specs.JobReading.{HoldsRecords, IsDamagedRecord}
 use Rattle.local_db.specs.declared.db.Db.{Db}
 use Rattle.local_db.specs.Record as state
-use Rattle.repo_commands.specs.job-targets.Old.{IsDamagedOld}
-use Rattle.repo_commands.specs.past-jobs.Jobs.{oldest_with, undone_all}
-use Rattle.repo_commands.specs.past-jobs.Marks.{marks_of}
-use Rattle.repo_commands.specs.trove-stream.declared.parts.TroveParts.{TroveParts}
+use Rattle.cli_call.specs.job-targets.Old.{IsDamagedOld}
+use Rattle.cli_call.specs.past-jobs.Jobs.{oldest_with, undone_all}
+use Rattle.cli_call.specs.past-jobs.Marks.{marks_of}
+use Rattle.cli_call.specs.trove-stream.declared.parts.TroveParts.{TroveParts}
 use Rattle.rollback_stack.specs.Inverse.{IsDamagedJob}
 use Rattle.rollback_stack.specs.Numbers.{job_count}
 use Rattle.local_db.specs.declared.format.Format.TheVariants.{Two}
-use Rattle.repo_commands.specs.tree-disk.Tree.{Name, Tree}
-use Rattle.cli_call.specs.declared.failure.Failure.{Failure}
-use Rattle.cli_call.specs.declared.failure.Failure.TheVariants as failure
+use Rattle.cli_call.specs.tree-disk.Tree.{Name, Tree}
+use Rattle.cli_call.specs.cny-laws.declared.failure.Failure.{Failure}
+use Rattle.cli_call.specs.cny-laws.declared.failure.Failure.TheVariants as failure
 
 -- no file is damaged in this way
 abbrev pub NoneIs : (Name → Type 0) → Type 0

@@ -1,10 +1,10 @@
 -- What `rollback` means.
 use Rattle.std.specs.Prelude.{◌≡◌, ℕ, false, List, length, Option, Some, None, Result, Ok, Err}
-use Rattle.repo_commands.specs.cny-base.declared.refusal.Refusal.{Refusal}
+use Rattle.cli_call.specs.cny-base.declared.refusal.Refusal.{Refusal}
 use Rattle.local_db.specs.SystemState.{newest}
 use Rattle.system_core.specs.Several.{CanTakeBackTo, IsRefusalTo, jobs_to, rolled_back_to}
 use Rattle.cny_report.specs.Jobs.{rolled_back_text}
-use Rattle.cli_call.specs.State.{on_root, Effect, Meaning, RootState}
+use Rattle.cli_call.specs.cny-laws.State.{on_root, Effect, Meaning, RootState}
 
 -- The root has this system then, and these bytes are answered.
 pub record IsBack (Can : Type 0) (t : RootState) (text : List ℕ) (e : Effect) : Type 0 where

@@ -1,17 +1,17 @@
 -- What `update` means.
 use Rattle.std.specs.Prelude.{◌≡◌, true, false, List, Result, Ok, Err}
-use Rattle.repo_commands.specs.cny-base.declared.options.Options.{Options}
-use Rattle.repo_commands.specs.cny-base.declared.refusal.Refusal.{Refusal}
-use Rattle.repo_commands.specs.trove-stream.declared.parts.TroveParts.{TroveParts}
-use Rattle.repo_commands.specs.change-set.declared.change.Carried.{Carried}
-use Rattle.repo_commands.specs.change-set.declared.change.ChangeSet.{ChangeSet}
-use Rattle.repo_commands.specs.change-set.declared.change.Part.{Part}
+use Rattle.cli_call.specs.cny-base.declared.options.Options.{Options}
+use Rattle.cli_call.specs.cny-base.declared.refusal.Refusal.{Refusal}
+use Rattle.cli_call.specs.trove-stream.declared.parts.TroveParts.{TroveParts}
+use Rattle.cli_call.specs.change-set.declared.change.Carried.{Carried}
+use Rattle.cli_call.specs.change-set.declared.change.ChangeSet.{ChangeSet}
+use Rattle.cli_call.specs.change-set.declared.change.Part.{Part}
 use Rattle.update_job.specs.Made.{AreMade, IsFirstRefused}
-use Rattle.repo_commands.specs.content-store.Contents.{Answers, ContentMap}
+use Rattle.cli_call.specs.content-store.Contents.{Answers, ContentMap}
 use Rattle.system_core.specs.Job.{sources_of}
 use Rattle.system_core.specs.Lists.{to_updated}
-use Rattle.cli_call.specs.State.{Effect, Meaning, State}
-use Rattle.repo_commands.specs.SetInput.{OfChangeSet}
+use Rattle.cli_call.specs.cny-laws.State.{Effect, Meaning, State}
+use Rattle.cli_call.specs.SetInput.{OfChangeSet}
 use Rattle.trove_spec.specs.AndThen.{AndThen}
 use Rattle.root_commands.specs.JobOutcome.{JobOutcome}
 

@@ -1,14 +1,14 @@
 -- What `update` of specifications means.
 use Rattle.std.specs.Prelude.{◌≡◌, false, List, [], ◌∷◌, ◌++◌, None, Result, Ok, Err}
-use Rattle.repo_commands.specs.cny-base.declared.options.Options.{Options}
-use Rattle.repo_commands.specs.cny-base.declared.refusal.Refusal.{Refusal}
-use Rattle.repo_commands.specs.trove-parts.declared.id.TroveId.{TroveId}
-use Rattle.repo_commands.specs.trove-stream.declared.parts.TroveParts.{TroveParts}
+use Rattle.cli_call.specs.cny-base.declared.options.Options.{Options}
+use Rattle.cli_call.specs.cny-base.declared.refusal.Refusal.{Refusal}
+use Rattle.cli_call.specs.trove-parts.declared.id.TroveId.{TroveId}
+use Rattle.cli_call.specs.trove-stream.declared.parts.TroveParts.{TroveParts}
 use Rattle.trove_spec.specs.declared.config.Config.{Config}
 use Rattle.trove_spec.specs.Expansion.{IsExpansion, IsOfOneName, first_of_same_name}
 use Rattle.repo_load.specs.State.{troves_of}
 use Rattle.trove_spec.specs.RootConfig.{HasConfig}
-use Rattle.cli_call.specs.State.{tree_of, Effect, Meaning, State}
+use Rattle.cli_call.specs.cny-laws.State.{tree_of, Effect, Meaning, State}
 use Rattle.trove_spec.specs.declared.given.GivenSpec.{GivenSpec}
 use Rattle.trove_spec.specs.AndThen.{AndThen}
 use Rattle.trove_spec.specs.Meant.{Means}

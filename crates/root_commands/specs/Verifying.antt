@@ -1,11 +1,11 @@
 -- What `verify` means.
 use Rattle.std.specs.Prelude.{◌≡◌, ℕ, false, List, None, Result, Ok, Err}
-use Rattle.repo_commands.specs.cny-base.declared.refusal.Refusal.{Refusal}
-use Rattle.repo_commands.specs.content-store.Contents.{ContentMap}
+use Rattle.cli_call.specs.cny-base.declared.refusal.Refusal.{Refusal}
+use Rattle.cli_call.specs.content-store.Contents.{ContentMap}
 use Rattle.update_job.specs.Lists.{AreInstalled, IsNotInstalled}
 use Rattle.root_edits.specs.Verify.{asked, verified}
 use Rattle.cny_report.specs.Verified.{verified_text}
-use Rattle.cli_call.specs.State.{tree_of, Effect, Meaning, RootState}
+use Rattle.cli_call.specs.cny-laws.State.{tree_of, Effect, Meaning, RootState}
 use Rattle.cli_call.specs.Answer.{answer}
 
 -- no content is known

@@ -4,11 +4,11 @@ ghost use Rattle.cli_call.specs.Alone.{PerformsAlone};
 ghost use Rattle.cli_call.specs.Command.{disks, AreReady, Performs};
 ghost use Rattle.root_commands.specs.Erase as spec;
 
+use cli_call::cny_base::{Name, Options, Text};
+use cli_call::tree_disk::TreeDisk;
 use cli_call::{Failure, Opened, on_root, store_laws};
 use cny_report::changes_text;
 use local_db::distinct_databases;
-use repo_commands::cny_base::{Name, Options, Text};
-use repo_commands::tree_disk::TreeDisk;
 use std::alloc::Global;
 use system_core::erase;
 

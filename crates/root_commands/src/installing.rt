@@ -6,13 +6,13 @@ ghost use Rattle.cli_call.specs.Command.{disks, AreReady, Performs};
 ghost use Rattle.system_core.specs.Lists.{AreAllowed};
 ghost use Rattle.root_commands.specs.Install as spec;
 
+use cli_call::cny_base::{Options, Text};
+use cli_call::content_store::NoContents;
+use cli_call::tree_disk::TreeDisk;
 use cli_call::{Failure, Opened, on_root, store_laws};
 use cny_manifest::{Made, read};
 use cny_report::changes_text;
 use local_db::distinct_databases;
-use repo_commands::cny_base::{Options, Text};
-use repo_commands::content_store::NoContents;
-use repo_commands::tree_disk::TreeDisk;
 use std::alloc::Global;
 use system_core::update;
 use update_job::check_allowed;

@@ -7,11 +7,11 @@ ghost use Rattle.root_commands.specs.Noting.{AreToldBy};
 ghost use Rattle.root_commands.specs.Records.{ListsWhole};
 
 use crate::noting::noted_jobs;
+use cli_call::cny_base::{OutOfMemory, Text};
+use cli_call::tree_disk::TreeDisk;
 use cli_call::{Failure, Opened, on_root, store_laws};
 use cny_report::undos_text;
 use local_db::distinct_databases;
-use repo_commands::cny_base::{OutOfMemory, Text};
-use repo_commands::tree_disk::TreeDisk;
 use rollback_stack::{Note, all, one_record};
 use std::alloc::Global;
 

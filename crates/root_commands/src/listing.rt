@@ -6,12 +6,12 @@ ghost use Rattle.cli_call.specs.Command.{disks, AreReady, Performs};
 ghost use Rattle.root_commands.specs.Listing as spec;
 ghost use Rattle.root_commands.specs.Listing.{listed};
 
+use cli_call::cny_base::{Fault, Name, Refusal, Text};
+use cli_call::tree_disk::TreeDisk;
+use cli_call::trove_stream::Installed;
 use cli_call::{Failure, Opened, store_laws};
 use cny_report::{trove_text, troves_text};
 use local_db::distinct_databases;
-use repo_commands::cny_base::{Fault, Name, Refusal, Text};
-use repo_commands::tree_disk::TreeDisk;
-use repo_commands::trove_stream::Installed;
 use std::alloc::Global;
 
 // What the installed trove of a name records.

@@ -4,17 +4,17 @@ ghost use Rattle.cli_call.specs.Alone.{AnswersByTree, PerformsAlone};
 ghost use Rattle.cli_call.specs.Command.{disks, AreReady, Performs};
 ghost use Rattle.root_commands.specs.LocalChanges as spec;
 
+use cli_call::change_set::encode;
+use cli_call::cny_base::{Bytes, Name};
+use cli_call::tree_disk::TreeDisk;
 use cli_call::{Failure, Opened, on_root, store_laws};
 use local_db::distinct_databases;
-use repo_commands::change_set::encode;
-use repo_commands::cny_base::{Bytes, Name};
-use repo_commands::tree_disk::TreeDisk;
 use root_edits::local;
 use std::alloc::Global;
 
 /// The stream of the change set of the local changes: from the installed troves that the one of this name reaches to troves on the
 /// branch `local@local:LOCAL` that record what stands. `NotInstalled` where there is no trove of this name, `TooLarge` of a version,
-/// of a file that stands or of the set, and `Collision`, as `root_edits::local` and `repo_commands::change_set::encode` say. No name of a disk
+/// of a file that stands or of the set, and `Collision`, as `root_edits::local` and `cli_call::change_set::encode` say. No name of a disk
 /// changes.
 pub fn change_locally<T: TreeDisk, P: TreeDisk>(
     alloc: Global,

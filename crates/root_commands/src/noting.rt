@@ -7,9 +7,9 @@ ghost use Rattle.std.specs.Ordering.{nat_cmp};
 ghost use Rattle.update_job.specs.Changes.{noted};
 ghost use Rattle.root_commands.specs.Noting.{change_of, id_if, turned, HasTurned, LeadsThere, IsNoted, AreNoted};
 
+use cli_call::cny_base::{Copies, Name, OutOfMemory};
+use cli_call::trove_parts::TroveId;
 use cny_report::Note;
-use repo_commands::cny_base::{Copies, Name, OutOfMemory};
-use repo_commands::trove_parts::TroveId;
 use rollback_stack::Note as Undone;
 use std::alloc::Global;
 use std::collections::BTreeMap;

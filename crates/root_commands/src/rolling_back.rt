@@ -5,11 +5,11 @@ ghost use Rattle.cli_call.specs.Command.{disks, AreReady, Performs};
 ghost use Rattle.root_commands.specs.Records.{TakesBackWhole, last_job};
 ghost use Rattle.root_commands.specs.RollingBack as spec;
 
+use cli_call::cny_base::Text;
+use cli_call::tree_disk::TreeDisk;
 use cli_call::{Failure, Opened, on_root, store_laws};
 use cny_report::rolled_back_text;
 use local_db::{Db, distinct_databases};
-use repo_commands::cny_base::Text;
-use repo_commands::tree_disk::TreeDisk;
 use rollback_stack::one_record;
 use std::alloc::Global;
 use system_core::rollback_to;

@@ -8,10 +8,10 @@ ghost use Rattle.root_commands.specs.UpdateSpecs as spec;
 ghost use Rattle.root_commands.specs.UpdateSpecs.{MeanAll, ReachAll};
 
 use crate::updating::update_to;
+use cli_call::cny_base::{Fault, ListOf, Options, Text};
+use cli_call::tree_disk::TreeDisk;
+use cli_call::trove_parts::TroveId;
 use cli_call::{Failure, Opened, on_root, store_laws};
-use repo_commands::cny_base::{Fault, ListOf, Options, Text};
-use repo_commands::tree_disk::TreeDisk;
-use repo_commands::trove_parts::TroveId;
 use repo_index::Catalogue;
 use repo_load::stored_state;
 use std::alloc::Global;

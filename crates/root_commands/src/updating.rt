@@ -2,19 +2,19 @@
 ghost use Rattle.std.specs.Prelude.{◌≡◌, All, List, ℕ};
 ghost use Rattle.std.specs.List.Sorted.{IsStrictlySortedBy};
 ghost use Rattle.sha1.specs.Sha1.{sha1};
-ghost use Rattle.repo_commands.specs.change-set.declared.change.Carried as carried_content;
-ghost use Rattle.repo_commands.specs.change-set.ChangeSet.{content_cmp, HasContents};
+ghost use Rattle.cli_call.specs.change-set.declared.change.Carried as carried_content;
+ghost use Rattle.cli_call.specs.change-set.ChangeSet.{content_cmp, HasContents};
 ghost use Rattle.cli_call.specs.Command.{disks, AreReady, Performs};
 ghost use Rattle.system_core.specs.Lists.{AreAllowed};
 ghost use Rattle.root_commands.specs.Update as spec;
 
+use cli_call::change_set::{Carried, ChangeSet, decode};
+use cli_call::cny_base::{Options, Text};
+use cli_call::tree_disk::TreeDisk;
+use cli_call::trove_stream::Trove;
 use cli_call::{Failure, Opened, on_root, store_laws};
 use cny_report::changes_text;
 use local_db::distinct_databases;
-use repo_commands::change_set::{Carried, ChangeSet, decode};
-use repo_commands::cny_base::{Options, Text};
-use repo_commands::tree_disk::TreeDisk;
-use repo_commands::trove_stream::Trove;
 use repo_load::{RepoContents, stored_state};
 use std::alloc::Global;
 use system_core::update;

@@ -4,12 +4,12 @@ ghost use Rattle.cli_call.specs.Alone.{AnswersByTree, PerformsAlone};
 ghost use Rattle.cli_call.specs.Command.{disks, AreReady, Performs};
 ghost use Rattle.root_commands.specs.Verifying as spec;
 
+use cli_call::cny_base::{Name, Text};
+use cli_call::content_store::NoContents;
+use cli_call::tree_disk::TreeDisk;
 use cli_call::{Failure, Opened, on_root, store_laws};
 use cny_report::verified_text;
 use local_db::distinct_databases;
-use repo_commands::cny_base::{Name, Text};
-use repo_commands::content_store::NoContents;
-use repo_commands::tree_disk::TreeDisk;
 use repo_load::{RepoContents, stored_state};
 use root_edits::verify;
 use std::alloc::Global;

@@ -1,5 +1,5 @@
 use Rattle.std.proofs.Common.{◌≡◌, ◌+◌, ◌<◌, ◌≤◌, length, arith, ap, length-append}
-use Rattle.cli_call.specs.Input.{input_limit}
+use Rattle.cny_laws.specs.Input.{input_limit}
 use Rattle.cli_call.proofs.InputBytes.{consumes_more, past, read_all, read_past, within}
 use Rattle.cli_call.proofs.input.read_input.Goals as goal
 

@@ -1,6 +1,6 @@
 use Rattle.std.proofs.Common.{◌≤◌, ◌+◌, ◌-◌, length}
 use Rattle.std.specs.Io.KnownBytes.{Consumes}
-use Rattle.cli_call.specs.Input.{input_limit}
+use Rattle.cny_laws.specs.Input.{input_limit}
 use Rattle.cli_call.proofs.input.read_input.Given as goal
 
 abbrev pub invariant-loop-bytes : goal.invariant-loop-bytes

@@ -1,4 +1,4 @@
-use Rattle.cli_call.specs.Call.{OpensBoth}
+use Rattle.cli_call.specs.Runs.{OpensBoth}
 use Rattle.cli_call.proofs.BothDisks.{root_stopped, repository_stopped, both_opened}
 use Rattle.local_db.proofs.cny-base.Passing.{err_is}
 use Rattle.cli_call.proofs.opening.open_disks.Goals as goal

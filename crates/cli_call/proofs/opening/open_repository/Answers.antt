@@ -1,8 +1,8 @@
 use Rattle.std.proofs.Common.{subst, refl, arith}
 use Rattle.repo_load.specs.Files.{HoldsCatalogue}
-use Rattle.cli_call.specs.Opening.{no_test, Opens}
-use Rattle.system_core.specs.tree-journal.Recovered.{RecoversAt}
-use Rattle.cli_call.specs.Stores.{repository_store}
+use Rattle.cny_laws.specs.Opening.{no_test, Opens}
+use Rattle.cny_laws.specs.system-core.tree-journal.Recovered.{RecoversAt}
+use Rattle.cny_laws.specs.Stores.{repository_store}
 use Rattle.cli_call.proofs.OpeningDisks.{opens_stopped}
 use Rattle.cli_call.proofs.LoadingRepository.{loaded_opens}
 use Rattle.cli_call.proofs.StoreLaws.{nothing_done}

@@ -1,5 +1,5 @@
 use Rattle.std.proofs.Common.{subst}
-use Rattle.cli_call.specs.RootOpening.{OpensSystem}
+use Rattle.cny_laws.specs.RootOpening.{OpensSystem}
 use Rattle.cli_call.proofs.OpeningRoot.{Ready, opens_ready}
 use Rattle.local_db.proofs.cny-base.Passing.{err_is}
 use Rattle.cli_call.proofs.opening.open_root.Goals as goal

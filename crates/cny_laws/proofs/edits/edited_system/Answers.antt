@@ -1,4 +1,4 @@
-use Rattle.cli_call.proofs.tree-disk.Laws.{get_put_other}
+use Rattle.system_core.proofs.tree-disk.Laws.{get_put_other}
 use Rattle.cny_laws.proofs.EditedSystems.{edited_stored, fixed_kept}
 use Rattle.cny_laws.proofs.edits.edited_system.Goals as goal
 

@@ -1,7 +1,7 @@
 use Rattle.std.proofs.Common.{map}
 use Rattle.std.specs.Prelude.{string_bytes}
 use Rattle.cny_flow.specs.Flow.{sink_state}
-use Rattle.cli_call.specs.Call.{call_state}
+use Rattle.cli_call.specs.cny-laws.Call.{call_state}
 use Rattle.conary_cli.proofs.Calls.{some_words, whole_words}
 use Rattle.conary_cli.proofs.program.run.Goals as goal
 

@@ -1,5 +1,6 @@
 use Rattle.std.proofs.Common.{refl, inl, inr}
-use Rattle.cli_call.specs.Call.{call_state, RunsCall}
+use Rattle.cli_call.specs.cny-laws.Call.{call_state}
+use Rattle.cli_call.specs.Runs.{RunsCall}
 use Rattle.cli_call.proofs.CallLaws.{opened_ready}
 use Rattle.conary_cli.specs.Commands.{meaning, scope_of}
 use Rattle.conary_cli.specs.Records.{EndsOpened}

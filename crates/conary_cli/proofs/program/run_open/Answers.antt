@@ -1,5 +1,5 @@
 use Rattle.cny_flow.specs.Flow.{source_state}
-use Rattle.cli_call.specs.Call.{RunsOpen}
+use Rattle.cli_call.specs.Runs.{RunsOpen}
 use Rattle.cli_call.specs.Line.{moment}
 use Rattle.conary_cli.specs.Commands.{meaning, scope_of}
 use Rattle.conary_cli.specs.Records.{EndsWhole}

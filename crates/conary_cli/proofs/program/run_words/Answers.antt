@@ -1,6 +1,6 @@
 use Rattle.std.proofs.Common.{Ok, map, inl, sym, subst}
 use Rattle.std.specs.Prelude.{string_bytes}
-use Rattle.cli_call.specs.Call.{call_state}
+use Rattle.cli_call.specs.cny-laws.Call.{call_state}
 use Rattle.conary_cli.specs.Commands.{RunsSome, RunsWords}
 use Rattle.conary_cli.proofs.Calls.{no_words, some_unread}
 use Rattle.cny_version.proofs.cny-base.Passing.{err_is}

@@ -2,9 +2,9 @@ use Rattle.std.proofs.Common.{inl, inr, refl}
 use Rattle.cli_call.specs.Alone.{ActsOnRepository}
 use Rattle.cli_call.specs.Command.{disks}
 use Rattle.cli_call.proofs.CommandLaws.{acts_more}
-use Rattle.cli_call.specs.Failures.{failure_of_fault}
+use Rattle.cli_call.specs.cny-laws.Failures.{failure_of_fault}
 use Rattle.repo_commands.specs.Commit.{commit, commit_of}
-use Rattle.repo_commands.proofs.SetFaults.{no_set_acts}
+use Rattle.cli_call.proofs.SetFaults.{no_set_acts}
 use Rattle.cny_version.proofs.cny-base.Passing.{err_is}
 use Rattle.repo_commands.proofs.committing.commit_input.Goals as goal
 

@@ -1,5 +1,5 @@
 use Rattle.std.proofs.Common.{ap, ◌∙◌, refl, sym}
-use Rattle.cli_call.specs.declared.failure.Failure.TheVariants as failure
+use Rattle.cli_call.specs.cny-laws.declared.failure.Failure.TheVariants as failure
 use Rattle.cli_call.specs.Alone.{ActsOnRepository}
 use Rattle.cli_call.specs.Command.{disks}
 use Rattle.cny_report.specs.Troves.{committed_text}

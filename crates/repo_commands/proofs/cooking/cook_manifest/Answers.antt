@@ -1,6 +1,6 @@
 use Rattle.cli_call.specs.Alone.{ActsOnRepository}
 use Rattle.cli_call.specs.Command.{disks}
-use Rattle.cli_call.specs.Failures.{failure_of_fault}
+use Rattle.cli_call.specs.cny-laws.Failures.{failure_of_fault}
 use Rattle.repo_commands.specs.Cook.{cook}
 use Rattle.repo_commands.proofs.CookEnds.{cooked, no_set, not_read}
 use Rattle.repo_commands.proofs.MadeVersions.{made_have_one}

@@ -2,7 +2,7 @@ use Rattle.std.proofs.Common.{Ok, Err, sym, ap, ◌∙◌}
 use Rattle.cli_call.specs.Alone.{ActsOnRepository, AnswersByLists}
 use Rattle.cli_call.proofs.Answered.{by_lists}
 use Rattle.cli_call.specs.Command.{disks}
-use Rattle.cli_call.specs.Failures.{failure_of_fault}
+use Rattle.cli_call.specs.cny-laws.Failures.{failure_of_fault}
 use Rattle.repo_commands.specs.Listing as spec
 use Rattle.repo_commands.proofs.ListingEnds.{lists_performed}
 use Rattle.cny_version.proofs.cny-base.Passing.{err_is}

@@ -4,11 +4,11 @@ use Rattle.cli_call.specs.change-set.declared.change.ChangeSet.{ChangeSet}
 use Rattle.cli_call.proofs.CommandLaws.{acts_performed}
 use Rattle.cli_call.proofs.RootLaws.{root_laws}
 use Rattle.cli_call.specs.Command.{disks, Performs}
-use Rattle.cli_call.specs.Failures.{failure_of_fault}
+use Rattle.cli_call.specs.cny-laws.Failures.{failure_of_fault}
 use Rattle.repo_commands.specs.Commit.{commit_of}
 use Rattle.repo_commands.specs.Moving.{move}
 use Rattle.repo_commands.proofs.CommittedTroves.{refer_within}
-use Rattle.repo_commands.proofs.ReadingEnds.{config_made, config_stopped, ready_on}
+use Rattle.cli_call.proofs.ReadingEnds.{config_made, config_stopped, ready_on}
 use Rattle.repo_commands.proofs.MovingEnds.{meant_fails, memory_ends, moved_ends, moved_fails, no_contents, refused_config, set_is, unmoved}
 use Rattle.cny_version.proofs.cny-base.Passing.{err_is}
 use Rattle.repo_commands.proofs.moving.commit_moved.Goals as goal

@@ -3,9 +3,9 @@ use Rattle.cli_call.specs.trove-stream.Installed.{IsRising}
 use Rattle.cli_call.specs.trove-stream.declared.parts.TroveParts.{TroveParts}
 use Rattle.repo_index.specs.Catalogue.{AreCommitted}
 use Rattle.cli_call.specs.Command.{disks, Performs}
-use Rattle.cli_call.specs.Failures.{failure_of_fault}
+use Rattle.cli_call.specs.cny-laws.Failures.{failure_of_fault}
 use Rattle.repo_commands.specs.Sending.{changeset, SendsFrom}
-use Rattle.repo_commands.proofs.ReadingEnds.{config_made, config_stopped}
+use Rattle.cli_call.proofs.ReadingEnds.{config_made, config_stopped}
 use Rattle.repo_commands.proofs.SendingEnds.{fresh_fails, old_fails, refused_config, sent_ends, SendingLaws}
 use Rattle.cny_version.proofs.cny-base.Passing.{err_is}
 use Rattle.repo_commands.proofs.sending.send_changes.Goals as goal

@@ -1,7 +1,7 @@
-use Rattle.cli_call.specs.declared.failure.Failure.TheVariants as failure
+use Rattle.cli_call.specs.cny-laws.declared.failure.Failure.TheVariants as failure
 use Rattle.cli_call.specs.Alone.{AnswersByLists, PerformsAlone}
 use Rattle.cli_call.specs.Command.{disks, Performs}
-use Rattle.cli_call.specs.Failures.{failure_of_fault}
+use Rattle.cli_call.specs.cny-laws.Failures.{failure_of_fault}
 use Rattle.repo_commands.specs.ShowChangeSet as spec
 use Rattle.repo_commands.proofs.ShowEnds.{memory_out, memory_out_alone, memory_out_listed, shows, shows_alone, shows_listed, shows_none, shows_none_alone, shows_none_listed}
 use Rattle.cny_version.proofs.cny-base.Passing.{err_is}

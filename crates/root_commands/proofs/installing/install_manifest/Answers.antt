@@ -3,7 +3,7 @@ use Rattle.cli_call.specs.Alone.{PerformsAlone}
 use Rattle.cli_call.proofs.AloneLaws.{alone_more}
 use Rattle.cli_call.specs.Command.{disks, Performs}
 use Rattle.cli_call.proofs.CommandLaws.{performs_more}
-use Rattle.cli_call.specs.Failures.{failure_of_fault}
+use Rattle.cli_call.specs.cny-laws.Failures.{failure_of_fault}
 use Rattle.root_commands.specs.Install.{install, install_made}
 use Rattle.root_commands.proofs.InstallEnds.{fault_alone, fault_performs, installs_more, reserved_refuses, unread_refuses}
 use Rattle.local_db.proofs.cny-base.Passing.{err_is}

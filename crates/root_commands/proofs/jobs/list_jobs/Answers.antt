@@ -1,13 +1,13 @@
 use Rattle.std.proofs.Common.{ℕ, List, Result, Ok, Err, IfOk, sym, ◌∙◌, subst}
-use Rattle.repo_commands.specs.cny-base.Count.{Rose}
-use Rattle.repo_commands.specs.cny-base.declared.stop.Stop.{Stop}
+use Rattle.cli_call.specs.cny-base.Count.{Rose}
+use Rattle.cli_call.specs.cny-base.declared.stop.Stop.{Stop}
 use Rattle.rollback_stack.specs.declared.undo.Note.{Note as Undone}
 use Rattle.rollback_stack.specs.Numbers.{job_count}
 use Rattle.rollback_stack.specs.Reading.{AreNotes}
 use Rattle.cli_call.specs.Alone.{PerformsAlone}
 use Rattle.cli_call.specs.Command.{disks, Performs}
 use Rattle.cli_call.proofs.ReadingRoot.{read_alone, read_performed}
-use Rattle.cli_call.specs.declared.failure.Failure.TheVariants as failure
+use Rattle.cli_call.specs.cny-laws.declared.failure.Failure.TheVariants as failure
 use Rattle.root_commands.specs.Jobs as spec
 use Rattle.root_commands.specs.Noting.{AreToldBy}
 use Rattle.root_commands.specs.Records.{ListsWhole}
@@ -60,7 +60,7 @@ returns-in_err-jobs-clause-alone g c = λ input.
     let read = read_of disk root root' c.all.ensures.value in
     let failed = failed_ends disk g.P.TreeDisk.disk c.distinct_databases.ensures.unique c.one_record.ensures.one input root root' c.args.repo.now opened c.requires (λ told. (read told).same.reads) c.all.result c.in_err-jobs.field-0.0 (sym c.on_root.ensures ∙ c.in_err-jobs.was) c.all.ensures.stops in
     err_is (PerformsAlone disk g.P.TreeDisk.disk spec.list_jobs input (disks root c.args.repo.now opened) (disks root' c.args.repo.now opened)) c.from_residual.result c.in_err-jobs.field-0.0 c.from_residual.ensures.1
-    (read_alone g.P.TreeDisk.disk g.met.T.TreeDisk.laws root root' c.args.repo.now opened spec.list_jobs input read (Err c.in_err-jobs.field-0.0) failed.0)
+    (read_alone g.P.TreeDisk.disk g.met.T.TreeDisk.laws root root' c.args.repo.now opened spec.list_jobs input read (Err c.in_err-jobs.field-0.0) failed.0 failed.2)
 
 pub returns-in_err-told-clause-alone : goal.returns-in_err-told-clause-alone
 returns-in_err-told-clause-alone g c = λ input.
@@ -70,7 +70,7 @@ returns-in_err-told-clause-alone g c = λ input.
     let opened = c.args.opened.now in
     let read = read_of disk root root' c.all.ensures.value in
     err_is (PerformsAlone disk g.P.TreeDisk.disk spec.list_jobs input (disks root c.args.repo.now opened) (disks root' c.args.repo.now opened)) c.from_residual-in_err-told.result failure.Memory c.from_residual-in_err-told.ensures.1
-    (read_alone g.P.TreeDisk.disk g.met.T.TreeDisk.laws root root' c.args.repo.now opened spec.list_jobs input read (Err failure.Memory) tt)
+    (read_alone g.P.TreeDisk.disk g.met.T.TreeDisk.laws root root' c.args.repo.now opened spec.list_jobs input read (Err failure.Memory) tt (λ path named. absurd (cc named)))
 
 pub returns-clause-alone : goal.returns-clause-alone
 returns-clause-alone g c = λ input.
@@ -83,7 +83,7 @@ returns-clause-alone g c = λ input.
     let ends = found_ends disk g.P.TreeDisk.disk c.distinct_databases.ensures.unique c.one_record.ensures.one input root root' c.args.repo.now opened c.requires (λ told. (read told).same.reads) c.in_ok-jobs.jobs c.in_ok-told.field-0
     (λ told. subst (λ (r : Result (List Undone) Stop). IfOk r (AreNotes (disk.reads root) (job_count opened.db.oldest opened.db.newest) opened.db.newest opened.db.installed)) is (c.all.ensures.value told).answer)
     (subst (λ (l : List Undone). AreToldBy l c.in_ok-told.field-0) c.get.ensures c.in_ok-told.ensures) in
-    read_alone g.P.TreeDisk.disk g.met.T.TreeDisk.laws root root' c.args.repo.now opened spec.list_jobs input read (Ok c.in_ok-told.field-0) ends
+    read_alone g.P.TreeDisk.disk g.met.T.TreeDisk.laws root root' c.args.repo.now opened spec.list_jobs input read (Ok c.in_ok-told.field-0) ends (λ path named. absurd (cc named))
 
 pub returns-in_err-jobs-clause-records : goal.returns-in_err-jobs-clause-records
 returns-in_err-jobs-clause-records g c told =

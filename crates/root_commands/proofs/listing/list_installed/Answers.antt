@@ -2,7 +2,7 @@ use Rattle.std.proofs.Common.{Ok, Err, sym, ap, ◌∙◌}
 use Rattle.cli_call.specs.Alone.{AnswersByLists, PerformsAlone}
 use Rattle.cli_call.proofs.Answered.{by_lists}
 use Rattle.cli_call.specs.Command.{disks, Performs}
-use Rattle.cli_call.specs.Failures.{failure_of_fault}
+use Rattle.cli_call.specs.cny-laws.Failures.{failure_of_fault}
 use Rattle.root_commands.specs.Listing as spec
 use Rattle.root_commands.proofs.Answering.{answered, answered_alone}
 use Rattle.local_db.proofs.cny-base.Passing.{err_is}

@@ -1,7 +1,8 @@
 use Rattle.std.proofs.Common.{Ok, Err, sym, ◌∙◌}
 use Rattle.cli_call.specs.Alone.{AnswersByTree, PerformsAlone}
 use Rattle.cli_call.specs.Command.{disks, Performs}
-use Rattle.cli_call.specs.Failures.{failure_of_fault}
+use Rattle.cli_call.specs.cny-laws.Failures.{failure_of_fault}
+use Rattle.cli_call.proofs.AloneLaws.{fault_undamaged}
 use Rattle.cli_call.proofs.ReadingRoot.{read_alone, read_performed}
 use Rattle.root_commands.specs.LocalChanges as spec
 use Rattle.root_commands.proofs.Answering.{seen_alone, seen_tree}
@@ -51,7 +52,7 @@ returns-in_err-set-clause-alone g c = λ input.
     let name = c.args.name.now in
     let failed = failed_ends disk g.P.TreeDisk.disk c.distinct_databases.ensures.unique name input root root' c.args.repo.now opened c.requires c.local.result c.in_err-set.field-0.0 (sym c.on_root.ensures ∙ c.in_err-set.was) c.local.ensures.finds.ends in
     err_is (PerformsAlone disk g.P.TreeDisk.disk (spec.change_locally name) input (disks root c.args.repo.now opened) (disks root' c.args.repo.now opened)) c.from_residual.result c.in_err-set.field-0.0 c.from_residual.ensures.1
-    (read_alone g.P.TreeDisk.disk g.met.T.TreeDisk.laws root root' c.args.repo.now opened (spec.change_locally name) input c.local.ensures.finds.same (Err c.in_err-set.field-0.0) (seen_alone c.distinct_databases.ensures.unique (disks root c.args.repo.now opened) c.requires (spec.change_locally name) input (Err c.in_err-set.field-0.0) failed.0))
+    (read_alone g.P.TreeDisk.disk g.met.T.TreeDisk.laws root root' c.args.repo.now opened (spec.change_locally name) input c.local.ensures.finds.same (Err c.in_err-set.field-0.0) (seen_alone c.distinct_databases.ensures.unique (disks root c.args.repo.now opened) c.requires (spec.change_locally name) input (Err c.in_err-set.field-0.0) failed.0) failed.2)
 
 pub returns-in_err-encode-clause-alone : goal.returns-in_err-encode-clause-alone
 returns-in_err-encode-clause-alone g c = λ input.
@@ -61,7 +62,7 @@ returns-in_err-encode-clause-alone g c = λ input.
     let opened = c.args.opened.now in
     let name = c.args.name.now in
     err_is (PerformsAlone disk g.P.TreeDisk.disk (spec.change_locally name) input (disks root c.args.repo.now opened) (disks root' c.args.repo.now opened)) c.from_residual-in_err-encode.result (failure_of_fault c.in_err-encode.field-0.0) c.from_residual-in_err-encode.ensures.1
-    (read_alone g.P.TreeDisk.disk g.met.T.TreeDisk.laws root root' c.args.repo.now opened (spec.change_locally name) input c.local.ensures.finds.same (Err (failure_of_fault c.in_err-encode.field-0.0)) (seen_alone c.distinct_databases.ensures.unique (disks root c.args.repo.now opened) c.requires (spec.change_locally name) input (Err (failure_of_fault c.in_err-encode.field-0.0)) (large_ends disk g.P.TreeDisk.disk c.distinct_databases.ensures.unique name input root root' c.args.repo.now opened c.requires c.local.result c.in_ok-set.set (sym c.on_root.ensures ∙ c.in_ok-set.was) c.local.ensures.finds.ends c.in_err-encode.field-0.0 c.in_err-encode.ensures.refused)))
+    (read_alone g.P.TreeDisk.disk g.met.T.TreeDisk.laws root root' c.args.repo.now opened (spec.change_locally name) input c.local.ensures.finds.same (Err (failure_of_fault c.in_err-encode.field-0.0)) (seen_alone c.distinct_databases.ensures.unique (disks root c.args.repo.now opened) c.requires (spec.change_locally name) input (Err (failure_of_fault c.in_err-encode.field-0.0)) (large_ends disk g.P.TreeDisk.disk c.distinct_databases.ensures.unique name input root root' c.args.repo.now opened c.requires c.local.result c.in_ok-set.set (sym c.on_root.ensures ∙ c.in_ok-set.was) c.local.ensures.finds.ends c.in_err-encode.field-0.0 c.in_err-encode.ensures.refused)) (λ path named. absurd (fault_undamaged c.in_err-encode.field-0.0 path named)))
 
 pub returns-clause-alone : goal.returns-clause-alone
 returns-clause-alone g c = λ input.
@@ -70,7 +71,7 @@ returns-clause-alone g c = λ input.
     let root' = c.local.new.root in
     let opened = c.args.opened.now in
     let name = c.args.name.now in
-    read_alone g.P.TreeDisk.disk g.met.T.TreeDisk.laws root root' c.args.repo.now opened (spec.change_locally name) input c.local.ensures.finds.same (Ok c.in_ok-encode.field-0) (seen_alone c.distinct_databases.ensures.unique (disks root c.args.repo.now opened) c.requires (spec.change_locally name) input (Ok c.in_ok-encode.field-0) (written_ends disk g.P.TreeDisk.disk c.distinct_databases.ensures.unique name input root root' c.args.repo.now opened c.requires c.local.result c.in_ok-set.set (sym c.on_root.ensures ∙ c.in_ok-set.was) c.local.ensures.finds.ends c.in_ok-encode.field-0 c.in_ok-encode.ensures.value c.in_ok-encode.ensures.small))
+    read_alone g.P.TreeDisk.disk g.met.T.TreeDisk.laws root root' c.args.repo.now opened (spec.change_locally name) input c.local.ensures.finds.same (Ok c.in_ok-encode.field-0) (seen_alone c.distinct_databases.ensures.unique (disks root c.args.repo.now opened) c.requires (spec.change_locally name) input (Ok c.in_ok-encode.field-0) (written_ends disk g.P.TreeDisk.disk c.distinct_databases.ensures.unique name input root root' c.args.repo.now opened c.requires c.local.result c.in_ok-set.set (sym c.on_root.ensures ∙ c.in_ok-set.was) c.local.ensures.finds.ends c.in_ok-encode.field-0 c.in_ok-encode.ensures.value c.in_ok-encode.ensures.small)) (λ path named. absurd (cc named))
 
 pub returns-in_err-set-clause-tree : goal.returns-in_err-set-clause-tree
 returns-in_err-set-clause-tree g c = λ input.

@@ -1,8 +1,8 @@
 use Rattle.std.proofs.Common.{cond, Some, sym, ap, ◌∙◌}
 use Rattle.std.specs.Option.{option_copied}
-use Rattle.repo_commands.specs.tree-disk.Tree.{Name, same_name}
+use Rattle.cli_call.specs.tree-disk.Tree.{Name, same_name}
 use Rattle.update_job.specs.Changes.{noted}
-use Rattle.repo_commands.proofs.job-record.Keyed.{same_means}
+use Rattle.cli_call.proofs.job-record.Keyed.{same_means}
 use Rattle.root_commands.proofs.Turning.{no_change, put_change}
 use Rattle.root_commands.proofs.noting.note.Goals as goal
 

@@ -1,6 +1,6 @@
 use Rattle.std.proofs.Common.{List, refl, subst, arith}
 use Rattle.std.proofs.lemmas.List.{take_all}
-use Rattle.repo_commands.specs.trove-parts.declared.id.TroveId.{TroveId}
+use Rattle.cli_call.specs.trove-parts.declared.id.TroveId.{TroveId}
 use Rattle.update_job.specs.Changes.{noted}
 use Rattle.root_commands.specs.Noting.{HasTurned}
 use Rattle.root_commands.proofs.Turning.{turned_next}

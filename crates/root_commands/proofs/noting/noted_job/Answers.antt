@@ -1,5 +1,5 @@
 use Rattle.std.proofs.Common.{List, refl, subst}
-use Rattle.repo_commands.specs.trove-parts.declared.id.TroveId.{TroveId}
+use Rattle.cli_call.specs.trove-parts.declared.id.TroveId.{TroveId}
 use Rattle.root_commands.specs.Noting.{LeadsThere}
 use Rattle.root_commands.proofs.noting.noted_job.Goals as goal
 

@@ -1,8 +1,8 @@
 use Rattle.std.proofs.Common.{ℕ, List, sym, ◌∙◌}
 use Rattle.cli_call.specs.Alone.{PerformsAlone}
 use Rattle.cli_call.specs.Command.{disks, Performs}
-use Rattle.cli_call.specs.declared.failure.Failure.TheVariants as failure
-use Rattle.cli_call.specs.declared.opened.Opened.{Opened}
+use Rattle.cli_call.specs.cny-laws.declared.failure.Failure.TheVariants as failure
+use Rattle.cli_call.specs.cny-laws.declared.opened.Opened.{Opened}
 use Rattle.root_commands.specs.Records.{TakesBackWhole}
 use Rattle.root_commands.specs.RollingBack as spec
 use Rattle.root_commands.proofs.RecordEnds.{back_done, back_failed}

@@ -1,5 +1,5 @@
 use Rattle.std.proofs.Common.{List, ◌+◌, arith, subst, sym, take}
-use Rattle.repo_commands.specs.trove-parts.declared.id.TroveId.{TroveId}
+use Rattle.cli_call.specs.trove-parts.declared.id.TroveId.{TroveId}
 use Rattle.trove_spec.specs.AndThen.{EndsAs}
 use Rattle.root_commands.specs.UpdateSpecs.{AreMeant, MeanAll}
 use Rattle.root_commands.proofs.SpecEnds.{first_unmeant, meant_more}

@@ -1,10 +1,10 @@
 use Rattle.std.proofs.Common.{[], List, Err, sym, subst, ◌∙◌, inr, refl}
-use Rattle.repo_commands.specs.trove-parts.declared.id.TroveId.{TroveId}
+use Rattle.cli_call.specs.trove-parts.declared.id.TroveId.{TroveId}
 use Rattle.cli_call.specs.Command.{disks, Performs}
-use Rattle.cli_call.specs.Failures.{failure_of_fault}
+use Rattle.cli_call.specs.cny-laws.Failures.{failure_of_fault}
 use Rattle.trove_spec.specs.AndThen.{EndsAs}
-use Rattle.repo_commands.proofs.AfterReading.{performs_since}
-use Rattle.repo_commands.proofs.ReadingEnds.{config_made, config_stopped, fault_ends, ready_on, root_read}
+use Rattle.cli_call.proofs.AfterReading.{performs_since}
+use Rattle.cli_call.proofs.ReadingEnds.{config_made, config_stopped, fault_ends, ready_on, root_read}
 use Rattle.root_commands.specs.Update as update
 use Rattle.root_commands.specs.UpdateSpecs as spec
 use Rattle.root_commands.proofs.SpecEnds.{all_updated, none_meant, none_reached, refused_as}

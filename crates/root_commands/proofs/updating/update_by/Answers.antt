@@ -1,9 +1,9 @@
 use Rattle.std.proofs.Common.{refl}
 use Rattle.cli_call.specs.Command.{disks, Performs}
 use Rattle.cli_call.proofs.CommandLaws.{none_read}
-use Rattle.cli_call.specs.Failures.{failure_of_fault}
-use Rattle.repo_commands.proofs.AfterReading.{performs_since}
-use Rattle.repo_commands.proofs.ReadingEnds.{fault_ends}
+use Rattle.cli_call.specs.cny-laws.Failures.{failure_of_fault}
+use Rattle.cli_call.proofs.AfterReading.{performs_since}
+use Rattle.cli_call.proofs.ReadingEnds.{fault_ends}
 use Rattle.root_commands.specs.Update as spec
 use Rattle.root_commands.proofs.ComingEnds.{set_made, set_refused}
 use Rattle.local_db.proofs.cny-base.Passing.{err_is}

@@ -1,8 +1,8 @@
 use Rattle.std.proofs.Common.{inl, inr, refl}
 use Rattle.cli_call.specs.Command.{disks, Performs}
 use Rattle.cli_call.proofs.CommandLaws.{performs_more}
-use Rattle.cli_call.specs.Failures.{failure_of_fault}
-use Rattle.repo_commands.proofs.SetFaults.{no_set}
+use Rattle.cli_call.specs.cny-laws.Failures.{failure_of_fault}
+use Rattle.cli_call.proofs.SetFaults.{no_set}
 use Rattle.root_commands.specs.Update as spec
 use Rattle.local_db.proofs.cny-base.Passing.{err_is}
 use Rattle.root_commands.proofs.updating.update_input.Goals as goal

@@ -2,8 +2,8 @@ use Rattle.std.proofs.Common.{◌≡◌, Ok, Err, sym, ap, ◌∙◌, rules}
 use Rattle.cny_report.specs.Jobs.{changes_text}
 use Rattle.repo_load.specs.RepoContents.{repo_contents}
 use Rattle.cli_call.specs.Command.{disks, Performs}
-use Rattle.cli_call.specs.declared.failure.Failure.TheVariants as failure
-use Rattle.cli_call.specs.declared.opened.Opened.{Opened}
+use Rattle.cli_call.specs.cny-laws.declared.failure.Failure.TheVariants as failure
+use Rattle.cli_call.specs.cny-laws.declared.opened.Opened.{Opened}
 use Rattle.system_core.specs.Job.{sources_of}
 use Rattle.system_core.specs.Lists.{to_updated}
 use Rattle.root_commands.specs.Update as spec

@@ -1,6 +1,6 @@
 use Rattle.std.proofs.Common.{◌≡◌, Ok, Err, sym, ◌∙◌, rules}
 use Rattle.cli_call.specs.Command.{disks, Performs}
-use Rattle.cli_call.specs.declared.failure.Failure.TheVariants as failure
+use Rattle.cli_call.specs.cny-laws.declared.failure.Failure.TheVariants as failure
 use Rattle.root_commands.specs.Verifying as spec
 use Rattle.root_commands.proofs.FullEnds.{failed_performs, memory_performs, performed_at, ready_at, told_performs, VerifyingLaws}
 use Rattle.local_db.proofs.cny-base.Passing.{err_is}

@@ -1,11 +1,11 @@
 use Rattle.std.proofs.Common.{◌≡◌, Result, Ok, Err, IfOk, OnOk, sym, ◌∙◌, subst}
-use Rattle.repo_commands.specs.cny-base.declared.stop.Stop.{Stop}
-use Rattle.repo_commands.specs.tree-scan.declared.verification.Verified.{Verified}
+use Rattle.cli_call.specs.cny-base.declared.stop.Stop.{Stop}
+use Rattle.cli_call.specs.tree-scan.declared.verification.Verified.{Verified}
 use Rattle.root_edits.specs.Verify.{asked, verified}
 use Rattle.update_job.specs.Lists.{AreInstalled}
 use Rattle.cli_call.specs.Alone.{AnswersByTree, PerformsAlone}
 use Rattle.cli_call.specs.Command.{disks, Performs}
-use Rattle.cli_call.specs.declared.failure.Failure.TheVariants as failure
+use Rattle.cli_call.specs.cny-laws.declared.failure.Failure.TheVariants as failure
 use Rattle.root_commands.specs.Verifying as spec
 use Rattle.cli_call.proofs.ReadingRoot.{read_alone, read_performed}
 use Rattle.cli_call.proofs.RootResults.{root_ok}
@@ -29,7 +29,7 @@ returns-in_err-found-clause-alone g c = λ input.
     let failed = failed_ends g.T.TreeDisk.disk g.P.TreeDisk.disk c.distinct_databases.ensures.unique names input c.args.root.now c.verify.new.root c.args.repo.now c.args.opened.now c.requires _ _
     c.verify.result c.in_err-found.field-0.0 (sym c.on_root.ensures ∙ c.in_err-found.was) c.verify.ensures.verified in
     err_is (PerformsAlone g.T.TreeDisk.disk g.P.TreeDisk.disk (spec.verify_installed names) input (disks c.args.root.now c.args.repo.now c.args.opened.now) (disks c.verify.new.root c.args.repo.now c.args.opened.now)) c.from_residual.result c.in_err-found.field-0.0 c.from_residual.ensures.1
-    (read_alone g.P.TreeDisk.disk g.met.T.TreeDisk.laws c.args.root.now c.verify.new.root c.args.repo.now c.args.opened.now (spec.verify_installed names) input c.verify.ensures.verified.same (Err c.in_err-found.field-0.0) (seen_alone c.distinct_databases.ensures.unique (disks c.args.root.now c.args.repo.now c.args.opened.now) c.requires (spec.verify_installed names) input (Err c.in_err-found.field-0.0) failed.0))
+    (read_alone g.P.TreeDisk.disk g.met.T.TreeDisk.laws c.args.root.now c.verify.new.root c.args.repo.now c.args.opened.now (spec.verify_installed names) input c.verify.ensures.verified.same (Err c.in_err-found.field-0.0) (seen_alone c.distinct_databases.ensures.unique (disks c.args.root.now c.args.repo.now c.args.opened.now) c.requires (spec.verify_installed names) input (Err c.in_err-found.field-0.0) failed.0) failed.2)
 
 pub returns-in_err-verified_text-clause-performs : goal.returns-in_err-verified_text-clause-performs
 returns-in_err-verified_text-clause-performs g c = λ input.
@@ -42,7 +42,7 @@ pub returns-in_err-verified_text-clause-alone : goal.returns-in_err-verified_tex
 returns-in_err-verified_text-clause-alone g c = λ input.
     let names = c.args.names.now in
     err_is (PerformsAlone g.T.TreeDisk.disk g.P.TreeDisk.disk (spec.verify_installed names) input (disks c.args.root.now c.args.repo.now c.args.opened.now) (disks c.verify.new.root c.args.repo.now c.args.opened.now)) c.from_residual-in_err-verified_text.result failure.Memory c.from_residual-in_err-verified_text.ensures.1
-    (read_alone g.P.TreeDisk.disk g.met.T.TreeDisk.laws c.args.root.now c.verify.new.root c.args.repo.now c.args.opened.now (spec.verify_installed names) input c.verify.ensures.verified.same (Err failure.Memory) tt)
+    (read_alone g.P.TreeDisk.disk g.met.T.TreeDisk.laws c.args.root.now c.verify.new.root c.args.repo.now c.args.opened.now (spec.verify_installed names) input c.verify.ensures.verified.same (Err failure.Memory) tt (λ path named. absurd (cc named)))
 
 pub returns-clause-performs : goal.returns-clause-performs
 returns-clause-performs g c = λ input.
@@ -63,7 +63,7 @@ returns-clause-alone g c = λ input.
     (λ map told none. subst (λ (r : Result Verified Stop). IfOk r (λ found. found ≡ verified map (g.T.TreeDisk.disk.reads c.args.root.now) (asked names c.args.opened.now.db.installed))) is (c.verify.ensures.mapped map told none))
     (subst (λ (r : Result Verified Stop). OnOk r (AreInstalled c.args.opened.now.db.installed names)) is c.verify.ensures.installed)
     c.in_ok-verified_text.field-0 c.in_ok-verified_text.ensures.value in
-    read_alone g.P.TreeDisk.disk g.met.T.TreeDisk.laws c.args.root.now c.verify.new.root c.args.repo.now c.args.opened.now (spec.verify_installed names) input c.verify.ensures.verified.same (Ok c.in_ok-verified_text.field-0) (seen_alone c.distinct_databases.ensures.unique (disks c.args.root.now c.args.repo.now c.args.opened.now) c.requires (spec.verify_installed names) input (Ok c.in_ok-verified_text.field-0) ends)
+    read_alone g.P.TreeDisk.disk g.met.T.TreeDisk.laws c.args.root.now c.verify.new.root c.args.repo.now c.args.opened.now (spec.verify_installed names) input c.verify.ensures.verified.same (Ok c.in_ok-verified_text.field-0) (seen_alone c.distinct_databases.ensures.unique (disks c.args.root.now c.args.repo.now c.args.opened.now) c.requires (spec.verify_installed names) input (Ok c.in_ok-verified_text.field-0) ends) (λ path named. absurd (cc named))
 
 pub returns-in_err-found-clause-tree : goal.returns-in_err-found-clause-tree
 returns-in_err-found-clause-tree g c = λ input.

@@ -1,5 +1,0 @@
-use Rattle.cny_laws.proofs.Rollbacks.{roll_back_once}
-use Rattle.cny_laws.proofs.outcomes.one_rollback.Goals as goal
-
-pub returns : goal.returns
-returns c = roll_back_once

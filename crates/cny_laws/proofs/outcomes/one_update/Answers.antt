@@ -1,7 +1,0 @@
-use Rattle.cny_laws.proofs.Updates.{update_specs_once}
-use Rattle.cny_laws.proofs.outcomes.one_update.Goals as goal
-
-pub returns : goal.returns
-returns c = update_specs_once
-    (record { plan = c.one_plan.ensures.plan; refusal = c.one_plan.ensures.refusal; either = c.one_plan.ensures.either })
-    c.distinct_texts.ensures.labels c.one_expansion.ensures

@@ -1,0 +1,95 @@
+-- What a call works on, and how its disks are opened.
+use Rattle.std.specs.Prelude.{◌≡◌, ◌⊎◌, Result, Ok, Err}
+use Rattle.system_core.specs.cny-base.declared.stop.Stop.{Stop}
+use Rattle.cny_flow.specs.Flow.{SourceModel, SourceState, source_state, SinkModel, SinkState, sink_state}
+use Rattle.system_core.specs.tree-disk.Disk.{DiskModel}
+use Rattle.repo_index.specs.Catalogue.{CatalogueParts}
+use Rattle.repo_load.specs.Files.{HoldsCatalogue}
+use Rattle.repo_load.specs.Loading.{IsCatalogue}
+use Rattle.cny_laws.specs.declared.failure.Failure.{Failure}
+use Rattle.cny_laws.specs.declared.opened.Opened.{Opened}
+use Rattle.cny_laws.specs.Opening.{Opens, no_test}
+use Rattle.cny_laws.specs.Report.{End}
+use Rattle.cny_laws.specs.RootOpening.{OpensSystem}
+use Rattle.cny_laws.specs.Stops.{root_failure, repository_failure}
+use Rattle.cny_laws.specs.Stores.{repository_store}
+use Rattle.local_db.specs.declared.db.Db.{Db}
+use Rattle.system_core.specs.cny-base.Reserved.{is_reserved}
+use Rattle.system_core.specs.tree-disk.Tree.{AgreesOutside}
+use Rattle.repo_load.specs.State.{troves_of}
+use Rattle.cny_laws.specs.State.{State, tree_of}
+
+-- all that a call works on but the error output, at one moment
+pub record CallState (T P : Type 0) : Type 0 where
+  pub input : SourceState
+  pub root : T
+  pub repo : P
+  pub out : SinkState
+
+abbrev pub call_state : {I O T P : Type 0} → SourceModel I → SinkModel O → I → O → T → P → CallState T P
+call_state source sink input out root repo = record { input = source_state source input; root = root; repo = repo; out = sink_state sink out }
+
+-- the state has the lists that were read when the disks were opened: the installed troves, and those of the catalogue
+pub record HasLists (opened : Opened) (s : State) : Type 0 where
+  pub installed : s.root.installed ≡ opened.db.installed
+  pub committed : troves_of s.repository.commits ≡ opened.catalogue.troves
+
+-- and its tree is what the root reads outside its private directory
+pub record HasTree {T : Type 0} (root_disk : DiskModel T) (root : T) (opened : Opened) (s : State) : Type 0 where
+  pub lists : HasLists opened s
+  pub outer : AgreesOutside is_reserved (root_disk.reads root) (tree_of s.root)
+
+module _ {T P : Type 0} (root_disk : DiskModel T) (repo_disk : DiskModel P) where
+  -- ---- opening
+
+  -- the root was opened, and this is its database
+  abbrev pub OpensRoot : T → T → Result Db Stop → Type 0
+  OpensRoot old new result = OpensSystem root_disk old new result
+
+  -- the repository was opened, and this is its catalogue
+  abbrev pub OpensRepository : P → P → Result CatalogueParts Stop → Type 0
+  OpensRepository old new result = Opens repository_store repo_disk no_test HoldsCatalogue old new result
+
+  -- The root wasn't opened, and its disk says why; the repository wasn't touched.
+  pub record StopsAtRoot (root root' : T) (repo repo' : P) (e : Failure) : Type 0 where
+    pub stop : Stop
+    pub is : e ≡ root_failure stop
+    pub opens : OpensRoot root root' (Err stop)
+    pub same : repo' ≡ repo
+
+  -- The root was opened, and the repository wasn't, and its disk says why.
+  pub record StopsAtRepository (root root' : T) (repo repo' : P) (e : Failure) : Type 0 where
+    pub stop : Stop
+    pub is : e ≡ repository_failure stop
+    pub db : Db
+    pub opens_root : OpensRoot root root' (Ok db)
+    pub opens : OpensRepository repo repo' (Err stop)
+
+  abbrev pub StopsOpening : T → T → P → P → Failure → Type 0
+  StopsOpening root root' repo repo' e = StopsAtRoot root root' repo repo' e ⊎ StopsAtRepository root root' repo repo' e
+
+  -- Both were opened.
+  pub record AreOpened (root root' : T) (repo repo' : P) (opened : Opened) : Type 0 where
+    pub opens_root : OpensRoot root root' (Ok opened.db)
+    pub opens : OpensRepository repo repo' (Ok opened.catalogue)
+    pub rules : IsCatalogue opened.catalogue
+
+  -- ---- a call whose disks weren't opened
+
+  -- What stopped the opening ended the call, and nothing else was done.
+  pub record EndsOpening (Stops : T → T → P → P → Failure → Type 0) (before now : CallState T P) (end : End) : Type 0 where
+    pub failure : Failure
+    pub is : end ≡ Err failure
+    pub stops : Stops before.root now.root before.repo now.repo failure
+    pub unread : now.input ≡ before.input
+    pub silent : now.out ≡ before.out
+
+  abbrev pub StopsForRoot : CallState T P → CallState T P → End → Type 0
+  StopsForRoot before now end = EndsOpening StopsAtRoot before now end
+
+  abbrev pub StopsForRepository : CallState T P → CallState T P → End → Type 0
+  StopsForRepository before now end = EndsOpening StopsAtRepository before now end
+
+  -- the one or the other
+  abbrev pub NotOpened : CallState T P → CallState T P → End → Type 0
+  NotOpened before now end = EndsOpening StopsOpening before now end

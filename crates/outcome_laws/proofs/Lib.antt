@@ -1,0 +1,15 @@
+pub mod Tests
+pub mod Splits
+pub mod Listings
+pub mod Commits
+pub mod Jobs
+pub mod Configurations
+pub mod Meanings
+pub mod Sets
+pub mod LocalSets
+pub mod Requirements
+pub mod Targets
+pub mod JobOutcomes
+pub mod Updates
+pub mod Rollbacks
+pub mod Descriptions

@@ -1,0 +1,154 @@
+//! A command has at most one outcome on a state and an input.
+ghost use Rattle.std.specs.Prelude.{ℕ, Bool, List, Option};
+ghost use Rattle.cli_call.specs.cny-base.declared.options.Options.{Options};
+ghost use Rattle.cli_call.specs.tree-disk.Tree.{Tree};
+ghost use Rattle.local_db.specs.Stores.{StoresSystem};
+ghost use Rattle.cli_call.specs.cny-laws.State.{State};
+ghost use Rattle.repo_load.specs.Files.{StoresRepository};
+ghost use Rattle.cny_version.specs.Label.{LabelParts};
+ghost use Rattle.repo_shadow.specs.declared.way.Way.{Way};
+ghost use Rattle.trove_spec.specs.declared.given.GivenSpec.{GivenSpec};
+ghost use Rattle.repo_commands.specs.Commit.{commit};
+ghost use Rattle.repo_commands.specs.Cook.{cook};
+ghost use Rattle.repo_commands.specs.Listing.{list_committed};
+ghost use Rattle.repo_commands.specs.Moving.{move};
+ghost use Rattle.repo_commands.specs.Sending.{changeset};
+ghost use Rattle.repo_commands.specs.ShowChangeSet.{show_change_set};
+ghost use Rattle.root_commands.specs.Erase.{erase};
+ghost use Rattle.root_commands.specs.Install.{install};
+ghost use Rattle.root_commands.specs.Jobs.{list_jobs};
+ghost use Rattle.root_commands.specs.Listing.{list_installed};
+ghost use Rattle.root_commands.specs.LocalChanges.{change_locally};
+ghost use Rattle.root_commands.specs.RollingBack.{roll_back};
+ghost use Rattle.root_commands.specs.Update.{update_input};
+ghost use Rattle.root_commands.specs.UpdateSpecs.{update_specs};
+ghost use Rattle.root_commands.specs.Verifying.{verify_fully, verify_installed};
+ghost use Rattle.outcome_laws.specs.OneOutcome.{HasOneOutcome, IsState};
+
+use change_rel::{one_relative, one_result};
+use cli_call::change_set::{one_fault, unique_set};
+use cny_manifest::one_manifest;
+use cny_version::distinct_texts;
+use conflict_plan::one_plan;
+use repo_shadow::one_move;
+use repository::commit_step;
+use trove_spec::one_expansion;
+use update_job::one_made;
+
+/// What two disks store is a state that keeps the rules.
+pub fn stored_states()
+    ensures { (x y : Tree) (s : State) → StoresSystem x s.root → StoresRepository y s.repository → IsState s }
+{}
+
+/// `rq`.
+pub fn one_list_committed()
+    ensures { (name : Option (List ℕ)) → HasOneOutcome (list_committed name) }
+{}
+
+/// `q`.
+pub fn one_list_installed()
+    ensures { (name : Option (List ℕ)) → HasOneOutcome (list_installed name) }
+{}
+
+/// `rblist`.
+pub fn one_list_jobs()
+    ensures { HasOneOutcome list_jobs }
+{}
+
+/// `verify`, also with the repository's contents.
+pub fn one_verification()
+    ensures installed { (names : List (List ℕ)) → HasOneOutcome (verify_installed names) }
+    ensures fully { (names : List (List ℕ)) → HasOneOutcome (verify_fully names) }
+{}
+
+/// `localcs`.
+pub fn one_local_change()
+    ensures { (name : List ℕ) → HasOneOutcome (change_locally name) }
+{
+    one_relative();
+}
+
+/// `showcs`.
+pub fn one_description()
+    ensures { HasOneOutcome show_change_set }
+{
+    unique_set();
+    one_fault();
+}
+
+/// `commit`.
+pub fn one_commit()
+    ensures { HasOneOutcome commit }
+{
+    one_result();
+    unique_set();
+    one_fault();
+    commit_step();
+}
+
+/// `cook`, also with the next version.
+pub fn one_cook()
+    ensures { (next : Bool) → HasOneOutcome (cook next) }
+{
+    one_result();
+    one_manifest();
+    commit_step();
+}
+
+/// `shadow` and `branch`.
+pub fn one_moving()
+    ensures { (way : Way) (label : LabelParts) (given : GivenSpec) → HasOneOutcome (move way label given) }
+{
+    distinct_texts();
+    one_result();
+    one_move();
+    commit_step();
+}
+
+/// `changeset`.
+pub fn one_sending()
+    ensures { (from : Option GivenSpec) (to : GivenSpec) → HasOneOutcome (changeset from to) }
+{
+    distinct_texts();
+    one_relative();
+    one_expansion();
+}
+
+/// `erase`.
+pub fn one_erasure()
+    ensures { (names : List (List ℕ)) (options : Options) → HasOneOutcome (erase names options) }
+{
+    one_plan();
+}
+
+/// `install`.
+pub fn one_installation()
+    ensures { (options : Options) → HasOneOutcome (install options) }
+{
+    one_manifest();
+    one_plan();
+}
+
+/// `update` by a change set.
+pub fn one_update_by_input()
+    ensures { (options : Options) → HasOneOutcome (update_input options) }
+{
+    unique_set();
+    one_fault();
+    one_made();
+    one_plan();
+}
+
+/// `update` of specifications.
+pub fn one_update()
+    ensures { (options : Options) (givens : List GivenSpec) → HasOneOutcome (update_specs options givens) }
+{
+    distinct_texts();
+    one_expansion();
+    one_plan();
+}
+
+/// `rollback`, of the newest job or down to one of a number.
+pub fn one_rollback()
+    ensures { (number : Option ℕ) → HasOneOutcome (roll_back number) }
+{}
