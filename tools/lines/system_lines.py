@@ -52,17 +52,17 @@ def searched(options, far):
 
 def update(come, carried=(), far=(), options=()):
     options_far, found = searched(options, far)
-    given = f"update|{'+'.join(options)}|{streams(come)}|{far_word(carried)}|{far_word(far)}"
+    given = f"update|{' '.join(options)}|{streams(come)}|{far_word(carried)}|{far_word(far)}"
     return Call(given, lambda system: system.update(come, options_far, carried, found))
 
 
 def adopt(troves, far=(), options=()):
-    given = f"adopt|{'+'.join(options)}|{streams(by_name(troves))}|{far_word(far)}"
+    given = f"adopt|{' '.join(options)}|{streams(by_name(troves))}|{far_word(far)}"
     return Call(given, lambda system: system.adopt(troves, *searched(options, far)))
 
 
 def erase(names, options=()):
-    return Call(f"erase|{'+'.join(options)}|{b';'.join(names).decode()}", lambda system: system.erase(names, options))
+    return Call(f"erase|{' '.join(options)}|{b';'.join(names).decode()}", lambda system: system.erase(names, options))
 
 
 def verify(names=(), far=()):

@@ -2,9 +2,10 @@
 ghost use Rattle.repository.specs.change-set.ChangeSet.{HasContents};
 
 use crate::held::{told_held, told_sizes};
-use line_words::{Answer, Line, Quiet, Why};
+use line_words::{Answer, Line, Quiet};
 use repo_index::Catalogue;
 use repository::change_set::{ChangeSet, decode};
+use repository::cny_base::Fault;
 use repository::{TroveIds, commit};
 
 // The private directory of a repository.
@@ -26,7 +27,8 @@ fn commit_set(disk: &mut Quiet, catalogue: &mut Catalogue, set: &ChangeSet, answ
 fn commit_bytes(disk: &mut Quiet, catalogue: &mut Catalogue, bytes: &[u8], answer: &mut Answer) {
     match decode(answer.alloc(), bytes) {
         Ok(set) => commit_set(disk, catalogue, &set, answer),
-        Err(why) => why.tell(answer),
+        Err(Fault::Refused(_)) => answer.unreadable(),
+        Err(Fault::Memory) => answer.memory(),
     }
 }
 

@@ -81,6 +81,7 @@ fn leaves(disk: &Quiet, pick: u64, nodes: &str, answer: &mut Answer) -> bool {
     if let Some(image) = answer.kept(crashed(answer.alloc(), disk, pick)) {
         left.nodes(&image.tree);
     }
+    answer.keep_failure(&left);
     left.get() == nodes
 }
 

@@ -39,7 +39,8 @@ fn source(catalogue: &Catalogue, line: &mut Line, answer: &mut Answer) {
     }
 }
 
-// `load TREE`, `counts TREE`, how many troves each commit has, and `content TREE NAME`.
+// Answers a call with the catalogue that was loaded: `load TREE`, the catalogue; `counts TREE`, how many troves each commit has; `content
+// TREE NAME`, the content of a name; or one of those that have a function of their own.
 fn answered(disk: &mut Quiet, catalogue: &mut Catalogue, line: &mut Line, answer: &mut Answer) {
     let alloc = answer.alloc();
     match line.name() {
@@ -51,7 +52,8 @@ fn answered(disk: &mut Quiet, catalogue: &mut Catalogue, line: &mut Line, answer
         }
         "source" => source(catalogue, line, answer),
         "between" => set_between(catalogue, line, answer),
-        _ => committed(disk, catalogue, line, answer),
+        "commit" => committed(disk, catalogue, line, answer),
+        _ => line.unreadable(),
     }
 }
 

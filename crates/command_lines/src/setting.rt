@@ -118,9 +118,8 @@ impl Setting {
     ) -> bool {
         let mut part = answer.apart();
         let is_end = self.ends(sweep, number, &mut part);
-        if last.is_new(answer, part.get()) {
-            answer.tab();
-            answer.add(&part);
+        if last.is_new(answer, &part) {
+            answer.field(part.get());
             from.text(" ");
             from.number(u64::from(number));
         }

@@ -4,7 +4,7 @@ use line_words::tree_memory::cny_base::{Names, Path};
 use line_words::tree_memory::tree_disk::{Look, TreeDisk};
 use line_words::{Answer, Line};
 
-// The greatest number of bytes that one call reads.
+// The most bytes that a line may read.
 const ROOM: usize = 64;
 
 /// Tells what a look shows: of a file its size.
@@ -43,7 +43,7 @@ pub fn told_holds(holds: &bool, answer: &mut Answer) {
     answer.holds(*holds);
 }
 
-// `read PATH AT LENGTH`: at most `ROOM` bytes from a place on.
+// `read PATH AT LENGTH`: so many bytes from a place on, at most `ROOM`.
 fn read(tree: &mut MemoryTree, path: &Path, line: &mut Line, answer: &mut Answer) {
     let at = line.number(1);
     let len = line.small(2) as usize;

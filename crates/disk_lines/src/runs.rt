@@ -143,9 +143,7 @@ pub fn push_stored(tree: &MemoryTree, answer: &mut Answer) {
     let mut nodes = answer.apart();
     nodes.nodes_kept(tree, BASE);
     answer.field(without_base(nodes.get()));
-    if nodes.failed() {
-        answer.memory();
-    }
+    answer.keep_failure(&nodes);
 }
 
 /// What stands in a tree but for the private directory.

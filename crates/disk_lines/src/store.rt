@@ -33,7 +33,7 @@ fn told_found(found: &Option<Bytes>, answer: &mut Answer) {
     answer.contents(bytes.get());
 }
 
-// What a source without contents finds, which never fails.
+// `store find DIR NAME`: what a source without contents finds under a name, whatever the directory holds: nothing. It never fails.
 fn find(content: &[u8; 20], answer: &mut Answer) {
     match NoContents.find(answer.alloc(), content) {
         Ok(found) => told_found(&found, answer),

@@ -320,9 +320,14 @@ impl Answer {
         Answer::new(self.alloc)
     }
 
+    /// Remembers the failure of an answer that was made apart, where nothing failed before.
+    pub fn keep_failure(&mut self, part: &Answer) {
+        self.kept(part.stop.end());
+    }
+
     /// Appends an answer that was made apart, with its failure.
     pub fn add(&mut self, part: &Answer) {
         self.text(part.get());
-        self.kept(part.stop.end());
+        self.keep_failure(part);
     }
 }

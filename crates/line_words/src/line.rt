@@ -285,9 +285,9 @@ impl<'a> Line<'a> {
         self.some(installed)
     }
 
-    /// Whether a word stands in the argument at a place.
+    /// Whether a word is one of those of the argument at a place, with a space between two.
     pub fn mentions(&mut self, place: usize, word: &str) -> bool {
-        self.raw(place).contains(word)
+        self.raw(place).split(' ').any(|one| one == word)
     }
 
     /// The options of which the argument at a place has the words `replace` and `keep`.

@@ -21,12 +21,14 @@ impl Outcomes {
         }
     }
 
-    /// Whether a text differs from the last one, which it is from now on.
-    pub fn is_new(&mut self, answer: &mut Answer, text: &str) -> bool {
-        if text == self.last.as_str() {
+    /// Whether the text of a part differs from the last one, which it is from now on. The answer keeps the failure of the part, also
+    /// where its text, which may be cut short then, is that of the last one.
+    pub fn is_new(&mut self, answer: &mut Answer, part: &Answer) -> bool {
+        answer.keep_failure(part);
+        if part.get() == self.last.as_str() {
             return false;
         }
-        if let Some(text) = answer.kept(String::from_str(answer.alloc(), text)) {
+        if let Some(text) = answer.kept(String::from_str(answer.alloc(), part.get())) {
             self.last = text;
         }
         true
@@ -34,9 +36,8 @@ impl Outcomes {
 
     /// Appends a part as a field, where its text differs from that of the last one.
     pub fn push(&mut self, answer: &mut Answer, part: &Answer) {
-        if self.is_new(answer, part.get()) {
-            answer.tab();
-            answer.add(part);
+        if self.is_new(answer, part) {
+            answer.field(part.get());
         }
     }
 }

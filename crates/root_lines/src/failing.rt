@@ -110,11 +110,11 @@ impl Left {
     }
 
     // The answer, and all that stands.
-    fn whole(&self, answer: &mut Answer) -> Option<String> {
+    fn whole(&self, answer: &Answer) -> Answer {
         let mut whole = answer.apart();
         whole.text(self.said.as_str());
         whole.nodes(&self.disk.tree);
-        answer.kept(whole.end())
+        whole
     }
 
     // What is ready then, the SHA-1 of what stands, and what comes of the call where it is made again.
@@ -169,12 +169,11 @@ impl Told {
     // no answer. Where as much was left as the last time, nothing else can come of it.
     fn ends(&mut self, disk: &mut Quiet, pick: u64, call: &Call, answer: &mut Answer) -> bool {
         if let Some(mut left) = Left::by(call, disk, pick, answer) {
-            if let Some(whole) = left.whole(answer) {
-                if self.left.is_new(answer, whole.as_str()) {
-                    self.push(&mut left, call, answer);
-                }
-                return left.is_end();
+            let whole = left.whole(answer);
+            if self.left.is_new(answer, &whole) {
+                self.push(&mut left, call, answer);
             }
+            return left.is_end() || answer.failed();
         }
         true
     }

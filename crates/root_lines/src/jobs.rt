@@ -1,5 +1,5 @@
 //! Calls on a root that change it or compare it: jobs, jobs taken back, verifications, and edits by other programs. OPTIONS are
-//! `replace` and `keep`, with a `+` between two.
+//! `replace` and `keep`, with a space between two.
 ghost use Rattle.std.specs.Prelude.{◌≡◌, All};
 ghost use Rattle.sha1.specs.Sha1.{sha1};
 ghost use Rattle.system_core.specs.change-set.declared.change.Carried as declared;

@@ -1,7 +1,7 @@
 //! Calls on roots of format 1.
 use line_words::{Answer, Line, Quiet};
 use rollback_stack::migrated;
-use root_words::{PRIVATE, crashed as left_by, disk_of, told_puts};
+use root_words::{PRIVATE, crashed, disk_of, told_puts};
 use std::alloc::Global;
 use system_core::cny_base::Stop;
 use system_core::journal_log::Puts;
@@ -27,13 +27,13 @@ fn migrate_on(alloc: Global, disk: &mut Quiet) -> Result<(), Stop> {
     Ok(())
 }
 
-// The root that a crash leaves, after bringing it to format 2 was stopped or came to its end.
-fn crashed(disk: &mut Quiet, pick: u64, answer: &mut Answer) -> Option<Quiet> {
+// Brings the root to format 2, as far as its disk goes. What the crash that the number picks leaves of it then.
+fn crashed_migration(disk: &mut Quiet, pick: u64, answer: &mut Answer) -> Option<Quiet> {
     match migrate_on(answer.alloc(), disk) {
         Ok(()) | Err(Stop::Failed) => (),
         Err(_) => answer.unreadable(),
     }
-    answer.kept(left_by(answer.alloc(), disk, pick))
+    answer.kept(crashed(answer.alloc(), disk, pick))
 }
 
 // What stands but the journal's own files once the root is brought to format 2.
@@ -49,7 +49,7 @@ pub fn migrate(line: &mut Line, answer: &mut Answer) {
     let (pick, calls) = (line.number(0), line.small(2));
     if let Some(mut disk) = line.disk(1, 0) {
         disk.tree.stop_after(calls);
-        if let Some(mut left) = crashed(&mut disk, pick, answer) {
+        if let Some(mut left) = crashed_migration(&mut disk, pick, answer) {
             push_migrated(&mut left, answer);
         }
     }

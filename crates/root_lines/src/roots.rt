@@ -55,8 +55,8 @@ fn push_moment(
         let mut text = answer.apart();
         text.text(";");
         text.placed(path.text(), nodes.node(path.text()));
-        if last.is_new(answer, text.get()) {
-            answer.add(&text);
+        if last.is_new(answer, &text) {
+            answer.text(text.get());
         }
     }
 }

@@ -36,7 +36,7 @@ fn push_numbered(
     }
 }
 
-// The first number.
+// The number of the first of many troves, of five digits as those behind it, so that names with them rise.
 const FIRST: u32 = 10_000;
 
 // `COUNT BYTES BYTES`: so many troves, whose streams are the two with a number between them, from 10,000 on.

@@ -130,7 +130,8 @@ fn told_stop(stop: &Stop, answer: &mut Answer) {
     }
 }
 
-// That of an empty stack and of want of memory come of the fault.
+// The stop that the first argument names, with the path of the second where it has one. A refusal and want of memory are made of a fault,
+// as they are where a call on values fails within one on disks.
 fn stop_of(line: &mut Line) -> Option<Stop> {
     match line.text(0) {
         "stack empty" => Some(Stop::from(Fault::Refused(Refusal::StackEmpty))),
