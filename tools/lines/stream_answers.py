@@ -1,6 +1,6 @@
 """What the calls of the program stream_lines have to answer, by name.
 
-The answers come from tools/model/streams.py, tools/model/relatives.py, tools/model/manifests.py and tools/model/batches.py, which are
+The answers come from tools/model/streams.py, tools/model/relatives.py, tools/model/manifests.py, tools/model/batches.py and tools/model/demo.py, which are
 made from docs/FORMATS.md alone, and the texts of refusals from docs/COMMANDS.md; nothing is shared with the program.
 """
 from functools import partial
@@ -10,6 +10,7 @@ from tools.cases.rows import table
 from tools.lines.words import yes_or_no
 from tools.model import manifests, relatives, streams
 from tools.model.batches import read_batch
+from tools.model.demo import lines_of
 from tools.model.relatives import Refused
 from tools.model.streams import (
     TAGS, Fault, NotOfForm, Owner, Relative, Trove, directory, flag_letters, flags_of_letters, id_bytes, id_of_text, id_text, inner_items,
@@ -360,6 +361,11 @@ def batch(text):
     return "".join([str(len(lines)), *(line_text(*line) for line in lines[:SHOWN])])
 
 
+def demo(packages, place):
+    lines = list(lines_of(int(packages)))
+    return str(len(lines)) + line_text(*lines[int(place)])
+
+
 UNREADABLE = {
     "relative_of": lambda one, other: short(relative_bytes(between(one, other)[1])),
     "round": lambda one, other: applied_text(*between(one, other)),
@@ -395,6 +401,7 @@ CALLS = {
     "dir_component": lambda path: manifests.component_of(path, True).decode(),
     "component": lambda path: manifests.component_of(path, False).decode(),
     "batch": batch,
+    "demo": demo,
 }
 
 
@@ -407,10 +414,3 @@ def answer(call, arguments):
     except Refused as refused:
         # What is no change set is unreadable, too, but where that is asked.
         return "unreadable" if call in UNREADABLE and isinstance(refused, Fault) else str(refused)
-
-
-def answers_in(call, arguments):
-    """How many answers a line holds."""
-    if call in ("changes", "changes_to"):
-        return 256 if call == "changes" else len(arguments[1]) * len(arguments[2])
-    return len(arguments[1]) + 1 if call == "beginnings" else 1

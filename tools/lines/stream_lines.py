@@ -4,7 +4,6 @@ answer. Usage, at the top:
 
     python3 -m tools.lines.stream_lines stdin   >crates/stream_lines/stdin     a call and its arguments in each line
     python3 -m tools.lines.stream_lines stdout  >crates/stream_lines/stdout    what each has to answer
-    python3 -m tools.lines.stream_lines count                                  how many lines and answers there are, by topic
 
 The calls are those of tools/cases/streams.py, tools/cases/relatives.py, tools/cases/manifests.py and tools/cases/batches.py;
 tools/lines/stream_answers.py says what each has to answer.
@@ -13,7 +12,7 @@ import re
 import sys
 
 from tools.cases import batches, manifests, relatives, streams
-from tools.lines.stream_answers import answer, answers_in
+from tools.lines.stream_answers import answer
 from tools.lines.words import Terms, digits, value_bytes
 
 CASES = streams.CASES + relatives.CASES + manifests.CASES + batches.CASES
@@ -40,23 +39,13 @@ def check_by_hand():
 
 def main(mode):
     check_by_hand()
-    totals = []
-    for topic, cases in CASES:
-        counts = []
+    for _, cases in CASES:
         for call, *arguments in cases():
-            if mode == "count":
-                counts.append(answers_in(call, list(map(value_bytes, arguments))))
-            else:
-                print(answer_to(call, arguments) if mode == "stdout" else "\t".join([call, *map(argument_text, arguments)]))
-        totals += counts
-        if mode == "count":
-            print(f"{topic}: {len(counts)} lines, {sum(counts)} answers")
-    if mode == "count":
-        print(f"all: {len(totals)} lines, {sum(totals)} answers")
+            print(answer_to(call, arguments) if mode == "stdout" else "\t".join([call, *map(argument_text, arguments)]))
 
 
 if __name__ == "__main__":
-    if len(sys.argv) != 2 or sys.argv[1] not in ("stdin", "stdout", "count"):
+    if sys.argv[1:] not in (["stdin"], ["stdout"]):
         sys.exit(__doc__)
     sys.stdout.reconfigure(encoding="utf-8", newline="\n")
     main(sys.argv[1])

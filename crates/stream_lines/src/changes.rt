@@ -9,7 +9,7 @@ use cny_report::trove_stream::{Installed, RelTrove, Trove, Troves, decode, decod
 use line_words::Answer;
 use update_job::{applied, check_allowed};
 
-// More bytes are answered by their number and their SHA-1.
+// So many bytes at most are answered by their digits, and more by their number and their SHA-1.
 const MOST_SHOWN: usize = 400;
 
 // What was read.

@@ -1,6 +1,6 @@
-//! Answers vectors of streams, of what relative troves and change sets do, of manifests, and of batches. Each line of standard input has a
-//! call and its arguments, with a tab between two; the line of standard output with its number is what the call answers. Both
-//! come from tools/lines/stream_lines.py, which is made from the rules of the formats alone.
+//! Answers vectors of streams, of what relative troves and change sets do, of manifests, of batches, and of the lines of the demo. Each
+//! line of standard input has a call and its arguments, with a tab between two; the line of standard output with its number is what
+//! the call answers. Both come from tools/lines/stream_lines.py, which is made from the rules of the formats alone.
 #![tactic(auto)]
 
 mod again;
@@ -48,7 +48,8 @@ fn of_parts(line: &mut Line, answer: &mut Answer) {
     }
 }
 
-// Calls of what leads from a trove to another, of what comes with a change set, and on manifests and damaged bytes.
+// Calls of what leads from a trove to another, of what comes with a change set, and on manifests, batches, the demo and damaged bytes; any
+// other name is no call.
 fn of_changes(line: &mut Line, answer: &mut Answer) {
     match line.name() {
         "relative_of" => {
@@ -64,6 +65,7 @@ fn of_changes(line: &mut Line, answer: &mut Answer) {
         "dir_component" => manifests::component(answer, line, true),
         "component" => manifests::component(answer, line, false),
         "batch" => batches::batch(answer, line.bytes(0)),
+        "demo" => batches::demo(line, answer),
         "beginnings" => damages::beginnings(answer, line.text(0), line.bytes(1)),
         "changes" => {
             let place = line.small(2) as usize;
