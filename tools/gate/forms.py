@@ -11,7 +11,7 @@ import sys
 
 CALLS = "look|read_at|list|append|make_dir|make_link|set_mode|remove|rename|sync"
 # A disk's calls are given the allocator first; a list's aren't.
-OF_DISK = re.compile(rf"(\.|TreeDisk::)({CALLS})\(\s*alloc\b")
+OF_DISK = re.compile(rf"\.({CALLS})\(\s*alloc\b|\b(?:root|repo|disk)\s*\.({CALLS})\(|\b(?:TreeDisk|[A-Z])::({CALLS})\(")
 # What is a disk itself, and what only tests.
 DISKS = {"tree_disk", "tree_nodes", "tree_memory", "tree_host"}
 TESTS = re.compile(r"\w+_lines|line_words|root_words|host_words|conary_on_host")
@@ -27,7 +27,7 @@ def main():
             continue
         code = re.sub(r"//[^\n]*", "", text)
         found += [f"{path}: a call of a disk beside tree_disk::steps: {it[0]}" for it in OF_DISK.finditer(code)]
-        takes += len(re.findall(r"\binput\s*\.take\(|Source::take\(", code))
+        takes += len(re.findall(r"\binput\s*\.take\(|\b(?:Source|[A-Z])::take\(", code))
         calls += len(re.findall(r"\btake_more\(", code))
         turns += len(TURN.findall(code))
     if (takes, calls, turns) != (1, 1, 1):

@@ -12,7 +12,7 @@ import sys
 
 from crates import named
 
-LIMIT = 50_000
+LIMIT = 40_000
 
 
 def main(words):
