@@ -5,3 +5,4 @@ pub mod Lines
 pub mod Spellings
 pub mod Stops
 pub mod OneBatch
+pub mod Each

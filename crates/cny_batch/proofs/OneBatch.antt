@@ -70,3 +70,18 @@ same_fault bytes (errors.Malformed left) place fails is =
     let own = fault_read bytes place is in
     let same : own.left ≡ left = err_is {A = List Line} own.left left (sym own.read ∙ fails) in
     ap (λ (n : ℕ). Some (Malformed n)) (own.at_place ∙ ap (λ (n : ℕ). length bytes - n) same)
+
+-- ---- of bytes alone
+
+pub one_list : (bytes : List ℕ) (a b : List Line) → IsBatch a bytes → IsBatch b bytes → a ≡ b
+one_list bytes a b is other = same_lines bytes a b (batch_read bytes a is) other
+
+pub no_batch_with_fault : (bytes : List ℕ) (a : List Line) (place : ℕ) → IsBatch a bytes → IsFirstFault bytes place → ⊥
+no_batch_with_fault bytes a place is fault = no_fault bytes a place (batch_read bytes a is) fault
+
+pub one_fault : (bytes : List ℕ) (p q : ℕ) → IsFirstFault bytes p → IsFirstFault bytes q → p ≡ q
+one_fault bytes p q is other =
+    let own = fault_read bytes p is in
+    let far = fault_read bytes q other in
+    let same : own.left ≡ far.left = err_is {A = List Line} own.left far.left (sym own.read ∙ far.read) in
+    own.at_place ∙ ap (λ (n : ℕ). length bytes - n) same ∙ sym far.at_place

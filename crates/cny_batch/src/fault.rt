@@ -6,7 +6,7 @@ use cny_base::OutOfMemory;
 use std::alloc::{AllocError, AllocFailed};
 
 /// Why nothing was read.
-#[derive(Debug, Drop)]
+#[derive(Drop)]
 pub(crate) enum ReadError {
     Memory,
     /// The bytes aren't of the form; so many of them stand from the fault on.

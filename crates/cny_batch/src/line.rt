@@ -5,7 +5,7 @@ use cny_base::{Bytes, ListOf, OutOfMemory};
 use std::marker::Model;
 
 /// The words of a command, which contracts see as the list of their bytes.
-#[derive(Debug, Drop)]
+#[derive(Drop)]
 pub struct Words {
     items: Vec<String>,
 }
@@ -42,7 +42,7 @@ impl Words {
 }
 
 /// A line of a batch: a command and its input.
-#[derive(Debug, Drop)]
+#[derive(Drop)]
 pub struct Line {
     /// The words of the command, the command's name first.
     pub words: Words,

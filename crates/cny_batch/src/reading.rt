@@ -141,3 +141,10 @@ pub fn read_batch(alloc: Global, bytes: &[u8]) -> Result<Lines, Fault>
         Err(error) => Err(fault_of(bytes.len(), error)),
     }
 }
+
+/// Bytes are a batch of one list of lines at most, and have one first fault at most, and never both.
+pub fn one_batch()
+    ensures lines { (bytes : List ℕ) (a b : List Line) → IsBatch a bytes → IsBatch b bytes → a ≡ b }
+    ensures excluded { (bytes : List ℕ) (a : List Line) (place : ℕ) → IsBatch a bytes → IsFirstFault bytes place → ⊥ }
+    ensures fault { (bytes : List ℕ) (p q : ℕ) → IsFirstFault bytes p → IsFirstFault bytes q → p ≡ q }
+{}

@@ -11,7 +11,7 @@ use cny_base::{Text, TextFault, read_decimal};
 use std::alloc::Global;
 
 /// The words of a line, and the size of its input, where it tells one.
-#[derive(Debug, Drop)]
+#[derive(Drop)]
 pub(crate) struct Command {
     pub words: Words,
     pub size: Option<u64>,

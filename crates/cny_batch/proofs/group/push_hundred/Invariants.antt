@@ -1,0 +1,7 @@
+use Rattle.std.proofs.Common.{◌≡◌, ◌-◌, ◌+◌, ◌*◌, ◌++◌}
+use Rattle.cny_batch.specs.Manifests.{each_from, ref_within, refs_of_ten}
+use Rattle.cny_batch.proofs.group.push_hundred.Given as goal
+
+-- what is still to be written
+abbrev pub invariant-loop-digit : goal.invariant-loop-digit
+invariant-loop-digit l = l.out ++ each_from (λ digit. refs_of_ten l.packages l.round (10 * l.number + digit)) l.digit (10 - l.digit) ≡ l.fn.out ++ (ref_within l.packages l.round l.number ++ each_from (λ digit. refs_of_ten l.packages l.round (10 * l.number + digit)) 0 10)
