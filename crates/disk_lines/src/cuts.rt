@@ -1,12 +1,12 @@
 //! Runs of the journal that are cut off, left as a crash may leave them, and recovered.
 use crate::found::Found;
 use crate::runs::{
-    BASE, Case, MANY, Run, Task, apply_up_to, case_of, crashed, cut_of, push_stored, recover_up_to,
-    stored,
+    BASE, Case, MANY, Run, Task, apply_up_to, case_of, cut_of, push_stored, recover_up_to, stored,
 };
-use line_words::tree_memory::MemoryTree;
-use line_words::tree_memory::cny_base::Path;
 use line_words::{Answer, Line, Outcomes, Stop};
+use root_words::crashed;
+use root_words::tree_memory::MemoryTree;
+use root_words::tree_memory::cny_base::Path;
 use std::alloc::Global;
 
 // Appends what a crash leaves of a tree at a path, where it is another node than the last one.

@@ -1,8 +1,8 @@
 //! The calls of a disk, with what they answer where the tree doesn't allow them.
-use line_words::tree_memory::MemoryTree;
-use line_words::tree_memory::cny_base::{Names, Path};
-use line_words::tree_memory::tree_disk::{Look, TreeDisk};
 use line_words::{Answer, Line};
+use root_words::tree_memory::MemoryTree;
+use root_words::tree_memory::cny_base::{Names, Path};
+use root_words::tree_memory::tree_disk::{Look, TreeDisk};
 
 // The most bytes that a line may read.
 const ROOM: usize = 64;

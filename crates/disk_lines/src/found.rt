@@ -1,7 +1,7 @@
 //! Which trees were found after recoveries.
 use crate::runs::{Case, MANY, Run, apply_up_to, recover_up_to, stored};
-use line_words::tree_memory::MemoryTree;
 use line_words::{Answer, Stop};
+use root_words::tree_memory::MemoryTree;
 use std::alloc::Global;
 
 /// The trees before and after an application, and how often each of them was found after a recovery.

@@ -1,7 +1,7 @@
 //! Calls on logs, and on what a log can hold.
 use crate::puts::{items, push_puts, puts};
-use line_words::tree_memory::cny_base::{Bytes, Copies, OutOfMemory, Path};
 use line_words::{Answer, Line};
+use root_words::tree_memory::cny_base::{Bytes, Copies, OutOfMemory, Path};
 use std::alloc::Global;
 use tree_journal::journal_log::{
     Puts, can_be_named, decode_log, encode_log, keeps_rules, numbered,

@@ -19,7 +19,8 @@ mod steps;
 mod store;
 mod traced;
 
-use line_words::{Answer, Calls, Line, Quiet, answer_all};
+use line_words::{Answer, Calls, Line, answer_all};
+use root_words::{Quiet, empty_disk};
 use std::io;
 
 /// The disk that goes on from line to line.
@@ -62,6 +63,6 @@ impl Calls for Disks {
 }
 
 fn main(rt: HostRuntime) -> io::Result<()> {
-    let disk = script::first_disk(rt.alloc())?;
+    let disk = empty_disk(rt.alloc(), 0)?;
     answer_all(&rt, &mut Disks { disk })
 }

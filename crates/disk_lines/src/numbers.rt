@@ -1,8 +1,8 @@
 //! Calls on the numbers of staged files.
 use crate::disk::told_holds;
 use crate::puts::puts;
-use line_words::tree_memory::cny_base::{Path, Text};
 use line_words::{Answer, Line};
+use root_words::tree_memory::cny_base::{Path, Text};
 use tree_journal::journal_log::{StagedNumbers, is_staged_path, staged_path};
 
 // The numbers of the staged files that the write set of the first argument names.

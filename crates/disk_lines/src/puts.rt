@@ -1,7 +1,8 @@
 //! Write sets: placed nodes with a semicolon between two, `nothing PATH`, and `staged MODE NUMBER SIZE SHA1 PATH` for a file whose bytes
 //! the caller staged.
-use line_words::tree_memory::cny_base::Path;
 use line_words::{Answer, Line};
+use root_words::placed_want;
+use root_words::tree_memory::cny_base::Path;
 use tree_journal::journal_log::{Put, Puts, Want};
 
 // `MODE NUMBER SIZE SHA1`.
@@ -19,7 +20,7 @@ fn staged_of(line: &mut Line, raw: &str) -> Option<Want> {
 
 fn put_of(line: &mut Line, raw: &str) -> Option<Put> {
     let Some(raw) = raw.strip_prefix("staged ") else {
-        let (path, want) = line.placed_want(raw)?;
+        let (path, want) = placed_want(line, raw)?;
         return Some(Put { path, want });
     };
     let (staged, path) = raw.rsplit_once(' ')?;

@@ -2,9 +2,10 @@
 ghost use Rattle.std.specs.Prelude.{◌≤◌, IfOk, length};
 
 use crate::puts::puts;
-use line_words::tree_memory::MemoryTree;
-use line_words::tree_memory::cny_base::{OutOfMemory, Path, Stop as DiskEnd};
-use line_words::{Answer, Line, Quiet, Stop};
+use line_words::{Answer, Line, Stop};
+use root_words::tree_memory::MemoryTree;
+use root_words::tree_memory::cny_base::{Path, Stop as DiskEnd};
+use root_words::{Quiet, crashed, disk_of, told_kept};
 use std::alloc::Global;
 use tree_journal::journal_log::Puts;
 use tree_journal::{apply, recover};
@@ -53,11 +54,6 @@ fn end_of<T: Drop>(done: Result<T, DiskEnd>) -> Result<Option<T>, Stop> {
     }
 }
 
-/// What the crash leaves of a tree that a number picks.
-pub fn crashed(alloc: Global, tree: &MemoryTree, pick: u64) -> Result<Quiet, OutOfMemory> {
-    Ok(Quiet::new(tree.crash(alloc, pick)?))
-}
-
 /// Recovers the tree that a crash leaves of this one, and stops after so many calls.
 pub fn recover_up_to(alloc: Global, tree: &MemoryTree, pick: u64, calls: u32) -> Result<Run, Stop> {
     let base = base_path(alloc)?;
@@ -89,7 +85,7 @@ impl Drop for Case {
 /// The case of the first two arguments.
 pub fn case_of(line: &mut Line) -> Option<Case> {
     let puts = puts(line, 1)?;
-    let start = line.disk(0, 0)?;
+    let start = disk_of(line, 0, 0)?;
     Some(Case { start, puts })
 }
 
@@ -141,7 +137,7 @@ fn without_base(nodes: &str) -> &str {
 /// Appends what stands in a tree but for the private directory, in which no other name is as deep as that, as a field.
 pub fn push_stored(tree: &MemoryTree, answer: &mut Answer) {
     let mut nodes = answer.apart();
-    nodes.nodes_kept(tree, BASE);
+    told_kept(tree, BASE, &mut nodes);
     answer.field(without_base(nodes.get()));
     answer.keep_failure(&nodes);
 }

@@ -1,26 +1,34 @@
 //! The steps of a script that are no calls of the disk.
 use crate::disk;
-use crate::runs::crashed;
-use line_words::tree_memory::cny_base::{Fails, Mode, Node, Path};
-use line_words::tree_memory::{MemoryTree, Nodes};
-use line_words::{Answer, Line, Quiet, Stop, tree_with};
-use std::alloc::Global;
+use line_words::{Answer, Line};
+use root_words::tree_memory::cny_base::{Fails, Path};
+use root_words::tree_memory::{MemoryTree, TreeFault};
+use root_words::{Quiet, crashed, nodes_of};
 
-/// A disk of `/` alone.
-pub fn first_disk(alloc: Global) -> Result<Quiet, Stop> {
-    let mode = Mode::owner_only();
-    let root = Path::read(alloc, "/")?;
-    let nodes = Nodes::new(vec![in alloc; (root, Node::Dir { mode })]?);
-    Ok(Quiet::new(tree_with(alloc, nodes, 0)?))
+// What was made of a tree. Where it can't be one, there is none, and the answer tells so.
+fn made_of<T: Drop>(made: Result<T, TreeFault>, answer: &mut Answer) -> Option<T> {
+    match made {
+        Ok(value) => {
+            answer.field("ok");
+            Some(value)
+        }
+        Err(TreeFault::NotATree) => {
+            answer.field("no tree");
+            None
+        }
+        Err(TreeFault::Memory) => {
+            answer.memory();
+            None
+        }
+    }
 }
 
 // `new NODES CALLS`: a disk of these nodes, whose calls of these numbers fail.
 fn make_disk(disk: &mut Quiet, line: &mut Line, answer: &mut Answer) {
-    let nodes = line.nodes(0);
+    let nodes = nodes_of(line, 0);
     let fails = Fails::new(line.list(1));
-    if let Some(tree) = answer.given(MemoryTree::new(line.alloc(), nodes, fails)) {
+    if let Some(tree) = made_of(MemoryTree::new(line.alloc(), nodes, fails), answer) {
         *disk = Quiet::new(tree);
-        answer.field("ok");
     }
 }
 
@@ -28,7 +36,7 @@ fn make_disk(disk: &mut Quiet, line: &mut Line, answer: &mut Answer) {
 fn edit(tree: &mut MemoryTree, line: &mut Line, answer: &mut Answer) {
     let raw = line.raw(0);
     if let Some((path, node)) = line.placed_of(raw) {
-        answer.done(tree.edit(line.alloc(), &path, node));
+        made_of(tree.edit(line.alloc(), &path, node), answer);
     }
 }
 

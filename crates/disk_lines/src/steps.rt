@@ -1,8 +1,9 @@
 //! The functions over any disk, for which what the tree doesn't allow counts as a fault.
 use crate::disk::{told_look, told_names, told_read};
-use line_words::tree_memory::cny_base::{Bytes, Path};
-use line_words::tree_memory::tree_disk::{clear_tree, make_file, read_whole, steps, write_file};
-use line_words::{Answer, Line, Quiet};
+use line_words::{Answer, Line};
+use root_words::Quiet;
+use root_words::tree_memory::cny_base::{Bytes, Path};
+use root_words::tree_memory::tree_disk::{clear_tree, make_file, read_whole, steps, write_file};
 
 // `any read PATH AT`: four bytes from a place on.
 fn read(disk: &mut Quiet, path: &Path, at: u64, answer: &mut Answer) {

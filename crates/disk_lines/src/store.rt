@@ -1,11 +1,12 @@
 //! The steps of a content store, over any disk.
 use crate::disk::told_holds;
-use line_words::content_store::{
+use line_words::{Answer, Line};
+use root_words::Quiet;
+use root_words::content_store::{
     ByteNamer, Contents, Namer, NoContents, Sha1Namer, clear, get, has, put, put_file,
 };
-use line_words::tree_memory::cny_base::{Bytes, Path, Refusal, Stop};
-use line_words::tree_memory::tree_disk::steps;
-use line_words::{Answer, Line, Quiet};
+use root_words::tree_memory::cny_base::{Bytes, Path, Refusal, Stop};
+use root_words::tree_memory::tree_disk::steps;
 
 // The longest directory that a content is put into.
 const LONGEST_DIR: usize = 983;

@@ -2,7 +2,8 @@
 ghost use Rattle.std.specs.Prelude.{◌≡◌};
 ghost use Rattle.tree_journal.specs.tree-disk.Untold.{untold, untold_laws};
 
-use line_words::{Answer, Quiet};
+use line_words::Answer;
+use root_words::Quiet;
 use std::alloc::Global;
 use tree_journal::cny_base::{Mode, Names, Path, Target};
 use tree_journal::tree_disk::{DiskStop, Look, TreeDisk};

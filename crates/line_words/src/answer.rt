@@ -1,6 +1,7 @@
 //! The answer that is written.
 use crate::first_stop::FirstStop;
 use crate::stop::Stop;
+use cny_report::cny_base::{self, Bytes, Copies, Mode, OutOfMemory, Refusal, Text, decimal, octal};
 use cny_report::file_stream::Flags;
 use cny_report::refusal_text;
 use cny_report::trove_parts::{TroveId, id_text};
@@ -8,9 +9,6 @@ use cny_report::trove_stream::Trove;
 use sha1::Sha1;
 use std::alloc::{AllocError, Global};
 use std::cmp::Ordering;
-use tree_memory::cny_base::{
-    self, Bytes, Copies, Mode, OutOfMemory, Refusal, Text, decimal, octal,
-};
 
 /// An answer. It remembers the first failure of those that append to it, which give nothing back.
 pub struct Answer {
@@ -291,9 +289,8 @@ impl Answer {
         self.text(path);
     }
 
-    /// Appends why a call on disks stopped: the text of a refusal, `failed`, `damaged PATH`, the last two behind `far ` for the other
-    /// disk, or that no memory was left.
-    pub fn stop(&mut self, stop: &cny_base::Stop) {
+    // Appends why a call on disks stopped.
+    fn stop(&mut self, stop: &cny_base::Stop) {
         match stop {
             cny_base::Stop::Refused(refusal) => {
                 let text = refusal_text(self.alloc, refusal);
@@ -307,7 +304,8 @@ impl Answer {
         }
     }
 
-    /// The same as a field.
+    /// Appends why a call on disks stopped as a field: the text of a refusal, `failed`, `damaged PATH`, the last two behind `far ` for
+    /// the other disk, or that no memory was left.
     pub fn stopped(&mut self, stop: &cny_base::Stop) {
         self.tab();
         self.stop(stop);

@@ -1,8 +1,8 @@
 //! The arguments of a line.
 use crate::stop::Stop;
 use crate::terms::bytes_of;
+use cny_report::cny_base::Bytes;
 use std::alloc::Global;
-use tree_memory::cny_base::Bytes;
 
 /// An argument.
 pub struct Argument {

@@ -5,9 +5,9 @@ use crate::first_stop::FirstStop;
 use crate::stop::Stop;
 use crate::terms::bytes_of;
 use crate::value::Value;
+use cny_report::cny_base::{Copies, Mode, Name, Options, Path, Target, TextFault};
 use cny_report::trove_stream::Installed;
 use std::alloc::Global;
-use tree_memory::cny_base::{Copies, Mode, Name, Options, Path, Target, TextFault};
 
 /// A line. It remembers the first failure of those that read its arguments, which give any value then and go on.
 pub struct Line<'a> {
@@ -374,8 +374,10 @@ impl<'a> Line<'a> {
     )
         requires { F.IsAlwaysCallable call }
     {
-        if let (Some(first), Some(second)) = (self.value(0), self.value(1)) {
-            call(&first, &second, answer);
+        if let Some(first) = self.value(0) {
+            if let Some(second) = self.value(1) {
+                call(&first, &second, answer);
+            }
         }
     }
 }

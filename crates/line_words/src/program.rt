@@ -17,7 +17,7 @@ fn answer_to<C: Calls>(alloc: Global, calls: &mut C, text: &str) -> Result<Strin
     let mut line = Line::new(alloc, text, arguments.as_slice());
     let mut answer = Answer::new(alloc);
     calls.call(&mut line, &mut answer);
-    line.end()?;
+    answer.kept(line.end());
     answer.end()
 }
 
@@ -31,14 +31,24 @@ impl From<Stop> for io::Error {
     }
 }
 
+// Answers a line by a line.
+fn answer_line<C: Calls, W: Write>(
+    alloc: Global,
+    calls: &mut C,
+    line: &str,
+    out: &mut W,
+) -> io::Result<()> {
+    let text = answer_to(alloc, calls, line)?;
+    out.write_all(text.as_str().as_bytes())?;
+    out.write_all(b"\n")
+}
+
 /// Answers each line of standard input by a line of standard output. A line that isn't a call, and want of memory, end the program
 /// with an error.
 pub fn answer_all<C: Calls>(rt: &HostRuntime, calls: &mut C) -> io::Result<()> {
     let mut out = BufWriter::new(rt.alloc(), io::writer(rt))?;
     for line in BufReader::new(rt.alloc(), rt.reader())?.lines(rt.alloc()) {
-        let text = answer_to(rt.alloc(), calls, line?.as_str())?;
-        out.write_all(text.as_str().as_bytes())?;
-        out.write_all(b"\n")?;
+        answer_line(rt.alloc(), calls, line?.as_str(), &mut out)?;
     }
     out.flush()
 }

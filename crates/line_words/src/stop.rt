@@ -1,7 +1,6 @@
 //! Why a line has no answer.
+use cny_report::cny_base::{OutOfMemory, TextFault};
 use std::alloc::{AllocError, AllocFailed};
-use tree_memory::TreeFault;
-use tree_memory::cny_base::{OutOfMemory, TextFault};
 
 /// Why a line has no answer. It ends the program.
 #[derive(Clone, Copy)]
@@ -36,16 +35,6 @@ impl From<TextFault> for Stop {
         match fault {
             TextFault::Bad => Stop::Unreadable,
             TextFault::Memory => Stop::Memory,
-        }
-    }
-}
-
-// What nodes have to be, of a call that takes only trees.
-impl From<TreeFault> for Stop {
-    fn from(fault: TreeFault) -> Self {
-        match fault {
-            TreeFault::NotATree => Stop::Unreadable,
-            TreeFault::Memory => Stop::Memory,
         }
     }
 }

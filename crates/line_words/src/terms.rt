@@ -4,8 +4,8 @@
 //! bytes in one of the first two forms; `N*ITEM`, for N times the bytes of the item; or `N#FRONT#BEHIND`, for each number below
 //! N the bytes in front, five decimal digits of the number, and the bytes behind.
 use crate::stop::Stop;
+use cny_report::cny_base::Bytes;
 use std::alloc::Global;
-use tree_memory::cny_base::Bytes;
 
 // A greater number of times is refused.
 const MOST_TIMES: usize = 1_000_000;

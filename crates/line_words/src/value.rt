@@ -2,11 +2,11 @@
 use crate::stop::Stop;
 use cny_dep::Dep;
 use cny_flavor::Flavor;
+use cny_report::cny_base::{Bytes, Mode, Name, Path, Target, Text, read_octal, text_of};
 use cny_report::trove_parts::{TroveId, read_id};
 use cny_report::trove_stream::{Trove, decode};
 use cny_version::{Label, Version};
 use std::alloc::Global;
-use tree_memory::cny_base::{Bytes, Mode, Name, Path, Target, Text, read_octal, text_of};
 
 /// What is read of the bytes of an argument, or of a part of one.
 pub trait Value: Drop {

@@ -1,8 +1,7 @@
 //! Why a call has no value, as it is told.
 use crate::answer::Answer;
-use tree_memory::TreeFault;
-use tree_memory::cny_base::{Fault, OutOfMemory, Stop, TextFault};
-use tree_memory::tree_disk::DiskStop;
+use cny_report::cny_base::{Fault, OutOfMemory, Stop, TextFault};
+use tree_scan::tree_disk::DiskStop;
 
 /// Why a call has no value.
 pub trait Why: Drop {
@@ -48,15 +47,6 @@ impl Why for DiskStop {
             DiskStop::Failed => answer.field("failed"),
             DiskStop::Refused => answer.field("refused"),
             DiskStop::Memory => answer.memory(),
-        }
-    }
-}
-
-impl Why for TreeFault {
-    fn tell(self, answer: &mut Answer) {
-        match self {
-            TreeFault::NotATree => answer.field("no tree"),
-            TreeFault::Memory => answer.memory(),
         }
     }
 }

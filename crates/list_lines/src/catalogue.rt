@@ -108,13 +108,11 @@ fn latest_like<'a>(
 /// `latest NAME VERSION ASKED`: `Catalogue::latest` of the branch, the upstream and, for the word `source`, the source count of
 /// the version.
 pub fn latest(catalogue: &Catalogue, line: &mut Line, answer: &mut Answer) {
-    let name = line.trove_name(0);
-    let version = line.value::<Version>(1);
-    if let (Some(name), Some(version)) = (name, version) {
-        trove(
-            latest_like(catalogue, &name, &version, line.text(2)),
-            answer,
-        );
+    if let Some(name) = line.trove_name(0) {
+        if let Some(version) = line.value::<Version>(1) {
+            let found = latest_like(catalogue, &name, &version, line.text(2));
+            trove(found, answer);
+        }
     }
 }
 

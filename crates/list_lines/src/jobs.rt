@@ -71,9 +71,10 @@ fn changes(found: &Changes, answer: &mut Answer) {
 
 /// `changed TROVES TROVES`: what changes from one installed list to another.
 pub fn compare(line: &mut Line, answer: &mut Answer) {
-    let before = line.installed(0);
-    if let (Some(before), Some(after)) = (before, line.installed(1)) {
-        answer.outcome(changed(line.alloc(), &before, &after), changes);
+    if let Some(before) = line.installed(0) {
+        if let Some(after) = line.installed(1) {
+            answer.outcome(changed(line.alloc(), &before, &after), changes);
+        }
     }
 }
 

@@ -1,7 +1,7 @@
 //! Local changes of trees.
 ghost use Rattle.root_edits.specs.change-set.ChangeSet.{HasContents};
 
-use crate::plans::disk_of;
+use crate::plans::disk_at;
 use line_words::{Answer, Line};
 use root_edits::change_set::{ChangeSet, encode};
 use root_edits::cny_base::{Bytes, Name};
@@ -23,7 +23,7 @@ fn told(set: &ChangeSet, answer: &mut Answer)
 }
 
 fn changed(installed: &Installed, name: &Name, line: &mut Line, answer: &mut Answer) {
-    if let Some(mut disk) = disk_of(line, 1) {
+    if let Some(mut disk) = disk_at(line, 1) {
         match local(answer.alloc(), &mut disk, installed, name) {
             Ok(set) => told(&set, answer),
             Err(stop) => answer.stopped(&stop),
@@ -33,8 +33,9 @@ fn changed(installed: &Installed, name: &Name, line: &mut Line, answer: &mut Ans
 
 /// `local WORDS NODES TROVES NAME`: the stream of the change set of what was changed of the named trove.
 pub fn edits(line: &mut Line, answer: &mut Answer) {
-    let name = line.trove_name(3);
-    if let (Some(name), Some(installed)) = (name, line.installed(2)) {
-        changed(&installed, &name, line, answer);
+    if let Some(name) = line.trove_name(3) {
+        if let Some(installed) = line.installed(2) {
+            changed(&installed, &name, line, answer);
+        }
     }
 }

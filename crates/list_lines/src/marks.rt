@@ -2,7 +2,8 @@
 use crate::plans::on_disk;
 use job_targets::cny_base::{Copies, Path, Stop};
 use job_targets::trove_stream::{FileAt, Trove};
-use line_words::{Answer, Line, Quiet};
+use line_words::{Answer, Line};
+use root_words::Quiet;
 use std::alloc::Global;
 use tree_scan::{
     Finding, Findings, Found, Mark, Verified, are_same_marks, differing, mark_at, mark_file,
@@ -83,9 +84,10 @@ fn have_same_marks(
 }
 
 fn compared(disk: &mut Quiet, line: &mut Line, answer: &mut Answer) {
-    let one = line.path(2);
-    if let (Some(one), Some(other)) = (one, line.path(3)) {
-        answer.outcome(have_same_marks(line.alloc(), disk, &one, &other), told);
+    if let Some(one) = line.path(2) {
+        if let Some(other) = line.path(3) {
+            answer.outcome(have_same_marks(line.alloc(), disk, &one, &other), told);
+        }
     }
 }
 

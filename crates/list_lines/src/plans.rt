@@ -2,13 +2,14 @@
 use conflict_plan::{Planned, PlannedList, plan};
 use job_targets::file_stream::FileRec;
 use job_targets::trove_stream::Trove;
-use line_words::{Answer, Line, Quiet};
+use line_words::{Answer, Line};
+use root_words::{Quiet, disk_of};
 use tree_scan::Mark;
 
 /// The disk at a place. Its first call fails where the first argument has the word `fail`.
-pub fn disk_of(line: &mut Line, place: usize) -> Option<Quiet> {
+pub fn disk_at(line: &mut Line, place: usize) -> Option<Quiet> {
     let failing = u64::from(line.mentions(0, "fail"));
-    line.disk(place, failing)
+    disk_of(line, place, failing)
 }
 
 /// Calls with that disk.
@@ -20,8 +21,9 @@ pub fn on_disk<F: FnOnce(&mut Quiet, &mut Line, &mut Answer)>(
 )
     requires { F.IsAlwaysCallable call }
 {
-    let failing = u64::from(line.mentions(0, "fail"));
-    line.on_disk(place, failing, answer, call);
+    if let Some(mut disk) = disk_at(line, place) {
+        call(&mut disk, line, answer);
+    }
 }
 
 fn record(rec: &FileRec, answer: &mut Answer) {

@@ -50,7 +50,9 @@ pub fn move_onto(catalogue: &Catalogue, line: &mut Line, answer: &mut Answer) {
     let way = way_of(line);
     if !all_refer_within(catalogue) {
         answer.text("refers outside");
-    } else if let (Some(root), Some(label)) = (root, label) {
-        answer.outcome(moved(line.alloc(), catalogue, &root, &label, way), troves);
+    } else if let Some(root) = root {
+        if let Some(label) = label {
+            answer.outcome(moved(line.alloc(), catalogue, &root, &label, way), troves);
+        }
     }
 }

@@ -58,10 +58,11 @@ fn config_of(line: &mut Line) -> Option<Config> {
 
 /// `resolve SPEC LABELS FLAVOR`, with a copy of the configuration of these labels and this flavor: the id.
 pub fn resolved(catalogue: &Catalogue, line: &mut Line, answer: &mut Answer) {
-    let spec = line.read(0, Spec::read);
-    if let (Some(spec), Some(config)) = (spec, config_of(line)) {
-        let text = line.text(0);
-        answer.outcome(resolve(line.alloc(), catalogue, &spec, text, &config), id);
+    if let Some(spec) = line.read(0, Spec::read) {
+        if let Some(config) = config_of(line) {
+            let text = line.text(0);
+            answer.outcome(resolve(line.alloc(), catalogue, &spec, text, &config), id);
+        }
     }
 }
 

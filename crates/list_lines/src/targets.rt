@@ -1,9 +1,10 @@
 //! Write sets of plans.
-use crate::plans::{disk_of, plan_of};
+use crate::plans::{disk_at, plan_of};
 use conflict_plan::{Planned, PlannedList};
 use job_targets::journal_log::{Put, Want};
 use job_targets::{Entry, Targets, are_rising, mark_of, targets_of};
-use line_words::{Answer, Line, Quiet, are_in_order};
+use line_words::{Answer, Line};
+use root_words::{Quiet, are_in_order, carried_of, disk_of, far_of};
 
 // A number of the first 4,096 bytes that other bytes of the same SHA-1 hardly have.
 fn checksum(bytes: &[u8]) -> u32 {
@@ -67,8 +68,8 @@ fn told(made: &Targets, finds: u64, files: u64, answer: &mut Answer) {
 
 // The write set of changes, with the contents of the sixth and the seventh argument.
 fn make(disk: &mut Quiet, planned: &[Planned], line: &mut Line, answer: &mut Answer) {
-    let carried = line.carried(5);
-    let mut far = line.far(6);
+    let carried = carried_of(line, 5);
+    let mut far = far_of(line, 6);
     if !are_rising(planned) || !are_in_order(&carried) {
         return line.unreadable();
     }
@@ -81,7 +82,7 @@ fn make(disk: &mut Quiet, planned: &[Planned], line: &mut Line, answer: &mut Ans
 // The write set of a plan, where the tree of the fifth argument stands, or still that of the second one.
 fn made(list: &PlannedList, line: &mut Line, answer: &mut Answer) {
     let place = if line.raw(4) == "=" { 1 } else { 4 };
-    if let Some(mut disk) = disk_of(line, place) {
+    if let Some(mut disk) = disk_at(line, place) {
         make(&mut disk, list.get(), line, answer);
     }
 }
@@ -96,5 +97,7 @@ fn between(disk: &mut Quiet, line: &mut Line, answer: &mut Answer) {
 /// `NOW` stands, or the nodes still for an equals sign. Of the words, `fail` makes the first call of the disk fail that stands now, and
 /// the others are those of `plan`.
 pub fn of_plan(line: &mut Line, answer: &mut Answer) {
-    line.on_disk(1, 0, answer, between);
+    if let Some(mut disk) = disk_of(line, 1, 0) {
+        between(&mut disk, line, answer);
+    }
 }

@@ -2,8 +2,9 @@
 use crate::plans::on_disk;
 use job_targets::cny_base::{Copies, Name, OutOfMemory, Path};
 use line_words::cny_report::verified_text;
-use line_words::{Answer, Line, Quiet};
+use line_words::{Answer, Line};
 use root_edits::verify;
+use root_words::{Quiet, far_of};
 use std::alloc::Global;
 use tree_scan::{Finding, Findings, Found, Verified};
 
@@ -17,7 +18,7 @@ fn found(found: &Verified, answer: &mut Answer) {
 
 fn verified(disk: &mut Quiet, line: &mut Line, answer: &mut Answer) {
     let names = line.list::<Name>(3);
-    let mut far = line.far(4);
+    let mut far = far_of(line, 4);
     if let Some(installed) = line.installed(2) {
         let verified = verify(line.alloc(), disk, &installed, &names, &mut far);
         answer.outcome(verified, found);

@@ -1,8 +1,8 @@
 //! Calls on databases.
+use crate::root::{push_db, root_of};
 use line_words::{Answer, Line};
 use local_db::{Db, decode, encode, load};
 use rollback_stack::next_number;
-use root_words::{disk_of, push_db};
 use system_core::cny_base::{Bytes, Copies};
 
 fn told_bytes(bytes: &Bytes, answer: &mut Answer) {
@@ -42,7 +42,7 @@ pub fn encoded(line: &mut Line, answer: &mut Answer) {
 
 /// `load FAILS TREE`: the database of a root, on a disk of which the call of the number FAILS fails; none for 0.
 pub fn loaded(line: &mut Line, answer: &mut Answer) {
-    if let Some(mut disk) = disk_of(line) {
+    if let Some(mut disk) = root_of(line) {
         answer.outcome(load(answer.alloc(), &mut disk), told_copy);
     }
 }

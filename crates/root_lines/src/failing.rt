@@ -1,7 +1,8 @@
 //! Calls on roots that are cut off, and calls over disks that fail.
 use crate::jobs::make;
-use line_words::{Answer, Argument, Line, Outcomes, Quiet, Stop, arguments_of};
-use root_words::{PRIVATE, crashed, push_db, readied};
+use crate::root::{PRIVATE, push_db, readied};
+use line_words::{Answer, Argument, Line, Outcomes, Stop, arguments_of};
+use root_words::{Quiet, crashed, disk_of, told_but, told_nodes};
 use std::alloc::Global;
 
 // More calls of the disk than any of the calls makes.
@@ -74,7 +75,7 @@ pub fn push_ready(disk: &mut Quiet, answer: &mut Answer) {
 // The SHA-1 of what stands outside the private directory.
 fn push_name(disk: &Quiet, answer: &mut Answer) {
     let mut outer = answer.apart();
-    outer.nodes_but(&disk.tree, |path| path.starts_with(PRIVATE));
+    told_but(&disk.tree, |path| path.starts_with(PRIVATE), &mut outer);
     if let Some(nodes) = answer.kept(outer.end()) {
         answer.sha1(nodes.as_bytes());
     }
@@ -100,7 +101,7 @@ impl Left {
     fn by(call: &Call, disk: &mut Quiet, pick: u64, answer: &mut Answer) -> Option<Left> {
         let said = call.made(disk, answer);
         let said = answer.kept(said.end())?;
-        let disk = answer.kept(crashed(answer.alloc(), disk, pick))?;
+        let disk = answer.kept(crashed(answer.alloc(), &disk.tree, pick))?;
         Some(Left { said, disk })
     }
 
@@ -113,7 +114,7 @@ impl Left {
     fn whole(&self, answer: &Answer) -> Answer {
         let mut whole = answer.apart();
         whole.text(self.said.as_str());
-        whole.nodes(&self.disk.tree);
+        told_nodes(&self.disk.tree, &mut whole);
         whole
     }
 
@@ -182,7 +183,7 @@ impl Told {
 // The disk of the second argument, which stops after so many calls or, where it doesn't stop, of which the next one fails.
 fn disk_after(calls: u32, stops: bool, line: &mut Line) -> Option<Quiet> {
     let failing = if stops { 0 } else { u64::from(calls) + 1 };
-    let mut disk = line.disk(1, failing)?;
+    let mut disk = disk_of(line, 1, failing)?;
     if stops {
         disk.tree.stop_after(calls);
     }

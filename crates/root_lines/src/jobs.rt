@@ -6,10 +6,11 @@ ghost use Rattle.system_core.specs.change-set.declared.change.Carried as declare
 ghost use Rattle.local_db.specs.declared.format.Format.TheVariants.{Two};
 ghost use Rattle.local_db.specs.Stores.{IsDatabase};
 
+use crate::root::{push_db, readied};
 use line_words::cny_report::{changes_text, verified_text};
-use line_words::{Answer, Line, Quiet, are_in_order};
-use local_db::Db;
-use root_words::{are_allowed, list_of, push_db, readied, troves_of};
+use line_words::{Answer, Line};
+use local_db::{Db, are_allowed};
+use root_words::{Quiet, are_in_order, carried_of, edit_at, far_of, list_of, troves_of};
 use system_core::change_set::Carried;
 use system_core::cny_base::{Name, OutOfMemory, Text};
 use system_core::trove_stream::{Installed, Trove};
@@ -54,7 +55,7 @@ fn update_to(
     if !are_allowed(answer.alloc(), come) || !are_in_order(carried) {
         return line.unreadable();
     }
-    let mut far = line.far(3);
+    let mut far = far_of(line, 3);
     let done = update(answer.alloc(), disk, db, come, carried, &mut far, &options);
     answer.outcome(done, told_job);
 }
@@ -64,7 +65,7 @@ fn updated(disk: &mut Quiet, db: &mut Db, line: &mut Line, answer: &mut Answer)
     requires { IsDatabase Two db.old.installed db.old.oldest db.old.newest }
 {
     let come = troves_of(line, 1);
-    let carried = line.carried(2);
+    let carried = carried_of(line, 2);
     update_to(disk, db, &come, &carried, line, answer);
 }
 
@@ -76,7 +77,7 @@ fn adopt_list(disk: &mut Quiet, db: &mut Db, list: Installed, line: &mut Line, a
     if !are_allowed(answer.alloc(), list.troves()) {
         return line.unreadable();
     }
-    let mut far = line.far(2);
+    let mut far = far_of(line, 2);
     let done = adopt(answer.alloc(), disk, db, list, &mut far, &options);
     answer.outcome(done, told_job);
 }
@@ -124,7 +125,7 @@ fn all_taken_back(disk: &mut Quiet, db: &mut Db, line: &mut Line, answer: &mut A
 // `verify NAMES FAR`.
 fn verified(disk: &mut Quiet, db: &Db, line: &mut Line, answer: &mut Answer) {
     let names = line.list::<Name>(0);
-    let mut far = line.far(1);
+    let mut far = far_of(line, 1);
     let found = verify(answer.alloc(), disk, &db.installed, &names, &mut far);
     if let Some(found) = answer.given(found) {
         push_lines(verified_text(answer.alloc(), &found), answer);
@@ -148,11 +149,8 @@ fn made_on(disk: &mut Quiet, db: &mut Db, line: &mut Line, answer: &mut Answer)
 // `edit NODE`: another program puts a node, or takes away what stands.
 fn edit(disk: &mut Quiet, line: &mut Line, answer: &mut Answer) {
     let raw = line.raw(0);
-    if let Some((path, node)) = line.placed_of(raw) {
-        let edited = disk.tree.edit(answer.alloc(), &path, node);
-        line.kept(edited);
-        answer.text("edited");
-    }
+    edit_at(&mut disk.tree, line, raw);
+    answer.text("edited");
 }
 
 // Makes a call with the database of a root, and tells what comes of it, and the database that it left.

@@ -4,11 +4,13 @@
 #![tactic(auto)]
 
 mod databases;
+mod entries;
 mod failing;
 mod jobs;
 mod migration;
 mod newest_job;
 mod records;
+mod root;
 mod roots;
 mod saved;
 mod stack;

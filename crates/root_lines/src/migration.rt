@@ -1,7 +1,9 @@
 //! Calls on roots of format 1.
-use line_words::{Answer, Line, Quiet};
+use crate::entries::told_puts;
+use crate::root::{PRIVATE, root_of};
+use line_words::{Answer, Line};
 use rollback_stack::migrated;
-use root_words::{PRIVATE, crashed, disk_of, told_puts};
+use root_words::{Quiet, crashed, disk_of, told_kept};
 use std::alloc::Global;
 use system_core::cny_base::Stop;
 use system_core::journal_log::Puts;
@@ -16,7 +18,7 @@ fn told_some(puts: &Option<Puts>, answer: &mut Answer) {
 
 /// `migrated FAILS TREE`: the writes that bring the root to format 2. The call of the disk of the number FAILS fails; none for 0.
 pub fn migrated_puts(line: &mut Line, answer: &mut Answer) {
-    if let Some(mut disk) = disk_of(line) {
+    if let Some(mut disk) = root_of(line) {
         answer.outcome(migrated(answer.alloc(), &mut disk), told_some);
     }
 }
@@ -33,13 +35,13 @@ fn crashed_migration(disk: &mut Quiet, pick: u64, answer: &mut Answer) -> Option
         Ok(()) | Err(Stop::Failed) => (),
         Err(_) => answer.unreadable(),
     }
-    answer.kept(crashed(answer.alloc(), disk, pick))
+    answer.kept(crashed(answer.alloc(), &disk.tree, pick))
 }
 
 // What stands but the journal's own files once the root is brought to format 2.
 fn push_migrated(disk: &mut Quiet, answer: &mut Answer) {
     if answer.given(migrate_on(answer.alloc(), disk)).is_some() {
-        answer.nodes_kept(&disk.tree, PRIVATE);
+        told_kept(&disk.tree, PRIVATE, answer);
     }
 }
 
@@ -47,7 +49,7 @@ fn push_migrated(disk: &mut Quiet, answer: &mut Answer) {
 /// after so many calls of the disk, and then crashed as the number picks.
 pub fn migrate(line: &mut Line, answer: &mut Answer) {
     let (pick, calls) = (line.number(0), line.small(2));
-    if let Some(mut disk) = line.disk(1, 0) {
+    if let Some(mut disk) = disk_of(line, 1, 0) {
         disk.tree.stop_after(calls);
         if let Some(mut left) = crashed_migration(&mut disk, pick, answer) {
             push_migrated(&mut left, answer);
@@ -58,7 +60,7 @@ pub fn migrate(line: &mut Line, answer: &mut Answer) {
 /// `within TREE CALLS`: whether bringing the root to format 2 ends within so many calls of the disk.
 pub fn within(line: &mut Line, answer: &mut Answer) {
     let calls = line.small(1);
-    if let Some(mut disk) = line.disk(0, 0) {
+    if let Some(mut disk) = disk_of(line, 0, 0) {
         disk.tree.stop_after(calls);
         if answer
             .given(migrate_on(answer.alloc(), &mut disk))

@@ -1,6 +1,5 @@
 //! The newest job of a root, by its record and the contents that it saved.
 ghost use Rattle.std.specs.Prelude.{◌≡◌, ◌≤◌, false, All, IfOk, OnOk};
-ghost use Rattle.rollback_stack.specs.JobEntries as records;
 ghost use Rattle.job_targets.specs.Old.{is_staged};
 ghost use Rattle.job_targets.specs.declared.entry.Entry as declared;
 ghost use Rattle.local_db.specs.Installed.{IsInstalled};
@@ -11,13 +10,13 @@ ghost use Rattle.rollback_stack.specs.Entries as spec;
 ghost use Rattle.rollback_stack.specs.Entries.{AreEntries};
 
 use job_targets::{Entries, Entry, old_node};
-use line_words::Quiet;
-use local_db::{Db, Format};
+use local_db::{Db, Format, PathChange};
 use past_jobs::PastList;
-use rollback_stack::{Change, Job, read_job};
+use rollback_stack::{Job, read_job};
+use root_words::Quiet;
 use std::alloc::Global;
 use system_core::changed_names;
-use system_core::cny_base::{Name, OutOfMemory, Refusal, Stop};
+use system_core::cny_base::{Copies, Name, OutOfMemory, Refusal, Stop};
 use system_core::trove_stream::Installed;
 use update_job::changed;
 
@@ -30,17 +29,19 @@ pub struct NewestJob {
 }
 
 // The entry of a change, with what was saved of it.
-fn entry_of(alloc: Global, disk: &mut Quiet, number: u32, change: Change) -> Result<Entry, Stop>
-    ensures entry { IfOk result (λ entry. spec.entry_of entry ≡ records.entry_of change) }
+fn entry_of(
+    alloc: Global,
+    disk: &mut Quiet,
+    number: u32,
+    change: &PathChange,
+) -> Result<Entry, Stop>
+    ensures entry { IfOk result (λ entry. spec.entry_of entry ≡ change.now) }
     ensures given { IfOk result (λ entry. is_staged entry.was ≡ false) }
 {
-    let was = old_node(alloc, disk, number, &change.before)?;
-    let Change { path, after, .. } = change;
-    Ok(Entry {
-        path,
-        was,
-        mark: after,
-    })
+    let was = old_node(alloc, disk, number, change.old_mark())?;
+    let path = change.path().copy()?;
+    let mark = change.new_mark().copy()?;
+    Ok(Entry { path, was, mark })
 }
 
 // The entries of the changes, each with what was saved of it.
@@ -48,14 +49,14 @@ fn entries_of(
     alloc: Global,
     disk: &mut Quiet,
     number: u32,
-    changes: Vec<Change>,
+    changes: Vec<PathChange>,
 ) -> Result<Vec<Entry>, Stop>
-    ensures entries { IfOk result (λ entries. spec.entries_of entries.items ≡ records.entries_of changes.items) }
+    ensures entries { IfOk result (λ entries. spec.entries_of entries.items ≡ changes.items) }
     ensures given { IfOk result (λ entries. All (λ (e : declared.Entry). is_staged e.was ≡ false) entries.items) }
 {
     let mut entries = Vec::new(alloc);
     for change in changes {
-        entries.push(entry_of(alloc, disk, number, change)?)?;
+        entries.push(entry_of(alloc, disk, number, &change)?)?;
     }
     Ok(entries)
 }

@@ -1,14 +1,15 @@
 //! Lines of calls on roots. LABEL says what a line shows. A CALL is an argument: the name of a call and what it takes, with a `|`
 //! between two.
 use crate::failing::{Call, push_all, push_ready};
-use line_words::tree_memory::MemoryTree;
+use crate::root::PRIVATE;
 use line_words::{Answer, Line, Outcomes};
-use root_words::PRIVATE;
+use root_words::tree_memory::MemoryTree;
+use root_words::{disk_of, told_kept};
 use system_core::cny_base::Path;
 
 /// `run LABEL TREE CALL..`: the calls are made one after the other: the answers, what is ready then, and what stands.
 pub fn run(line: &mut Line, answer: &mut Answer) {
-    let Some(mut disk) = line.disk(1, 0) else {
+    let Some(mut disk) = disk_of(line, 1, 0) else {
         return;
     };
     for place in 2..line.len() {
@@ -21,7 +22,7 @@ pub fn run(line: &mut Line, answer: &mut Answer) {
     answer.tab();
     push_ready(&mut disk, answer);
     answer.tab();
-    answer.nodes_kept(&disk.tree, PRIVATE);
+    told_kept(&disk.tree, PRIVATE, answer);
 }
 
 /// `stop LABEL TREE PICK CALL`: the call is cut off after each number of calls of the disk, the crash that the number picks is made
@@ -73,7 +74,7 @@ fn push_seen(tree: &MemoryTree, path: &Path, answer: &mut Answer) {
 /// `seen LABEL TREE PATHS CALL`: the call's answer, and what others read at each of the paths meanwhile.
 pub fn seen(line: &mut Line, answer: &mut Answer) {
     let paths = line.list::<Path>(2);
-    if let Some(mut disk) = line.disk(1, 0) {
+    if let Some(mut disk) = disk_of(line, 1, 0) {
         if let Some(call) = Call::of(line, 3) {
             let said = call.made(&mut disk, answer);
             answer.add(&said);

@@ -1,7 +1,8 @@
 //! Calls on the contents that jobs save.
+use crate::entries::{entries_of, told_want};
+use crate::root::root_of;
 use job_targets::{Entries, old_node, stashable};
 use line_words::{Answer, Line};
-use root_words::{disk_of, entries_of, told_want};
 use system_core::cny_base::Copies;
 
 fn push_stashable(entries: &Entries, answer: &mut Answer) {
@@ -17,7 +18,7 @@ pub fn can_save(line: &mut Line, answer: &mut Answer) {
 /// `old FAILS TREE NUMBER MARK`: what the job of the number found at a path of which this is the fingerprint. The call of the disk
 /// of the number FAILS fails; none for 0.
 pub fn old(line: &mut Line, answer: &mut Answer) {
-    if let Some(mut disk) = disk_of(line) {
+    if let Some(mut disk) = root_of(line) {
         let raw = line.raw(3);
         let mark = line.mark_of(raw);
         let want = old_node(answer.alloc(), &mut disk, line.small(2), &mark);

@@ -1,9 +1,11 @@
 //! Jobs that are taken back one after the other, on the fingerprints of a tree.
-use line_words::{Answer, Line, Quiet, Why};
-use local_db::Change;
+use crate::entries::entries_of;
+use crate::root::root_of;
+use line_words::{Answer, Line, Why};
+use local_db::PathChange;
 use past_jobs::{FoundMarks, are_rising, check_undo, take_back};
 use rollback_stack::changes_of;
-use root_words::{disk_of, entries_of};
+use root_words::Quiet;
 use std::collections::BTreeMap;
 
 // What jobs that were taken back found, over the disk on which they are.
@@ -24,7 +26,7 @@ impl Drop for Taken {
 
 impl Taken {
     // Takes changes back, and answers whether they can be; else why not stands in the answer.
-    fn undo_changes(&mut self, number: u32, changes: &[Change], answer: &mut Answer) -> bool {
+    fn undo_changes(&mut self, number: u32, changes: &[PathChange], answer: &mut Answer) -> bool {
         if !are_rising(changes) {
             answer.unreadable();
             return false;
@@ -79,7 +81,7 @@ impl Taken {
 /// each of their paths the oldest job that has it, and the fingerprint of what that found; or which of them can't be, and why. The
 /// call of the disk of the number FAILS fails; none for 0.
 pub fn undo_all(line: &mut Line, answer: &mut Answer) {
-    if let Some(disk) = disk_of(line) {
+    if let Some(disk) = root_of(line) {
         let found = BTreeMap::new(answer.alloc());
         Taken { disk, found }.undo_jobs(line, answer);
     }

@@ -1,11 +1,21 @@
-//! The words of lines that give jobs and roots, and what is told of them: troves, entries and contents of a line, the database of a
-//! root, and the writes of a job. What the programs share that make calls on roots.
+//! The words of lines that give disks and what jobs take: disks in memory that tell contracts nothing, made of the nodes of a line, what
+//! is to stand on them, contents, and troves. What the programs share that make calls on disks.
 #![tactic(auto)]
 
-mod databases;
-mod entries;
+mod carried;
+mod disks;
+mod far;
+mod listing;
+mod quiet;
 mod troves;
+mod wants;
 
-pub use databases::{PRIVATE, crashed, database_of, disk_of, push_db, readied};
-pub use entries::{entries_of, told_puts, told_want};
-pub use troves::{are_allowed, list_of, troves_of};
+pub use carried::{are_in_order, carried_of};
+pub use content_store;
+pub use disks::{crashed, disk_of, edit, edit_at, empty_disk, nodes_of};
+pub use far::{Far, far_of};
+pub use listing::{paths_of, told_but, told_kept, told_nodes};
+pub use quiet::Quiet;
+pub use tree_memory;
+pub use troves::{list_of, troves_of};
+pub use wants::placed_want;

@@ -1,11 +1,8 @@
 //! Troves of a line.
-ghost use Rattle.std.specs.Prelude.{◌≡◌, ◌↔◌, All, IsTrue, None};
-ghost use Rattle.system_core.specs.trove-stream.Forbidden.{first_forbidden};
-
+use change_set::trove_stream::{Installed, Trove, decode_full};
 use line_words::{Line, Stop};
 use std::alloc::Global;
-use system_core::cny_base::Bytes;
-use system_core::trove_stream::{Installed, Trove, check, decode_full};
+use tree_memory::cny_base::Bytes;
 
 fn push_trove(line: &mut Line, troves: &mut Vec<Trove>, stream: &[u8]) {
     let trove = decode_full(line.alloc(), stream);
@@ -78,23 +75,4 @@ pub fn troves_of(line: &mut Line, place: usize) -> Vec<Trove> {
 pub fn list_of(line: &mut Line, place: usize) -> Option<Installed> {
     let list = Installed::new(troves_of(line, place));
     line.some(list)
-}
-
-// Whether the trove records no path that no trove may record.
-fn is_allowed(alloc: Global, trove: &Trove) -> bool
-    ensures { IsTrue result ↔ (first_forbidden trove.now.files ≡ None) }
-{
-    check(alloc, trove).is_ok()
-}
-
-/// Whether none of the troves records a path that no trove may record.
-pub fn are_allowed(alloc: Global, troves: &[Trove]) -> bool
-    ensures { IsTrue result ↔ All (λ t. first_forbidden t.files ≡ None) troves.now }
-{
-    for trove in troves {
-        if !is_allowed(alloc, trove) {
-            return false;
-        }
-    }
-    true
 }

@@ -1,7 +1,6 @@
 //! Calls on batches, and on the lines of the demo: the lines of one, as a text.
 use crate::again::push_shown;
-use cny_demo::cny_batch::{Line as BatchLine, Lines, read_batch};
-use cny_demo::{line_count, line_of};
+use cny_batch::{Line as BatchLine, Lines, line_count, line_of, read_batch};
 use line_words::{Answer, Line};
 
 // So many lines, and of each so many words, are shown.

@@ -68,9 +68,10 @@ fn push_made(rel: &RelTrove, answer: &mut Answer) {
 /// `RelTrove::make` of the texts of two ids and of items: the relative trove, and the digests of its two streams behind
 /// an `x`.
 pub fn make(answer: &mut Answer, line: &mut Line) {
-    let old = line.value::<TroveId>(0);
-    if let (Some(old), Some(fresh)) = (old, line.value::<TroveId>(1)) {
-        let parts = parts_of(answer, old, fresh, line);
-        answer.outcome(RelTrove::make(parts), push_made);
+    if let Some(old) = line.value::<TroveId>(0) {
+        if let Some(fresh) = line.value::<TroveId>(1) {
+            let parts = parts_of(answer, old, fresh, line);
+            answer.outcome(RelTrove::make(parts), push_made);
+        }
     }
 }

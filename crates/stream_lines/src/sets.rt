@@ -53,8 +53,9 @@ fn parts_of(alloc: Global, streams: &[Bytes]) -> Result<ChangeSet, Fault>
 {
     let mut parts = Vec::new(alloc);
     for stream in streams {
-        for part in decode(alloc, stream.get())?.parts.into_vec() {
-            parts.push(part)?;
+        let set = decode(alloc, stream.get())?;
+        for part in set.parts.get() {
+            parts.push(part.copy()?)?;
         }
     }
     Ok(ChangeSet {

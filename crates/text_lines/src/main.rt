@@ -25,15 +25,19 @@ use std::io;
 
 // Whether the values of the first two arguments are equal.
 fn equality<T: Value + Eq>(line: &mut Line, answer: &mut Answer) {
-    if let (Some(first), Some(second)) = (line.value::<T>(0), line.value::<T>(1)) {
-        answer.equality(first == second);
+    if let Some(first) = line.value::<T>(0) {
+        if let Some(second) = line.value::<T>(1) {
+            answer.equality(first == second);
+        }
     }
 }
 
 // Their order.
 fn order<T: Value + Ord>(line: &mut Line, answer: &mut Answer) {
-    if let (Some(first), Some(second)) = (line.value::<T>(0), line.value::<T>(1)) {
-        answer.order(first.cmp(&second), first == second);
+    if let Some(first) = line.value::<T>(0) {
+        if let Some(second) = line.value::<T>(1) {
+            answer.order(first.cmp(&second), first == second);
+        }
     }
 }
 

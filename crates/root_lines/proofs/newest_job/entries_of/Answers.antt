@@ -1,7 +1,6 @@
 use Rattle.std.proofs.Common.{◌≡◌, false, [], ◌++◌, ◌∷◌, All, ap, sym, ◌∙◌, subst}
 use Rattle.std.proofs.lemmas.List.{map_push}
 use Rattle.std.proofs.lemmas.List.Elements.{All-nil, All-push}
-use Rattle.rollback_stack.specs.JobEntries as records
 use Rattle.job_targets.specs.declared.entry.Entry.{Entry}
 use Rattle.job_targets.specs.Old.{is_staged}
 use Rattle.rollback_stack.specs.Entries as spec
@@ -24,7 +23,7 @@ loop-change-preserved c =
     let same = so_far.same in
     let next = c.in_ok-entry_of.ensures.entry in
     record {
-      same = ap spec.entries_of pushed ∙ map_push spec.entry_of es entry ∙ (λ i. same i ++ next i ∷ []) ∙ sym (map_push records.entry_of c.loop-change.yielded c.in-Some.change);
+      same = ap spec.entries_of pushed ∙ map_push spec.entry_of es entry ∙ (λ i. same i ++ next i ∷ []);
       given = subst (All (λ (e : Entry). is_staged e.was ≡ false)) (sym pushed)
           (All-push (λ (e : Entry). is_staged e.was ≡ false) es entry so_far.given c.in_ok-entry_of.ensures.given);
     }

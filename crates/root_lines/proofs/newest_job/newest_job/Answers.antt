@@ -1,7 +1,6 @@
 use Rattle.std.proofs.Common.{◌≡◌, ◌≤◌, ◌⊎◌, ⊎_elim, ℕ, false, All, ap, sym, ◌∙◌, subst, arith}
 use Rattle.std.specs.Prelude.{◌≢◌}
 use Rattle.std.specs.List.Sorted.{IsStrictlySortedBy}
-use Rattle.rollback_stack.specs.JobEntries as records
 use Rattle.job_targets.specs.declared.entry.Entry.{Entry}
 use Rattle.job_targets.specs.Old.{is_staged}
 use Rattle.local_db.specs.Formats.{AreEnds}
@@ -26,7 +25,7 @@ pub returns-clause-entries : goal.returns-clause-entries
 returns-clause-entries c =
     let is = c.in_ok-job.ensures.job in
     let made = c.new-entries.ensures in
-    let same : spec.entries_of c.new-entries.result ≡ records.entries_of c.in_ok-job.job.changes.items = ap spec.entries_of made ∙ c.in_ok-entries.ensures.entries in
+    let same : spec.entries_of c.new-entries.result ≡ c.in_ok-job.job.changes.items = ap spec.entries_of made ∙ c.in_ok-entries.ensures.entries in
     record {
       given = subst (All (λ (e : Entry). is_staged e.was ≡ false)) (sym made) c.in_ok-entries.ensures.given;
       entries_are = subst (All state.IsEntry) (sym same) is.entries_are;

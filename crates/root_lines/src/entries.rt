@@ -3,10 +3,11 @@
 use job_targets::journal_log::{Puts, Want};
 use job_targets::{Entries, Entry};
 use line_words::{Answer, Line};
+use root_words::placed_want;
 
 fn entry_of(line: &mut Line, raw: &str) -> Option<Entry> {
     let (node, mark) = raw.split_once('|').unwrap_or((raw, ""));
-    let (path, was) = line.placed_want(node)?;
+    let (path, was) = placed_want(line, node)?;
     let mark = line.mark_of(mark);
     Some(Entry { path, was, mark })
 }

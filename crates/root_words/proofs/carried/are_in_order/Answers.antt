@@ -5,7 +5,7 @@ use Rattle.std.proofs.lemmas.List.Sorted.{answers_always}
 use Rattle.change_set.specs.declared.change.Carried.{Carried}
 use Rattle.change_set.specs.ChangeSet.{content_cmp}
 use Rattle.change_set.proofs.trove-parts.Rising.{is_less, rising_answer}
-use Rattle.line_words.proofs.carried.are_in_order.Goals as goal
+use Rattle.root_words.proofs.carried.are_in_order.Goals as goal
 
 pub returns : goal.returns
 returns c =

@@ -1,6 +1,6 @@
 //! Contents of a line, which may fail or be damaged.
-use crate::line::Line;
 use content_store::{Contents, FarStop};
+use line_words::Line;
 use sha1::Sha1;
 use std::alloc::Global;
 use std::collections::BTreeMap;
@@ -37,7 +37,7 @@ fn damaged_path(alloc: Global) -> Option<Path> {
 }
 
 impl Contents for Far {
-    ghost use Rattle.line_words.specs.Far.{far_contents, far_source};
+    ghost use Rattle.root_words.specs.Far.{far_contents, far_source};
 
     ghost contents = { far_contents (λ c. c.faults) };
 
@@ -62,29 +62,27 @@ impl Contents for Far {
     ghost laws = { far_source (λ c. c.faults) };
 }
 
-impl Line<'_> {
-    fn push_content(&mut self, contents: &mut BTreeMap<[u8; 20], Bytes>, raw: &str) {
-        if let Some(bytes) = self.part::<Bytes>(raw) {
-            self.kept(contents.insert(Sha1::digest(bytes.get()), bytes));
+fn push_content(line: &mut Line, contents: &mut BTreeMap<[u8; 20], Bytes>, raw: &str) {
+    if let Some(bytes) = line.part::<Bytes>(raw) {
+        line.kept(contents.insert(Sha1::digest(bytes.get()), bytes));
+    }
+}
+
+/// The contents of the list at a place; `!fails` are some of which each search fails, `!damaged` some of which each search ends
+/// at a damaged file.
+pub fn far_of(line: &mut Line, place: usize) -> Far {
+    let raw = line.raw(place);
+    let mut contents = BTreeMap::new(line.alloc());
+    if !raw.is_empty() && !raw.starts_with('!') {
+        for part in raw.split(';') {
+            push_content(line, &mut contents, part);
         }
     }
-
-    /// The contents of the list at a place; `!fails` are some of which each search fails, `!damaged` some of which each search ends
-    /// at a damaged file.
-    pub fn far(&mut self, place: usize) -> Far {
-        let raw = self.raw(place);
-        let mut contents = BTreeMap::new(self.alloc());
-        if !raw.is_empty() && !raw.starts_with('!') {
-            for part in raw.split(';') {
-                self.push_content(&mut contents, part);
-            }
-        }
-        Far {
-            contents,
-            fails: raw == "!fails",
-            damaged: raw == "!damaged",
-            faults: 0,
-            finds: 0,
-        }
+    Far {
+        contents,
+        fails: raw == "!fails",
+        damaged: raw == "!damaged",
+        faults: 0,
+        finds: 0,
     }
 }

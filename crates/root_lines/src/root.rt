@@ -1,27 +1,23 @@
-//! The database of a root.
+//! The root of a line: its disk, and its database.
 ghost use Rattle.std.specs.Prelude.{IfOk, IfSome};
 ghost use Rattle.local_db.specs.Database.{IsDb};
 ghost use Rattle.local_db.specs.declared.format.Format.TheVariants.{Two};
 ghost use Rattle.local_db.specs.Stores.{IsDatabase};
 
-use line_words::{Answer, Line, Quiet, Why};
+use line_words::{Answer, Line, Why};
 use local_db::{Db, distinct_databases, encode, load};
+use root_words::{Quiet, disk_of};
 use std::alloc::Global;
-use system_core::cny_base::{OutOfMemory, Stop};
+use system_core::cny_base::Stop;
 use system_core::ready;
 
 /// The private directory of a root.
 pub const PRIVATE: &str = "/var/lib/conarydb";
 
-/// `FAILS TREE`: the tree of the second argument as a disk. Its call of the number FAILS fails; none does where it is 0.
-pub fn disk_of(line: &mut Line) -> Option<Quiet> {
+/// `FAILS TREE`: the root of the tree of the second argument. Its call of the number FAILS fails; none does where it is 0.
+pub fn root_of(line: &mut Line) -> Option<Quiet> {
     let fails = line.number(0);
-    line.disk(1, fails)
-}
-
-/// What the crash leaves of a disk that a number picks.
-pub fn crashed(alloc: Global, disk: &Quiet, pick: u64) -> Result<Quiet, OutOfMemory> {
-    Ok(Quiet::new(disk.tree.crash(alloc, pick)?))
+    disk_of(line, 1, fails)
 }
 
 // Nothing, where the database fits format 2: that of each line does.

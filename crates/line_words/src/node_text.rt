@@ -1,25 +1,12 @@
-//! What stands in a tree, as a text.
+//! Nodes and fingerprints as texts.
 use crate::answer::Answer;
-use crate::listing::paths_of;
-use tree_memory::MemoryTree;
-use tree_memory::cny_base::{Mode, Node, Path};
+use cny_report::cny_base::{Mode, Node};
 use tree_scan::Mark;
 
 // The bytes of a file of more than so many aren't shown, but their SHA-1.
 const FEW: usize = 40;
 // Of a file of more than so many bytes only their number is shown.
 const LARGE: usize = 1_000_000;
-
-// One of the own files of the journal with this private directory, or below them.
-fn is_own(base: &str, path: &str) -> bool {
-    match path.strip_prefix(base) {
-        Some(rest) => {
-            let log = rest.starts_with("/log") || rest.starts_with("/gate");
-            log || rest.starts_with("/p") || rest.starts_with("/w")
-        }
-        None => false,
-    }
-}
 
 impl Answer {
     /// The bytes of a file: their digits, a hyphen for none, of more than 40 the number, a colon and the SHA-1, and of more than
@@ -99,36 +86,6 @@ impl Answer {
             Mark::Dir { mode } => self.dir(*mode),
             Mark::File { mode, size, name } => self.file_mark(*mode, *size, name),
             Mark::Link { target } => self.link(target.text()),
-        }
-    }
-
-    // What stands at one of the paths of a tree, with a semicolon before it.
-    fn listed(&mut self, tree: &MemoryTree, path: &Path) {
-        if let Some(node) = tree.node(path) {
-            self.text(";");
-            self.placed(path.text(), Some(node));
-        }
-    }
-
-    /// What stands at each path of a tree but `/`, with a semicolon before each.
-    pub fn nodes(&mut self, tree: &MemoryTree) {
-        self.nodes_but(tree, |_| false);
-    }
-
-    /// The same, but for the own files of the journal with this private directory.
-    pub fn nodes_kept(&mut self, tree: &MemoryTree, base: &str) {
-        self.nodes_but(tree, |path| is_own(base, path));
-    }
-
-    /// The same, but for the paths of which this holds.
-    pub fn nodes_but<F: Fn(&str) -> bool>(&mut self, tree: &MemoryTree, leaves_out: F)
-        requires { F.IsAlwaysCallable leaves_out }
-    {
-        let paths = paths_of(self.alloc(), tree);
-        for path in &self.kept(paths).unwrap_or(Vec::new(self.alloc())) {
-            if path.text() != "/" && !leaves_out(path.text()) {
-                self.listed(tree, path);
-            }
         }
     }
 }

@@ -47,19 +47,6 @@ impl Quiet {
         }
     }
 
-    /// The tree.
-    pub fn into_tree(self) -> MemoryTree {
-        let Quiet {
-            tree,
-            faults: _faults,
-            calls: _calls,
-            looks: _looks,
-            reads: _reads,
-            lists: _lists,
-        } = self;
-        tree
-    }
-
     // The answer of a call. It is never that the tree doesn't allow the call.
     fn told<T: Drop>(&mut self, answer: Result<T, DiskStop>) -> Result<T, DiskStop>
         ensures value { IfOk result (λ value. answer ≡ Ok value) }

@@ -5,23 +5,21 @@ ghost use Rattle.sha1.specs.Sha1.{sha1};
 ghost use Rattle.change_set.specs.declared.change.Carried as declared;
 ghost use Rattle.change_set.specs.ChangeSet.{content_cmp};
 
-use crate::line::Line;
 use change_set::Carried;
+use line_words::Line;
 use sha1::Sha1;
 use tree_memory::cny_base::Bytes;
 
-impl Line<'_> {
-    /// The contents of the list at a place, under their names.
-    pub fn carried(&mut self, place: usize) -> Vec<Carried>
-        ensures { All (λ (content : declared.Carried). content.name ≡ sha1 content.bytes) result.items }
-    {
-        let mut carried = Vec::new(self.alloc());
-        for bytes in self.list::<Bytes>(place) {
-            let name = Sha1::digest(bytes.get());
-            self.kept(carried.push(Carried { name, bytes }));
-        }
-        carried
+/// The contents of the list at a place, under their names.
+pub fn carried_of(line: &mut Line, place: usize) -> Vec<Carried>
+    ensures { All (λ (content : declared.Carried). content.name ≡ sha1 content.bytes) result.items }
+{
+    let mut carried = Vec::new(line.alloc());
+    for bytes in line.list::<Bytes>(place) {
+        let name = Sha1::digest(bytes.get());
+        line.kept(carried.push(Carried { name, bytes }));
     }
+    carried
 }
 
 /// Whether these contents are in the order of their names.
