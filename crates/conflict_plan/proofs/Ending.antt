@@ -1,5 +1,5 @@
 -- How planning ends.
-use Rattle.std.proofs.Common.{◌≡◌, ℕ, Bool, false, List, Option, Some, Result, Ok, Err, IfErr, IsTrue, sym, subst}
+use Rattle.std.proofs.Common.{◌≡◌, ℕ, false, List, Option, Some, Result, Ok, Err, IfErr, sym, subst}
 use Rattle.std.specs.Prelude.{IsErrAnd}
 use Rattle.trove_stream.specs.cny-base.declared.options.Options.{Options}
 use Rattle.trove_stream.specs.cny-base.Stop.{stop_of_fault}
@@ -11,71 +11,17 @@ use Rattle.trove_stream.specs.cny-base.declared.stop.Stop.{Stop}
 use Rattle.trove_stream.specs.cny-base.declared.stop.Stop.TheVariants.{Refused, Memory, Failed, Damaged, FarFailed, FarDamaged}
 use Rattle.trove_stream.specs.declared.parts.TroveParts.{TroveParts}
 use Rattle.tree_scan.specs.tree-disk.Disk.{DiskModel}
-use Rattle.tree_scan.specs.tree-disk.Steps.{Found, IsDiskStop, Tests}
+use Rattle.tree_scan.specs.tree-disk.Steps.{IsDiskStop, Tests}
 use Rattle.tree_scan.specs.tree-disk.Tree.{Tree}
 use Rattle.conflict_plan.specs.declared.planned.Planned.{Planned}
 use Rattle.conflict_plan.specs.declared.table.Outcome.{Outcome}
 use Rattle.conflict_plan.specs.declared.table.Outcome.TheVariants.{Stays, Removed, Written, Unowned, Edited}
 use Rattle.conflict_plan.specs.Drafts.{IsTableRefusal, RefusesAtMost}
-use Rattle.conflict_plan.specs.Plan.{outcome_at, refusal_of, EndsSo, IsFirstConflict, IsFirstRefusal, IsPlanRefusal, IsPlanStop, IsUnshared, Plans, RefusesShared, TellsShared}
+use Rattle.conflict_plan.specs.Plan.{outcome_at, refusal_of, IsFirstConflict, IsFirstRefusal, IsPlanRefusal, IsPlanStop, IsUnshared, RefusesShared, TellsShared}
+use Rattle.tree_scan.specs.OnlyReads.{OnlyReads}
+use Rattle.tree_scan.proofs.ReadingLaws.{tested_memory, tested_refusal}
 use Rattle.conflict_plan.proofs.Assembled.{IsConflictFirst, IsOwnedFirst}
 use Rattle.trove_stream.specs.cny-base.Refusals.{IsRefusalOrMemory as IsRefusedSo}
-
--- a stop passed on by `?`
-ends_stop : {X Y : Type 0} (view : X → Y) (told : Bool) (expected : Result Y Refusal) (good : List Planned → Type 0) (bad : Refusal → Type 0) (e : Stop) (r : Result (List Planned) Stop) (before now : ℕ)
-    → IsErrAnd r (λ s. s ≡ e) → (IsTrue told → (why : Refusal) → expected ≡ Err why → bad why) → Found view told expected (Err e) before now → EndsSo told good bad r before now
-ends_stop view told expected good bad e (Ok plan) before now is refuse found = absurd is
-ends_stop view told expected good bad e (Err s) before now is refuse found = subst (λ x. EndsSo told good bad (Err x) before now) (sym is) (by e found)
-  where
-    by : (e : Stop) → Found view told expected (Err e) before now → EndsSo told good bad (Err e) before now
-    by (Refused why) found = λ tells. refuse tells why (found tells)
-    by Failed found = found
-    by Memory found = found
-    by (Damaged path) found = found
-    by FarFailed found = found
-    by (FarDamaged path) found = found
-
-ends_memory : (told : Bool) (good : List Planned → Type 0) (bad : Refusal → Type 0) (r : Result (List Planned) Stop) (before now : ℕ) → IsErrAnd r (λ s. s ≡ Memory) → EndsSo told good bad r before now
-ends_memory told good bad (Ok plan) before now is = absurd is
-ends_memory told good bad (Err s) before now is = subst (λ x. EndsSo told good bad (Err x) before now) (sym is) tt
-
-module _ {D : Type 0} {disk : DiskModel D} {good : Tree → List Planned → Type 0} {bad : Tree → Refusal → Type 0} where
-  -- a test that stopped, passed on by `?`
-  pub plans_stop : {X Y : Type 0} {view : X → Y} {test : Tree → Result Y Refusal} {old new : D} {e : Stop} {r : Result (List Planned) Stop}
-      → Tests disk view test old new (Err e) → IsErrAnd r (λ s. s ≡ e) → (IsTrue disk.tells → (why : Refusal) → test (disk.reads old) ≡ Err why → bad (disk.reads old) why)
-      → Plans disk good bad old new r
-  plans_stop {view = view} {test = test} {old = old} {e = e} {r = r} tested is refuse = record {
-    later = tested.later;
-    same = tested.same;
-    ends = ends_stop view disk.tells (test (disk.reads old)) (good (disk.reads old)) (bad (disk.reads old)) e r _ _ is refuse tested.found;
-  }
-
-  -- want of memory, after what was tested
-  pub plans_memory : {X Y : Type 0} {view : X → Y} {test : Tree → Result Y Refusal} {old new : D} {q : Result X Stop} {r : Result (List Planned) Stop}
-      → Tests disk view test old new q → IsErrAnd r (λ s. s ≡ Memory) → Plans disk good bad old new r
-  plans_memory {old = old} {r = r} tested is = record {
-    later = tested.later;
-    same = tested.same;
-    ends = ends_memory disk.tells (good (disk.reads old)) (bad (disk.reads old)) r _ _ is;
-  }
-
-  -- a refusal
-  pub plans_refused : {X Y : Type 0} {view : X → Y} {test : Tree → Result Y Refusal} {old new : D} {q : Result X Stop} {r : Result (List Planned) Stop} (why : Refusal)
-      → Tests disk view test old new q → IsErrAnd r (λ s. s ≡ Refused why) → (IsTrue disk.tells → bad (disk.reads old) why) → Plans disk good bad old new r
-  plans_refused {old = old} {new = new} {r = r} why tested is refuse = record {
-    later = tested.later;
-    same = tested.same;
-    ends = at r is;
-  }
-    where
-      at : (r : Result (List Planned) Stop) → IsErrAnd r (λ s. s ≡ Refused why) → EndsSo disk.tells (good (disk.reads old)) (bad (disk.reads old)) r (disk.faults old) (disk.faults new)
-      at (Ok plan) is = absurd is
-      at (Err s) is = subst (λ x. EndsSo disk.tells (good (disk.reads old)) (bad (disk.reads old)) (Err x) (disk.faults old) (disk.faults new)) (sym is) refuse
-
-  -- a plan
-  pub plans_found : {X Y : Type 0} {view : X → Y} {test : Tree → Result Y Refusal} {old new : D} {q : Result X Stop} (plan : List Planned)
-      → Tests disk view test old new q → (IsTrue disk.tells → good (disk.reads old) plan) → Plans disk good bad old new (Ok plan)
-  plans_found plan tested is = record { later = tested.later; same = tested.same; ends = is }
 
 -- ---- refusals
 
@@ -187,7 +133,7 @@ module _ {fresh : List TroveParts} (found : Option Refusal) (f : Fault) (r : Res
 module _ {D : Type 0} {disk : DiskModel D} {good : Tree → List Planned → Type 0} where
   pub plans_shared : {X Y : Type 0} {view : X → Y} {test : Tree → Result Y Refusal} {before now : D} {q : Result X Stop} {r : Result (List Planned) Stop} (old fresh : List TroveParts) (options : Options) (found : Option Refusal) (f : Fault)
       → Tests disk view test before now q → IsErrAnd r (λ s. s ≡ stop_of_fault f) → IsRefusedSo found f → ((why : Refusal) → found ≡ Some why → IsOwnedFirst fresh why)
-      → Plans disk good (IsFirstRefusal old fresh options) before now r
+      → OnlyReads disk good (IsFirstRefusal old fresh options) before now r
   plans_shared {before = before} old fresh options found (fault.Refused why) tested is so first =
-      plans_refused why tested is (λ tells. owned_refuses old fresh options (disk.reads before) why (first why so))
-  plans_shared old fresh options found fault.Memory tested is so first = plans_memory tested is
+      tested_refusal why tested is (λ tells. owned_refuses old fresh options (disk.reads before) why (first why so))
+  plans_shared old fresh options found fault.Memory tested is so first = tested_memory tested is

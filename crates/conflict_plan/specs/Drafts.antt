@@ -12,6 +12,7 @@ use Rattle.tree_scan.specs.tree-disk.Tree.{Tree}
 use Rattle.tree_scan.specs.declared.mark.Mark.{Mark}
 use Rattle.tree_scan.specs.Marks as marks
 use Rattle.tree_scan.specs.Marks.{fingerprint_at}
+use Rattle.tree_scan.specs.OnlyReads.{IsStopBy}
 use Rattle.conflict_plan.specs.declared.drafting.Draft.{Draft}
 use Rattle.conflict_plan.specs.declared.entries.Entry.{Entry}
 use Rattle.conflict_plan.specs.declared.table.Outcome.{Outcome}
@@ -80,14 +81,6 @@ IsTableRefusal (refusal.Unowned path) = Unit {0}
 IsTableRefusal (refusal.Edited path) = Unit {0}
 IsTableRefusal _ = ⊥
 
--- a refusal of which P holds, a fault of the disk or want of memory
-abbrev pub IsRefusalOrDiskStop : (Refusal → Type 0) → Stop → Type 0
-IsRefusalOrDiskStop P (Refused why) = P why
-IsRefusalOrDiskStop P Failed = Unit {0}
-IsRefusalOrDiskStop P Memory = Unit {0}
-IsRefusalOrDiskStop P (Damaged path) = ⊥
-IsRefusalOrDiskStop P FarFailed = ⊥
-IsRefusalOrDiskStop P (FarDamaged path) = ⊥
-
+-- a refusal of the table, a fault of the disk or want of memory
 abbrev pub RefusesAtMost : Stop → Type 0
-RefusesAtMost stop = IsRefusalOrDiskStop IsTableRefusal stop
+RefusesAtMost stop = IsStopBy IsTableRefusal stop

@@ -1,11 +1,10 @@
 -- Plans: which paths a job changes, and why it is refused.
-use Rattle.std.specs.Prelude.{◌≡◌, ◌⊎◌, ℕ, ◌≤◌, Bool, true, false, ◌||◌, if◌then◌else◌, IsTrue, List, [], ◌∷◌, Option, Some, None, is_some, Result, Ok, Err, All}
+use Rattle.std.specs.Prelude.{◌≡◌, ◌⊎◌, ℕ, Bool, true, false, ◌||◌, if◌then◌else◌, List, [], ◌∷◌, Option, Some, None, is_some, Result, Ok, Err, All}
 use Rattle.std.specs.Cmp.Lexicographic.{slice_cmp}
 use Rattle.std.specs.Ordering.{nat_cmp}
 use Rattle.std.specs.List.Sorted.{IsStrictlySortedBy}
 use Rattle.std.specs.declared.cmp.Ordering.{Ordering}
 use Rattle.std.specs.declared.cmp.Ordering.TheVariants.{Less}
-use Rattle.trove_stream.specs.cny-base.Count.{Rose}
 use Rattle.trove_stream.specs.cny-base.Path.{parent, root}
 use Rattle.trove_stream.specs.cny-base.Reserved.{is_pinned}
 use Rattle.trove_stream.specs.cny-base.declared.options.Options.{Options}
@@ -15,16 +14,15 @@ use Rattle.trove_stream.specs.cny-base.declared.stop.Stop.{Stop}
 use Rattle.trove_stream.specs.cny-base.declared.stop.Stop.TheVariants.{Refused, Memory, Failed, Damaged, FarFailed, FarDamaged}
 use Rattle.trove_stream.specs.file-stream.declared.record.FileRec.{FileRec}
 use Rattle.trove_stream.specs.declared.parts.TroveParts.{TroveParts}
-use Rattle.tree_scan.specs.tree-disk.Disk.{DiskModel, HasRead}
 use Rattle.tree_scan.specs.tree-disk.Tree.{Name, Tree, is_child, same_name}
 use Rattle.tree_scan.specs.declared.mark.Mark.{Mark}
 use Rattle.tree_scan.specs.declared.mark.Mark.TheVariants as mark
 use Rattle.tree_scan.specs.Marks.{fingerprint_at, fingerprint_of_record, is_dir, is_nothing}
+use Rattle.tree_scan.specs.OnlyReads.{IsStopBy}
 use Rattle.conflict_plan.specs.declared.planned.Planned.{Planned}
 use Rattle.conflict_plan.specs.declared.table.Outcome.{Outcome}
 use Rattle.conflict_plan.specs.declared.table.Outcome.TheVariants.{Stays, Removed, Written, Unowned, Edited}
 use Rattle.conflict_plan.specs.Claims.{record_at, owners_at}
-use Rattle.conflict_plan.specs.Drafts.{IsRefusalOrDiskStop}
 use Rattle.conflict_plan.specs.Table.{path_outcome}
 pub use Rattle.trove_stream.specs.cny-base.Answer.{IsAnswer}
 
@@ -140,24 +138,6 @@ IsFirstRefusal old fresh options tree (refusal.Edited path) = IsFirstConflict ol
 IsFirstRefusal old fresh options tree (refusal.Parent path) = IsFirstOrphan old fresh options tree path
 IsFirstRefusal old fresh options tree _ = ⊥
 
--- ---- how planning ends
-
--- Where the disk tells its tree, with the plan or the first refusal; else with a fault or want of memory.
-abbrev pub EndsSo : Bool → (List Planned → Type 0) → (Refusal → Type 0) → Result (List Planned) Stop → ℕ → ℕ → Type 0
-EndsSo told good bad (Ok plan) before now = IsTrue told → good plan
-EndsSo told good bad (Err (Refused why)) before now = IsTrue told → bad why
-EndsSo told good bad (Err Failed) before now = Rose before now
-EndsSo told good bad (Err Memory) before now = Unit {0}
-EndsSo told good bad (Err (Damaged path)) before now = ⊥
-EndsSo told good bad (Err FarFailed) before now = ⊥
-EndsSo told good bad (Err (FarDamaged path)) before now = ⊥
-
--- Planning changes nothing, and finds the plan of the tree or its first refusal.
-pub record Plans {D : Type 0} (disk : DiskModel D) (good : Tree → List Planned → Type 0) (bad : Tree → Refusal → Type 0) (old new : D) (result : Result (List Planned) Stop) : Type 0 where
-  pub later : disk.faults old ≤ disk.faults new
-  pub same : IsTrue disk.tells → HasRead disk old new Unit
-  pub ends : EndsSo disk.tells (good (disk.reads old)) (bad (disk.reads old)) result (disk.faults old) (disk.faults new)
-
 -- ---- on every disk, also on one that tells nothing
 
 -- the refusal of a shared path is that of the first one, and no other comes where a path is shared
@@ -197,4 +177,4 @@ IsPlanRefusal _ = ⊥
 
 -- the stops of planning
 abbrev pub IsPlanStop : Stop → Type 0
-IsPlanStop stop = IsRefusalOrDiskStop IsPlanRefusal stop
+IsPlanStop stop = IsStopBy IsPlanRefusal stop

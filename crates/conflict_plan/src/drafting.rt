@@ -16,7 +16,7 @@ use trove_stream::cny_base::{Options, OutOfMemory, Path, Refusal, Stop, Text};
 use trove_stream::file_stream::FileRec;
 
 /// A path that may change.
-#[derive(Debug, Drop)]
+#[derive(Drop)]
 pub struct Draft {
     pub planned: Planned,
     /// It is a directory that goes only where no name directly below it remains.
@@ -69,7 +69,7 @@ fn draft_by(
     ensures { Decided (draft_by options.now entry was) result }
 {
     let if_empty = is_left_dir(&entry.old, &entry.fresh, &was);
-    let Entry { path, old, fresh } = entry;
+    let (path, old, fresh) = entry.into_parts();
     let outcome = outcome_of(&path, &old, &fresh, &was, false, options);
     let want = match outcome {
         Outcome::Stays => return Ok(None),

@@ -15,11 +15,31 @@ use trove_stream::cny_base::{Fault, Name, OutOfMemory, Path, Refusal, Text};
 use trove_stream::file_stream::FileRec;
 
 /// A path, with what both lists record of it.
-#[derive(Debug, Drop)]
 pub struct Entry {
     pub path: Path,
     pub old: Option<FileRec>,
     pub fresh: Option<FileRec>,
+}
+
+// Written by hand, so that to let a value go is a single call wherever a function ends early.
+impl Drop for Entry {
+    fn drop(self) {
+        let Entry {
+            path: _path,
+            old: _old,
+            fresh: _fresh,
+        } = self;
+    }
+}
+
+impl Entry {
+    /// The path, and what the old and the new list record of it.
+    pub(crate) fn into_parts(self) -> (Path, Option<FileRec>, Option<FileRec>)
+        ensures { result ≡ (self.path, self.old, self.fresh) }
+    {
+        let Entry { path, old, fresh } = self;
+        (path, old, fresh)
+    }
 }
 
 // The refusal of a path that these two troves have.

@@ -16,7 +16,7 @@ use trove_stream::cny_base::{Copies, OutOfMemory, Path};
 use trove_stream::file_stream::FileRec;
 
 /// What becomes of a planned path.
-#[derive(Clone, Copy, Debug, PartialEq, Eq)]
+#[derive(Clone, Copy)]
 pub enum Fate {
     /// Nothing is to stand there.
     Gone,

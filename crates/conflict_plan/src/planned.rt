@@ -4,13 +4,23 @@ use trove_stream::cny_base::{Copies, ListOf, OutOfMemory, Path};
 use trove_stream::file_stream::FileRec;
 
 /// A path that a job changes.
-#[derive(Debug, Drop)]
 pub struct Planned {
     pub path: Path,
     /// The fingerprint of what stands there.
     pub was: Mark,
     /// The record of what is to stand there; none where nothing is.
     pub want: Option<FileRec>,
+}
+
+// Written by hand, so that to let a value go is a single call wherever a function ends early.
+impl Drop for Planned {
+    fn drop(self) {
+        let Planned {
+            path: _path,
+            was: _was,
+            want: _want,
+        } = self;
+    }
 }
 
 impl Copies for Planned {

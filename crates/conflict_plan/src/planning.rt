@@ -1,7 +1,8 @@
 //! The plan of a job.
 ghost use Rattle.std.specs.Prelude.{◌≡◌, IfErr, IfOk};
 ghost use Rattle.trove_stream.specs.cny-base.declared.refusal.Refusal.TheVariants as refusal;
-ghost use Rattle.conflict_plan.specs.Plan.{ArePlannable, IsPlan, IsFirstRefusal, IsPlanStop, Plans, TellsShared};
+ghost use Rattle.tree_scan.specs.OnlyReads.{OnlyReads};
+ghost use Rattle.conflict_plan.specs.Plan.{ArePlannable, IsPlan, IsFirstRefusal, IsPlanStop, TellsShared};
 
 use crate::drafting::drafts_of;
 use crate::entries::entries_of;
@@ -40,7 +41,7 @@ pub fn plan<D: TreeDisk>(
     fresh: &[Trove],
     options: &Options,
 ) -> Result<PlannedList, Stop>
-    ensures plans { Plans D.disk (IsPlan old.now fresh.now options.now) (IsFirstRefusal old.now fresh.now options.now)
+    ensures plans { OnlyReads D.disk (IsPlan old.now fresh.now options.now) (IsFirstRefusal old.now fresh.now options.now)
         disk.old disk.new result }
     // On every disk, also where it tells nothing.
     ensures owned { TellsShared fresh.now result }

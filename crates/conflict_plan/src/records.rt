@@ -15,7 +15,7 @@ use trove_stream::file_stream::FileRec;
 use trove_stream::trove_parts::FileAt;
 
 /// What the new list records of a path.
-#[derive(Debug, Drop)]
+#[derive(Drop)]
 pub struct Shared {
     /// The record of the first trove that has the path.
     pub rec: FileRec,
@@ -26,14 +26,14 @@ pub struct Shared {
 }
 
 /// What both lists record of a path.
-#[derive(Debug, Drop)]
+#[derive(Drop)]
 pub struct Recorded {
     pub old: Option<FileRec>,
     pub fresh: Option<Shared>,
 }
 
 /// One of the two lists.
-#[derive(Clone, Copy, Debug, PartialEq, Eq)]
+#[derive(Clone, Copy)]
 pub enum Side {
     Old,
     Fresh,

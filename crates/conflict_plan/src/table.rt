@@ -8,7 +8,7 @@ use trove_stream::cny_base::{Options, Path};
 use trove_stream::file_stream::FileRec;
 
 /// What becomes of a path.
-#[derive(Clone, Copy, Debug, PartialEq, Eq)]
+#[derive(Clone, Copy)]
 pub enum Outcome {
     /// There is nothing to do.
     Stays,

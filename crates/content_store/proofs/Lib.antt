@@ -5,4 +5,5 @@ pub mod Standing
 pub mod Deciding
 pub mod Digests
 pub mod Sources
+pub mod SearchLaws
 pub mod Absent

@@ -3,3 +3,4 @@ pub mod Namers
 pub mod Store
 pub mod Outcome
 pub mod Contents
+pub mod Searches

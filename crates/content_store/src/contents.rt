@@ -8,7 +8,7 @@ use std::alloc::{AllocError, AllocFailed, Global};
 use tree_disk::cny_base::{Bytes, Copies, OutOfMemory, Path, Stop};
 
 /// Why a content isn't found.
-#[derive(Debug, Drop)]
+#[derive(Drop)]
 pub enum FarStop {
     /// Where the contents are kept there was a fault: its count rose.
     Failed,
@@ -91,7 +91,7 @@ pub trait Contents {
 }
 
 /// A source without contents.
-#[derive(Clone, Copy, Debug)]
+#[derive(Clone, Copy)]
 pub struct NoContents;
 
 impl Contents for NoContents {

@@ -36,7 +36,7 @@ pub trait Namer {
 }
 
 /// Names a content by its SHA-1.
-#[derive(Clone, Copy, Debug)]
+#[derive(Clone, Copy)]
 pub struct Sha1Namer;
 
 impl Namer for Sha1Namer {
@@ -65,7 +65,7 @@ impl Namer for Sha1Namer {
 
 /// Names a content by its first byte, 20 times, and one without bytes by zeros: for tests of contents that differ and have
 /// one name.
-#[derive(Clone, Copy, Debug)]
+#[derive(Clone, Copy)]
 pub struct ByteNamer;
 
 impl Namer for ByteNamer {

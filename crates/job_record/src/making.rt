@@ -14,7 +14,7 @@ use crate::recorded::{Marks, recorded};
 use crate::writing::encode;
 use local_db::cny_base::{Bytes, Copies, Name, OutOfMemory};
 use local_db::trove_stream::Installed;
-use local_db::{Change, Deltas, Record, Told, ToldEntries, ToldEntry};
+use local_db::{Deltas, PathChange, Record, Told, ToldEntries, ToldEntry};
 use std::alloc::Global;
 use tree_scan::Mark;
 
@@ -28,7 +28,7 @@ fn told(mark: Mark, of_list: Option<&Mark>) -> Told
     }
 }
 
-fn told_entry(change: &Change, before: &Marks, after: &Marks) -> Result<ToldEntry, OutOfMemory>
+fn told_entry(change: &PathChange, before: &Marks, after: &Marks) -> Result<ToldEntry, OutOfMemory>
     ensures { IfOk result (λ it. it ≡ told_with before.now after.now change.now) }
 {
     let path = change.path().copy()?;
@@ -46,7 +46,7 @@ fn told_entry(change: &Change, before: &Marks, after: &Marks) -> Result<ToldEntr
 // The changes as the record tells them, by what both lists record at their paths.
 fn told_entries(
     alloc: Global,
-    changes: &[Change],
+    changes: &[PathChange],
     before: &Marks,
     after: &Marks,
 ) -> Result<Vec<ToldEntry>, OutOfMemory>
@@ -67,7 +67,7 @@ fn record_of(
     before: &Installed,
     after: &Installed,
     names: &[Name],
-    changes: &[Change],
+    changes: &[PathChange],
 ) -> Result<Record, OutOfMemory>
     requires number { 1 ≤ number }
     requires names { AreChangedNames before.now after.now names.now }
@@ -94,7 +94,7 @@ pub fn record_bytes(
     before: &Installed,
     after: &Installed,
     names: &[Name],
-    changes: &[Change],
+    changes: &[PathChange],
 ) -> Result<Bytes, OutOfMemory>
     requires number { 1 ≤ number }
     requires names { AreChangedNames before.now after.now names.now }

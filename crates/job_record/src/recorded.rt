@@ -7,7 +7,7 @@ ghost use Rattle.job_record.specs.Recorded.{AreMarks, HasNoted, HasNotedAll, IsE
 use local_db::cny_base::{Copies, OutOfMemory, Path};
 use local_db::trove_parts::FileAt;
 use local_db::trove_stream::Trove;
-use local_db::{Change, mark_of_record};
+use local_db::{PathChange, mark_of_record};
 use std::alloc::Global;
 use std::collections::BTreeMap;
 use tree_scan::Mark;
@@ -16,7 +16,7 @@ use tree_scan::Mark;
 pub(crate) type Marks = BTreeMap<Path, Mark>;
 
 // Whether a change is at the path.
-fn has_change(changes: &[Change], path: &Path) -> bool
+fn has_change(changes: &[PathChange], path: &Path) -> bool
     requires { IsStrictlySortedBy entry_cmp changes.now }
     ensures { IsEntryPath changes.now path.now → result ≡ true }
 {
@@ -27,7 +27,7 @@ fn has_change(changes: &[Change], path: &Path) -> bool
 }
 
 // Notes what the file records, where a change is at its path and nothing was noted there.
-fn note_file(marks: &mut Marks, changes: &[Change], file: &FileAt) -> Result<(), OutOfMemory>
+fn note_file(marks: &mut Marks, changes: &[PathChange], file: &FileAt) -> Result<(), OutOfMemory>
     requires { IsStrictlySortedBy entry_cmp changes.now }
     ensures { OnOk result (HasNoted changes.now (file.now ∷ []) marks.old marks.new) }
 {
@@ -43,7 +43,11 @@ fn note_file(marks: &mut Marks, changes: &[Change], file: &FileAt) -> Result<(),
     Ok(())
 }
 
-fn note_files(marks: &mut Marks, changes: &[Change], files: &[FileAt]) -> Result<(), OutOfMemory>
+fn note_files(
+    marks: &mut Marks,
+    changes: &[PathChange],
+    files: &[FileAt],
+) -> Result<(), OutOfMemory>
     requires { IsStrictlySortedBy entry_cmp changes.now }
     ensures { OnOk result (HasNoted changes.now files.now marks.old marks.new) }
 {
@@ -53,7 +57,7 @@ fn note_files(marks: &mut Marks, changes: &[Change], files: &[FileAt]) -> Result
     Ok(())
 }
 
-fn note_troves(marks: &mut Marks, changes: &[Change], list: &[Trove]) -> Result<(), OutOfMemory>
+fn note_troves(marks: &mut Marks, changes: &[PathChange], list: &[Trove]) -> Result<(), OutOfMemory>
     requires { IsStrictlySortedBy entry_cmp changes.now }
     ensures { OnOk result (HasNotedAll changes.now list.now marks.old marks.new) }
 {
@@ -68,7 +72,7 @@ fn note_troves(marks: &mut Marks, changes: &[Change], list: &[Trove]) -> Result<
 pub(crate) fn recorded(
     alloc: Global,
     list: &[Trove],
-    changes: &[Change],
+    changes: &[PathChange],
 ) -> Result<Marks, OutOfMemory>
     requires { IsStrictlySortedBy entry_cmp changes.now }
     ensures { IfOk result (AreMarks changes.now list.now) }

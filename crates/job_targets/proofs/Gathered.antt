@@ -11,7 +11,7 @@ use Rattle.local_db.specs.file-stream.declared.record.FileRec.TheVariants as rec
 use Rattle.local_db.specs.journal-log.declared.put.Put.{Put}
 use Rattle.local_db.specs.tree-disk.Disk.{DiskModel, IsDisk}
 use Rattle.local_db.specs.tree-disk.Tree.{Tree}
-use Rattle.job_targets.specs.Gathering.{Gathers, no_refusal}
+use Rattle.job_targets.specs.Gathering.{Gathers}
 use Rattle.job_targets.specs.Outcome.{IsFirstUnfound, IsMissing, IsUnfound}
 use Rattle.job_targets.specs.Targets.{ArePutsOf, IsPutOf}
 use Rattle.job_targets.proofs.GatherLaws.{answers_before, gathers_answer, gathers_stop, gathers_then}
@@ -32,7 +32,7 @@ missing_by carried answers more tree x (Some (rec.Link target)) why widen is = a
 module _ {D C : Type 0} {disk : DiskModel D} {contents : ContentsModel C} (searches : IsSource contents) (laws : IsDisk disk) (carried : List Carried) (planned : List Planned) where
   -- the writes of the first planned paths are gathered
   abbrev AreGathered : D → D → C → C → ℕ → List Put → Type 0
-  AreGathered old new far far' k ps = Gathers {X = Unit {0}} disk contents (λ tree done. ArePutsOf carried (contents.answers far) tree (take k planned) ps) no_refusal old new far far' (Ok tt)
+  AreGathered old new far far' k ps = Gathers {X = Unit {0}} disk contents (λ tree done. ArePutsOf carried (contents.answers far) tree (take k planned) ps) (λ tree why. ⊥) old new far far' (Ok tt)
 
   -- one more
   pub put_next : {old mid new : D} {far mid_far far' : C} {k : ℕ} {x : Planned} {p : Put} {Q : Tree → Refusal → Type 0} (ps qs : List Put)

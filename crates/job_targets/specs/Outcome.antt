@@ -17,16 +17,17 @@ use Rattle.local_db.specs.journal-log.declared.put.Put.{Put}
 use Rattle.local_db.specs.journal-log.Targets.{node_of}
 use Rattle.job_targets.specs.declared.entry.Entry.{Entry}
 use Rattle.job_targets.specs.Agree.{AllAgree, IsFirstCollision}
-use Rattle.job_targets.specs.Gathering.{IsSearchStopBy, IsStopBy}
 use Rattle.job_targets.specs.Old.{is_staged}
 use Rattle.local_db.specs.MarkBytes.{IsMark}
 use Rattle.local_db.specs.Record.{entry_cmp, IsEntry}
 use Rattle.local_db.specs.SystemState.{IsTellable}
 use Rattle.local_db.specs.tree-disk.Tree.{Tree, may_stand}
 use Rattle.tree_scan.specs.Marks.{fingerprint}
+use Rattle.tree_scan.specs.OnlyReads.{IsStopBy}
 use Rattle.job_targets.specs.declared.targets.Targets.{Targets}
 use Rattle.job_targets.specs.Contents.{Finds}
 use Rattle.content_store.specs.Contents.{Answers}
+use Rattle.content_store.specs.Searches.{IsSearchStopBy}
 use Rattle.job_targets.specs.Targets.{ArePutsOf, entries_at, entries_of_puts, entry_of, first_large, HaveEntries, HavePuts}
 
 -- ---- refusals

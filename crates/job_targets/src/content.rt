@@ -12,7 +12,8 @@ ghost use Rattle.local_db.specs.tree-disk.Rows.{bytes_at, is_file_at};
 ghost use Rattle.local_db.specs.tree-disk.Steps.{IsDiskStop, Tests};
 ghost use Rattle.job_targets.specs.Contents as spec;
 ghost use Rattle.job_targets.specs.Contents.{carried_bytes, Finds, FindsElsewhere, IsFarContent, of_size, standing};
-ghost use Rattle.job_targets.specs.Gathering.{Gathers, IsSearchStop, no_refusal};
+ghost use Rattle.content_store.specs.Searches.{IsSearchStop};
+ghost use Rattle.job_targets.specs.Gathering.{Gathers};
 
 use change_set::Carried;
 use conflict_plan::Planned;
@@ -145,7 +146,7 @@ fn content_elsewhere<T: TreeDisk, C: Contents>(
     name: &[u8; 20],
 ) -> Result<Option<Bytes>, Stop>
     requires { IsTrue T.disk.tells → IsSeenPlan (T.disk.reads root.old) planned.now }
-    ensures gathers { Gathers T.disk C.contents (λ tree found. FindsElsewhere (C.contents.answers far.old) tree planned.now size name.now found) no_refusal
+    ensures gathers { Gathers T.disk C.contents (λ tree found. FindsElsewhere (C.contents.answers far.old) tree planned.now size name.now found) (λ tree why. ⊥)
         root.old root.new far.old far.new result }
     ensures content { IfOk result (λ found. IfSome found (IsContent size name.now)) }
     ensures stops { IfErr result IsSearchStop }
@@ -172,7 +173,7 @@ pub(crate) fn find_content<T: TreeDisk, C: Contents>(
     requires hash { All (λ (content : declared.Carried). content.name ≡ sha1 content.bytes) carried.now }
     requires rising { IsStrictlySortedBy content_cmp carried.now }
     requires seen { IsTrue T.disk.tells → IsSeenPlan (T.disk.reads root.old) planned.now }
-    ensures gathers { Gathers T.disk C.contents (λ tree found. Finds carried.now (C.contents.answers far.old) tree planned.now size name.now found) no_refusal
+    ensures gathers { Gathers T.disk C.contents (λ tree found. Finds carried.now (C.contents.answers far.old) tree planned.now size name.now found) (λ tree why. ⊥)
         root.old root.new far.old far.new result }
     ensures content { IfOk result (λ found. IfSome found (IsContent size name.now)) }
     ensures stops { IfErr result IsSearchStop }

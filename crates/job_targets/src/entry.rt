@@ -4,13 +4,23 @@ use local_db::journal_log::Want;
 use tree_scan::Mark;
 
 /// A path that a job changed.
-#[derive(Debug, Drop)]
 pub struct Entry {
     pub path: Path,
     /// What stood there before the job. The bytes of a file are given, and not staged.
     pub was: Want,
     /// The fingerprint of what stood there after it.
     pub mark: Mark,
+}
+
+// Written by hand, so that to let a value go is a single call wherever a function ends early.
+impl Drop for Entry {
+    fn drop(self) {
+        let Entry {
+            path: _path,
+            was: _was,
+            mark: _mark,
+        } = self;
+    }
 }
 
 impl Copies for Entry {

@@ -24,7 +24,7 @@ use local_db::tree_disk::TreeDisk;
 use std::alloc::Global;
 
 /// What a job is to make of its paths, and what stood there.
-#[derive(Debug, Drop)]
+#[derive(Drop)]
 pub struct Targets {
     /// The write of each planned path. No bytes are staged.
     pub puts: Puts,

@@ -6,16 +6,16 @@ use std::marker::Model;
 use tree_scan::Mark;
 
 /// A path that a job changed, with the fingerprints of what stood there before and after it.
-pub struct Change {
+pub struct PathChange {
     path: Path,
     before: Mark,
     after: Mark,
 }
 
 // Written by hand, so that to let a value go is a single call.
-impl Drop for Change {
+impl Drop for PathChange {
     fn drop(self) {
-        let Change {
+        let PathChange {
             path: _path,
             before: _before,
             after: _after,
@@ -23,7 +23,7 @@ impl Drop for Change {
     }
 }
 
-impl Model for Change {
+impl Model for PathChange {
     ghost use Rattle.local_db.specs.Record.{Entry};
 
     ghost Value = { Entry };
@@ -31,12 +31,12 @@ impl Model for Change {
     ghost view = { λ a. record { path = a.path; was = a.before; now = a.after } };
 }
 
-impl Change {
+impl PathChange {
     /// The change of these fingerprints at a path. Takes no memory.
     pub fn new(path: Path, before: Mark, after: Mark) -> Self
         ensures { result ≡ record { path = path; was = before; now = after } }
     {
-        Change {
+        PathChange {
             path,
             before,
             after,

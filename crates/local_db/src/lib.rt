@@ -17,7 +17,7 @@ mod sharing;
 mod steps;
 mod writing;
 
-pub use change::Change;
+pub use change::PathChange;
 pub use change_rel::trove_stream::Installed;
 pub use change_rel::{cny_base, file_stream, trove_parts, trove_stream};
 pub use content_store;

@@ -10,7 +10,7 @@ ghost use Rattle.past_jobs.specs.Seen.{undo_tested};
 
 use crate::found::FoundMarks;
 use crate::obstacles::{Obstacle, first_with};
-use local_db::Change;
+use local_db::PathChange;
 use local_db::cny_base::{Refusal, Stop, Text};
 use local_db::tree_disk::TreeDisk;
 use std::alloc::Global;
@@ -20,7 +20,7 @@ fn test_undo<D: TreeDisk>(
     alloc: Global,
     disk: &mut D,
     found: &FoundMarks,
-    changes: &[Change],
+    changes: &[PathChange],
 ) -> Result<(), Stop>
     requires { IsStrictlySortedBy entry_cmp changes.now }
     ensures tests { Tests D.disk (λ done. done)
@@ -49,7 +49,7 @@ pub fn check_undo<D: TreeDisk>(
     alloc: Global,
     disk: &mut D,
     found: &FoundMarks,
-    changes: &[Change],
+    changes: &[PathChange],
 ) -> Result<(), Stop>
     requires { IsStrictlySortedBy entry_cmp changes.now }
     ensures can { Reads D.disk disk.old disk.new (OnOk result (CanUndoNext (D.disk.reads disk.old) found.now changes.now)) }

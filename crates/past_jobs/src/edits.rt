@@ -7,7 +7,7 @@ ghost use Rattle.past_jobs.specs.Seen as spec;
 
 use crate::foreign::has_foreign;
 use crate::found::{FoundMarks, mark_now};
-use local_db::Change;
+use local_db::PathChange;
 use local_db::cny_base::Stop;
 use local_db::tree_disk::TreeDisk;
 use std::alloc::Global;
@@ -17,8 +17,8 @@ pub(crate) fn is_edited<D: TreeDisk>(
     alloc: Global,
     disk: &mut D,
     found: &FoundMarks,
-    changes: &[Change],
-    change: &Change,
+    changes: &[PathChange],
+    change: &PathChange,
 ) -> Result<bool, Stop>
     requires { IsStrictlySortedBy entry_cmp changes.now }
     ensures tests { Tests D.disk (λ edited. edited)

@@ -15,7 +15,7 @@ ghost use Rattle.past_jobs.specs.Seen as spec;
 
 use crate::found::{FoundMark, FoundMarks};
 use crate::search::is_changed;
-use local_db::Change;
+use local_db::PathChange;
 use local_db::cny_base::{OutOfMemory, Path, Stop, Text, TextFault};
 use local_db::tree_disk::{TreeDisk, steps};
 use std::alloc::Global;
@@ -43,7 +43,7 @@ fn stays(found: &FoundMarks, path: &Path) -> bool
 }
 
 // Whether a name that stands on the disk is foreign to the job.
-fn is_foreign(found: &FoundMarks, changes: &[Change], path: &Path) -> bool
+fn is_foreign(found: &FoundMarks, changes: &[PathChange], path: &Path) -> bool
     requires { IsStrictlySortedBy entry_cmp changes.now }
     ensures { result ≡ spec.is_foreign found.now changes.now path.now }
 {
@@ -56,7 +56,7 @@ fn is_foreign(found: &FoundMarks, changes: &[Change], path: &Path) -> bool
 fn any_foreign(
     alloc: Global,
     found: &FoundMarks,
-    changes: &[Change],
+    changes: &[PathChange],
     dir: &Path,
     names: &[Text],
 ) -> Result<bool, OutOfMemory>
@@ -78,7 +78,7 @@ fn has_foreign_on_disk<D: TreeDisk>(
     alloc: Global,
     disk: &mut D,
     found: &FoundMarks,
-    changes: &[Change],
+    changes: &[PathChange],
     dir: &Path,
 ) -> Result<bool, Stop>
     requires { IsStrictlySortedBy entry_cmp changes.now }
@@ -115,7 +115,7 @@ fn is_child(dir: &Path, path: &Path) -> bool
 }
 
 // Whether an undoing puts this name directly into the directory, and it is foreign to the job.
-fn is_foreign_put(changes: &[Change], dir: &Path, path: &Path, at: &FoundMark) -> bool
+fn is_foreign_put(changes: &[PathChange], dir: &Path, path: &Path, at: &FoundMark) -> bool
     requires { IsStrictlySortedBy entry_cmp changes.now }
     ensures { result ≡ spec.is_foreign_put changes.now dir.now (path.now, at.now) }
 {
@@ -127,7 +127,7 @@ fn is_foreign_put(changes: &[Change], dir: &Path, path: &Path, at: &FoundMark) -
 
 // Whether a name that an undoing puts directly into the directory is foreign to the job. Only the paths whose text begins with
 // that of the directory are looked at: they come one after the other, since paths are in the order of their bytes.
-fn has_foreign_put(found: &FoundMarks, changes: &[Change], dir: &Path) -> bool
+fn has_foreign_put(found: &FoundMarks, changes: &[PathChange], dir: &Path) -> bool
     requires { IsStrictlySortedBy entry_cmp changes.now }
     ensures { result ≡ spec.has_foreign_put found.now changes.now dir.now }
 {
@@ -143,7 +143,7 @@ fn has_foreign_put(found: &FoundMarks, changes: &[Change], dir: &Path) -> bool
 }
 
 // Whether the job made a directory there.
-fn makes_dir(change: &Change) -> bool
+fn makes_dir(change: &PathChange) -> bool
     ensures { result ≡ spec.makes_dir change.now }
 {
     let was_dir = change.old_mark().is_dir();
@@ -156,8 +156,8 @@ pub(crate) fn has_foreign<D: TreeDisk>(
     alloc: Global,
     disk: &mut D,
     found: &FoundMarks,
-    changes: &[Change],
-    change: &Change,
+    changes: &[PathChange],
+    change: &PathChange,
 ) -> Result<bool, Stop>
     requires { IsStrictlySortedBy entry_cmp changes.now }
     ensures tests { Tests D.disk (λ any. any)

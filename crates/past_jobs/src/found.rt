@@ -12,7 +12,7 @@ ghost use Rattle.past_jobs.specs.Jobs.{AreFound, noted, noted_all};
 ghost use Rattle.local_db.specs.Record.{Entry, entry_cmp};
 ghost use Rattle.past_jobs.specs.Seen.{mark_seen};
 
-use local_db::Change;
+use local_db::PathChange;
 use local_db::cny_base::{Copies, OutOfMemory, Path, Stop};
 use local_db::tree_disk::{TreeDisk, steps};
 use std::alloc::Global;
@@ -20,7 +20,7 @@ use std::collections::BTreeMap;
 use tree_scan::{Mark, mark_at};
 
 /// What the oldest job that was taken back and has the path found there.
-#[derive(Debug, Drop)]
+#[derive(Drop)]
 pub struct FoundMark {
     /// The number of that job.
     pub number: u32,
@@ -69,7 +69,7 @@ pub(crate) fn is_dir_now<D: TreeDisk>(
 }
 
 // Notes what the job of this number found at a path.
-fn note(found: &mut FoundMarks, number: u32, change: &Change) -> Result<(), OutOfMemory>
+fn note(found: &mut FoundMarks, number: u32, change: &PathChange) -> Result<(), OutOfMemory>
     ensures noted { OnOk result ((p : List ℕ) → get (slice_cmp nat_cmp) found.new p
         ≡ noted number change.now (get (slice_cmp nat_cmp) found.old) p) }
     ensures ordered { OnOk result (IsOrdered (slice_cmp nat_cmp) found.new) }
@@ -82,7 +82,7 @@ fn note(found: &mut FoundMarks, number: u32, change: &Change) -> Result<(), OutO
     Ok(())
 }
 
-fn note_all(found: &mut FoundMarks, number: u32, changes: &[Change]) -> Result<(), OutOfMemory>
+fn note_all(found: &mut FoundMarks, number: u32, changes: &[PathChange]) -> Result<(), OutOfMemory>
     ensures noted { OnOk result ((p : List ℕ) → get (slice_cmp nat_cmp) found.new p
         ≡ noted_all number changes.now (get (slice_cmp nat_cmp) found.old) p) }
     ensures ordered { IsOrdered (slice_cmp nat_cmp) found.old → OnOk result (IsOrdered (slice_cmp nat_cmp) found.new) }
@@ -96,7 +96,11 @@ fn note_all(found: &mut FoundMarks, number: u32, changes: &[Change]) -> Result<(
 
 /// Takes the job of this number back, the next older one, whose changes rise by path. After an error any part of them may be
 /// noted.
-pub fn take_back(found: &mut FoundMarks, number: u32, changes: &[Change]) -> Result<(), OutOfMemory>
+pub fn take_back(
+    found: &mut FoundMarks,
+    number: u32,
+    changes: &[PathChange],
+) -> Result<(), OutOfMemory>
     requires { IsStrictlySortedBy entry_cmp changes.now }
     ensures { (newest : ℕ) (jobs : List (List Entry)) → number ≡ newest - length jobs → AreFound newest jobs found.old
         → OnOk result (AreFound newest (jobs ++ changes.now ∷ []) found.new) }

@@ -8,13 +8,13 @@ ghost use Rattle.past_jobs.specs.Seen as spec;
 use crate::edits::is_edited;
 use crate::found::FoundMarks;
 use crate::parents::is_orphan;
-use local_db::Change;
+use local_db::PathChange;
 use local_db::cny_base::{Copies, Path, Stop};
 use local_db::tree_disk::TreeDisk;
 use std::alloc::Global;
 
 /// What may stand in the way at a path of the job.
-#[derive(Clone, Copy, Debug)]
+#[derive(Clone, Copy)]
 pub(crate) enum Obstacle {
     /// The path was changed since.
     Edited,
@@ -27,9 +27,9 @@ fn is_there<D: TreeDisk>(
     alloc: Global,
     disk: &mut D,
     found: &FoundMarks,
-    changes: &[Change],
+    changes: &[PathChange],
     obstacle: Obstacle,
-    change: &Change,
+    change: &PathChange,
 ) -> Result<bool, Stop>
     requires { IsStrictlySortedBy entry_cmp changes.now }
     ensures tests { Tests D.disk (λ there. there)
@@ -48,7 +48,7 @@ pub(crate) fn first_with<D: TreeDisk>(
     alloc: Global,
     disk: &mut D,
     found: &FoundMarks,
-    changes: &[Change],
+    changes: &[PathChange],
     obstacle: Obstacle,
 ) -> Result<Option<Path>, Stop>
     requires { IsStrictlySortedBy entry_cmp changes.now }

@@ -8,7 +8,7 @@ ghost use Rattle.past_jobs.specs.Seen as spec;
 
 use crate::found::{FoundMarks, is_dir_now};
 use crate::search::place_of;
-use local_db::Change;
+use local_db::PathChange;
 use local_db::cny_base::{Copies, OutOfMemory, Path, Stop};
 use local_db::tree_disk::TreeDisk;
 use std::alloc::Global;
@@ -29,7 +29,7 @@ fn is_dir_after<D: TreeDisk>(
     alloc: Global,
     disk: &mut D,
     found: &FoundMarks,
-    changes: &[Change],
+    changes: &[PathChange],
     path: &Path,
 ) -> Result<bool, Stop>
     requires { IsStrictlySortedBy entry_cmp changes.now }
@@ -50,8 +50,8 @@ pub(crate) fn is_orphan<D: TreeDisk>(
     alloc: Global,
     disk: &mut D,
     found: &FoundMarks,
-    changes: &[Change],
-    change: &Change,
+    changes: &[PathChange],
+    change: &PathChange,
 ) -> Result<bool, Stop>
     requires { IsStrictlySortedBy entry_cmp changes.now }
     ensures tests { Tests D.disk (λ orphan. orphan)

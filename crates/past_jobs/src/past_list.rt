@@ -27,7 +27,7 @@ use tree_scan::Mark;
 pub type TroveIds = ListOf<TroveId>;
 
 /// What a job changed of the installed list, in the order of the names.
-#[derive(Debug, Drop)]
+#[derive(Drop)]
 pub struct Changed {
     /// The ids of the troves before the job.
     pub before: TroveIds,

@@ -5,18 +5,18 @@ ghost use Rattle.std.specs.List.Sorted.{IsStrictlySortedBy};
 ghost use Rattle.past_jobs.specs.Marks.{is_path_of};
 ghost use Rattle.local_db.specs.Record.{entry_cmp};
 
-use local_db::Change;
+use local_db::PathChange;
 use local_db::cny_base::Path;
 
 /// Whether the changes strictly rise by path.
-pub fn are_rising(changes: &[Change]) -> bool
+pub fn are_rising(changes: &[PathChange]) -> bool
     ensures { IsTrue result ↔ IsStrictlySortedBy entry_cmp changes.now }
 {
     changes.is_sorted_by(|earlier, later| earlier.path() < later.path())
 }
 
 // Where the change at a path stands.
-pub(crate) fn place_of(changes: &[Change], path: &str) -> Option<usize>
+pub(crate) fn place_of(changes: &[PathChange], path: &str) -> Option<usize>
     requires { IsStrictlySortedBy entry_cmp changes.now }
     ensures some { IfSome result (λ place. (place < length changes.now) × HoldsAt (λ e. e.path ≡ path.now) changes.now place) }
     ensures none { IfNone result (is_path_of changes.now path.now ≡ false) }
@@ -27,7 +27,7 @@ pub(crate) fn place_of(changes: &[Change], path: &str) -> Option<usize>
 }
 
 // Whether one of the changes is at the path.
-pub(crate) fn is_changed(changes: &[Change], path: &Path) -> bool
+pub(crate) fn is_changed(changes: &[PathChange], path: &Path) -> bool
     requires { IsStrictlySortedBy entry_cmp changes.now }
     ensures { result ≡ is_path_of changes.now path.now }
 {

@@ -4,6 +4,7 @@ pub mod OneRecord
 pub mod Mapped
 pub mod TakingJobs
 pub mod TakenBack
+mod Below
 pub mod Finding
 pub mod Doubling
 pub mod Rewriting

@@ -10,13 +10,10 @@ use Rattle.local_db.specs.Names.{record_file}
 use Rattle.local_db.specs.Record as state
 use Rattle.past_jobs.specs.Past.{AreChangedIds}
 use Rattle.job_targets.specs.trove-parts.declared.id.TroveId.{TroveId}
-use Rattle.rollback_stack.specs.declared.changes.Change.{Change}
-use Rattle.rollback_stack.specs.JobEntries as records
 use Rattle.rollback_stack.specs.JobReading.{HoldsNoRecord, HoldsRecord, HoldsRecords, IsDamagedRecord}
-use Rattle.rollback_stack.specs.declared.undo.Note.{Note}
+use Rattle.rollback_stack.specs.declared.undo.NotedJob.{NotedJob}
 use Rattle.rollback_stack.specs.Numbers.{job_count}
 use Rattle.rollback_stack.specs.Reading.{AreNotes, IsNote}
-use Rattle.change_rel.proofs.cny-base.Lists.{length-map as mapped_length}
 
 -- ---- numbers
 
@@ -42,13 +39,13 @@ records_push f x number after middle before (ds ∷ good) es held here =
 -- ---- the jobs so far
 
 -- So many records from the newest down were read, and lead to this list; with notes of the others these notes are those of all.
-pub record AreNotedTo (x : Tree) (newest below : ℕ) (installed list : List TroveParts) (notes : List Note) : Type 0 where
+pub record AreNotedTo (x : Tree) (newest below : ℕ) (installed list : List TroveParts) (notes : List NotedJob) : Type 0 where
   pub good : List (List state.Entry)
   pub long : length good ≡ below
   pub holds : HoldsRecords Two x newest installed good list
-  pub noted : (count total : ℕ) (rest : List Note) → total ≡ below + count → AreNotes x count (newest - below) list rest → AreNotes x total newest installed (notes ++ rest)
+  pub noted : (count total : ℕ) (rest : List NotedJob) → total ≡ below + count → AreNotes x count (newest - below) list rest → AreNotes x total newest installed (notes ++ rest)
 
-pub one_noted : (x : Tree) (newest below : ℕ) (installed list next : List TroveParts) (notes more : List Note) (es : List state.Entry) (note : Note)
+pub one_noted : (x : Tree) (newest below : ℕ) (installed list next : List TroveParts) (notes more : List NotedJob) (es : List state.Entry) (note : NotedJob)
     → AreNotedTo x newest below installed list notes → HoldsRecord Two x (newest - below) list next es → IsNote list next (newest - below) es note → more ≡ notes ++ note ∷ []
     → AreNotedTo x newest (below + 1) installed next more
 one_noted x newest below installed list next notes more es note so_far here is pushed = record {
@@ -60,15 +57,15 @@ one_noted x newest below installed list next notes more es note so_far here is p
       let numbers : newest - (below + 1) ≡ (newest - below) - 1 = omega arith in
       let all = so_far.noted (suc count) total (note ∷ rest) (omega (arith, sum))
       (next, es, here, is, subst (λ (n : ℕ). AreNotes x count n next rest) numbers are) in
-      subst (λ (l : List Note). AreNotes x total newest installed l) (sym (append_assoc notes (note ∷ []) rest) ∙ ap (λ (l : List Note). l ++ rest) (sym pushed)) all;
+      subst (λ (l : List NotedJob). AreNotes x total newest installed l) (sym (append_assoc notes (note ∷ []) rest) ∙ ap (λ (l : List NotedJob). l ++ rest) (sym pushed)) all;
 }
 
-pub all_noted : (x : Tree) (newest below count : ℕ) (installed list : List TroveParts) (notes : List Note) → AreNotedTo x newest below installed list notes → count ≡ below
+pub all_noted : (x : Tree) (newest below count : ℕ) (installed list : List TroveParts) (notes : List NotedJob) → AreNotedTo x newest below installed list notes → count ≡ below
     → AreNotes x count newest installed notes
 all_noted x newest below count installed list notes so_far is =
-    subst (λ (l : List Note). AreNotes x count newest installed l) (append-nil notes) (so_far.noted 0 count [] (omega (arith, is)) tt)
+    subst (λ (l : List NotedJob). AreNotes x count newest installed l) (append-nil notes) (so_far.noted 0 count [] (omega (arith, is)) tt)
 
-pub damaged_next : (x : Tree) (newest below count : ℕ) (installed list : List TroveParts) (notes : List Note) (path : Name) → AreNotedTo x newest below installed list notes → below < count
+pub damaged_next : (x : Tree) (newest below count : ℕ) (installed list : List TroveParts) (notes : List NotedJob) (path : Name) → AreNotedTo x newest below installed list notes → below < count
     → path ≡ record_file (newest - below) → HoldsNoRecord Two x (newest - below) list → IsDamagedRecord Two x count newest installed path
 damaged_next x newest below count installed list notes path so_far lt is none = record {
   good = so_far.good;
@@ -80,11 +77,11 @@ damaged_next x newest below count installed list notes path so_far lt is none = 
 }
 
 -- what is noted of a job that was read
-pub noted_as : (after before : List TroveParts) (number : ℕ) (was now : List TroveId) (changes : List Change) (note : Note) → AreChangedIds before after was → AreChangedIds after before now
-    → note ≡ record { number = number; before = was; after = now; paths = length changes } → IsNote after before number (records.entries_of changes) note
+pub noted_as : (after before : List TroveParts) (number : ℕ) (was now : List TroveId) (changes : List state.Entry) (note : NotedJob) → AreChangedIds before after was → AreChangedIds after before now
+    → note ≡ record { number = number; before = was; after = now; paths = length changes } → IsNote after before number changes note
 noted_as after before number was now changes note was_are now_are is = record {
-  number_is = ap (λ (n : Note). n.number) is;
-  before_is = subst (AreChangedIds before after) (sym (ap (λ (n : Note). n.before) is)) was_are;
-  after_is = subst (AreChangedIds after before) (sym (ap (λ (n : Note). n.after) is)) now_are;
-  paths_are = ap (λ (n : Note). n.paths) is ∙ sym (mapped_length records.entry_of changes);
+  number_is = ap (λ (n : NotedJob). n.number) is;
+  before_is = subst (AreChangedIds before after) (sym (ap (λ (n : NotedJob). n.before) is)) was_are;
+  after_is = subst (AreChangedIds after before) (sym (ap (λ (n : NotedJob). n.after) is)) now_are;
+  paths_are = ap (λ (n : NotedJob). n.paths) is;
 }

@@ -17,7 +17,7 @@ use Rattle.local_db.specs.Record as state
 use Rattle.local_db.specs.Record.{IsRecord, PassesChecks}
 use Rattle.local_db.specs.Stores.{HoldsFile}
 use Rattle.rollback_stack.specs.declared.job_reading.Job.{Job}
-use Rattle.rollback_stack.specs.JobEntries.{IsChange, entries_of}
+use Rattle.rollback_stack.specs.JobEntries.{IsChange}
 pub use Rattle.job_targets.specs.Gathering.{IsReadStop}
 
 -- ---- one record
@@ -71,15 +71,15 @@ pub record IsToldBy (f : Format) (r : Record) (after before : List TroveParts) (
 
 -- what is told of a job, between these lists
 pub record IsJob (f : Format) (after before : List TroveParts) (job : Job) : Type 0 where
-  pub entries_are : All state.IsEntry (entries_of job.changes.items)
-  pub rising : IsStrictlySortedBy state.entry_cmp (entries_of job.changes.items)
-  pub checks : PassesChecks f before (entries_of job.changes.items)
+  pub entries_are : All state.IsEntry job.changes.items
+  pub rising : IsStrictlySortedBy state.entry_cmp job.changes.items
+  pub checks : PassesChecks f before job.changes.items
   pub before_ids : AreChangedIds before after job.changed.before
   pub after_ids : AreChangedIds after before job.changed.after
 
 -- the job is that of the record between these lists
 abbrev pub IsJobOf : Format → ℕ → Record → (after before : List TroveParts) → Job → Type 0
-IsJobOf f number r after before job = IsReadBy number before after (entries_of job.changes.items) r × PassesChecks f before (entries_of job.changes.items)
+IsJobOf f number r after before job = IsReadBy number before after job.changes.items r × PassesChecks f before job.changes.items
 
 -- the record is none of a job after which the list is this one
 abbrev pub IsOfNoJob : Format → ℕ → Record → List TroveParts → Type 0

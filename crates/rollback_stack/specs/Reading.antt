@@ -6,18 +6,18 @@ use Rattle.job_targets.specs.trove-stream.declared.parts.TroveParts.{TroveParts}
 use Rattle.job_targets.specs.tree-disk.Tree.{Tree}
 use Rattle.local_db.specs.declared.format.Format.TheVariants.{Two}
 use Rattle.local_db.specs.Record as state
-use Rattle.rollback_stack.specs.declared.undo.Note.{Note}
+use Rattle.rollback_stack.specs.declared.undo.NotedJob.{NotedJob}
 use Rattle.rollback_stack.specs.JobReading.{HoldsRecord, IsDamagedRecord, IsReadStop}
 
 -- what is noted of a job
-pub record IsNote (after before : List TroveParts) (number : ℕ) (es : List state.Entry) (note : Note) : Type 0 where
+pub record IsNote (after before : List TroveParts) (number : ℕ) (es : List state.Entry) (note : NotedJob) : Type 0 where
   pub number_is : note.number ≡ number
   pub before_is : AreChangedIds before after note.before
   pub after_is : AreChangedIds after before note.after
   pub paths_are : note.paths ≡ length es
 
 -- the notes of so many jobs, from this number down, each record read against the list after it
-abbrev pub AreNotes : Tree → ℕ → ℕ → List TroveParts → List Note → Type 0
+abbrev pub AreNotes : Tree → ℕ → ℕ → List TroveParts → List NotedJob → Type 0
 AreNotes x zero number after [] = Unit {0}
 AreNotes x (suc count) number after (note ∷ notes) =
     (before : List TroveParts) × (es : List state.Entry) × HoldsRecord Two x number after before es × IsNote after before number es note

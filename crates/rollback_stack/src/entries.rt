@@ -5,20 +5,20 @@ ghost use Rattle.rollback_stack.specs.Entries.{entry_of, told_of};
 
 use job_targets::cny_base::{Copies, OutOfMemory};
 use job_targets::{Entry, mark_of};
-use local_db::Change;
+use local_db::PathChange;
 use std::alloc::Global;
 
-fn change_of(entry: &Entry) -> Result<Change, OutOfMemory>
+fn change_of(entry: &Entry) -> Result<PathChange, OutOfMemory>
     ensures { IfOk result (λ change. change ≡ told_of entry.now) }
 {
     let path = entry.path.copy()?;
     let before = mark_of(&entry.was)?;
     let after = entry.mark.copy()?;
-    Ok(Change::new(path, before, after))
+    Ok(PathChange::new(path, before, after))
 }
 
 /// The changes that the entries tell.
-pub fn changes_of(alloc: Global, entries: &[Entry]) -> Result<Vec<Change>, OutOfMemory>
+pub fn changes_of(alloc: Global, entries: &[Entry]) -> Result<Vec<PathChange>, OutOfMemory>
     ensures value { IfOk result (λ changes. changes.items ≡ map told_of entries.now) }
     // Where the bytes of all files are given: the fingerprints of the nodes.
     ensures given { All (λ e. is_staged e.was ≡ false) entries.now → IfOk result (λ changes. changes.items ≡ map entry_of entries.now) }
@@ -27,7 +27,7 @@ pub fn changes_of(alloc: Global, entries: &[Entry]) -> Result<Vec<Change>, OutOf
     Ok(changes)
 }
 
-fn told_changes(alloc: Global, entries: &[Entry]) -> Result<Vec<Change>, OutOfMemory>
+fn told_changes(alloc: Global, entries: &[Entry]) -> Result<Vec<PathChange>, OutOfMemory>
     ensures { IfOk result (λ changes. changes.items ≡ map told_of entries.now) }
 {
     let mut changes = Vec::new(alloc);

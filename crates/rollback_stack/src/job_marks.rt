@@ -6,12 +6,11 @@ ghost use Rattle.local_db.specs.declared.record.Told.TheVariants as declared_tol
 ghost use Rattle.job_record.specs.Lists.{told_by};
 ghost use Rattle.local_db.specs.Record as state;
 ghost use Rattle.rollback_stack.specs.declared.job_marks.HalfRead as declared;
-ghost use Rattle.rollback_stack.specs.JobEntries.{IsChange, entries_of, entry_of};
+ghost use Rattle.rollback_stack.specs.JobEntries.{IsChange};
 ghost use Rattle.rollback_stack.specs.Halves.{half_of, half_told};
 
-use crate::changes::Change;
 use local_db::cny_base::{Copies, Path, TextFault};
-use local_db::{Told, ToldEntry};
+use local_db::{PathChange, Told, ToldEntry};
 use past_jobs::PastList;
 use std::alloc::Global;
 use tree_scan::Mark;
@@ -96,21 +95,22 @@ pub(crate) fn marks_after(
 }
 
 // Whether a job can have changed the path, and changed it.
-fn is_change(change: &Change) -> bool
-    ensures { IsTrue result ↔ IsChange (entry_of change.now) }
+fn is_change(change: &PathChange) -> bool
+    ensures { IsTrue result ↔ IsChange change.now }
 {
-    let _text = change.path.text();
-    let reserved = change.path.is_reserved();
-    let pinned = change.path.is_pinned();
-    let nothing_before = change.before.is_nothing();
-    let nothing_after = change.after.is_nothing();
+    let path = change.path();
+    let _text = path.text();
+    let reserved = path.is_reserved();
+    let pinned = path.is_pinned();
+    let nothing_before = change.old_mark().is_nothing();
+    let nothing_after = change.new_mark().is_nothing();
     !reserved && !pinned && !(nothing_before && nothing_after)
 }
 
 // The fingerprint before the job, by the list before it.
-fn mark_before(list: &PastList, half: HalfRead) -> Result<Change, TextFault>
-    ensures value { IfOk result (λ change. half ≡ half_of list.now.troves (entry_of change)) }
-    ensures change { IfOk result (λ change. IsChange (entry_of change)) }
+fn mark_before(list: &PastList, half: HalfRead) -> Result<PathChange, TextFault>
+    ensures value { IfOk result (λ change. half ≡ half_of list.now.troves change) }
+    ensures change { IfOk result IsChange }
     ensures bad { IsErrOf result TextFault.Bad → (e : state.Entry) → half ≡ half_of list.now.troves e → IsChange e → ⊥ }
 {
     let HalfRead {
@@ -119,11 +119,7 @@ fn mark_before(list: &PastList, half: HalfRead) -> Result<Change, TextFault>
         after,
     } = half;
     let before = told_mark(before, list.recorded(&path))?;
-    let change = Change {
-        path,
-        before,
-        after,
-    };
+    let change = PathChange::new(path, before, after);
     if !is_change(&change) {
         return Err(TextFault::Bad);
     }
@@ -136,9 +132,9 @@ pub(crate) fn marks_before(
     alloc: Global,
     list: &PastList,
     read: Vec<HalfRead>,
-) -> Result<Vec<Change>, TextFault>
-    ensures value { IfOk result (λ changes. read.items ≡ map (half_of list.now.troves) (entries_of changes.items)) }
-    ensures changes { IfOk result (λ changes. All IsChange (entries_of changes.items)) }
+) -> Result<Vec<PathChange>, TextFault>
+    ensures value { IfOk result (λ changes. read.items ≡ map (half_of list.now.troves) changes.items) }
+    ensures changes { IfOk result (λ changes. All IsChange changes.items) }
     ensures bad { IsErrOf result TextFault.Bad
         → (es : List state.Entry) → read.items ≡ map (half_of list.now.troves) es → All IsChange es → ⊥ }
 {

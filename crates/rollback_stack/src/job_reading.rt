@@ -9,25 +9,23 @@ ghost use Rattle.local_db.specs.Installed.{IsInstalled};
 ghost use Rattle.local_db.specs.Record as state;
 ghost use Rattle.local_db.specs.tree-disk.Disk.{Reads};
 ghost use Rattle.local_db.specs.trove-stream.declared.parts.TroveParts.{TroveParts};
-ghost use Rattle.rollback_stack.specs.JobEntries.{entries_of};
 ghost use Rattle.rollback_stack.specs.JobReading.{HoldsRecord, HoldsText, IsCheckStop, IsDamagedJob, IsDamagedText, IsJob, IsJobOf, IsReadStop, IsText, IsToldBy, damaged_as};
 
-use crate::changes::Change;
 use crate::job_marks::{marks_after, marks_before};
 use job_record::{decode, distinct_records, records_by_lists};
 use local_db::cny_base::{Path, Stop, TextFault};
 use local_db::content_store::file_at;
 use local_db::tree_disk::TreeDisk;
-use local_db::{Format, Record, record_path};
+use local_db::{Format, PathChange, Record, record_path};
 use past_jobs::{Changed, PastList};
 use std::alloc::Global;
 
 /// What a record tells of its job.
-#[derive(Debug, Drop)]
+#[derive(Drop)]
 pub struct Job {
     pub changed: Changed,
     /// The paths that it changed, in their order.
-    pub changes: Vec<Change>,
+    pub changes: Vec<PathChange>,
 }
 
 // What is read, or that the file of this path is damaged.
@@ -83,7 +81,7 @@ pub fn read_record<D: TreeDisk>(
 // leads to no such list, or doesn't tell each fingerprint as the lists have it, or changes a path that no job can have changed.
 fn job_in(alloc: Global, list: &mut PastList, found: Record) -> Result<Job, TextFault>
     requires { IsStrictlySortedBy by_name found.deltas }
-    ensures told { IfOk result (λ job. IsToldBy list.old.format found list.old.troves list.new.troves (entries_of job.changes.items)) }
+    ensures told { IfOk result (λ job. IsToldBy list.old.format found list.old.troves list.new.troves job.changes.items) }
     ensures before { IfOk result (λ job. AreChangedIds list.new.troves list.old.troves job.changed.before) }
     ensures after { IfOk result (λ job. AreChangedIds list.old.troves list.new.troves job.changed.after) }
     ensures format { list.new.format ≡ list.old.format }
@@ -139,7 +137,7 @@ pub fn read_job<D: TreeDisk>(
     requires installed { IsInstalled list.old.troves }
     requires format { list.old.format ≡ format }
     ensures value { Reads D.disk disk.old disk.new (IfOk result (λ job.
-        HoldsRecord format (D.disk.reads disk.old) number list.old.troves list.new.troves (entries_of job.changes.items))) }
+        HoldsRecord format (D.disk.reads disk.old) number list.old.troves list.new.troves job.changes.items)) }
     // On every disk, also where it tells nothing.
     ensures job { IfOk result (IsJob format list.old.troves list.new.troves) }
     ensures format { list.new.format ≡ list.old.format }

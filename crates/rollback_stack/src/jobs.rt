@@ -1,7 +1,6 @@
 //! Jobs that are taken back, the newest first.
 ghost use Rattle.std.specs.Prelude.{◌≡◌, ◌≤◌, ◌+◌, ◌-◌, IfErr, IfOk, OnOk};
 ghost use Rattle.job_targets.specs.cny-base.Count.{Rose};
-ghost use Rattle.rollback_stack.specs.JobEntries.{entries_of};
 ghost use Rattle.local_db.specs.Formats.{AreEnds, Fits};
 ghost use Rattle.local_db.specs.Installed.{IsInstalled};
 ghost use Rattle.local_db.specs.Stores.{IsDatabase};
@@ -10,11 +9,10 @@ ghost use Rattle.job_targets.specs.tree-disk.Disk.{Reads};
 ghost use Rattle.rollback_stack.specs.Inverse.{IsOnStack};
 ghost use Rattle.rollback_stack.specs.Taking.{AreTaken, HasTakenJob, IsJobsStop, IsNoJobStop, IsTakeStop};
 
-use crate::changes::Change as RecordChange;
 use crate::job_reading::{Job, read_job};
-use job_targets::cny_base::{OutOfMemory, Refusal, Stop};
+use job_targets::cny_base::{Refusal, Stop};
 use job_targets::tree_disk::TreeDisk;
-use local_db::{Change, Db, Format};
+use local_db::{Db, Format};
 use past_jobs::{FoundMarks, PastList, check_undo, take_back};
 use std::alloc::Global;
 use std::collections::BTreeMap;
@@ -41,22 +39,6 @@ pub(crate) fn check_number(db: &Db, number: u32) -> Result<(), Stop>
     Ok(())
 }
 
-// The changes as the test has them, which are those of the record.
-fn changes_of(alloc: Global, changes: Vec<RecordChange>) -> Result<Vec<Change>, OutOfMemory>
-    ensures { IfOk result (λ same. same.items ≡ entries_of changes.items) }
-{
-    let mut same = Vec::new(alloc);
-    for change in changes {
-        let RecordChange {
-            path,
-            before,
-            after,
-        } = change;
-        same.push(Change::new(path, before, after))?;
-    }
-    Ok(same)
-}
-
 // Reads the job of this number, and takes it back where that can be done.
 fn take_job<D: TreeDisk>(
     alloc: Global,
@@ -79,7 +61,6 @@ fn take_job<D: TreeDisk>(
 {
     let job = read_job(alloc, disk, Format::Two, &mut back.list, number)?;
     let Job { changes, .. } = job;
-    let changes = changes_of(alloc, changes)?;
     let own = changes.as_slice();
     check_undo(alloc, disk, &back.found, own)?;
     take_back(&mut back.found, number, own)?;

@@ -4,7 +4,6 @@
 #![tactic(auto)]
 
 mod back;
-mod changes;
 mod clearing;
 mod database;
 mod entries;
@@ -21,7 +20,6 @@ mod stack;
 mod taking_back;
 mod undo;
 
-pub use changes::Change;
 pub use database::db_below;
 pub use entries::changes_of;
 pub use job_reading::{Job, read_job};
@@ -37,4 +35,4 @@ pub use saving::save_job;
 pub use saving_laws::saving_keeps_system;
 pub use stack::all;
 pub use taking_back::inverse_to;
-pub use undo::{Back, Note, Notes, TroveIds};
+pub use undo::{Back, NotedJob, NotedJobs, TroveIds};

@@ -8,7 +8,7 @@ ghost use Rattle.rollback_stack.specs.Numbers.{job_count};
 ghost use Rattle.rollback_stack.specs.Reading.{AreNotes, IsAllStop};
 
 use crate::job_reading::{Job, read_job};
-use crate::undo::{Note, Notes};
+use crate::undo::{NotedJob, NotedJobs};
 use job_targets::cny_base::Stop;
 use job_targets::tree_disk::TreeDisk;
 use local_db::{Db, Format};
@@ -16,12 +16,12 @@ use past_jobs::{Changed, PastList};
 use std::alloc::Global;
 
 // What is noted of the job of this number.
-fn note_of(number: u32, job: Job) -> Note
+fn note_of(number: u32, job: Job) -> NotedJob
     ensures { result ≡ record { number = number; before = job.changed.before; after = job.changed.after; paths = length job.changes.items } }
 {
     let Job { changed, changes } = job;
     let Changed { before, after } = changed;
-    Note {
+    NotedJob {
         number,
         before,
         after,
@@ -31,7 +31,7 @@ fn note_of(number: u32, job: Job) -> Note
 
 /// What the jobs of the stack changed, the newest first. Each record is read once, and no saved content. `Damaged` exactly where a
 /// record fails its grammar or a cross-check, with the path of the newest such one.
-pub fn all<D: TreeDisk>(alloc: Global, disk: &mut D, db: &Db) -> Result<Notes, Stop>
+pub fn all<D: TreeDisk>(alloc: Global, disk: &mut D, db: &Db) -> Result<NotedJobs, Stop>
     requires db { IsDatabase Two db.now.installed db.now.oldest db.now.newest }
     ensures value { Reads D.disk disk.old disk.new
         (IfOk result (AreNotes (D.disk.reads disk.old) (job_count db.now.oldest db.now.newest) db.now.newest db.now.installed)) }
@@ -41,7 +41,7 @@ pub fn all<D: TreeDisk>(alloc: Global, disk: &mut D, db: &Db) -> Result<Notes, S
 {
     let mut notes = Vec::new(alloc);
     if db.newest == 0 {
-        return Ok(Notes::new(notes));
+        return Ok(NotedJobs::new(notes));
     }
     let mut list = PastList::of(alloc, Format::Two, &db.installed)?;
     let count = db.newest - db.oldest + 1;
@@ -50,5 +50,5 @@ pub fn all<D: TreeDisk>(alloc: Global, disk: &mut D, db: &Db) -> Result<Notes, S
         let job = read_job(alloc, disk, Format::Two, &mut list, number)?;
         notes.push(note_of(number, job))?;
     }
-    Ok(Notes::new(notes))
+    Ok(NotedJobs::new(notes))
 }

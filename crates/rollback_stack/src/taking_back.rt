@@ -2,7 +2,6 @@
 ghost use Rattle.std.specs.Prelude.{◌≤◌, IfErr, IfOk, OnOk};
 ghost use Rattle.job_targets.specs.cny-base.Count.{Rose};
 ghost use Rattle.local_db.specs.declared.format.Format.TheVariants.{Two};
-ghost use Rattle.local_db.specs.Formats.{Fits};
 ghost use Rattle.local_db.specs.Stores.{IsDatabase};
 ghost use Rattle.job_targets.specs.tree-disk.Disk.{Reads};
 ghost use Rattle.rollback_stack.specs.Inverse.{IsBackStop, IsBackTo, IsOnStack};
@@ -36,7 +35,7 @@ pub fn inverse_to<D: TreeDisk>(
     ensures value { Reads D.disk disk.old disk.new (IfOk result (IsBackTo (D.disk.reads disk.old) db.now number)) }
     // On every disk, also where it tells nothing.
     ensures job { OnOk result (IsOnStack db.now number) }
-    ensures fits { IfOk result (λ back. Fits Two back.db.installed) }
+    ensures database { IfOk result (λ back. IsDatabase Two back.db.installed back.db.oldest back.db.newest) }
     ensures stops { IfErr result (IsBackStop D.disk.tells (D.disk.reads disk.old) db.now number
         (Rose (D.disk.faults disk.old) (D.disk.faults disk.new))) }
     ensures later { D.disk.faults disk.old ≤ D.disk.faults disk.new }

@@ -8,8 +8,8 @@ use local_db::Db;
 pub type TroveIds = ListOf<TroveId>;
 
 /// What is noted of a job: what it changed of the installed list, and how many paths.
-#[derive(Debug, Drop)]
-pub struct Note {
+#[derive(Drop)]
+pub struct NotedJob {
     pub number: u32,
     /// Of the names whose trove the job changed, the ids of the troves before it, in the order of the names.
     pub before: TroveIds,
@@ -18,8 +18,8 @@ pub struct Note {
     pub paths: u64,
 }
 
-/// Notes of jobs, the newest first.
-pub type Notes = ListOf<Note>;
+/// Noted jobs, the newest first.
+pub type NotedJobs = ListOf<NotedJob>;
 
 /// The writes that take jobs back, and the database afterwards. (The database's own write isn't among them.)
 #[derive(Drop)]

@@ -2,7 +2,6 @@ mod Added
 mod Answered
 mod Listed
 mod SearchLaws
-mod FindsLaws
 mod Stopping
 mod Members
 mod Choosing

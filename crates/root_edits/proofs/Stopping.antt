@@ -16,7 +16,7 @@ use Rattle.update_job.specs.trove-stream.declared.parts.TroveParts.{TroveParts}
 use Rattle.update_job.specs.trove-stream.Installed.{IsNameless}
 use Rattle.manifest_troves.specs.Contents.{IsCollisionOf}
 use Rattle.tree_scan.specs.tree-disk.Steps.{IsDiskStop}
-use Rattle.root_edits.specs.Finds.{IsSizeRefusal, IsSizeStop}
+use Rattle.root_edits.specs.Standing.{IsSizeRefusal, IsSizeStop}
 use Rattle.root_edits.specs.Local.{IsLocalAnswer, IsLocalStop, PassesVersions}
 use Rattle.root_edits.specs.Moved.{local_size, too_long}
 use Rattle.root_edits.specs.Reached.{AreReached}

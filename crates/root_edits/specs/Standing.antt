@@ -1,5 +1,5 @@
 -- Files by what stands at their paths: their records, the contents that are carried, and files that are too large.
-use Rattle.std.specs.Prelude.{if◌then◌else◌, nat_lt, List, [], ◌∷◌, length, map, Option, Some, None}
+use Rattle.std.specs.Prelude.{◌≡◌, if◌then◌else◌, nat_lt, List, [], ◌∷◌, length, map, Option, Some, None}
 use Rattle.std.specs.FinMap.{get}
 use Rattle.std.specs.List.{filter_map}
 use Rattle.std.specs.Option.{option_map, option_or}
@@ -10,6 +10,7 @@ use Rattle.update_job.specs.cny-base.declared.node.Node.TheVariants as node
 use Rattle.update_job.specs.cny-base.declared.refusal.Refusal.{Refusal}
 use Rattle.update_job.specs.cny-base.declared.refusal.Refusal.TheVariants as refusal
 use Rattle.update_job.specs.cny-base.declared.refusal.What.TheVariants as what
+use Rattle.update_job.specs.cny-base.declared.stop.Stop.{Stop}
 use Rattle.update_job.specs.file-stream.declared.record.FileRec.{FileRec}
 use Rattle.update_job.specs.file-stream.declared.record.FileRec.TheVariants.{Dir, File, Link}
 use Rattle.update_job.specs.file-stream.Record.{flags_of, has_name_and_size}
@@ -17,6 +18,7 @@ use Rattle.update_job.specs.file-stream.Owner.{OwnerNames, root_owner}
 use Rattle.update_job.specs.trove-parts.declared.files.FileAt.{FileAt}
 use Rattle.update_job.specs.change-set.declared.change.Carried.{Carried}
 use Rattle.tree_scan.specs.tree-disk.Tree.{Tree}
+use Rattle.tree_scan.specs.OnlyReads.{IsStopBy}
 
 -- a recorded path, and what stands there
 pub record Sight : Type 0 where
@@ -84,3 +86,12 @@ too_large_node None = None
 abbrev pub too_large : List Sight → Option Refusal
 too_large [] = None
 too_large (s ∷ seen) = option_or (too_large_node s.node) (too_large seen)
+
+-- a file is too large
+abbrev pub IsSizeRefusal : Refusal → Type 0
+IsSizeRefusal (refusal.TooLarge kind size) = kind ≡ what.Local
+IsSizeRefusal _ = ⊥
+
+-- so refused, and for nothing else; or a fault, or want of memory
+abbrev pub IsSizeStop : Stop → Type 0
+IsSizeStop stop = IsStopBy IsSizeRefusal stop

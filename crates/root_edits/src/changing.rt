@@ -3,7 +3,8 @@ ghost use Rattle.std.specs.Prelude.{◌≡◌, [], All, IfErr, IfOk, OnOk, Some,
 ghost use Rattle.update_job.specs.trove-parts.Id.{IsTroveId};
 ghost use Rattle.update_job.specs.change-set.ChangeSet.{HasContents, IsPart};
 ghost use Rattle.update_job.specs.trove-stream.Installed.{IsNameless};
-ghost use Rattle.root_edits.specs.Finds.{Finds, IsSizeStop};
+ghost use Rattle.tree_scan.specs.OnlyReads.{OnlyReads};
+ghost use Rattle.root_edits.specs.Standing.{IsSizeStop};
 ghost use Rattle.root_edits.specs.Local.{all_sights, IsLocal, IsLocalRefusal, IsLocalStop};
 ghost use Rattle.root_edits.specs.Moved as moved;
 ghost use Rattle.root_edits.specs.Standing.{sights, too_large};
@@ -35,7 +36,7 @@ fn add_trove<T: TreeDisk>(
     requires ids { ids.now ≡ map (λ t. moved.local_id t.id) troves.now }
     requires valid { All IsTroveId ids.now }
     requires id { id.now ≡ moved.local_id trove.now.id }
-    ensures finds { Finds T.disk (λ tree done. Unit {0}) (λ tree refused. too_large (sights tree trove.now.files) ≡ Some refused) root.old root.new result }
+    ensures finds { OnlyReads T.disk (λ tree done. Unit {0}) (λ tree refused. too_large (sights tree trove.now.files) ≡ Some refused) root.old root.new result }
     ensures added { OnOk result (HasAddedPart T.disk.tells (T.disk.reads root.old) troves.now trove.now parts.old.items parts.new.items carried.old.items carried.new.items) }
     ensures stops { IfErr result IsSizeStop }
 {
@@ -59,7 +60,7 @@ fn add_troves<T: TreeDisk>(
     requires valid { All IsTroveId ids.now }
     requires no_parts { parts.old.items ≡ [] }
     requires no_contents { carried.old.items ≡ [] }
-    ensures finds { Finds T.disk (λ tree done. Unit {0}) (λ tree refused. too_large (all_sights tree troves.now) ≡ Some refused) root.old root.new result }
+    ensures finds { OnlyReads T.disk (λ tree done. Unit {0}) (λ tree refused. too_large (all_sights tree troves.now) ≡ Some refused) root.old root.new result }
     ensures added { OnOk result (HaveAddedParts T.disk.tells (T.disk.reads root.old) troves.now troves.now parts.new.items carried.new.items) }
     ensures stops { IfErr result IsSizeStop }
 {
@@ -90,7 +91,7 @@ pub fn local<T: TreeDisk>(
     installed: &Installed,
     name: &Name,
 ) -> Result<ChangeSet, Stop>
-    ensures finds { Finds T.disk (IsLocal installed.now name.now) (IsLocalRefusal installed.now name.now) root.old root.new result }
+    ensures finds { OnlyReads T.disk (IsLocal installed.now name.now) (IsLocalRefusal installed.now name.now) root.old root.new result }
     // On every disk, also on one that tells nothing.
     ensures stops { IfErr result (IsLocalStop installed.now name.now) }
     ensures installed { OnOk result (¬ (IsNameless name.now installed.now)) }

@@ -4,10 +4,10 @@ ghost use Rattle.std.specs.List.{cons_option};
 ghost use Rattle.std.specs.Option.{option_map};
 ghost use Rattle.tree_scan.specs.tree-disk.Rows.{bytes_at, is_file_at};
 ghost use Rattle.tree_scan.specs.Marks.{fingerprint_at};
-ghost use Rattle.root_edits.specs.Search.{no_refusal, Searches};
 ghost use Rattle.root_edits.specs.Verify as spec;
 ghost use Rattle.root_edits.specs.Verify.{finding_of, IsChangeAt, IsChangedFile, IsFoundAt, LacksAt, LacksContent};
 ghost use Rattle.content_store.specs.Contents.{LacksAnswer};
+ghost use Rattle.content_store.specs.Searches.{no_refusal, Searches};
 
 use content_store::Contents;
 use std::alloc::Global;
@@ -38,7 +38,7 @@ fn find_change<T: TreeDisk, C: Contents>(
     name: &[u8; 20],
 ) -> Result<Found, Stop>
     requires { IsTrue T.disk.tells → IsTrue (is_file_at (T.disk.reads root.old) path.now) }
-    ensures { Searches T.disk C.contents (λ answers tree found. IsChangedFile answers (bytes_at tree path.now) size name.now found) no_refusal (λ answers tree. LacksAnswer answers name.now)
+    ensures { Searches T.disk C.contents (λ answers tree found. IsChangedFile answers (bytes_at tree path.now) size name.now found) no_refusal (λ told answers tree. IsTrue told → LacksAnswer answers name.now)
         root.old root.new far.old far.new result }
 {
     let Some(bytes) = far.find(alloc, name)? else {
@@ -60,7 +60,7 @@ fn change_found<T: TreeDisk, C: Contents>(
     mark: &Mark,
 ) -> Result<Found, Stop>
     requires { IsTrue T.disk.tells → fingerprint_at (T.disk.reads root.old) file.now.path ≡ mark.now }
-    ensures { Searches T.disk C.contents (λ answers tree found. IsChangeAt answers tree file.now.path mark.now file.now.rec found) no_refusal (λ answers tree. LacksContent answers mark.now file.now.rec)
+    ensures { Searches T.disk C.contents (λ answers tree found. IsChangeAt answers tree file.now.path mark.now file.now.rec found) no_refusal (λ told answers tree. IsTrue told → LacksContent answers mark.now file.now.rec)
         root.old root.new far.old far.new result }
 {
     match (mark, &file.rec) {
@@ -78,7 +78,7 @@ pub(crate) fn found_at<T: TreeDisk, C: Contents>(
     far: &mut C,
     file: &FileAt,
 ) -> Result<Option<Found>, Stop>
-    ensures { Searches T.disk C.contents (λ answers tree found. IsFoundAt answers tree file.now.path file.now.rec found) no_refusal (λ answers tree. LacksAt answers tree file.now.path file.now.rec)
+    ensures { Searches T.disk C.contents (λ answers tree found. IsFoundAt answers tree file.now.path file.now.rec found) no_refusal (λ told answers tree. IsTrue told → LacksAt answers tree file.now.path file.now.rec)
         root.old root.new far.old far.new result }
 {
     let mark = mark_at(alloc, root, &file.path)?;

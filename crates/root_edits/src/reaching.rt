@@ -6,23 +6,19 @@ ghost use Rattle.root_edits.specs.Reached.{AreReached};
 ghost use Rattle.root_edits.specs.Steps as spec;
 ghost use Rattle.root_edits.specs.Steps.{IsUninstalled};
 
-use indexmap::IndexSet;
 use std::alloc::Global;
 use update_job::cny_base::{Copies, Fault, Name, OutOfMemory, Refusal, Text};
 use update_job::places_from;
+use update_job::trove_parts::Places;
 use update_job::trove_stream::Installed;
 
 // The troves at these places, in the order of the list.
-fn chosen(
-    alloc: Global,
-    installed: &Installed,
-    places: &IndexSet<usize>,
-) -> Result<Installed, OutOfMemory>
-    ensures { IfOk result (λ troves. troves ≡ spec.chosen places.now.keys 0 installed.now) }
+fn chosen(alloc: Global, installed: &Installed, places: &Places) -> Result<Installed, OutOfMemory>
+    ensures { IfOk result (λ troves. troves ≡ spec.chosen places.now 0 installed.now) }
 {
     let mut troves = Vec::new(alloc);
     for (place, trove) in installed.troves().iter().enumerate() {
-        if places.contains(&place) {
+        if places.contains(place) {
             troves.push(trove.copy()?)?;
         }
     }

@@ -7,17 +7,19 @@ ghost use Rattle.update_job.specs.file-stream.Record.{has_name_and_size};
 ghost use Rattle.tree_scan.specs.tree-disk.declared.disk.Look.TheVariants as look;
 ghost use Rattle.tree_scan.specs.tree-disk.Rows.{look_of};
 ghost use Rattle.tree_scan.specs.tree-disk.Steps.{Tests};
-ghost use Rattle.root_edits.specs.Finds.{Finds, IsSizeStop};
+ghost use Rattle.tree_scan.specs.OnlyReads.{OnlyReads};
+ghost use Rattle.root_edits.specs.Standing.{IsSizeStop};
 ghost use Rattle.root_edits.specs.Standing as spec;
 ghost use Rattle.root_edits.specs.Standing.{content_of_node, local_content, local_file, sights, too_large, too_large_node};
 ghost use Rattle.root_edits.specs.Steps.{within_limit, Fits, HaveSeen, IsNameOf};
 
 use sha1::Sha1;
 use std::alloc::Global;
+use std::mem;
 use tree_scan::tree_disk::{Look, TreeDisk, node_ranges, steps};
 use update_job::change_set::Carried;
 use update_job::cny_base::{
-    CONTENT_LIMIT, Copies, Mode, Node, OutOfMemory, Path, Refusal, Stop, TextFault, What,
+    Bytes, CONTENT_LIMIT, Copies, Mode, Node, OutOfMemory, Path, Refusal, Stop, TextFault, What,
 };
 use update_job::file_stream::{FileRec, Owner};
 use update_job::trove_parts::{FileAt, Files};
@@ -161,20 +163,21 @@ fn has_content(rec: &FileRec, size: usize, name: &[u8; 20]) -> bool
     }
 }
 
-// The content of a file that stands, unless the record has it already.
-fn content_of(rec: &FileRec, node: Node, name: [u8; 20]) -> Option<Carried>
-    requires { IsNameOf name node }
-    ensures { result ≡ content_of_node rec.now (Some node) }
+// The content of a file that stands, unless the record has it already. It is taken out of the node, and not copied.
+fn content_of(alloc: Global, rec: &FileRec, node: &mut Node, name: [u8; 20]) -> Option<Carried>
+    requires { IsNameOf name node.old }
+    ensures { result ≡ content_of_node rec.now (Some node.old) }
 {
     match node {
-        Node::Dir { mode: _mode } => None,
-        Node::File { mode: _mode, bytes } => {
+        Node::Dir { .. } => None,
+        Node::File { bytes, .. } => {
             if has_content(rec, bytes.get().len(), &name) {
                 return None;
             }
+            let bytes = mem::replace(bytes, Bytes::from_vec(Vec::new(alloc)));
             Some(Carried { name, bytes })
         }
-        Node::Link { target: _target } => None,
+        Node::Link { .. } => None,
     }
 }
 
@@ -192,11 +195,12 @@ fn push_node(
     ensures files { OnOk result (files.new.items ≡ files.old.items ++ cons_option (local_file (record { file = file.now; node = Some node })) []) }
     ensures carried { OnOk result (carried.new.items ≡ carried.old.items ++ cons_option (local_content (record { file = file.now; node = Some node })) []) }
 {
+    let mut node = node;
     let name = name_of(&node);
     let rec = record_of(alloc, &file.rec, &node, name)?;
     let path = file.path.copy()?;
     files.push(FileAt { path, rec })?;
-    if let Some(content) = content_of(&file.rec, node, name) {
+    if let Some(content) = content_of(alloc, &file.rec, &mut node, name) {
         carried.push(content)?;
     }
     Ok(())
@@ -228,7 +232,7 @@ pub(crate) fn standing_files<D: TreeDisk>(
     recorded: &[FileAt],
     carried: &mut Vec<Carried>,
 ) -> Result<Files, Stop>
-    ensures finds { Finds D.disk (λ tree files. Unit {0}) (λ tree refused. too_large (sights tree recorded.now) ≡ Some refused) disk.old disk.new result }
+    ensures finds { OnlyReads D.disk (λ tree files. Unit {0}) (λ tree refused. too_large (sights tree recorded.now) ≡ Some refused) disk.old disk.new result }
     ensures seen { IfOk result (λ files. HaveSeen D.disk.tells (D.disk.reads disk.old) recorded.now files carried.old.items carried.new.items) }
     ensures stops { IfErr result IsSizeStop }
 {

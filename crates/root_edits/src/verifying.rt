@@ -1,8 +1,8 @@
 //! Trees compared with what troves record.
 ghost use Rattle.std.specs.Prelude.{◌≡◌, ◌∷◌, [], OnOk, IfOk, IsTrue, min, length, ◌^◌, ◌-◌};
 ghost use Rattle.content_store.specs.Contents.{ContentMap};
+ghost use Rattle.content_store.specs.Searches.{no_refusal, Searches};
 ghost use Rattle.update_job.specs.Lists.{AreInstalled, IsNotInstalled};
-ghost use Rattle.root_edits.specs.Search.{no_refusal, Searches};
 ghost use Rattle.root_edits.specs.Verify.{asked, records, verified, AreAdded, IsVerified, LacksOne};
 
 use crate::asked::{check_names, count_paths, is_asked};
@@ -24,7 +24,7 @@ fn verify_file<T: TreeDisk, C: Contents>(
     lines: &mut Vec<Finding>,
 ) -> Result<(), Stop>
     ensures { Searches T.disk C.contents (λ answers tree done. AreAdded answers tree (file.now ∷ []) lines.old.items lines.new.items) no_refusal
-        (λ answers tree. LacksOne answers tree (file.now ∷ []))
+        (λ told answers tree. IsTrue told → LacksOne answers tree (file.now ∷ []))
         root.old root.new far.old far.new result }
 {
     let found = found_at(alloc, root, far, file)?;
@@ -41,7 +41,7 @@ fn verify_files<T: TreeDisk, C: Contents>(
     lines: &mut Vec<Finding>,
 ) -> Result<(), Stop>
     ensures { Searches T.disk C.contents (λ answers tree done. AreAdded answers tree files.now lines.old.items lines.new.items) no_refusal
-        (λ answers tree. LacksOne answers tree files.now)
+        (λ told answers tree. IsTrue told → LacksOne answers tree files.now)
         root.old root.new far.old far.new result }
 {
     let mut rest = files;
@@ -62,7 +62,7 @@ fn verify_trove<T: TreeDisk, C: Contents>(
     lines: &mut Vec<Finding>,
 ) -> Result<(), Stop>
     ensures { Searches T.disk C.contents (λ answers tree done. AreAdded answers tree (records (asked names.now (trove.now ∷ []))) lines.old.items lines.new.items) no_refusal
-        (λ answers tree. LacksOne answers tree (records (asked names.now (trove.now ∷ []))))
+        (λ told answers tree. IsTrue told → LacksOne answers tree (records (asked names.now (trove.now ∷ []))))
         root.old root.new far.old far.new result }
 {
     if is_asked(names, trove) {
@@ -81,7 +81,7 @@ fn verify_troves<T: TreeDisk, C: Contents>(
     lines: &mut Vec<Finding>,
 ) -> Result<(), Stop>
     ensures { Searches T.disk C.contents (λ answers tree done. AreAdded answers tree (records (asked names.now troves.now)) lines.old.items lines.new.items) no_refusal
-        (λ answers tree. LacksOne answers tree (records (asked names.now troves.now)))
+        (λ told answers tree. IsTrue told → LacksOne answers tree (records (asked names.now troves.now)))
         root.old root.new far.old far.new result }
 {
     let mut rest = troves;
@@ -110,7 +110,7 @@ pub fn verify<T: TreeDisk, C: Contents>(
     far: &mut C,
 ) -> Result<Verified, Stop>
     ensures verified { Searches T.disk C.contents (λ answers tree found. IsVerified answers tree (asked names.now installed.now) found)
-        (IsNotInstalled installed.now names.now) (λ answers tree. LacksOne answers tree (records (asked names.now installed.now)))
+        (λ told tree. IsNotInstalled installed.now names.now) (λ told answers tree. IsTrue told → LacksOne answers tree (records (asked names.now installed.now)))
         root.old root.new far.old far.new result }
     ensures mapped { (map : ContentMap) → IsTrue T.disk.tells → C.contents.holds far.old map
         → IfOk result (λ found. found ≡ verified map (T.disk.reads root.old) (asked names.now installed.now)) }

@@ -1,4 +1,5 @@
 pub mod Marks
 pub mod Looks
 pub mod Differing
+pub mod OnlyReads
 pub use Rattle.tree_disk.specs as tree-disk

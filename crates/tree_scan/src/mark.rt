@@ -1,5 +1,5 @@
 //! Fingerprints of what stands at a path.
-ghost use Rattle.std.specs.Prelude.{◌≡◌, IfOk, Some};
+ghost use Rattle.std.specs.Prelude.{◌≡◌, Some};
 ghost use Rattle.tree_disk.specs.cny-base.declared.node.Node.TheVariants as node;
 ghost use Rattle.tree_scan.specs.declared.mark.Mark.TheVariants as mark;
 ghost use Rattle.tree_scan.specs.Marks as spec;
@@ -10,7 +10,6 @@ use sha1::Sha1;
 use tree_disk::cny_base::{Copies, Mode, OutOfMemory, Target};
 
 /// A fingerprint: what stands at a path, a file by its size and the SHA-1 of its bytes. Owners and flags are no part of it.
-#[derive(Debug)]
 pub enum Mark {
     /// Nothing stands there.
     Nothing,

@@ -2,7 +2,7 @@
 use tree_disk::cny_base::{Copies, ListOf, OutOfMemory, Path};
 
 /// How a recorded path differs from its record.
-#[derive(Clone, Copy, Debug, PartialEq, Eq)]
+#[derive(Clone, Copy)]
 pub enum Found {
     /// Nothing stands there.
     Missing,
@@ -13,7 +13,7 @@ pub enum Found {
 }
 
 /// A recorded path at which something else stands, or nothing.
-#[derive(Debug, Drop)]
+#[derive(Drop)]
 pub struct Finding {
     pub path: Path,
     pub what: Found,
@@ -32,7 +32,7 @@ impl Copies for Finding {
 pub type Findings = ListOf<Finding>;
 
 /// What a verification found.
-#[derive(Debug, Drop)]
+#[derive(Drop)]
 pub struct Verified {
     /// The paths that differ, trove by trove.
     pub lines: Findings,

@@ -7,17 +7,18 @@ use Rattle.conflict_plan.specs.Orphans.{IsSeenPlan}
 use Rattle.conflict_plan.specs.Plan.{IsFirstRefusal, IsPlanRefusal, RefusesShared}
 use Rattle.conflict_plan.specs.Settled.{IsSeen}
 use Rattle.conflict_plan.proofs.Assembled.{first_owned, to_found, unshared}
-use Rattle.conflict_plan.proofs.Ending.{disk_passed, disk_told, memory_passed, memory_told, plans_found, plans_memory, plans_refused, plans_shared, plans_stop, shared_passed, shared_told, table_passed, table_told}
+use Rattle.conflict_plan.proofs.Ending.{disk_passed, disk_told, memory_passed, memory_told, plans_shared, shared_passed, shared_told, table_passed, table_told}
 use Rattle.conflict_plan.proofs.Whole.{all_drafts_seen, all_planned_seen, ends_conflict, ends_orphan, ends_plan, entries_are, found_are}
 use Rattle.conflict_plan.proofs.Picking.{are_plannable}
 use Rattle.conflict_plan.specs.Plan.{ArePlannable}
 use Rattle.tree_scan.proofs.tree-disk.Deciding.{tests_next}
+use Rattle.tree_scan.proofs.ReadingLaws.{tested_found, tested_memory, tested_refusal, tested_stop}
 use Rattle.conflict_plan.proofs.planning.plan.Goals as goal
 
 pub returns-in_err-records-clause-plans : goal.returns-in_err-records-clause-plans
 returns-in_err-records-clause-plans g c =
     let start : Tests g.D.TreeDisk.disk (λ (u : Unit {0}). u) (λ tree. Ok tt) c.args.disk.now c.args.disk.now (Ok tt) = tests_start g.met.D.TreeDisk.laws c.args.disk.now tt (λ tells. refl) in
-    plans_memory start c.from_residual.ensures.1
+    tested_memory start c.from_residual.ensures.1
 
 pub returns-in_err-records-clause-owned : goal.returns-in_err-records-clause-owned
 returns-in_err-records-clause-owned g c = memory_told c.args.fresh.now c.from_residual.result c.from_residual.ensures.1
@@ -50,7 +51,7 @@ returns-in_err-drafts-clause-plans g c =
     let es = c.in_ok-records.records.entries in
     let entries = entries_are c.args.old.now c.args.fresh.now es made c.in_ok-entries.ensures.ordered c.in_ok-entries.ensures.entries c.in_ok-entries.ensures.paths c.in_ok-records.ensures in
     let free = unshared (to_found c.args.old.now c.args.fresh.now es entries) c.in_ok-entries.ensures.none in
-    plans_stop c.in_err-drafts.ensures.tests c.from_residual-in_err-drafts.ensures.1
+    tested_stop c.in_err-drafts.ensures.tests c.from_residual-in_err-drafts.ensures.1
     (λ tells why is. ends_conflict c.args.options.now (g.D.TreeDisk.disk.reads c.args.disk.now) made entries c.in_ok-entries.ensures.entries why free is)
 
 pub returns-in_err-drafts-clause-owned : goal.returns-in_err-drafts-clause-owned
@@ -76,7 +77,7 @@ settle_all-requires g c tells =
 
 pub returns-in_err-plan-clause-plans : goal.returns-in_err-plan-clause-plans
 returns-in_err-plan-clause-plans g c =
-    plans_stop (tests_next g.met.D.TreeDisk.laws c.in_ok-drafts.ensures.tests c.in_err-plan.ensures.tests) c.from_residual-in_err-plan.ensures.1 (λ tells why is. absurd (cc is))
+    tested_stop (tests_next g.met.D.TreeDisk.laws c.in_ok-drafts.ensures.tests c.in_err-plan.ensures.tests) c.from_residual-in_err-plan.ensures.1 (λ tells why is. absurd (cc is))
 
 pub returns-in_err-plan-clause-owned : goal.returns-in_err-plan-clause-owned
 returns-in_err-plan-clause-owned g c =
@@ -102,7 +103,7 @@ first_orphan-requires g c tells =
 pub returns-in_err-orphan-clause-plans : goal.returns-in_err-orphan-clause-plans
 returns-in_err-orphan-clause-plans g c =
     let run = tests_next g.met.D.TreeDisk.laws c.in_ok-drafts.ensures.tests c.in_ok-plan.ensures.tests in
-    plans_stop (tests_next g.met.D.TreeDisk.laws run c.in_err-orphan.ensures.tests) c.from_residual-in_err-orphan.ensures.1 (λ tells why is. absurd (cc is))
+    tested_stop (tests_next g.met.D.TreeDisk.laws run c.in_err-orphan.ensures.tests) c.from_residual-in_err-orphan.ensures.1 (λ tells why is. absurd (cc is))
 
 pub returns-in_err-orphan-clause-owned : goal.returns-in_err-orphan-clause-owned
 returns-in_err-orphan-clause-owned g c =
@@ -118,7 +119,7 @@ returns-in_err-orphan-clause-stops g c = disk_passed _ c.from_residual-in_err-or
 pub returns-in_err-parent_missing-in-Some-clause-plans : goal.returns-in_err-parent_missing-in-Some-clause-plans
 returns-in_err-parent_missing-in-Some-clause-plans g c =
     let run = tests_next g.met.D.TreeDisk.laws c.in_ok-drafts.ensures.tests c.in_ok-plan.ensures.tests in
-    plans_memory (tests_next g.met.D.TreeDisk.laws run c.in_ok-orphan.ensures.tests) c.from_residual-in_err-parent_missing-in-Some.ensures.1
+    tested_memory (tests_next g.met.D.TreeDisk.laws run c.in_ok-orphan.ensures.tests) c.from_residual-in_err-parent_missing-in-Some.ensures.1
 
 pub returns-in_err-parent_missing-in-Some-clause-owned : goal.returns-in_err-parent_missing-in-Some-clause-owned
 returns-in_err-parent_missing-in-Some-clause-owned g c = memory_told c.args.fresh.now c.from_residual-in_err-parent_missing-in-Some.result c.from_residual-in_err-parent_missing-in-Some.ensures.1
@@ -135,7 +136,7 @@ returns-in_ok-parent_missing-in-Some-clause-plans g c =
     let free = unshared (to_found c.args.old.now c.args.fresh.now es entries) c.in_ok-entries.ensures.none in
     let settles = tests_next g.met.D.TreeDisk.laws c.in_ok-drafts.ensures.tests c.in_ok-plan.ensures.tests in
     let run = tests_next g.met.D.TreeDisk.laws settles c.in_ok-orphan.ensures.tests in
-    plans_refused _ run refl (λ tells.
+    tested_refusal _ run refl (λ tells.
     subst (IsFirstRefusal c.args.old.now c.args.fresh.now c.args.options.now tree) (sym c.in_ok-parent_missing-in-Some.ensures)
     (ends_orphan c.args.options.now tree made entries c.in_ok-entries.ensures.entries c.in_ok-drafts.drafts.items c.in_ok-plan.plan c.in-Some.path (g.met.D.TreeDisk.laws.reads_well_formed c.args.disk.now) free
     (c.in_ok-drafts.ensures.tests.found tells) (tests_value settles tells) (sym (tests_value run tells) ∙ c.in-Some.is)))
@@ -159,7 +160,7 @@ returns-in-None-clause-plans g c =
     let free = unshared (to_found c.args.old.now c.args.fresh.now es entries) c.in_ok-entries.ensures.none in
     let settles = tests_next g.met.D.TreeDisk.laws c.in_ok-drafts.ensures.tests c.in_ok-plan.ensures.tests in
     let run = tests_next g.met.D.TreeDisk.laws settles c.in_ok-orphan.ensures.tests in
-    plans_found c.into_list.result run (λ tells.
+    tested_found c.into_list.result run (λ tells.
     subst (Rattle.conflict_plan.specs.Plan.IsPlan c.args.old.now c.args.fresh.now c.args.options.now tree) (sym c.into_list.ensures)
     (ends_plan c.args.options.now tree made entries c.in_ok-entries.ensures.entries c.in_ok-drafts.drafts.items c.in_ok-plan.plan (g.met.D.TreeDisk.laws.reads_well_formed c.args.disk.now) free
     (c.in_ok-drafts.ensures.tests.found tells) (tests_value settles tells) (sym (tests_value run tells) ∙ c.in-None.is)))

@@ -1,11 +1,10 @@
 use Rattle.std.proofs.Common.{Err, ap, sym, ◌∙◌, All, length, subst}
 use Rattle.std.proofs.lemmas.Iterator.Adapters.{YieldsList-from_vec}
 use Rattle.std.proofs.lemmas.Iterator.Consumers.{YieldsList-turn, YieldsList-end}
-use Rattle.std.proofs.lemmas.List.{map_push}
 use Rattle.std.proofs.lemmas.List.Elements.{All-push}
 use Rattle.std.proofs.lemmas.Result.{err_from_is_err_and}
 use Rattle.local_db.specs.cny-base.declared.text.TextFault.TheVariants.{Bad}
-use Rattle.rollback_stack.specs.JobEntries.{IsChange, entries_of, entry_of}
+use Rattle.rollback_stack.specs.JobEntries.{IsChange}
 use Rattle.rollback_stack.specs.Halves.{half_of}
 use Rattle.rollback_stack.proofs.Mapping.{map_itself, mapped_item, mapped_push}
 use Rattle.change_rel.proofs.cny-dep.Faults.{handed_on}
@@ -23,10 +22,10 @@ returns-in_err-mark_before-clause-bad c is es e changes =
 pub loop-half-preserved : goal.loop-half-preserved
 loop-half-preserved c =
     let change = c.in_ok-mark_before.field-0 in
-    let pushed = ap entries_of c.in_ok-push.ensures.items ∙ map_push entry_of c.loop-half.changes.items change in
+    let pushed = c.in_ok-push.ensures.items in
     record {
-      read = mapped_push (half_of c.args.list.now.troves) c.loop-half.yielded (entries_of c.loop-half.changes.items) (entries_of c.push.new.self.items) c.in-Some.half (entry_of change) c.loop-half.invariant.read c.in_ok-mark_before.ensures.value pushed;
-      changes = subst (All IsChange) (sym pushed) (All-push IsChange (entries_of c.loop-half.changes.items) (entry_of change) c.loop-half.invariant.changes c.in_ok-mark_before.ensures.change);
+      read = mapped_push (half_of c.args.list.now.troves) c.loop-half.yielded c.loop-half.changes.items c.push.new.self.items c.in-Some.half change c.loop-half.invariant.read c.in_ok-mark_before.ensures.value pushed;
+      changes = subst (All IsChange) (sym pushed) (All-push IsChange c.loop-half.changes.items change c.loop-half.invariant.changes c.in_ok-mark_before.ensures.change);
     }
 
 pub returns-clause-value : goal.returns-clause-value

@@ -2,7 +2,6 @@ use Rattle.std.proofs.Common.{subst, sym}
 use Rattle.std.specs.Prelude.{IfErr, IfOk}
 use Rattle.past_jobs.specs.Past.{AreChangedIds}
 use Rattle.rollback_stack.specs.declared.job_reading.Job.{Job}
-use Rattle.rollback_stack.specs.JobEntries.{entries_of}
 use Rattle.rollback_stack.specs.JobReading.{IsCheckStop, IsJob, IsJobOf, IsToldBy}
 use Rattle.rollback_stack.proofs.JobsRead.{damaged_err, damaged_ok, if_ok_both, passes, read_by, told_entries, told_of_read, told_rise}
 use Rattle.local_db.proofs.Holding.{if_ok_map}
@@ -18,8 +17,8 @@ returns-clause-value c =
     let r = c.args.found in
     let after = c.args.list.now.troves in
     let before = c.job_in.new.list.troves in
-    let is = if_ok_map (λ (job : Job). IsToldBy f r after before (entries_of job.changes.items)) (IsJobOf f n r after before) c.job_in.result
-    (λ job told. (read_by f n r after before (entries_of job.changes.items) c.requires.installed c.requires.text told c.requires.number, passes f r after before (entries_of job.changes.items) told))
+    let is = if_ok_map (λ (job : Job). IsToldBy f r after before job.changes.items) (IsJobOf f n r after before) c.job_in.result
+    (λ job told. (read_by f n r after before job.changes.items c.requires.installed c.requires.text told c.requires.number, passes f r after before job.changes.items told))
     c.job_in.ensures.told in
     subst (λ x. IfOk x (IsJobOf f n r after before)) (sym c.or_damaged.ensures) (damaged_ok (IsJobOf f n r after before) c.in_ok-path.path c.job_in.result is)
 
@@ -32,12 +31,12 @@ returns-clause-job c =
     let before = c.job_in.new.list.troves in
     let both = if_ok_both (λ (job : Job). AreChangedIds before after job.changed.before) (λ (job : Job). AreChangedIds after before job.changed.after)
     (λ (job : Job). AreChangedIds before after job.changed.before × AreChangedIds after before job.changed.after) c.job_in.result (λ job b a. (b, a)) c.job_in.ensures.before c.job_in.ensures.after in
-    let is = if_ok_both (λ (job : Job). IsToldBy f r after before (entries_of job.changes.items))
+    let is = if_ok_both (λ (job : Job). IsToldBy f r after before job.changes.items)
     (λ (job : Job). AreChangedIds before after job.changed.before × AreChangedIds after before job.changed.after) (IsJob f after before) c.job_in.result
     (λ job told ids. record {
-      entries_are = told_entries f n r after before (entries_of job.changes.items) c.requires.installed c.requires.text told;
-      rising = told_rise f n r after before (entries_of job.changes.items) c.requires.installed c.requires.text told;
-      checks = passes f r after before (entries_of job.changes.items) told;
+      entries_are = told_entries f n r after before job.changes.items c.requires.installed c.requires.text told;
+      rising = told_rise f n r after before job.changes.items c.requires.installed c.requires.text told;
+      checks = passes f r after before job.changes.items told;
       before_ids = ids.0;
       after_ids = ids.1;
     })

@@ -2,7 +2,6 @@ use Rattle.std.proofs.Common.{◌≡◌, List, Err, map, ap, sym, ◌∙◌, sub
 use Rattle.std.proofs.lemmas.Result.{err_from_is_err_and}
 use Rattle.local_db.specs.cny-base.declared.text.TextFault.TheVariants.{Bad}
 use Rattle.local_db.specs.trove-stream.declared.parts.TroveParts.{TroveParts}
-use Rattle.rollback_stack.specs.JobEntries.{entries_of}
 use Rattle.rollback_stack.specs.Halves.{half_of, half_told}
 use Rattle.rollback_stack.proofs.Halves.{composed, read_of_entries}
 use Rattle.change_rel.proofs.cny-dep.Faults.{handed_on}
@@ -31,6 +30,6 @@ returns-clause-told c =
     let before = c.take_back.new.self.troves in
     record {
       back = c.in_ok-changed.ensures.past;
-      told = sym c.into_vec.ensures ∙ c.in_ok-read.ensures.value ∙ ap (map (half_told after)) c.in_ok-changes.ensures.value ∙ composed before after (entries_of c.in_ok-changes.changes.items);
+      told = sym c.into_vec.ensures ∙ c.in_ok-read.ensures.value ∙ ap (map (half_told after)) c.in_ok-changes.ensures.value ∙ composed before after c.in_ok-changes.changes.items;
       changes = c.in_ok-changes.ensures.changes;
     }

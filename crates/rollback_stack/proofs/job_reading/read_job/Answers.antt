@@ -3,7 +3,6 @@ use Rattle.std.specs.Prelude.{IfErr, IfOk}
 use Rattle.local_db.specs.cny-base.Count.{Rose}
 use Rattle.local_db.specs.declared.format.Format.{Format}
 use Rattle.rollback_stack.specs.declared.job_reading.Job.{Job}
-use Rattle.rollback_stack.specs.JobEntries.{entries_of}
 use Rattle.rollback_stack.specs.JobReading.{HoldsRecord, IsCheckStop, IsDamagedJob, IsJob, IsJobOf, IsReadStop, IsText}
 use Rattle.rollback_stack.proofs.HoldingRecords.{holds, stop_of_text, stop_without_text}
 use Rattle.change_rel.proofs.cny-base.Faults.{passed_on}
@@ -33,8 +32,8 @@ returns-clause-value g c tells =
     let run = c.in_ok-found.ensures.value tells in
     let of = subst (λ (f : Format). IfOk c.check_record.result (IsJobOf f n r after before)) c.requires.format c.check_record.ensures.value in
     record {
-      answer = if_ok_map (IsJobOf f n r after before) (λ (job : Job). HoldsRecord f x n after before (entries_of job.changes.items)) c.check_record.result
-          (λ job is. holds f x n after c.records_by_lists.ensures.written r before (entries_of job.changes.items) run.answer is.0 is.1) of;
+      answer = if_ok_map (IsJobOf f n r after before) (λ (job : Job). HoldsRecord f x n after before job.changes.items) c.check_record.result
+          (λ job is. holds f x n after c.records_by_lists.ensures.written r before job.changes.items run.answer is.0 is.1) of;
       same = run.same;
       time = run.time;
     }

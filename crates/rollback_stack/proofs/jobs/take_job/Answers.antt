@@ -1,7 +1,6 @@
-use Rattle.std.proofs.Common.{List, [], ◌∷◌, ◌++◌, sym, ◌∙◌, subst}
+use Rattle.std.proofs.Common.{List, [], ◌∷◌, ◌++◌, sym, subst}
 use Rattle.std.specs.List.Sorted.{IsStrictlySortedBy}
 use Rattle.job_targets.specs.cny-base.Count.{Rose}
-use Rattle.rollback_stack.specs.JobEntries.{entries_of}
 use Rattle.local_db.specs.Record as state
 use Rattle.job_targets.proofs.tree-disk.Moments.{rose_before}
 use Rattle.job_targets.specs.tree-disk.Tree.{Tree}
@@ -14,7 +13,7 @@ use Rattle.rollback_stack.proofs.TakenBack.{take_read, take_refused}
 use Rattle.rollback_stack.proofs.jobs.take_job.Goals as goal
 
 pub check_undo-requires : goal.check_undo-requires
-check_undo-requires g c = subst (IsStrictlySortedBy state.entry_cmp) (sym (c.as_slice-own.ensures.value ∙ c.in_ok-changes.ensures)) c.in_ok-job.ensures.job.rising
+check_undo-requires g c = subst (IsStrictlySortedBy state.entry_cmp) (sym c.as_slice-own.ensures.value) c.in_ok-job.ensures.job.rising
 
 pub returns-in_err-job-clause-stops : goal.returns-in_err-job-clause-stops
 returns-in_err-job-clause-stops g c =
@@ -36,11 +35,11 @@ returns-in_err-check_undo-clause-stops g c =
     let e = c.in_err-check_undo.field-0.0 in
     let after = c.args.back.now.list.troves in
     let before = c.read_job.new.list.troves in
-    let es = entries_of c.in_ok-job.job.changes.items in
+    let es = c.in_ok-job.job.changes.items in
     passed_on (IsTakeStop told x c.args.number after c.args.back.now.found later) e c.from_residual-in_err-check_undo.result
     (take_refused told x y c.args.number after before es c.as_slice-own.result.now c.args.back.now.found rose later e
     (λ r. rose_before (faults c.args.disk.now) (faults c.read_job.new.disk) (faults c.check_undo.new.disk) c.in_ok-job.ensures.later r)
-    (λ tells. (c.in_ok-job.ensures.value tells).answer) (c.as_slice-own.ensures.value ∙ c.in_ok-changes.ensures) (λ tells. (c.in_ok-job.ensures.value tells).same.reads)
+    (λ tells. (c.in_ok-job.ensures.value tells).answer) c.as_slice-own.ensures.value (λ tells. (c.in_ok-job.ensures.value tells).same.reads)
     c.in_err-check_undo.ensures.stops) c.from_residual-in_err-check_undo.ensures.1
 
 pub returns-clause-installed : goal.returns-clause-installed
@@ -52,10 +51,10 @@ returns-clause-fits g c = c.in_ok-job.ensures.job.checks.fits
 pub returns-clause-value : goal.returns-clause-value
 returns-clause-value g c tells =
     let n = c.args.number in
-    let es = entries_of c.in_ok-job.job.changes.items in
+    let es = c.in_ok-job.job.changes.items in
     let first = c.in_ok-job.ensures.value tells in
     let second = c.in_ok-check_undo.ensures.can tells in
-    let same = c.as_slice-own.ensures.value ∙ c.in_ok-changes.ensures in
+    let same = c.as_slice-own.ensures.value in
     read_as (read_then g.met.D.TreeDisk.laws first second) (record {
       es = es;
       holds = first.answer;

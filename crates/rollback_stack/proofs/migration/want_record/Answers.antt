@@ -1,6 +1,5 @@
 use Rattle.std.proofs.Common.{◌∙◌, sym, subst}
 use Rattle.job_targets.specs.cny-base.Count.{Rose}
-use Rattle.rollback_stack.specs.JobEntries.{entries_of}
 use Rattle.rollback_stack.specs.JobReading.{IsCheckStop, IsDamagedJob, IsJobOf, IsReadStop, IsText}
 use Rattle.local_db.specs.declared.format.Format.{Format}
 use Rattle.local_db.specs.declared.format.Format.TheVariants.{One, Two}
@@ -54,7 +53,7 @@ returns-clause-value g c tells =
     let after = c.args.list.now.troves in
     let before = c.check_record.new.list.troves in
     let job = c.in_ok-job.job in
-    let es = entries_of job.changes.items in
+    let es = job.changes.items in
     let run = c.in_ok-found.ensures.value tells in
     let t = c.in_ok-found.ensures.text.text in
     let is = subst (λ (f : Format). IsJobOf f n r after before job) c.requires.format c.in_ok-job.ensures.value in

@@ -1,6 +1,5 @@
 use Rattle.std.proofs.Common.{◌-◌, sym, ◌∙◌, subst, arith}
 use Rattle.job_targets.specs.cny-base.Count.{Rose}
-use Rattle.rollback_stack.specs.JobEntries as records
 use Rattle.rollback_stack.specs.JobReading.{HoldsRecord, IsDamagedJob, IsDamagedRecord}
 use Rattle.local_db.specs.declared.format.Format.TheVariants.{Two}
 use Rattle.job_targets.proofs.tree-disk.Moments.{rose_before}
@@ -50,7 +49,7 @@ loop-below-preserved g c =
     let list = c.loop-below.list.troves in
     let next = c.read_job.new.list.troves in
     let job = c.in_ok-job.job in
-    let es = records.entries_of job.changes.items in
+    let es = job.changes.items in
     let is = c.in_ok-job.ensures.job in
     record {
       later = omega (arith, so_far.later, c.in_ok-job.ensures.later);

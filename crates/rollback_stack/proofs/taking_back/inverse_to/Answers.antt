@@ -2,7 +2,7 @@ use Rattle.std.proofs.Common.{◌∙◌, List, ap, sym, subst}
 use Rattle.job_targets.specs.cny-base.Count.{Rose}
 use Rattle.rollback_stack.specs.Database.{db_below}
 use Rattle.local_db.specs.declared.db.Db.{Db}
-use Rattle.local_db.specs.Formats.{Fits}
+use Rattle.local_db.specs.Stores.{IsDatabase}
 use Rattle.local_db.specs.declared.format.Format.TheVariants.{Two}
 use Rattle.job_targets.proofs.tree-disk.Moments.{rose_before}
 use Rattle.job_targets.specs.tree-disk.Tree.{Tree}
@@ -11,6 +11,7 @@ use Rattle.rollback_stack.specs.Inverse.{IsBackStop}
 use Rattle.rollback_stack.specs.Wanting.{AreWanted}
 use Rattle.rollback_stack.proofs.Later.{read_as, read_then}
 use Rattle.change_rel.proofs.cny-base.Faults.{passed_on}
+use Rattle.rollback_stack.proofs.Below.{database_below}
 use Rattle.rollback_stack.proofs.TakenBack.{back_to, content_stop, job_stop, no_job}
 use Rattle.rollback_stack.proofs.taking_back.inverse_to.Goals as goal
 
@@ -47,10 +48,11 @@ returns-in_err-wants-clause-stops g c =
     (λ r. rose_before (faults c.args.disk.now) (faults c.jobs_down_to.new.disk) (faults c.old_nodes.new.disk) c.in_ok-back.ensures.later r)
     (λ tells. (c.in_ok-back.ensures.value tells).same.reads) c.in_err-wants.ensures.stops) c.from_residual-in_err-wants.ensures.1
 
-pub returns-clause-fits : goal.returns-clause-fits
-returns-clause-fits g c =
-    let list_is = ap (λ (d : Db). d.installed) c.db_below-below.ensures ∙ c.in_ok-before.ensures in
-    subst (Fits Two) (sym list_is) c.in_ok-back.ensures.fits
+pub returns-clause-database : goal.returns-clause-database
+returns-clause-database g c =
+    let is = c.db_below-below.ensures ∙ ap (λ (l : List TroveParts). db_below c.args.db.now l c.args.number) c.in_ok-before.ensures in
+    subst (λ (d : Db). IsDatabase Two d.installed d.oldest d.newest) (sym is)
+    (database_below c.args.db.now c.in_ok-back.back.list.troves c.args.number c.requires.db.ends c.in_ok-check_number.ensures.job c.in_ok-back.ensures.installed c.in_ok-back.ensures.fits)
 
 pub returns-clause-value : goal.returns-clause-value
 returns-clause-value g c tells =

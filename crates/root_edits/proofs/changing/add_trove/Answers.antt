@@ -3,12 +3,12 @@ use Rattle.update_job.specs.trove-parts.declared.files.FileAt.{FileAt}
 use Rattle.update_job.specs.trove-parts.Files.{AreFiles}
 use Rattle.root_edits.specs.Standing.{sights}
 use Rattle.root_edits.specs.Steps.{HaveSeen}
-use Rattle.root_edits.proofs.FindsLaws.{finds_answer, finds_memory}
+use Rattle.tree_scan.proofs.ReadingLaws.{reads_answer, reads_memory}
 use Rattle.root_edits.proofs.Seeing.{files_few, files_good}
 use Rattle.root_edits.proofs.changing.add_trove.Goals as goal
 
 pub returns-clause-finds : goal.returns-clause-finds
-returns-clause-finds g c = finds_answer c.in_ok-files.ensures.finds (λ tells p. tt)
+returns-clause-finds g c = reads_answer c.in_ok-files.ensures.finds (λ tells p. tt)
 
 pub returns-clause-added : goal.returns-clause-added
 returns-clause-added g c =
@@ -48,4 +48,4 @@ moved_trove-requires-clause-few g c =
     (files_few g.T.TreeDisk.disk.tells (g.T.TreeDisk.disk.reads c.args.root.now) c.files.result.now c.in_ok-files.files c.args.carried.now.items c.standing_files.new.carried.items c.in_ok-files.ensures.seen)
 
 pub returns-in_err-push-clause-finds : goal.returns-in_err-push-clause-finds
-returns-in_err-push-clause-finds g c = finds_memory c.in_ok-files.ensures.finds c.from_residual-in_err-push.ensures.1
+returns-in_err-push-clause-finds g c = reads_memory c.in_ok-files.ensures.finds c.from_residual-in_err-push.ensures.1

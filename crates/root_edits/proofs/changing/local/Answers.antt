@@ -6,7 +6,7 @@ use Rattle.manifest_troves.specs.Contents.{IsCollisionOf}
 use Rattle.root_edits.specs.Local.{IsLocal}
 use Rattle.root_edits.specs.Moved.{too_long}
 use Rattle.root_edits.specs.Steps.{IsUninstalled}
-use Rattle.root_edits.proofs.FindsLaws.{finds_answer, finds_fault, finds_start, finds_stop}
+use Rattle.tree_scan.proofs.ReadingLaws.{reads_answer, reads_fault, reads_start, reads_stop}
 use Rattle.root_edits.proofs.Stopping.{collision_stop, long_stop, size_stop, uninstalled_stop}
 use Rattle.root_edits.proofs.Setting.{answered, first_large, first_long, refused_by, refused_collision, set_has_contents}
 use Rattle.cny_version.specs.cny-base.Refusals.{IsRefusalOrMemory}
@@ -14,14 +14,14 @@ use Rattle.root_edits.proofs.changing.local.Goals as goal
 
 pub returns-in_err-troves-clause-finds : goal.returns-in_err-troves-clause-finds
 returns-in_err-troves-clause-finds g c =
-    finds_fault c.in_err-troves.field-0.0 (finds_start g.met.T.TreeDisk.laws {Z = Unit {0}} {S = λ tree done. Unit {0}} {V = λ tree refused. ⊥} c.args.root.now tt (λ tells. tt)) c.from_residual.ensures.1
+    reads_fault c.in_err-troves.field-0.0 (reads_start g.met.T.TreeDisk.laws {Z = Unit {0}} {S = λ tree done. Unit {0}} {V = λ tree refused. ⊥} c.args.root.now tt (λ tells. tt)) c.from_residual.ensures.1
     (λ tells p refused e. inl (subst (IsUninstalled c.args.installed.now c.args.name.now) e c.in_err-troves.ensures.fault))
 
 pub returns-in_err-ids-clause-finds : goal.returns-in_err-ids-clause-finds
 returns-in_err-ids-clause-finds g c =
     let tree = g.T.TreeDisk.disk.reads c.args.root.now in
     let troves = c.in_ok-troves.troves in
-    finds_fault c.in_err-ids.field-0.0 (finds_start g.met.T.TreeDisk.laws {Z = Unit {0}} {S = λ t done. Unit {0}} {V = λ t refused. ⊥} c.args.root.now tt (λ tells. tt)) c.from_residual-in_err-ids.ensures.1
+    reads_fault c.in_err-ids.field-0.0 (reads_start g.met.T.TreeDisk.laws {Z = Unit {0}} {S = λ t done. Unit {0}} {V = λ t refused. ⊥} c.args.root.now tt (λ tells. tt)) c.from_residual-in_err-ids.ensures.1
     (λ tells p refused e. refused_by c.args.installed.now c.args.name.now tree troves c.in_ok-troves.ensures.installed c.in_ok-troves.ensures.value refused
     (first_long tree troves refused (ap too_long (sym c.troves.ensures.value) ∙ subst (IsRefusalOrMemory (too_long c.troves.result.now)) e c.in_err-ids.ensures.fault)))
 
@@ -29,7 +29,7 @@ pub returns-in_err-add_troves-clause-finds : goal.returns-in_err-add_troves-clau
 returns-in_err-add_troves-clause-finds g c =
     let tree = g.T.TreeDisk.disk.reads c.args.root.now in
     let troves = c.in_ok-troves.troves in
-    finds_stop c.in_err-add_troves.ensures.finds c.from_residual-in_err-add_troves.ensures.1
+    reads_stop c.in_err-add_troves.ensures.finds c.from_residual-in_err-add_troves.ensures.1
     (λ tells refused large. refused_by c.args.installed.now c.args.name.now tree troves c.in_ok-troves.ensures.installed c.in_ok-troves.ensures.value refused
     (first_large tree troves refused (ap too_long (sym c.troves.ensures.value) ∙ c.in_ok-ids.ensures.none) large))
 
@@ -38,7 +38,7 @@ returns-in_err-contents-clause-finds g c =
     let tree = g.T.TreeDisk.disk.reads c.args.root.now in
     let troves = c.in_ok-troves.troves in
     let carried = c.add_troves.new.carried.items in
-    finds_fault c.in_err-contents.field-0.0 c.in_ok-add_troves.ensures.finds c.from_residual-in_err-contents.ensures.1
+    reads_fault c.in_err-contents.field-0.0 c.in_ok-add_troves.ensures.finds c.from_residual-in_err-contents.ensures.1
     (λ tells p refused e. refused_collision c.args.installed.now c.args.name.now tree troves c.in_ok-troves.ensures.installed c.in_ok-troves.ensures.value g.T.TreeDisk.disk.tells c.add_troves.new.parts.items carried refused tells
     (ap too_long (sym c.troves.ensures.value) ∙ c.in_ok-ids.ensures.none) c.in_ok-add_troves.ensures.added (subst (IsCollisionOf carried) e c.in_err-contents.ensures.refused))
 
@@ -49,7 +49,7 @@ returns-clause-finds g c =
     let list = c.args.installed.now in
     let name = c.args.name.now in
     let contents = c.in_ok-contents.contents in
-    finds_answer c.in_ok-add_troves.ensures.finds
+    reads_answer c.in_ok-add_troves.ensures.finds
     (λ tells p.
     subst (λ (l : List Part). IsLocal list name tree (record { parts = l; contents = contents })) (sym c.new.ensures)
     (answered list name tree troves c.in_ok-troves.ensures.installed c.in_ok-troves.ensures.value g.T.TreeDisk.disk.tells c.add_troves.new.parts.items c.add_troves.new.carried.items contents tells

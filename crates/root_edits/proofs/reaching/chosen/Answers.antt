@@ -9,16 +9,16 @@ use Rattle.root_edits.proofs.reaching.chosen.Goals as goal
 
 pub of_rising-requires : goal.of_rising-requires
 of_rising-requires c =
-    let keys = c.args.places.now.keys in
-    let whole : take c.loop-place.place-counter c.troves-trove-items.result.now ≡ c.args.installed.now =
-    take_whole c.loop-place.place-counter c.troves-trove-items.result.now c.loop-place-test.false ∙ c.troves-trove-items.ensures.value in
+    let keys = c.args.places.now in
+    let whole : take c.loop-place.place c.troves-trove-items.result.now ≡ c.args.installed.now =
+    take_whole c.loop-place.place c.troves-trove-items.result.now c.loop-place-test.false ∙ c.troves-trove-items.ensures.value in
     subst IsRising (sym (c.loop-place.invariant ∙ ap (chosen keys 0) whole)) (chosen_rises keys 0 c.args.installed.now c.troves-trove-items.ensures.rising)
 
 pub loop-place-preserved : goal.loop-place-preserved
 loop-place-preserved c =
-    let keys = c.args.places.now.keys in
+    let keys = c.args.places.now in
     let items = c.troves-trove-items.result.now in
-    let i = c.loop-place.place-counter in
+    let i = c.loop-place.place in
     let t = c.trove-item.result in
     let so_far = chosen keys 0 (take i items) in
     elim c.if-contains.branch [
@@ -34,6 +34,6 @@ loop-place-preserved c =
 
 pub returns : goal.returns
 returns c =
-    let keys = c.args.places.now.keys in
+    let keys = c.args.places.now in
     c.of_rising.ensures ∙ c.loop-place.invariant
-    ∙ ap (chosen keys 0) (take_whole c.loop-place.place-counter c.troves-trove-items.result.now c.loop-place-test.false ∙ c.troves-trove-items.ensures.value)
+    ∙ ap (chosen keys 0) (take_whole c.loop-place.place c.troves-trove-items.result.now c.loop-place-test.false ∙ c.troves-trove-items.ensures.value)

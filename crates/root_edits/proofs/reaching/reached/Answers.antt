@@ -7,7 +7,7 @@ use Rattle.root_edits.proofs.reaching.reached.Goals as goal
 pub returns-clause-value : goal.returns-clause-value
 returns-clause-value c =
     subst (AreReached c.args.installed.now c.args.name.now) (sym c.in_ok-chosen.ensures)
-    (reached_are c.args.installed.now c.args.name.now c.in-Some.start c.in_ok-places.places.keys c.place_of.ensures.rising c.in-Some.ensures.some c.in-Some.ensures.only c.in_ok-places.ensures)
+    (reached_are c.args.installed.now c.args.name.now c.in-Some.start c.in_ok-places.places c.place_of.ensures.rising c.in-Some.ensures.some c.in-Some.ensures.only c.in_ok-places.ensures)
 
 pub returns-clause-installed : goal.returns-clause-installed
 returns-clause-installed c =

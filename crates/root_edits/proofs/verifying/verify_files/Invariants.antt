@@ -1,14 +1,14 @@
-use Rattle.std.proofs.Common.{List, Ok, length, Contains}
+use Rattle.std.proofs.Common.{IsTrue, List, Ok, length, Contains}
 use Rattle.update_job.specs.trove-parts.declared.files.FileAt.{FileAt}
 use Rattle.tree_scan.specs.declared.verification.Finding.{Finding}
-use Rattle.root_edits.specs.Search.{no_refusal, Searches}
+use Rattle.content_store.specs.Searches.{no_refusal, Searches}
 use Rattle.root_edits.specs.Verify.{AreAdded, LacksOne}
 use Rattle.root_edits.proofs.verifying.verify_files.Given as goal
 
 abbrev pub invariant-loop-rest : goal.invariant-loop-rest
 invariant-loop-rest g l = record {
   run : Searches {X = Unit {0}} g.T.TreeDisk.disk g.C.Contents.contents (λ answers tree done. (end : List Finding) → AreAdded answers tree l.rest l.lines.items end → AreAdded answers tree l.files l.fn.lines.items end)
-      no_refusal (λ answers tree. LacksOne answers tree l.files) l.fn.root l.root l.fn.far l.far (Ok tt);
+      no_refusal (λ told answers tree. IsTrue told → LacksOne answers tree l.files) l.fn.root l.root l.fn.far l.far (Ok tt);
   among : (f : FileAt) → Contains l.rest f → Contains l.files f;
 }
 

@@ -1,7 +1,8 @@
 use Rattle.std.proofs.Common.{◌∷◌, [], arith}
 use Rattle.root_edits.specs.Verify.{asked, LacksOne}
 use Rattle.root_edits.proofs.Added.{troves_among_next, troves_lack_next, troves_next}
-use Rattle.root_edits.proofs.SearchLaws.{searches_stop, searches_then}
+use Rattle.content_store.proofs.SearchLaws.{searches_stop}
+use Rattle.root_edits.proofs.SearchLaws.{searches_then}
 use Rattle.root_edits.specs.Local.{records}
 use Rattle.root_edits.proofs.verifying.verify_troves.Goals as goal
 
@@ -17,6 +18,6 @@ pub returns-in_err-verify_trove : goal.returns-in_err-verify_trove
 returns-in_err-verify_trove g c =
     let names = c.args.names.now in
     searches_then g.met.C.Contents.laws g.met.T.TreeDisk.laws {S = λ answers tree (z : Unit {0}). ⊥} {M = λ answers tree. LacksOne answers tree (records (asked names (c.trove-item.result ∷ [])))} c.loop-rest.invariant.run
-    (searches_stop c.in_err-verify_trove.ensures c.from_residual.ensures.1 (λ refusal none. none) (λ tells lacks. lacks))
+    (searches_stop c.in_err-verify_trove.ensures c.from_residual.ensures.1 (λ refusal none. none) (λ lacks. lacks))
     (λ tells other same so_far z none. absurd none)
     (λ tells other same so_far lacks. troves_lack_next _ other same _ names c.loop-rest.rest.now (records (asked names c.args.troves.now)) c.trove-item.result (omega (arith, c.in-len1-up.len_at_least)) c.trove-item.is c.loop-rest.invariant.among lacks)
