@@ -25,6 +25,7 @@ pub mod BothDisks
 pub mod Counting
 pub mod ReadingEnds
 pub mod AfterReading
+pub mod Again
 pub mod SetFaults
 pub use Rattle.cny_laws.proofs.system-core.job-record
 pub use Rattle.cny_laws.proofs.system-core.past-jobs

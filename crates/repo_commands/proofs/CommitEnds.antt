@@ -1,7 +1,7 @@
 -- How a commit of a change set ends, from what the repository's own function says.
 use Rattle.std.proofs.Common.{◌≡◌, ◌⊎◌, inl, inr, ⊎_elim, ℕ, ◌≤◌, false, IsTrue, List, Result, Ok, Err, IfErr, refl, sym, ap, ◌∙◌, subst, arith}
 use Rattle.std.proofs.lemmas.Bool.{cases_Bool}
-use Rattle.std.specs.Prelude.{IfOk}
+use Rattle.std.specs.Prelude.{IfOk, OnOk}
 use Rattle.cli_call.specs.cny-base.declared.refusal.Refusal.{Refusal}
 use Rattle.cli_call.specs.cny-base.declared.stop.Stop.{Stop}
 use Rattle.cli_call.specs.cny-base.declared.stop.Stop.TheVariants as stop
@@ -16,6 +16,7 @@ use Rattle.cli_call.specs.change-set.declared.change.ChangeSet.{ChangeSet}
 use Rattle.cli_call.specs.content-store.Contents.{ContentMap}
 use Rattle.repo_index.specs.Catalogue.{CatalogueParts}
 use Rattle.repo_load.specs.Files.{repository_base, HoldsCatalogue, StoresRepository}
+use Rattle.repo_load.specs.Loading.{IsCatalogue}
 use Rattle.repo_load.specs.State.{catalogue_of, troves_of, RepositoryState}
 use Rattle.repo_load.specs.Contents.{IsDamagedContent}
 use Rattle.repository.specs.Outcome as outcome
@@ -28,6 +29,7 @@ use Rattle.cli_call.specs.cny-laws.declared.failure.Failure.TheVariants as failu
 use Rattle.cli_call.specs.Alone.{ActsOnRepository}
 use Rattle.cli_call.specs.Command.{Disks, AreReady, Answers, Goes, HasCause, end_of}
 use Rattle.cli_call.specs.cny-laws.Report.{ChangesNothing, status_of}
+use Rattle.cli_call.proofs.Again.{IsJoined}
 use Rattle.cli_call.proofs.CommandLaws.{goes_read}
 use Rattle.cli_call.specs.cny-laws.State.{State, IsNext, Takes}
 use Rattle.cli_call.specs.cny-laws.Stops.{repository_failure, repository_result}
@@ -266,3 +268,13 @@ module _ {T P : Type 0} {root_disk : DiskModel T} {repo_disk : DiskModel P} (rep
   pub commit_made : (r : Result (List TroveId) Stop) → Committing repo_disk set old.opened.catalogue c' old.repo new.repo r → (ids : List TroveId) → repository_result r ≡ Ok ids → Committing repo_disk set old.opened.catalogue c' old.repo new.repo (Ok ids)
   commit_made (Ok made) done ids is = subst (λ (x : Result (List TroveId) Failure). IfOk x (λ k. Committing repo_disk set old.opened.catalogue c' old.repo new.repo (Ok k))) is done
   commit_made (Err e) done ids is = absurd (cc is)
+
+-- ---- what a commit leaves for a further command
+
+pub commit_joined : {P : Type 0} {disk : DiskModel P} (set : ChangeSet) (c c' : CatalogueParts) (before now : P) (r : Result (List TroveId) Stop) (ids : List TroveId) → repository_result r ≡ Ok ids → EndsSo disk set c c' before now r → IsJoined disk c' before now
+commit_joined set c c' before now (Ok made) ids is done = record { holds = done.rests.holds; flag_clear = done.rests.flag_clear; calm = done.calm }
+commit_joined set c c' before now (Err e) ids is done = absurd (cc is)
+
+pub commit_rules : (c' : CatalogueParts) (r : Result (List TroveId) Stop) (ids : List TroveId) → repository_result r ≡ Ok ids → OnOk r (IsCatalogue c') → IsCatalogue c'
+commit_rules c' (Ok made) ids is rules = rules
+commit_rules c' (Err e) ids is rules = absurd (cc is)

@@ -1,6 +1,6 @@
 -- How `changeset` ends.
 use Rattle.std.proofs.Common.{◌≡◌, ℕ, List, All, Option, Some, Result, Ok, Err, refl, sym, ap, ◌∙◌, inl, inr, subst}
-use Rattle.std.specs.Prelude.{IsTrue}
+use Rattle.std.specs.Prelude.{IsTrue, OnOk}
 use Rattle.cli_call.specs.cny-base.declared.refusal.Fault.{Fault}
 use Rattle.cli_call.specs.cny-base.declared.refusal.Refusal.{Refusal}
 use Rattle.cli_call.specs.cny-base.declared.stop.Stop.{Stop}
@@ -147,3 +147,8 @@ module _ {T P : Type 0} {root_disk : DiskModel T} {repo_disk : DiskModel P} (roo
       sent_ends (Err stop.Memory) sent = performs_reading root_disk_laws repo_disk_laws root_laws laws.store (changeset from to) input (disks root repo opened) (disks root' repo' opened) ready (are_read (Err stop.Memory) sent) (Err failure.Memory) tt tt
       sent_ends (Err stop.FarFailed) sent = absurd sent.ends
       sent_ends (Err (stop.FarDamaged path)) sent = absurd sent.ends
+
+-- what holds holds after Ok
+pub after_ok : {A E X : Type 0} (r : Result A E) → X → OnOk r X
+after_ok (Ok x) h = h
+after_ok (Err e) h = tt

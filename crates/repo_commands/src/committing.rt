@@ -1,5 +1,5 @@
 //! Commits of change sets.
-ghost use Rattle.std.specs.Prelude.{List, ℕ};
+ghost use Rattle.std.specs.Prelude.{List, ℕ, OnOk};
 ghost use Rattle.cli_call.specs.change-set.ChangeSet.{HasContents};
 ghost use Rattle.cli_call.specs.Alone.{ActsOnRepository};
 ghost use Rattle.cli_call.specs.Command.{disks, AreReady};
@@ -25,8 +25,10 @@ pub fn commit_set<T: TreeDisk, P: TreeDisk>(
 ) -> Result<Text, Failure>
     requires contents { HasContents set.now }
     requires ready { AreReady T.disk P.disk (disks root.now repo.old opened.old) }
-    ensures { (input : List ℕ) → ActsOnRepository T.disk P.disk (commit_of set.now) input (disks root.now repo.old opened.old)
+    ensures performs { (input : List ℕ) → ActsOnRepository T.disk P.disk (commit_of set.now) input (disks root.now repo.old opened.old)
         (disks root.now repo.new opened.new) result }
+    // Where it is done, a further command may begin.
+    ensures again { OnOk result (AreReady T.disk P.disk (disks root.now repo.new opened.new)) }
 {
     store_laws();
     stored_state();
@@ -46,7 +48,9 @@ pub fn commit_input<T: TreeDisk, P: TreeDisk>(
     root: &T,
 ) -> Result<Text, Failure>
     requires { AreReady T.disk P.disk (disks root.now repo.old opened.old) }
-    ensures { ActsOnRepository T.disk P.disk spec.commit input.now (disks root.now repo.old opened.old) (disks root.now repo.new opened.new) result }
+    ensures performs { ActsOnRepository T.disk P.disk spec.commit input.now (disks root.now repo.old opened.old) (disks root.now repo.new opened.new) result }
+    // Where it is done, a further command may begin.
+    ensures again { OnOk result (AreReady T.disk P.disk (disks root.now repo.new opened.new)) }
 {
     store_laws();
     let set = decode(alloc, input)?;

@@ -1,5 +1,5 @@
 //! What manifests make, committed.
-ghost use Rattle.std.specs.Prelude.{◌≡◌, IfErr, IfOk, Ok, map};
+ghost use Rattle.std.specs.Prelude.{◌≡◌, IfErr, IfOk, Ok, map, OnOk};
 ghost use Rattle.cli_call.specs.change-set.ChangeSet.{HasContents};
 ghost use Rattle.cli_call.specs.change-set.declared.change.Part.TheVariants.{Whole};
 ghost use Rattle.cny_manifest.specs.Makes.{HasOwnContents};
@@ -78,7 +78,9 @@ pub fn cook_manifest<T: TreeDisk, P: TreeDisk>(
     root: &T,
 ) -> Result<Text, Failure>
     requires { AreReady T.disk P.disk (disks root.now repo.old opened.old) }
-    ensures { ActsOnRepository T.disk P.disk (spec.cook next) input.now (disks root.now repo.old opened.old) (disks root.now repo.new opened.new) result }
+    ensures performs { ActsOnRepository T.disk P.disk (spec.cook next) input.now (disks root.now repo.old opened.old) (disks root.now repo.new opened.new) result }
+    // Where it is done, a further command may begin.
+    ensures again { OnOk result (AreReady T.disk P.disk (disks root.now repo.new opened.new)) }
 {
     store_laws();
     stored_state();

@@ -1,6 +1,6 @@
 //! The commands of the repository, those that take specifications of troves, those that commit what a specification means on
-//! another label, and the one that describes a change set. Each has its meaning in a file of its own in `specs/`, and a function with
-//! one clause: that it performs this meaning.
+//! another label, and the one that describes a change set. Each has its meaning in a file of its own in `specs/`, and a function
+//! of which it is proved that it performs this meaning, and that a further command may begin where it is done.
 #![tactic(auto)]
 
 mod committing;

@@ -79,6 +79,8 @@ pub fn list_committed<T: TreeDisk, P: TreeDisk>(
         (disks root.now repo.now opened.now) result }
     ensures lists { (input : List ℕ) → AnswersByLists T.disk P.disk (spec.list_committed name.now) input (disks root.now repo.now opened.now)
         (disks root.now repo.now opened.now) result }
+    // Where it is done, a further command may begin.
+    ensures again { OnOk result (AreReady T.disk P.disk (disks root.now repo.now opened.now)) }
 {
     store_laws();
     stored_state();

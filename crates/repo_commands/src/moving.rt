@@ -1,5 +1,5 @@
 //! The commands that commit what a specification means as shadows or as branches.
-ghost use Rattle.std.specs.Prelude.{◌≡◌, List, [], ℕ, IfOk, map};
+ghost use Rattle.std.specs.Prelude.{◌≡◌, List, [], ℕ, IfOk, map, OnOk};
 ghost use Rattle.cli_call.specs.change-set.declared.change.Part.TheVariants.{Whole};
 ghost use Rattle.cli_call.specs.Command.{disks, AreReady, Performs};
 ghost use Rattle.repo_commands.specs.Moving.{move};
@@ -42,8 +42,10 @@ pub fn commit_moved<T: TreeDisk, P: TreeDisk>(
     root: &mut T,
 ) -> Result<Text, Failure>
     requires { AreReady T.disk P.disk (disks root.old repo.old opened.old) }
-    ensures { (input : List ℕ) → Performs T.disk P.disk (move way label.now given.now) input (disks root.old repo.old opened.old)
+    ensures performs { (input : List ℕ) → Performs T.disk P.disk (move way label.now given.now) input (disks root.old repo.old opened.old)
         (disks root.new repo.new opened.new) result }
+    // Where it is done, a further command may begin.
+    ensures again { OnOk result (AreReady T.disk P.disk (disks root.new repo.new opened.new)) }
 {
     store_laws();
     stored_state();

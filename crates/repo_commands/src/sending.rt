@@ -1,5 +1,5 @@
 //! The command that answers a change set between what specifications mean.
-ghost use Rattle.std.specs.Prelude.{List, ℕ};
+ghost use Rattle.std.specs.Prelude.{List, ℕ, OnOk};
 ghost use Rattle.cli_call.specs.trove-stream.Installed.{IsRising};
 ghost use Rattle.repo_index.specs.Catalogue.{AreCommitted};
 ghost use Rattle.cli_call.specs.Command.{disks, AreReady, Performs};
@@ -44,8 +44,10 @@ pub fn send_changes<T: TreeDisk, P: TreeDisk>(
     root: &mut T,
 ) -> Result<Bytes, Failure>
     requires { AreReady T.disk P.disk (disks root.old repo.old opened.now) }
-    ensures { (input : List ℕ) → Performs T.disk P.disk (changeset from.now to.now) input (disks root.old repo.old opened.now)
+    ensures performs { (input : List ℕ) → Performs T.disk P.disk (changeset from.now to.now) input (disks root.old repo.old opened.now)
         (disks root.new repo.new opened.now) result }
+    // Where it is done, a further command may begin.
+    ensures again { OnOk result (AreReady T.disk P.disk (disks root.new repo.new opened.now)) }
 {
     store_laws();
     stored_state();

@@ -1,4 +1,5 @@
 //! The command that describes a change set.
+ghost use Rattle.std.specs.Prelude.{OnOk};
 ghost use Rattle.cli_call.specs.Alone.{AnswersByLists, PerformsAlone};
 ghost use Rattle.cli_call.specs.Command.{disks, AreReady, Performs};
 ghost use Rattle.repo_commands.specs.ShowChangeSet as spec;
@@ -22,6 +23,8 @@ pub fn show_change_set<T: TreeDisk, P: TreeDisk>(
     ensures performs { Performs T.disk P.disk spec.show_change_set input.now (disks root.now repo.now opened.now) (disks root.now repo.now opened.now) result }
     ensures alone { PerformsAlone T.disk P.disk spec.show_change_set input.now (disks root.now repo.now opened.now) (disks root.now repo.now opened.now) result }
     ensures lists { AnswersByLists T.disk P.disk spec.show_change_set input.now (disks root.now repo.now opened.now) (disks root.now repo.now opened.now) result }
+    // Where it is done, a further command may begin.
+    ensures again { OnOk result (AreReady T.disk P.disk (disks root.now repo.now opened.now)) }
 {
     store_laws();
     let change = decode(alloc, input)?;

@@ -100,8 +100,7 @@ module _ {T P : Type 0} {root_disk : DiskModel T} {repo_disk : DiskModel P} (roo
 
     whole : (e : Stop) → Runs (Err e) → IsUndamaged e
     whole (stop.FarDamaged path) ran =
-        let found = ran.causes told in
-        let at = found.1.damaged in
+        let at = ran.causes.damaged told in
         laws.contents (repo_disk.reads repo) s.repository at.name path stands.repo.stored
         (subst (λ (t : List TroveParts). IsDamagedContent t at.name (repo_disk.reads repo) path) same_troves at.damaged)
     whole _ ran = tt
@@ -128,8 +127,7 @@ module _ {T P : Type 0} {root_disk : DiskModel T} {repo_disk : DiskModel P} (roo
 
   pub damaged_file : (path : Name) → Runs (Err (stop.FarDamaged path)) → IsTrue repo_disk.tells → HasDamagedFile repository_store (repo_disk.reads repo') path
   damaged_file path ran told =
-      let found = ran.causes told in
-      let at = found.1.damaged in
+      let at = ran.causes.damaged told in
       let read = ran.searched.same told in
       let back : repo_disk.reads repo ≡ repo_disk.reads repo' = sym read.same.reads in record {
         flag_clear = ap (is_committed repository_store.base) read.same.reads ∙ (ready.repo told).settled.flag_clear;

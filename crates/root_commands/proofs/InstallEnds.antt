@@ -66,7 +66,7 @@ own_cause far far' rose stop.Memory h = tt
 own_cause far far' rose (stop.Refused why) h = tt
 own_cause far far' rose (stop.Damaged path) h = h
 own_cause far far' rose stop.FarFailed h = none_rose h
-own_cause far far' rose (stop.FarDamaged path) h = let damage = h refl in damage.1.damaged
+own_cause far far' rose (stop.FarDamaged path) h = h.damaged refl
 
 pub own_causes : (far far' : NoContents) (rose : Type 0) (r : Result Done Stop) → IfErr r (HasCause (empty_contents {C = NoContents}) far far' rose) → IfErr r (HasOwnCause rose)
 own_causes far far' rose (Ok made) h = tt

@@ -18,7 +18,7 @@ use Rattle.local_db.specs.SystemState.{IsStackItem, StackItem, newest}
 use Rattle.rollback_stack.specs.JobReading.{HoldsNoRecord, HoldsRecord, HoldsRecords, IsDamagedRecord}
 use Rattle.rollback_stack.specs.Numbers.{job_count}
 use Rattle.rollback_stack.specs.Reading.{AreNotes, IsAllStop}
-use Rattle.rollback_stack.specs.declared.undo.Note.{Note as Undone}
+use Rattle.rollback_stack.specs.declared.undo.NotedJob.{NotedJob}
 use Rattle.system_core.proofs.NewestStored.{job_record}
 use Rattle.cny_report.specs.declared.note.Note.{Note}
 use Rattle.cli_call.specs.cny-laws.declared.failure.Failure.{Failure}
@@ -40,7 +40,7 @@ use Rattle.local_db.proofs.cny-base.Lists.{length-map as mapped_length}
 -- ---- by the records that a stack holds
 
 module _ (one : OneRecord) (x : Tree) where
-  told_of : (stack : List StackItem) (n : ℕ) (after : List TroveParts) (jobs : List Undone) (notes : List Note) → HoldsStack Two x after stack → All IsStackItem stack → AreFrom n stack → IsRising after
+  told_of : (stack : List StackItem) (n : ℕ) (after : List TroveParts) (jobs : List NotedJob) (notes : List Note) → HoldsStack Two x after stack → All IsStackItem stack → AreFrom n stack → IsRising after
       → AreNotes x (length stack) n after jobs → AreNoted jobs notes → AreNotesOf after stack notes
   told_of [] n after [] [] held items from rising are noted = tt
   told_of [] n after [] (note ∷ notes) held items from rising are noted = absurd noted
@@ -90,7 +90,7 @@ module _ (law : OneDatabase) (one : OneRecord) (x : Tree) (db : Db) (s : RootSta
       (subst (λ (n : ℕ). HoldsRecords Two x n s.installed damaged.good damaged.before) held.newest (subst (λ (l : List TroveParts). HoldsRecords Two x db.newest l damaged.good damaged.before) held.list damaged.holds))
       (subst (λ (n : ℕ). HoldsNoRecord Two x (n - length damaged.good) damaged.before) held.newest damaged.none)
 
-  pub notes_of : (jobs : List Undone) (notes : List Note) → AreNotes x (job_count db.oldest db.newest) db.newest db.installed jobs → AreNoted jobs notes → AreNotesOf s.installed s.stack notes
+  pub notes_of : (jobs : List NotedJob) (notes : List Note) → AreNotes x (job_count db.oldest db.newest) db.newest db.installed jobs → AreNoted jobs notes → AreNotesOf s.installed s.stack notes
   notes_of jobs notes are noted =
       let held = held_database law x db s holds stored in
       told_of one x s.stack (newest s.stack) s.installed jobs notes held.stores.olds held.stores.system.olds (from_newest s.stack held.stores.system.numbered) held.stores.system.list.rising
@@ -102,7 +102,7 @@ module _ (law : OneDatabase) (one : OneRecord) (x : Tree) (db : Db) (s : RootSta
 -- ---- the answers
 
 -- what `all` says of its answer and of its stop
-abbrev pub Stopped : {T : Type 0} → DiskModel T → Opened → T → T → Result (List Undone) Stop → Type 0
+abbrev pub Stopped : {T : Type 0} → DiskModel T → Opened → T → T → Result (List NotedJob) Stop → Type 0
 Stopped root_disk opened root root' r =
     IfErr r (IsAllStop root_disk.tells (root_disk.reads root) (job_count opened.db.oldest opened.db.newest) opened.db.newest opened.db.installed (Rose (root_disk.faults root) (root_disk.faults root')))
 
@@ -129,7 +129,7 @@ module _ {T P : Type 0} (root_disk : DiskModel T) (repo_disk : DiskModel P) (law
       } in
       subst (λ (t : Tree). HasDamagedFile root_store t path) (sym (same told)) here
 
-  pub stopped_ends : (e : Stop) → Stopped root_disk opened root root' (Err e) → IfErr (let r : Result (List Undone) Stop = Err e in root_result r) (λ f. Ends (Err f) × Caused (Err f) × Named (Err f))
+  pub stopped_ends : (e : Stop) → Stopped root_disk opened root root' (Err e) → IfErr (let r : Result (List NotedJob) Stop = Err e in root_result r) (λ f. Ends (Err f) × Caused (Err f) × Named (Err f))
   stopped_ends (stop.Refused why) h = absurd h
   stopped_ends stop.Failed h = (tt, h, λ path named. absurd (cc named))
   stopped_ends stop.Memory h = (tt, tt, λ path named. absurd (cc named))
@@ -141,11 +141,11 @@ module _ {T P : Type 0} (root_disk : DiskModel T) (repo_disk : DiskModel P) (law
   stopped_ends stop.FarFailed h = absurd h
   stopped_ends (stop.FarDamaged path) h = absurd h
 
-  pub failed_ends : (r : Result (List Undone) Stop) (f : Failure) → root_result r ≡ Err f → Stopped root_disk opened root root' r → Ends (Err f) × Caused (Err f) × Named (Err f)
+  pub failed_ends : (r : Result (List NotedJob) Stop) (f : Failure) → root_result r ≡ Err f → Stopped root_disk opened root root' r → Ends (Err f) × Caused (Err f) × Named (Err f)
   failed_ends (Ok found) f is run = absurd (cc is)
-  failed_ends (Err e) f is run = subst (λ (x : Result (List Undone) Failure). IfErr x (λ g. Ends (Err g) × Caused (Err g) × Named (Err g))) is (stopped_ends e run)
+  failed_ends (Err e) f is run = subst (λ (x : Result (List NotedJob) Failure). IfErr x (λ g. Ends (Err g) × Caused (Err g) × Named (Err g))) is (stopped_ends e run)
 
-  pub found_ends : (jobs : List Undone) (text : List ℕ) → (IsTrue root_disk.tells → AreNotes (root_disk.reads root) (job_count opened.db.oldest opened.db.newest) opened.db.newest opened.db.installed jobs) → AreToldBy jobs text → Ends (Ok text)
+  pub found_ends : (jobs : List NotedJob) (text : List ℕ) → (IsTrue root_disk.tells → AreNotes (root_disk.reads root) (job_count opened.db.oldest opened.db.newest) opened.db.newest opened.db.installed jobs) → AreToldBy jobs text → Ends (Ok text)
   found_ends jobs text are is told s rests = record {
     notes = is.notes;
     are = notes_of law one (root_disk.reads root) opened.db s.root (ready.root told).holds rests.stored jobs is.notes (are told) is.noted;

@@ -19,7 +19,7 @@ use Rattle.cli_call.specs.change-set.TooLarge.{too_large, IsTooLargeOrMemory}
 use Rattle.cli_call.specs.change-set.declared.change.ChangeSet.{ChangeSet}
 use Rattle.cli_call.specs.change-set.declared.change.Part.{Part}
 use Rattle.cny_manifest.specs.manifest-troves.Contents.{contents_of}
-use Rattle.root_edits.specs.Finds.{Ends}
+use Rattle.cli_call.specs.tree-scan.OnlyReads.{ReadEnds}
 use Rattle.root_edits.specs.Local.{AreLocalParts, IsLocal, IsLocalPart, IsLocalRefusal, all_contents, all_sights, first_refusal, records}
 use Rattle.root_edits.specs.Reached.{AreReached}
 use Rattle.root_edits.specs.Standing.{Sight, sights}
@@ -108,7 +108,7 @@ module _ {T P : Type 0} (root_disk : DiskModel T) (repo_disk : DiskModel P) (law
   Named result = NamesDamaged root_store root_disk root' result
 
   abbrev pub Found : Result ChangeSet Stop → Type 0
-  Found r = Ends root_disk.tells (IsLocal opened.db.installed name (root_disk.reads root)) (IsLocalRefusal opened.db.installed name (root_disk.reads root)) r (root_disk.faults root) (root_disk.faults root')
+  Found r = ReadEnds root_disk.tells (IsLocal opened.db.installed name (root_disk.reads root)) (IsLocalRefusal opened.db.installed name (root_disk.reads root)) r (root_disk.faults root) (root_disk.faults root')
 
   pub by_state : (IsIt : List TroveParts → Tree → Type 0) → ((list : List TroveParts) (t u : Tree) → AgreesOutside is_reserved t u → IsInstalled list → IsIt list t → IsIt list u) → (s : State) → IsSeen root_disk root opened s
       → IsIt opened.db.installed (root_disk.reads root) → IsIt s.root.installed (tree_of s.root)

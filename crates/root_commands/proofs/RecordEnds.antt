@@ -22,7 +22,7 @@ use Rattle.local_db.specs.Record as state
 use Rattle.cli_call.specs.past-jobs.Jobs.{CanUndoAll, oldest_with, undone_all}
 use Rattle.cli_call.specs.past-jobs.Marks.{CanUndo, IsEdited, IsUndoRefusal, Marks, marks_of, undone}
 use Rattle.rollback_stack.specs.JobReading.{HoldsNoRecord, HoldsRecord, HoldsRecords}
-use Rattle.rollback_stack.specs.declared.undo.Note.{Note as Undone}
+use Rattle.rollback_stack.specs.declared.undo.NotedJob.{NotedJob}
 use Rattle.rollback_stack.specs.declared.undo.Back.{Back}
 use Rattle.rollback_stack.specs.Inverse.{IsBackRefusal, IsDamagedJob, IsOldWant, IsRefusedJob}
 use Rattle.rollback_stack.specs.Numbers.{job_count}
@@ -108,7 +108,7 @@ record AreTold (x : Tree) (count n : ℕ) (after : List TroveParts) : Type 0 whe
   pub long : length jobs ≡ count
   pub holds : HoldsRecords Two x n after jobs before
 
-told_records : (x : Tree) (count n : ℕ) (after : List TroveParts) (notes : List Undone) → AreNotes x count n after notes → AreTold x count n after
+told_records : (x : Tree) (count n : ℕ) (after : List TroveParts) (notes : List NotedJob) → AreNotes x count n after notes → AreTold x count n after
 told_records x zero n after [] are = record { jobs = []; before = after; long = refl; holds = refl }
 told_records x zero n after (note ∷ notes) are = absurd are
 told_records x (suc count) n after [] are = absurd are
@@ -117,7 +117,7 @@ told_records x (suc count) n after (note ∷ notes) are =
     let long = rest.long in
     record { jobs = are.1 ∷ rest.jobs; before = rest.before; long = ap suc long; holds = (are.0, are.2, rest.holds) }
 
-pub told_whole : (one : OneRecord) (x : Tree) (db : Db) (notes : List Undone) → AreNotes x (job_count db.oldest db.newest) db.newest db.installed notes → NoneIs (IsDamagedOfAll x db)
+pub told_whole : (one : OneRecord) (x : Tree) (db : Db) (notes : List NotedJob) → AreNotes x (job_count db.oldest db.newest) db.newest db.installed notes → NoneIs (IsDamagedOfAll x db)
 told_whole one x db notes are path damaged =
     let told = told_records x (job_count db.oldest db.newest) db.newest db.installed notes are in
     let long = told.long in
@@ -202,9 +202,9 @@ list_stop : (told : Bool) (x : Tree) (db : Db) (count n : ℕ) (after : List Tro
 list_stop told x db count n after rose (stop.Refused why) h = absurd h
 list_stop told x db count n after rose _ h = tt
 
-pub list_failed : (told : Bool) (x : Tree) (db : Db) (count n : ℕ) (after : List TroveParts) (rose : Type 0) (r : Result (List Undone) Stop) (f : Failure) → root_result r ≡ Err f → IfErr r (IsAllStop told x count n after rose) → ListsWhole {A = List ℕ} x db (Err f)
+pub list_failed : (told : Bool) (x : Tree) (db : Db) (count n : ℕ) (after : List TroveParts) (rose : Type 0) (r : Result (List NotedJob) Stop) (f : Failure) → root_result r ≡ Err f → IfErr r (IsAllStop told x count n after rose) → ListsWhole {A = List ℕ} x db (Err f)
 list_failed told x db count n after rose (Ok jobs) f is h = absurd (cc is)
-list_failed told x db count n after rose (Err e) f is h = subst (λ (y : Result (List Undone) Failure). IfErr y (λ g. ListsWhole {A = List ℕ} x db (Err g))) is (list_stop told x db count n after rose e h)
+list_failed told x db count n after rose (Err e) f is h = subst (λ (y : Result (List NotedJob) Failure). IfErr y (λ g. ListsWhole {A = List ℕ} x db (Err g))) is (list_stop told x db count n after rose e h)
 
 -- jobs taken back
 module _ {T : Type 0} (root_disk : DiskModel T) (root root' : T) (db db' : Db) (one : OneRecord) (number : Option ℕ) (told : IsTrue root_disk.tells) where

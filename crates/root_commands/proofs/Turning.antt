@@ -3,7 +3,7 @@ use Rattle.std.proofs.Common.{◌≡◌, ℕ, ◌+◌, ◌<◌, Bool, true, fals
 use Rattle.std.specs.Option.{option_or}
 use Rattle.std.proofs.lemmas.List.{take_more}
 use Rattle.cli_call.specs.trove-parts.declared.id.TroveId.{TroveId}
-use Rattle.rollback_stack.specs.declared.undo.Note.{Note as Undone}
+use Rattle.rollback_stack.specs.declared.undo.NotedJob.{NotedJob}
 use Rattle.cli_call.proofs.job-record.Keyed.{found_more}
 use Rattle.cli_call.specs.tree-disk.Tree.{same_name}
 use Rattle.update_job.specs.declared.comparing.Change.{Change}
@@ -48,14 +48,14 @@ no_change false came id here old same none = refl
 
 -- ---- notes
 
-push_noted : (jobs : List Undone) (notes : List Note) (job : Undone) (note : Note) → AreNoted jobs notes → IsNoted job note → AreNoted (jobs ++ job ∷ []) (notes ++ note ∷ [])
+push_noted : (jobs : List NotedJob) (notes : List Note) (job : NotedJob) (note : Note) → AreNoted jobs notes → IsNoted job note → AreNoted (jobs ++ job ∷ []) (notes ++ note ∷ [])
 push_noted [] [] job note are is = (is, tt)
 push_noted [] (n ∷ notes) job note are is = absurd are
 push_noted (j ∷ jobs) [] job note are is = absurd are
 push_noted (j ∷ jobs) (n ∷ notes) job note are is = (are.0, push_noted jobs notes job note are.1 is)
 
-pub noted_next : (jobs : List Undone) (i : ℕ) (job : Undone) (notes more : List Note) (note : Note) → i < length jobs → job ≡ get_or jobs i job → AreNoted (take i jobs) notes → IsNoted job note → more ≡ notes ++ note ∷ []
+pub noted_next : (jobs : List NotedJob) (i : ℕ) (job : NotedJob) (notes more : List Note) (note : Note) → i < length jobs → job ≡ get_or jobs i job → AreNoted (take i jobs) notes → IsNoted job note → more ≡ notes ++ note ∷ []
     → AreNoted (take (i + 1) jobs) more
 noted_next jobs i job notes more note within is are one pushed =
     subst (λ (l : List Note). AreNoted (take (i + 1) jobs) l) (sym pushed)
-    (subst (λ (l : List Undone). AreNoted l (notes ++ note ∷ [])) (sym (take_more jobs i job within ∙ ap (λ (j : Undone). take i jobs ++ j ∷ []) (sym is))) (push_noted (take i jobs) notes job note are one))
+    (subst (λ (l : List NotedJob). AreNoted l (notes ++ note ∷ [])) (sym (take_more jobs i job within ∙ ap (λ (j : NotedJob). take i jobs ++ j ∷ []) (sym is))) (push_noted (take i jobs) notes job note are one))

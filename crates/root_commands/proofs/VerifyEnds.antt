@@ -9,7 +9,7 @@ use Rattle.cli_call.specs.content-store.Contents.{ContentMap, ContentsModel, emp
 use Rattle.cli_call.specs.content-store.declared.contents.NoContents.{NoContents}
 use Rattle.cli_call.specs.tree-scan.declared.verification.Verified.{Verified}
 use Rattle.update_job.specs.Lists.{AreInstalled, IsNotInstalled}
-use Rattle.root_edits.specs.Search.{Searches}
+use Rattle.cli_call.specs.content-store.Searches.{Searches}
 use Rattle.root_edits.specs.Verify.{asked, verified, IsVerified, LacksOne}
 use Rattle.cny_report.specs.Verified.{verified_text}
 use Rattle.cli_call.specs.cny-laws.declared.failure.Failure.{Failure}
@@ -31,7 +31,7 @@ use Rattle.system_core.proofs.CallLaws.{no_rise as none_rose}
 -- what a verification with these contents says
 abbrev pub Searched : {T C : Type 0} → DiskModel T → ContentsModel C → List (List ℕ) → List TroveParts → T → T → C → C → Result Verified Stop → Type 0
 Searched root_disk contents names list root root' far far' r =
-    Searches root_disk contents (λ answers tree found. IsVerified answers tree (asked names list) found) (IsNotInstalled list names) (λ answers tree. LacksOne answers tree (records (asked names list))) root root' far far' r
+    Searches root_disk contents (λ answers tree found. IsVerified answers tree (asked names list) found) (λ told tree. IsNotInstalled list names) (λ told answers tree. IsTrue told → LacksOne answers tree (records (asked names list))) root root' far far' r
 
 -- what is found on the root's disk is what is found of each state that is seen, and of each system that it stores
 found_of_seen : {T : Type 0} (root_disk : DiskModel T) (root : T) (opened : Opened) (names : List (List ℕ)) (map : ContentMap) (s : State) → IsSeen root_disk root opened s

@@ -11,7 +11,7 @@ use Rattle.update_job.specs.declared.comparing.Change.{Change}
 use Rattle.update_job.specs.declared.comparing.Change.TheVariants.{Installed, Updated, Erased}
 use Rattle.update_job.specs.Changes.{AreChanges, Noted, noted}
 use Rattle.cli_call.specs.past-jobs.Past.{AreChangedIds}
-use Rattle.rollback_stack.specs.declared.undo.Note.{Note as Undone}
+use Rattle.rollback_stack.specs.declared.undo.NotedJob.{NotedJob}
 use Rattle.cny_report.specs.declared.note.Note.{Note}
 use Rattle.cny_report.specs.Jobs.{undos_text}
 
@@ -46,19 +46,19 @@ abbrev pub LeadsThere : List TroveId → List TroveId → List Change → Type 0
 LeadsThere was now changes = (before after : List TroveParts) → IsRising before → IsRising after → AreChangedIds before after was → AreChangedIds after before now → AreChanges before after changes
 
 -- what is told of a job
-pub record IsNoted (job : Undone) (note : Note) : Type 0 where
+pub record IsNoted (job : NotedJob) (note : Note) : Type 0 where
   pub number : note.number ≡ job.number
   pub changes : LeadsThere job.before job.after note.changes
   pub paths : note.paths ≡ job.paths
 
 -- job by job
-abbrev pub AreNoted : List Undone → List Note → Type 0
+abbrev pub AreNoted : List NotedJob → List Note → Type 0
 AreNoted [] [] = Unit {0}
 AreNoted (job ∷ jobs) (note ∷ notes) = IsNoted job note × AreNoted jobs notes
 AreNoted _ _ = ⊥
 
 -- these bytes are what is told of the jobs
-pub record AreToldBy (jobs : List Undone) (text : List ℕ) : Type 0 where
+pub record AreToldBy (jobs : List NotedJob) (text : List ℕ) : Type 0 where
   pub notes : List Note
   pub noted : AreNoted jobs notes
   pub text_is : text ≡ undos_text notes

@@ -1,5 +1,5 @@
 //! The command that takes troves away.
-ghost use Rattle.std.specs.Prelude.{List, ℕ};
+ghost use Rattle.std.specs.Prelude.{List, ℕ, OnOk};
 ghost use Rattle.cli_call.specs.Alone.{PerformsAlone};
 ghost use Rattle.cli_call.specs.Command.{disks, AreReady, Performs};
 ghost use Rattle.root_commands.specs.Erase as spec;
@@ -27,6 +27,8 @@ pub fn erase_troves<T: TreeDisk, P: TreeDisk>(
         (disks root.new repo.now opened.new) result }
     ensures alone { (input : List ℕ) → PerformsAlone T.disk P.disk (spec.erase names.now options.now) input (disks root.old repo.now opened.old)
         (disks root.new repo.now opened.new) result }
+    // Where it is done, a further command may begin.
+    ensures again { OnOk result (AreReady T.disk P.disk (disks root.new repo.now opened.new)) }
 {
     store_laws();
     distinct_databases();

@@ -1,5 +1,5 @@
 //! The command that installs what a manifest makes.
-ghost use Rattle.std.specs.Prelude.{List, ℕ};
+ghost use Rattle.std.specs.Prelude.{List, ℕ, OnOk};
 ghost use Rattle.cny_manifest.specs.Makes.{HasOwnContents};
 ghost use Rattle.cli_call.specs.Alone.{PerformsAlone};
 ghost use Rattle.cli_call.specs.Command.{disks, AreReady, Performs};
@@ -33,6 +33,8 @@ fn install_made<T: TreeDisk, P: TreeDisk>(
         (disks root.new repo.now opened.new) result }
     ensures alone { (input : List ℕ) → PerformsAlone T.disk P.disk (spec.install_made options.now made.now) input (disks root.old repo.now opened.old)
         (disks root.new repo.now opened.new) result }
+    // Where it is done, a further command may begin.
+    ensures again { OnOk result (AreReady T.disk P.disk (disks root.new repo.now opened.new)) }
 {
     store_laws();
     distinct_databases();
@@ -63,6 +65,8 @@ pub fn install_manifest<T: TreeDisk, P: TreeDisk>(
     requires { AreReady T.disk P.disk (disks root.old repo.now opened.old) }
     ensures performs { Performs T.disk P.disk (spec.install options.now) input.now (disks root.old repo.now opened.old) (disks root.new repo.now opened.new) result }
     ensures alone { PerformsAlone T.disk P.disk (spec.install options.now) input.now (disks root.old repo.now opened.old) (disks root.new repo.now opened.new) result }
+    // Where it is done, a further command may begin.
+    ensures again { OnOk result (AreReady T.disk P.disk (disks root.new repo.now opened.new)) }
 {
     store_laws();
     let made = read(alloc, input)?;

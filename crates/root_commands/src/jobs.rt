@@ -1,5 +1,5 @@
 //! The command that tells the jobs of the stack.
-ghost use Rattle.std.specs.Prelude.{List, ℕ, IfOk, IsTrue};
+ghost use Rattle.std.specs.Prelude.{List, ℕ, IfOk, IsTrue, OnOk};
 ghost use Rattle.cli_call.specs.Alone.{PerformsAlone};
 ghost use Rattle.cli_call.specs.Command.{disks, AreReady, Performs};
 ghost use Rattle.root_commands.specs.Jobs as spec;
@@ -12,10 +12,10 @@ use cli_call::tree_disk::TreeDisk;
 use cli_call::{Failure, Opened, on_root, store_laws};
 use cny_report::undos_text;
 use local_db::distinct_databases;
-use rollback_stack::{Note, all, one_record};
+use rollback_stack::{NotedJob, all, one_record};
 use std::alloc::Global;
 
-fn told(alloc: Global, jobs: &[Note]) -> Result<Text, OutOfMemory>
+fn told(alloc: Global, jobs: &[NotedJob]) -> Result<Text, OutOfMemory>
     ensures { IfOk result (AreToldBy jobs.now) }
 {
     let notes = noted_jobs(alloc, jobs)?;
@@ -39,6 +39,8 @@ pub fn list_jobs<T: TreeDisk, P: TreeDisk>(
         (disks root.new repo.now opened.now) result }
     // Also on a root that stores no system.
     ensures records { IsTrue T.disk.tells → ListsWhole (T.disk.reads root.old) opened.now.db result }
+    // Where it is done, a further command may begin.
+    ensures again { OnOk result (AreReady T.disk P.disk (disks root.new repo.now opened.now)) }
 {
     store_laws();
     distinct_databases();

@@ -1,8 +1,8 @@
 //! The commands of the root: those that only read it, that which takes its jobs back, and those that are jobs. Each has its meaning
-//! in a file of its own in `specs/`, and a function with two clauses: that it performs this meaning, and that it works on the root
-//! alone.
+//! in a file of its own in `specs/`, and a function of which it is proved that it performs this meaning, that it works on the root
+//! alone, and that a further command may begin where it is done.
 //!
-//! `verify_fully` reads the contents of the repository too, and has the first clause alone.
+//! `verify_fully`, `update_specs` and `update_input` read the repository too, and lack the second of these clauses.
 #![tactic(auto)]
 
 mod erasing;

@@ -1,5 +1,5 @@
 //! The command that lists installed troves.
-ghost use Rattle.std.specs.Prelude.{List, ℕ};
+ghost use Rattle.std.specs.Prelude.{List, ℕ, OnOk};
 ghost use Rattle.cli_call.specs.Alone.{AnswersByLists, PerformsAlone};
 ghost use Rattle.cli_call.specs.Answer.{AnswersSo};
 ghost use Rattle.cli_call.specs.Command.{disks, AreReady, Performs};
@@ -52,6 +52,8 @@ pub fn list_installed<T: TreeDisk, P: TreeDisk>(
         (disks root.now repo.now opened.now) result }
     ensures lists { (input : List ℕ) → AnswersByLists T.disk P.disk (spec.list_installed name.now) input (disks root.now repo.now opened.now)
         (disks root.now repo.now opened.now) result }
+    // Where it is done, a further command may begin.
+    ensures again { OnOk result (AreReady T.disk P.disk (disks root.now repo.now opened.now)) }
 {
     store_laws();
     distinct_databases();

@@ -1,5 +1,5 @@
 //! The command that answers the local changes of a root.
-ghost use Rattle.std.specs.Prelude.{List, ℕ};
+ghost use Rattle.std.specs.Prelude.{List, ℕ, OnOk};
 ghost use Rattle.cli_call.specs.Alone.{AnswersByTree, PerformsAlone};
 ghost use Rattle.cli_call.specs.Command.{disks, AreReady, Performs};
 ghost use Rattle.root_commands.specs.LocalChanges as spec;
@@ -30,6 +30,8 @@ pub fn change_locally<T: TreeDisk, P: TreeDisk>(
         (disks root.new repo.now opened.now) result }
     ensures tree { (input : List ℕ) → AnswersByTree T.disk P.disk (spec.change_locally name.now) input (disks root.old repo.now opened.now)
         (disks root.new repo.now opened.now) result }
+    // Where it is done, a further command may begin.
+    ensures again { OnOk result (AreReady T.disk P.disk (disks root.new repo.now opened.now)) }
 {
     store_laws();
     distinct_databases();

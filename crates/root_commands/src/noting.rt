@@ -10,7 +10,7 @@ ghost use Rattle.root_commands.specs.Noting.{change_of, id_if, turned, HasTurned
 use cli_call::cny_base::{Copies, Name, OutOfMemory};
 use cli_call::trove_parts::TroveId;
 use cny_report::Note;
-use rollback_stack::Note as Undone;
+use rollback_stack::NotedJob;
 use std::alloc::Global;
 use std::collections::BTreeMap;
 use update_job::{Change, Changes};
@@ -91,7 +91,7 @@ fn changes_of(alloc: Global, before: &[TroveId], after: &[TroveId]) -> Result<Ch
     Ok(Changes::new(list))
 }
 
-fn noted_job(alloc: Global, job: &Undone) -> Result<Note, OutOfMemory>
+fn noted_job(alloc: Global, job: &NotedJob) -> Result<Note, OutOfMemory>
     ensures { IfOk result (IsNoted job.now) }
 {
     let changes = changes_of(alloc, job.before.get(), job.after.get())?;
@@ -103,7 +103,7 @@ fn noted_job(alloc: Global, job: &Undone) -> Result<Note, OutOfMemory>
 }
 
 /// What is told of jobs, by the ids that are noted of each.
-pub(crate) fn noted_jobs(alloc: Global, jobs: &[Undone]) -> Result<Vec<Note>, OutOfMemory>
+pub(crate) fn noted_jobs(alloc: Global, jobs: &[NotedJob]) -> Result<Vec<Note>, OutOfMemory>
     ensures { IfOk result (λ notes. AreNoted jobs.now notes.items) }
 {
     let mut notes = Vec::new(alloc);

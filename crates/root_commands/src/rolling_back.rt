@@ -1,5 +1,5 @@
 //! The command that takes jobs back.
-ghost use Rattle.std.specs.Prelude.{◌≡◌, List, ℕ, IsTrue};
+ghost use Rattle.std.specs.Prelude.{◌≡◌, List, ℕ, IsTrue, OnOk};
 ghost use Rattle.cli_call.specs.Alone.{PerformsAlone};
 ghost use Rattle.cli_call.specs.Command.{disks, AreReady, Performs};
 ghost use Rattle.root_commands.specs.Records.{TakesBackWhole, last_job};
@@ -40,6 +40,8 @@ pub fn roll_back<T: TreeDisk, P: TreeDisk>(
         (disks root.new repo.now opened.new) result }
     // Also on a root that stores no system.
     ensures records { IsTrue T.disk.tells → TakesBackWhole number (T.disk.reads root.old) opened.old.db result }
+    // Where it is done, a further command may begin.
+    ensures again { OnOk result (AreReady T.disk P.disk (disks root.new repo.now opened.new)) }
 {
     store_laws();
     distinct_databases();

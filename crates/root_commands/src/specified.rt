@@ -1,5 +1,5 @@
 //! The command that installs what specifications mean.
-ghost use Rattle.std.specs.Prelude.{IfOk, List, ℕ};
+ghost use Rattle.std.specs.Prelude.{IfOk, List, ℕ, OnOk};
 ghost use Rattle.repo_load.specs.Loading.{IsCatalogue};
 ghost use Rattle.cli_call.specs.Command.{disks, AreReady, Performs};
 ghost use Rattle.trove_spec.specs.AndThen.{EndsAs};
@@ -57,8 +57,10 @@ pub fn update_specs<T: TreeDisk, P: TreeDisk>(
     root: &mut T,
 ) -> Result<Text, Failure>
     requires { AreReady T.disk P.disk (disks root.old repo.old opened.old) }
-    ensures { (input : List ℕ) → Performs T.disk P.disk (spec.update_specs options.now givens.now) input (disks root.old repo.old opened.old)
+    ensures performs { (input : List ℕ) → Performs T.disk P.disk (spec.update_specs options.now givens.now) input (disks root.old repo.old opened.old)
         (disks root.new repo.new opened.new) result }
+    // Where it is done, a further command may begin.
+    ensures again { OnOk result (AreReady T.disk P.disk (disks root.new repo.new opened.new)) }
 {
     store_laws();
     stored_state();

@@ -1,5 +1,5 @@
 //! The commands that install what a change set makes, or what specifications mean.
-ghost use Rattle.std.specs.Prelude.{◌≡◌, All, List, ℕ};
+ghost use Rattle.std.specs.Prelude.{◌≡◌, All, List, ℕ, OnOk};
 ghost use Rattle.std.specs.List.Sorted.{IsStrictlySortedBy};
 ghost use Rattle.sha1.specs.Sha1.{sha1};
 ghost use Rattle.cli_call.specs.change-set.declared.change.Carried as carried_content;
@@ -34,8 +34,10 @@ pub(crate) fn update_to<T: TreeDisk, P: TreeDisk>(
     requires hash { All (λ (content : carried_content.Carried). content.name ≡ sha1 content.bytes) carried.now }
     requires rising { IsStrictlySortedBy content_cmp carried.now }
     requires ready { AreReady T.disk P.disk (disks root.old repo.old opened.old) }
-    ensures { (input : List ℕ) → Performs T.disk P.disk (spec.update_to options.now carried.now troves.now) input (disks root.old repo.old opened.old)
+    ensures performs { (input : List ℕ) → Performs T.disk P.disk (spec.update_to options.now carried.now troves.now) input (disks root.old repo.old opened.old)
         (disks root.new repo.new opened.new) result }
+    // Where it is done, a further command may begin.
+    ensures again { OnOk result (AreReady T.disk P.disk (disks root.new repo.new opened.new)) }
 {
     store_laws();
     distinct_databases();
@@ -64,8 +66,10 @@ fn update_by<T: TreeDisk, P: TreeDisk>(
 ) -> Result<Text, Failure>
     requires contents { HasContents set.now }
     requires ready { AreReady T.disk P.disk (disks root.old repo.old opened.old) }
-    ensures { (input : List ℕ) → Performs T.disk P.disk (spec.update_by options.now set.now) input (disks root.old repo.old opened.old)
+    ensures performs { (input : List ℕ) → Performs T.disk P.disk (spec.update_by options.now set.now) input (disks root.old repo.old opened.old)
         (disks root.new repo.new opened.new) result }
+    // Where it is done, a further command may begin.
+    ensures again { OnOk result (AreReady T.disk P.disk (disks root.new repo.new opened.new)) }
 {
     store_laws();
     distinct_databases();
@@ -94,7 +98,9 @@ pub fn update_input<T: TreeDisk, P: TreeDisk>(
     root: &mut T,
 ) -> Result<Text, Failure>
     requires { AreReady T.disk P.disk (disks root.old repo.old opened.old) }
-    ensures { Performs T.disk P.disk (spec.update_input options.now) input.now (disks root.old repo.old opened.old) (disks root.new repo.new opened.new) result }
+    ensures performs { Performs T.disk P.disk (spec.update_input options.now) input.now (disks root.old repo.old opened.old) (disks root.new repo.new opened.new) result }
+    // Where it is done, a further command may begin.
+    ensures again { OnOk result (AreReady T.disk P.disk (disks root.new repo.new opened.new)) }
 {
     store_laws();
     let set = decode(alloc, input)?;

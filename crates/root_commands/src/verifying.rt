@@ -1,5 +1,5 @@
 //! The commands that compare the root with what its troves record.
-ghost use Rattle.std.specs.Prelude.{List, ℕ};
+ghost use Rattle.std.specs.Prelude.{List, ℕ, OnOk};
 ghost use Rattle.cli_call.specs.Alone.{AnswersByTree, PerformsAlone};
 ghost use Rattle.cli_call.specs.Command.{disks, AreReady, Performs};
 ghost use Rattle.root_commands.specs.Verifying as spec;
@@ -31,6 +31,8 @@ pub fn verify_installed<T: TreeDisk, P: TreeDisk>(
         (disks root.new repo.now opened.now) result }
     ensures tree { (input : List ℕ) → AnswersByTree T.disk P.disk (spec.verify_installed names.now) input (disks root.old repo.now opened.now)
         (disks root.new repo.now opened.now) result }
+    // Where it is done, a further command may begin.
+    ensures again { OnOk result (AreReady T.disk P.disk (disks root.new repo.now opened.now)) }
 {
     store_laws();
     distinct_databases();
@@ -50,8 +52,10 @@ pub fn verify_fully<T: TreeDisk, P: TreeDisk>(
     root: &mut T,
 ) -> Result<Text, Failure>
     requires { AreReady T.disk P.disk (disks root.old repo.old opened.now) }
-    ensures { (input : List ℕ) → Performs T.disk P.disk (spec.verify_fully names.now) input (disks root.old repo.old opened.now)
+    ensures performs { (input : List ℕ) → Performs T.disk P.disk (spec.verify_fully names.now) input (disks root.old repo.old opened.now)
         (disks root.new repo.new opened.now) result }
+    // Where it is done, a further command may begin.
+    ensures again { OnOk result (AreReady T.disk P.disk (disks root.new repo.new opened.now)) }
 {
     store_laws();
     distinct_databases();

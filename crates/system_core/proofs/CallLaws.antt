@@ -102,7 +102,7 @@ own_cause far far' rose Memory cause = tt
 own_cause far far' rose Failed cause = cause
 own_cause far far' rose (Damaged path) cause = cause
 own_cause far far' rose FarFailed cause = no_rise cause
-own_cause far far' rose (FarDamaged path) cause = let h = cause refl in h.1.damaged
+own_cause far far' rose (FarDamaged path) cause = cause.damaged refl
 
 pub own_cause_of : {T : Type 0} (rose : Type 0) (e : Stop) (r : Result T Stop) → IsErrAnd r (λ x. x ≡ e) → HasOwnCause rose e → IfErr r (HasOwnCause rose)
 own_cause_of rose e r is cause = passed_on (HasOwnCause rose) e r cause is

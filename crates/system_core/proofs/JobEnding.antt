@@ -126,11 +126,6 @@ module _ (before : Db) (list : List TroveParts) (puts : List Put) (es : List Ent
       pub written_job : (number : ℕ) → number ≡ db.newest → Goes disk Two s (after_job puts db.installed s) puts old new done → JobEnds disk puts list s old new (Ok (Some number))
       written_job number number_is goes = (number_is ∙ from.newest_is, as_list done goes)
 
-      pub holds_after : Goes disk Two s (after_job puts db.installed s) puts old new done → HoldsDatabase Two (disk.reads new) db.installed db.oldest db.newest
-      holds_after goes =
-          subst (HoldsDatabase Two (disk.reads new) db.installed db.oldest) (sym from.newest_is)
-          (subst (λ (low : ℕ). HoldsDatabase Two (disk.reads new) db.installed low (newest s.stack + 1)) (sym from.oldest_is) goes.rests.stores.list)
-
       at_stop : (rose : Type 0) (e : Stop) → IsTrue disk.tells → IsPushStop disk.tells rose e → Goes disk Two s (after_job puts list s) puts old new (Err e) → JobEnds disk puts list s old new (Err e)
       at_stop rose Failed tells stops goes = goes
       at_stop rose Memory tells stops goes = goes

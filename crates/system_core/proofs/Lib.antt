@@ -14,6 +14,7 @@ pub mod StoredJob
 pub mod JobRunning
 pub mod JobEnding
 pub mod Resting
+mod Rolled
 pub mod Outer
 pub mod Recorded
 pub mod Shared

@@ -206,18 +206,18 @@ module _ (x : Tree) (db : Db) (number : ℕ) (step : Back) (is : IsStepTo x db n
       (λ b. All-contains P (put_of_db step.db ∷ no_records (length is.jobs) db.newest) (get_or step.puts k d) more b)
       (is.writes.no_other k d lt)
 
-  not_own : (q : Name) → is_reserved q ≡ false → is_target (put_of_db step.db ∷ no_records (length is.jobs) db.newest) q ≡ false
-  not_own q out = neither (same_name q database) (is_target (no_records (length is.jobs) db.newest) q) (outer_differs q database out database_reserved) (records_outside (length is.jobs) db.newest q out)
+  pub in_private : (q : Name) → is_reserved q ≡ false → is_target (put_of_db step.db ∷ no_records (length is.jobs) db.newest) q ≡ false
+  in_private q out = neither (same_name q database) (is_target (no_records (length is.jobs) db.newest) q) (outer_differs q database out database_reserved) (records_outside (length is.jobs) db.newest q out)
 
   outer_is : (q : Name) → is_reserved q ≡ false → get (with_targets step.puts x) q ≡ get (with_targets is.nodes x) q
-  outer_is q out = wrote_alike step.puts is.nodes (put_of_db step.db ∷ no_records (length is.jobs) db.newest) is.writes x x q (λ hit p among. with_targets_target is.nodes x p is.nodes_are.rises among) (not_own q out) refl
+  outer_is q out = wrote_alike step.puts is.nodes (put_of_db step.db ∷ no_records (length is.jobs) db.newest) is.writes x x q (λ hit p among. with_targets_target is.nodes x p is.nodes_are.rises among) (in_private q out) refl
 
   -- no other name outside the private directory is a target
   pub not_target_to : (q : Name) → is_reserved q ≡ false → is_target is.nodes q ≡ false → is_target step.puts q ≡ false
   not_target_to q out other = ⊎_elim
       (λ hit. let p = target_at step.puts q hit in ⊎_elim
       (λ among. not_both (is_target is.nodes q) (ap (is_target is.nodes) p.2 ∙ is_target-from is.nodes p.0 among) other)
-      (λ among. not_both (is_target (put_of_db step.db ∷ no_records (length is.jobs) db.newest) q) (ap (is_target (put_of_db step.db ∷ no_records (length is.jobs) db.newest)) p.2 ∙ is_target-from (put_of_db step.db ∷ no_records (length is.jobs) db.newest) p.0 among) (not_own q out))
+      (λ among. not_both (is_target (put_of_db step.db ∷ no_records (length is.jobs) db.newest) q) (ap (is_target (put_of_db step.db ∷ no_records (length is.jobs) db.newest)) p.2 ∙ is_target-from (put_of_db step.db ∷ no_records (length is.jobs) db.newest) p.0 among) (in_private q out))
       (All-contains (λ (p : Put). Contains is.nodes p ⊎ Contains (put_of_db step.db ∷ no_records (length is.jobs) db.newest) p) step.puts p.0 is.writes.no_other p.1))
       (λ no. no)
       (cases_Bool (is_target step.puts q))

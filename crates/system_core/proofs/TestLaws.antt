@@ -15,10 +15,12 @@ use Rattle.rollback_stack.specs.content-store.Contents.{ContentsModel, IsSource}
 use Rattle.job_targets.specs.declared.entry.Entry.{Entry}
 use Rattle.rollback_stack.specs.trove-stream.Installed.{IsRising}
 use Rattle.conflict_plan.specs.declared.planned.Planned.{Planned}
-use Rattle.conflict_plan.specs.Plan.{ArePlannable, EndsSo, IsFirstRefusal, IsOrphan, IsPlan, IsUnshared, Plans, mark_after}
+use Rattle.conflict_plan.specs.Plan.{ArePlannable, IsFirstRefusal, IsOrphan, IsPlan, IsUnshared, mark_after}
 use Rattle.dep_closure.specs.Closed.{IsClosed, IsUnmetOrMemory}
 use Rattle.job_targets.specs.declared.targets.Targets.{Targets}
-use Rattle.job_targets.specs.Gathering.{Ends, Gathers, IsDamage}
+use Rattle.rollback_stack.specs.content-store.Searches.{IsFarDamage, LacksSome, SearchEnds}
+use Rattle.rollback_stack.specs.tree-scan.OnlyReads.{OnlyReads, ReadEnds}
+use Rattle.job_targets.specs.Gathering.{Gathers}
 use Rattle.job_targets.specs.Outcome as outcome
 use Rattle.job_targets.specs.Outcome.{AreChanges, AreGiven, AreOver, AreSavable, AreTargets, FitPlan}
 use Rattle.job_targets.proofs.GatherLaws.{gathers_memory, gathers_refuse, gathers_stop, gathers_then}
@@ -54,7 +56,7 @@ module _ {D C : Type 0} {disk : DiskModel D} {contents : ContentsModel C} (searc
   }
     where
       by : (e : Fault) → IsUnmetOrMemory list e
-          → Ends {X = Unit {0}} disk.tells (λ u. Unit {0}) (IsTestRefusal from before list (disk.reads d)) (IsDamage contents far) (Rose (disk.faults d) (disk.faults d)) (Rose (contents.faults far) (contents.faults far)) (Err (stop_of_fault e))
+          → SearchEnds {X = Unit {0}} disk.tells (λ u. Unit {0}) (λ why. IsTrue disk.tells → IsTestRefusal from before list (disk.reads d) why) (IsFarDamage contents LacksSome far) (Rose (disk.faults d) (disk.faults d)) (Rose (contents.faults far) (contents.faults far)) (Err (stop_of_fault e))
       by (fault.Refused refusal) why = λ tells. unmet why
       by fault.Memory why = tt
 
@@ -65,12 +67,12 @@ module _ {D C : Type 0} {disk : DiskModel D} {contents : ContentsModel C} (searc
 
   -- ---- the plan
 
-  pub plan_run : {old new : D} (far : C) (r : Result (List Planned) Stop) → Plans disk (IsPlan before list from.options) (IsFirstRefusal before list from.options) old new r
+  pub plan_run : {old new : D} (far : C) (r : Result (List Planned) Stop) → OnlyReads disk (IsPlan before list from.options) (IsFirstRefusal before list from.options) old new r
       → Gathers disk contents (IsPlan before list from.options) (IsFirstRefusal before list from.options) old new far far r
   plan_run {old = old} {new = new} far r run = record { later = run.later; same = run.same; keeps = keeps_start searches far; ends = by r run.ends }
     where
-      by : (r : Result (List Planned) Stop) → EndsSo disk.tells (IsPlan before list from.options (disk.reads old)) (IsFirstRefusal before list from.options (disk.reads old)) r (disk.faults old) (disk.faults new)
-          → Ends disk.tells (IsPlan before list from.options (disk.reads old)) (IsFirstRefusal before list from.options (disk.reads old)) (IsDamage contents far) (Rose (disk.faults old) (disk.faults new)) (Rose (contents.faults far) (contents.faults far)) r
+      by : (r : Result (List Planned) Stop) → ReadEnds disk.tells (IsPlan before list from.options (disk.reads old)) (IsFirstRefusal before list from.options (disk.reads old)) r (disk.faults old) (disk.faults new)
+          → SearchEnds disk.tells (IsPlan before list from.options (disk.reads old)) (λ why. IsTrue disk.tells → IsFirstRefusal before list from.options (disk.reads old) why) (IsFarDamage contents LacksSome far) (Rose (disk.faults old) (disk.faults new)) (Rose (contents.faults far) (contents.faults far)) r
       by (Ok planned) ends = ends
       by (Err (Refused refusal)) ends = ends
       by (Err Failed) ends = ends
@@ -81,14 +83,14 @@ module _ {D C : Type 0} {disk : DiskModel D} {contents : ContentsModel C} (searc
 
   -- there is no plan
   pub plan_stop : {old new : D} (far : C) (e : Stop) (r : Result Targets Stop) → IsClosed list → IsErrAnd r (λ s. s ≡ e)
-      → Plans disk (IsPlan before list from.options) (IsFirstRefusal before list from.options) old new (Err e)
+      → OnlyReads disk (IsPlan before list from.options) (IsFirstRefusal before list from.options) old new (Err e)
       → Gathers disk contents (IsTested from before list) (IsTestRefusal from before list) old new far far r
   plan_stop far e r closed is run = gathers_stop (plan_run far (Err e) run) is (λ tells refusal h. unplanned closed h)
 
   -- ---- the targets
 
   pub targets_run : {old mid new : D} {far far' : C} (planned seen : List Planned) → seen ≡ planned → (r : Result Targets Stop) → IsClosed list
-      → Plans disk (IsPlan before list from.options) (IsFirstRefusal before list from.options) old mid (Ok planned)
+      → OnlyReads disk (IsPlan before list from.options) (IsFirstRefusal before list from.options) old mid (Ok planned)
       → Gathers disk contents (AreTargets from.carried from.answers seen) (outcome.IsFirstRefusal from.carried from.answers seen) mid new far far' r
       → Gathers disk contents (IsTested from before list) (IsTestRefusal from before list) old new far far' r
   targets_run {mid = mid} {new = new} {far = far} {far' = far'} planned seen same r closed first then =
@@ -98,7 +100,7 @@ module _ {D C : Type 0} {disk : DiskModel D} {contents : ContentsModel C} (searc
       (λ tells is refusal h. untargeted closed planned is h)
 
   pub targets_stop : {old mid new : D} {far far' : C} (planned seen : List Planned) → seen ≡ planned → (e : Stop) (r : Result Targets Stop) → IsClosed list → IsErrAnd r (λ s. s ≡ e)
-      → Plans disk (IsPlan before list from.options) (IsFirstRefusal before list from.options) old mid (Ok planned)
+      → OnlyReads disk (IsPlan before list from.options) (IsFirstRefusal before list from.options) old mid (Ok planned)
       → Gathers disk contents (AreTargets from.carried from.answers seen) (outcome.IsFirstRefusal from.carried from.answers seen) mid new far far' (Err e)
       → Gathers disk contents (IsTested from before list) (IsTestRefusal from before list) old new far far' r
   targets_stop planned seen same e r closed is first then = gathers_stop (targets_run planned seen same (Err e) closed first then) is (λ tells refusal h. h)
@@ -118,7 +120,7 @@ module _ {D C : Type 0} {disk : DiskModel D} {contents : ContentsModel C} (searc
 
   -- ---- what is then known of them
 
-  module _ {old mid : D} (planned seen : List Planned) (same : seen ≡ planned) (made : Targets) (run : Plans disk (IsPlan before list from.options) (IsFirstRefusal before list from.options) old mid (Ok planned))
+  module _ {old mid : D} (planned seen : List Planned) (same : seen ≡ planned) (made : Targets) (run : OnlyReads disk (IsPlan before list from.options) (IsFirstRefusal before list from.options) old mid (Ok planned))
       (plannable : ArePlannable before list planned) (fits : FitPlan seen made) (given : AreGiven made.puts)
       (is_before : IsInstalled before) (troves : All IsTrove list) (allowed : AreAllowed list) where
     fits_plan : FitPlan planned made

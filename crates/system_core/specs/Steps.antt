@@ -18,7 +18,8 @@ use Rattle.local_db.specs.declared.db.Db.{Db}
 use Rattle.update_job.specs.declared.comparing.Change.{Change}
 use Rattle.update_job.specs.Changes.{AreChanges}
 use Rattle.system_core.specs.RootWriting.{Goes}
-use Rattle.job_targets.specs.Gathering.{IsDamage, IsStopBy}
+use Rattle.rollback_stack.specs.content-store.Searches.{IsFarDamage, LacksSome}
+use Rattle.rollback_stack.specs.tree-scan.OnlyReads.{IsStopBy}
 use Rattle.system_core.specs.Last.{ChangesNothing, PassesLast}
 use Rattle.system_core.specs.JobWriting.{done}
 use Rattle.system_core.specs.declared.done.Done.{Done}
@@ -72,7 +73,7 @@ HasCause contents far far' rose Memory = Unit {0}
 HasCause contents far far' rose (Refused why) = Unit {0}
 HasCause contents far far' rose (Damaged path) = ⊥
 HasCause contents far far' rose FarFailed = Rose (contents.faults far) (contents.faults far')
-HasCause contents far far' rose (FarDamaged path) = IsDamage contents far path
+HasCause contents far far' rose (FarDamaged path) = IsFarDamage contents LacksSome far path
 
 -- the same of a job without contents behind it
 abbrev pub HasOwnCause : Type 0 → Stop → Type 0

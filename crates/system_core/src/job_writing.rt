@@ -10,12 +10,13 @@ ghost use Rattle.local_db.specs.Formats.{database_bytes};
 ghost use Rattle.local_db.specs.Installed.{IsInstalled};
 ghost use Rattle.local_db.specs.SystemState.{IsFree, SystemState};
 ghost use Rattle.local_db.specs.Steps.{after_job};
-ghost use Rattle.local_db.specs.Stores.{HoldsDatabase, IsDatabase, StoresIn};
+ghost use Rattle.local_db.specs.Stores.{IsDatabase, StoresIn};
 ghost use Rattle.rollback_stack.specs.job-record.Changed.{AreChangedNames};
 ghost use Rattle.rollback_stack.specs.Entries.{AreEntries};
 ghost use Rattle.rollback_stack.specs.Pushing.{IsPushStop};
 ghost use Rattle.rollback_stack.specs.change-set.Contents.{IfRefused};
-ghost use Rattle.system_core.specs.Opening.{IsAtRest};
+ghost use Rattle.system_core.specs.FixedDirs.{fixed_dirs};
+ghost use Rattle.system_core.specs.RootReady.{IsReady};
 ghost use Rattle.system_core.specs.RootWriting.{Goes};
 ghost use Rattle.system_core.specs.Last.{ChangesNothing, IsRefusedLast, PassesLast};
 ghost use Rattle.system_core.specs.JobWriting.{AnswersJob, AreTargets, CanPutJob, CanWriteJob, IsJobFrom, IsJobOf, IsJobStop, JobEnds};
@@ -108,7 +109,8 @@ fn put_job<T: TreeDisk>(
     ensures goes { IsTrue T.disk.tells → (s : SystemState) → StoresIn Two (T.disk.reads root.old) s → IsJobFrom s targets before.now db.now
         → Goes T.disk Two s (after_job targets db.now.installed s) targets root.old root.new result }
     // Also on a root that stores no system.
-    ensures rests { IsTrue T.disk.tells → OnOk result (IsAtRest T.disk root.new) }
+    ensures again { IsTrue T.disk.tells → OnOk result (IsReady T.disk db.now root.new) }
+    ensures fixed { IsTrue T.disk.tells → OnOk result (fixed_dirs (T.disk.reads root.new) ≡ fixed_dirs (T.disk.reads root.old)) }
     ensures stops { IfErr result (IsPushStop T.disk.tells (Rose (T.disk.faults root.old) (T.disk.faults root.new))) }
     ensures later { T.disk.faults root.old ≤ T.disk.faults root.new }
 {
@@ -147,11 +149,9 @@ pub fn write_job<T: TreeDisk>(
     // From each system that the root stores.
     ensures ends { IsTrue T.disk.tells → (s : SystemState) → StoresIn Two (T.disk.reads root.old) s
         → JobEnds T.disk puts list s root.old root.new result }
-    // After Ok the root holds the database.
-    ensures holds { IsTrue T.disk.tells → (s : SystemState) → StoresIn Two (T.disk.reads root.old) s
-        → IfOk result (λ number. HoldsDatabase Two (T.disk.reads root.new) db.new.installed db.new.oldest db.new.newest) }
-    // After Ok the root is at rest, also where it stores no system.
-    ensures rests { IsTrue T.disk.tells → OnOk result (IsAtRest T.disk root.new) }
+    // After Ok a further job may begin, with this database, also where the root stores no system.
+    ensures again { IsTrue T.disk.tells → OnOk result (IsReady T.disk db.new root.new) }
+    ensures fixed { IsTrue T.disk.tells → OnOk result (fixed_dirs (T.disk.reads root.new) ≡ fixed_dirs (T.disk.reads root.old)) }
     // On every disk.
     ensures answers { AnswersJob db.old list puts db.new result }
     ensures rules { IsDatabase Two db.new.installed db.new.oldest db.new.newest }

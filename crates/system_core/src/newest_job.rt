@@ -4,6 +4,7 @@ ghost use Rattle.rollback_stack.specs.cny-base.Count.{Rose};
 ghost use Rattle.local_db.specs.declared.format.Format.TheVariants.{Two};
 ghost use Rattle.local_db.specs.SystemState.{StackItem, SystemState, newest};
 ghost use Rattle.local_db.specs.Stores.{IsDatabase, StoresIn};
+ghost use Rattle.system_core.specs.FixedDirs.{fixed_dirs};
 ghost use Rattle.system_core.specs.Rollback.{HasCause, IsReadyWith};
 ghost use Rattle.system_core.specs.Restoring.{IsUnedited, Restores};
 ghost use Rattle.system_core.specs.Several.{HasTakenBackTo, IsRefusalKind, RollsBackTo, StopsTo, counted};
@@ -33,6 +34,11 @@ pub fn rollback<T: TreeDisk>(alloc: Global, root: &mut T, db: &mut Db) -> Result
     ensures done { IsTrue T.disk.tells → OnOk result (HasTakenBackTo T.disk db.old db.new db.old.newest root.old root.new 1) }
     // Where a stop changes nothing, also on a root that stores no system.
     ensures stops { IsTrue T.disk.tells → IfErr result (StopsTo T.disk db.old db.old.newest root.old root.new) }
+    // After Ok a further rollback may begin with this database, and a job where the fixed directories stood, also on a root that stores no system.
+    ensures again { IsTrue T.disk.tells → OnOk result (IsReadyWith T.disk db.new root.new) }
+    ensures fixed { IsTrue T.disk.tells → OnOk result (fixed_dirs (T.disk.reads root.new) ≡ fixed_dirs (T.disk.reads root.old)) }
+    // On every disk.
+    ensures rules { IsDatabase Two db.new.installed db.new.oldest db.new.newest }
     ensures causes { IfErr result (HasCause (IsRefusalKind db.old) (Rose (T.disk.faults root.old) (T.disk.faults root.new))) }
     ensures kept { OnErr result (db.new ≡ db.old) }
     ensures later { T.disk.faults root.old ≤ T.disk.faults root.new }

@@ -25,7 +25,9 @@ pub(crate) fn prepare_to<D: TreeDisk>(
 ) -> Result<Back, Stop>
     requires { IsDatabase Two db.now.installed db.now.oldest db.now.newest }
     ensures value { Reads D.disk disk.old disk.new (IfOk result (IsStepTo (D.disk.reads disk.old) db.now number)) }
+    // On every disk, also where it tells nothing.
     ensures job { OnOk result (IsOnStack db.now number) }
+    ensures database { IfOk result (λ step. IsDatabase Two step.db.installed step.db.oldest step.db.newest) }
     ensures stops { IfErr result (IsBackStop D.disk.tells (D.disk.reads disk.old) db.now number (Rose (D.disk.faults disk.old) (D.disk.faults disk.new))) }
     ensures later { D.disk.faults disk.old ≤ D.disk.faults disk.new }
 {

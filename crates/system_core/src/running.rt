@@ -9,8 +9,8 @@ ghost use Rattle.rollback_stack.specs.content-store.Contents.{KeepsContents};
 ghost use Rattle.local_db.specs.declared.format.Format.TheVariants.{Two};
 ghost use Rattle.local_db.specs.SystemState.{SystemState};
 ghost use Rattle.local_db.specs.Stores.{IsDatabase, StoresIn};
-ghost use Rattle.system_core.specs.Opening.{IsAtRest};
 ghost use Rattle.system_core.specs.Answers.{AnswersCall};
+ghost use Rattle.system_core.specs.FixedDirs.{fixed_dirs};
 ghost use Rattle.system_core.specs.Job.{sources_of};
 ghost use Rattle.system_core.specs.Lists.{AreAllowed, to_list};
 ghost use Rattle.system_core.specs.RootReady.{IsReady};
@@ -46,8 +46,9 @@ pub(crate) fn job<T: TreeDisk, C: Contents>(
     requires ready { IsTrue T.disk.tells → IsReady T.disk db.old root.old }
     ensures ends { IsTrue T.disk.tells → (s : SystemState) → StoresIn Two (T.disk.reads root.old) s
         → Ends T.disk (sources_of carried.now (C.contents.answers far.old) options.now) (to_list list) s root.old root.new db.new result }
-    // After Ok the root is at rest, also where it stores no system.
-    ensures rests { IsTrue T.disk.tells → OnOk result (IsAtRest T.disk root.new) }
+    // After Ok a further job may begin, with this database, also where the root stores no system.
+    ensures again { IsTrue T.disk.tells → OnOk result (IsReady T.disk db.new root.new) }
+    ensures fixed { IsTrue T.disk.tells → OnOk result (fixed_dirs (T.disk.reads root.new) ≡ fixed_dirs (T.disk.reads root.old)) }
     // On every disk, also where it tells nothing.
     ensures answers { AnswersCall T.disk (sources_of carried.now (C.contents.answers far.old) options.now) (to_list list) db.old root.old root.new db.new result }
     ensures rules { IsDatabase Two db.new.installed db.new.oldest db.new.newest }

@@ -1,9 +1,10 @@
 //! All jobs from the newest down to one of a number, taken back at once.
-ghost use Rattle.std.specs.Prelude.{◌≡◌, ◌≤◌, IfErr, IfOk, IsTrue, OnErr};
+ghost use Rattle.std.specs.Prelude.{◌≡◌, ◌≤◌, IfErr, IfOk, IsTrue, OnErr, OnOk};
 ghost use Rattle.rollback_stack.specs.cny-base.Count.{Rose};
 ghost use Rattle.local_db.specs.declared.format.Format.TheVariants.{Two};
 ghost use Rattle.local_db.specs.SystemState.{SystemState};
 ghost use Rattle.local_db.specs.Stores.{IsDatabase, StoresIn};
+ghost use Rattle.system_core.specs.FixedDirs.{fixed_dirs};
 ghost use Rattle.system_core.specs.Rollback.{HasCause, IsReadyWith};
 ghost use Rattle.system_core.specs.RestoringAll.{AreUnedited, RestoresTo};
 ghost use Rattle.system_core.specs.Several.{HasJob, HasTakenBackTo, IsRefusalKindTo, RollsBackTo, StopsTo};
@@ -47,6 +48,11 @@ pub fn rollback_to<T: TreeDisk>(
     ensures done { IsTrue T.disk.tells → IfOk result (HasTakenBackTo T.disk db.old db.new number root.old root.new) }
     // Where a stop changes nothing, also on a root that stores no system.
     ensures stops { IsTrue T.disk.tells → IfErr result (StopsTo T.disk db.old number root.old root.new) }
+    // After Ok a further rollback may begin with this database, and a job where the fixed directories stood, also on a root that stores no system.
+    ensures again { IsTrue T.disk.tells → OnOk result (IsReadyWith T.disk db.new root.new) }
+    ensures fixed { IsTrue T.disk.tells → OnOk result (fixed_dirs (T.disk.reads root.new) ≡ fixed_dirs (T.disk.reads root.old)) }
+    // On every disk.
+    ensures rules { IsDatabase Two db.new.installed db.new.oldest db.new.newest }
     ensures causes { IfErr result (HasCause (IsRefusalKindTo db.old number) (Rose (T.disk.faults root.old) (T.disk.faults root.new))) }
     ensures kept { OnErr result (db.new ≡ db.old) }
     ensures later { T.disk.faults root.old ≤ T.disk.faults root.new }

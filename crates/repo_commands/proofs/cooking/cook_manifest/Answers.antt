@@ -7,8 +7,8 @@ use Rattle.repo_commands.proofs.MadeVersions.{made_have_one}
 use Rattle.cny_version.proofs.cny-base.Passing.{err_is}
 use Rattle.repo_commands.proofs.cooking.cook_manifest.Goals as goal
 
-pub returns-in_err-made : goal.returns-in_err-made
-returns-in_err-made g c =
+pub returns-in_err-made-clause-performs : goal.returns-in_err-made-clause-performs
+returns-in_err-made-clause-performs g c =
     let m = disks c.args.root.now c.args.repo.now c.args.opened.now in
     err_is (ActsOnRepository g.T.TreeDisk.disk g.P.TreeDisk.disk (cook c.args.next) c.args.input.now m m) c.from_residual.result (failure_of_fault c.in_err-made.field-0.0) c.from_residual.ensures.1
     (not_read g.met.P.TreeDisk.laws c.store_laws.ensures c.stored_state.ensures.catalogue c.args.next c.args.input.now m c.requires c.in_err-made.field-0.0 c.in_err-made.ensures.refused)
@@ -16,15 +16,15 @@ returns-in_err-made g c =
 pub cooked_set-requires-clause-version : goal.cooked_set-requires-clause-version
 cooked_set-requires-clause-version g c = made_have_one c.args.input.now c.in_ok-made.made c.in_ok-made.ensures.value
 
-pub returns-in_err-set : goal.returns-in_err-set
-returns-in_err-set g c =
+pub returns-in_err-set-clause-performs : goal.returns-in_err-set-clause-performs
+returns-in_err-set-clause-performs g c =
     let m = disks c.args.root.now c.args.repo.now c.args.opened.now in
     err_is (ActsOnRepository g.T.TreeDisk.disk g.P.TreeDisk.disk (cook c.args.next) c.args.input.now m m) c.from_residual-in_err-set.result (failure_of_fault c.in_err-set.field-0.0) c.from_residual-in_err-set.ensures.1
     (no_set g.met.P.TreeDisk.laws c.store_laws.ensures c.stored_state.ensures.catalogue c.args.next c.args.input.now m c.requires c.in_ok-made.made c.in_ok-made.ensures.value c.in_err-set.field-0.0 c.in_err-set.ensures.fault)
 
-pub returns : goal.returns
-returns g c =
+pub returns-clause-performs : goal.returns-clause-performs
+returns-clause-performs g c =
     let old = disks c.args.root.now c.args.repo.now c.args.opened.now in
     let new = disks c.args.root.now c.commit_set.new.repo c.commit_set.new.opened in
     cooked g.met.P.TreeDisk.laws c.store_laws.ensures c.stored_state.ensures.catalogue c.args.next c.args.input.now old c.requires c.in_ok-made.made c.in_ok-made.ensures.value
-    c.in_ok-set.set c.in_ok-set.ensures.value new c.commit_set.result (c.commit_set.ensures c.args.input.now)
+    c.in_ok-set.set c.in_ok-set.ensures.value new c.commit_set.result (c.commit_set.ensures.performs c.args.input.now)

@@ -13,8 +13,8 @@ use Rattle.repo_commands.proofs.MovingEnds.{meant_fails, memory_ends, moved_ends
 use Rattle.cny_version.proofs.cny-base.Passing.{err_is}
 use Rattle.repo_commands.proofs.moving.commit_moved.Goals as goal
 
-pub returns-in_err-config : goal.returns-in_err-config
-returns-in_err-config g c input =
+pub returns-in_err-config-clause-performs : goal.returns-in_err-config-clause-performs
+returns-in_err-config-clause-performs g c input =
     let means = move c.args.way c.args.label.now c.args.given.now in
     let old = disks c.args.root.now c.args.repo.now c.args.opened.now in
     let new = disks c.read_config.new.root c.args.repo.now c.args.opened.now in
@@ -22,8 +22,8 @@ returns-in_err-config g c input =
     (config_stopped g.met.T.TreeDisk.laws g.met.P.TreeDisk.laws c.store_laws.ensures means input c.args.root.now c.read_config.new.root c.args.repo.now c.args.opened.now c.requires (refused_config c.args.way c.args.label.now c.args.given.now)
     c.read_config.result c.read_config.ensures c.in_err-config.field-0.0 (sym c.on_root.ensures ∙ c.in_err-config.was))
 
-pub returns-in_err-id : goal.returns-in_err-id
-returns-in_err-id g c input =
+pub returns-in_err-id-clause-performs : goal.returns-in_err-id-clause-performs
+returns-in_err-id-clause-performs g c input =
     let means = move c.args.way c.args.label.now c.args.given.now in
     let old = disks c.args.root.now c.args.repo.now c.args.opened.now in
     let new = disks c.read_config.new.root c.args.repo.now c.args.opened.now in
@@ -35,8 +35,8 @@ returns-in_err-id g c input =
 pub moved-requires : goal.moved-requires
 moved-requires g c = refer_within c.refs_found.ensures c.args.opened.now.catalogue c.requires.rules
 
-pub returns-in_err-troves : goal.returns-in_err-troves
-returns-in_err-troves g c input =
+pub returns-in_err-troves-clause-performs : goal.returns-in_err-troves-clause-performs
+returns-in_err-troves-clause-performs g c input =
     let means = move c.args.way c.args.label.now c.args.given.now in
     let old = disks c.args.root.now c.args.repo.now c.args.opened.now in
     let new = disks c.read_config.new.root c.args.repo.now c.args.opened.now in
@@ -46,8 +46,8 @@ returns-in_err-troves g c input =
     (moved_fails g.met.T.TreeDisk.laws g.met.P.TreeDisk.laws c.stored_state.ensures.catalogue c.store_laws.ensures c.args.way c.args.label.now c.args.given.now input c.args.root.now c.read_config.new.root c.args.repo.now c.args.opened.now c.requires
     c.in_ok-config.config configured c.in_ok-id.id c.in_ok-id.ensures f (unmoved c.args.way c.args.label.now c.args.opened.now.catalogue.troves c.in_ok-id.id f c.in_err-troves.ensures.fault))
 
-pub returns-in_err-set : goal.returns-in_err-set
-returns-in_err-set g c input =
+pub returns-in_err-set-clause-performs : goal.returns-in_err-set-clause-performs
+returns-in_err-set-clause-performs g c input =
     let means = move c.args.way c.args.label.now c.args.given.now in
     let old = disks c.args.root.now c.args.repo.now c.args.opened.now in
     let new = disks c.read_config.new.root c.args.repo.now c.args.opened.now in
@@ -62,12 +62,12 @@ commit_set-requires-clause-contents g c = subst (λ (set : ChangeSet). HasConten
 pub commit_set-requires-clause-ready : goal.commit_set-requires-clause-ready
 commit_set-requires-clause-ready g c = ready_on c.args.root.now c.read_config.new.root c.args.repo.now c.args.opened.now c.read_config.ensures.same c.requires
 
-pub returns : goal.returns
-returns g c input =
+pub returns-clause-performs : goal.returns-clause-performs
+returns-clause-performs g c input =
     let configured = config_made g.T.TreeDisk.disk c.args.root.now c.read_config.new.root c.read_config.result c.read_config.ensures c.in_ok-config.config (sym c.on_root.ensures ∙ c.in_ok-config.was) in
     let mid = disks c.read_config.new.root c.args.repo.now c.args.opened.now in
     let new = disks c.read_config.new.root c.commit_set.new.repo c.commit_set.new.opened in
     moved_ends g.met.T.TreeDisk.laws g.met.P.TreeDisk.laws c.stored_state.ensures.catalogue c.store_laws.ensures c.args.way c.args.label.now c.args.given.now input c.args.root.now c.read_config.new.root c.args.repo.now c.args.opened.now c.requires
     c.in_ok-config.config configured c.in_ok-id.id c.in_ok-id.ensures c.in_ok-troves.troves c.in_ok-troves.ensures.value new c.commit_set.result
     (subst (λ (set : ChangeSet). Performs g.T.TreeDisk.disk g.P.TreeDisk.disk (commit_of set) input mid new c.commit_set.result) (set_is c.in_ok-set.set c.in_ok-troves.troves c.in_ok-set.ensures.parts c.in_ok-set.ensures.contents)
-    (acts_performed g.met.T.TreeDisk.laws root_laws (commit_of c.in_ok-set.set) input mid new c.commit_set.result (ready_on c.args.root.now c.read_config.new.root c.args.repo.now c.args.opened.now c.read_config.ensures.same c.requires) (c.commit_set.ensures input)))
+    (acts_performed g.met.T.TreeDisk.laws root_laws (commit_of c.in_ok-set.set) input mid new c.commit_set.result (ready_on c.args.root.now c.read_config.new.root c.args.repo.now c.args.opened.now c.read_config.ensures.same c.requires) (c.commit_set.ensures.performs input)))

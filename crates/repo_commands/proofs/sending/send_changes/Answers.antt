@@ -5,13 +5,14 @@ use Rattle.repo_index.specs.Catalogue.{AreCommitted}
 use Rattle.cli_call.specs.Command.{disks, Performs}
 use Rattle.cli_call.specs.cny-laws.Failures.{failure_of_fault}
 use Rattle.repo_commands.specs.Sending.{changeset, SendsFrom}
+use Rattle.cli_call.proofs.Again.{ready_both}
 use Rattle.cli_call.proofs.ReadingEnds.{config_made, config_stopped}
-use Rattle.repo_commands.proofs.SendingEnds.{fresh_fails, old_fails, refused_config, sent_ends, SendingLaws}
+use Rattle.repo_commands.proofs.SendingEnds.{after_ok, fresh_fails, old_fails, refused_config, sent_ends, SendingLaws}
 use Rattle.cny_version.proofs.cny-base.Passing.{err_is}
 use Rattle.repo_commands.proofs.sending.send_changes.Goals as goal
 
-pub returns-in_err-config : goal.returns-in_err-config
-returns-in_err-config g c input =
+pub returns-in_err-config-clause-performs : goal.returns-in_err-config-clause-performs
+returns-in_err-config-clause-performs g c input =
     let from = c.args.from.now in
     let to = c.args.to.now in
     let old = disks c.args.root.now c.args.repo.now c.args.opened.now in
@@ -20,8 +21,8 @@ returns-in_err-config g c input =
     (config_stopped g.met.T.TreeDisk.laws g.met.P.TreeDisk.laws c.store_laws.ensures (changeset from to) input c.args.root.now c.read_config.new.root c.args.repo.now c.args.opened.now c.requires (refused_config from to)
     c.read_config.result c.read_config.ensures c.in_err-config.field-0.0 (sym c.on_root.ensures ∙ c.in_err-config.was))
 
-pub returns-in_err-old : goal.returns-in_err-old
-returns-in_err-old g c input =
+pub returns-in_err-old-clause-performs : goal.returns-in_err-old-clause-performs
+returns-in_err-old-clause-performs g c input =
     let from = c.args.from.now in
     let to = c.args.to.now in
     let old = disks c.args.root.now c.args.repo.now c.args.opened.now in
@@ -31,8 +32,8 @@ returns-in_err-old g c input =
     err_is (Performs g.T.TreeDisk.disk g.P.TreeDisk.disk (changeset from to) input old new) c.from_residual-in_err-old.result (failure_of_fault c.in_err-old.field-0.0) c.from_residual-in_err-old.ensures.1
     (old_fails g.met.T.TreeDisk.laws g.met.P.TreeDisk.laws laws from to input c.args.root.now c.read_config.new.root c.args.repo.now c.args.opened.now c.requires c.in_ok-config.config configured c.in_err-old.field-0.0 c.in_err-old.ensures.ends)
 
-pub returns-in_err-fresh : goal.returns-in_err-fresh
-returns-in_err-fresh g c input =
+pub returns-in_err-fresh-clause-performs : goal.returns-in_err-fresh-clause-performs
+returns-in_err-fresh-clause-performs g c input =
     let from = c.args.from.now in
     let to = c.args.to.now in
     let old = disks c.args.root.now c.args.repo.now c.args.opened.now in
@@ -50,8 +51,8 @@ send-requires g c = record {
   old_rises = subst (λ (l : List TroveParts). IsRising l) (sym c.get.ensures) c.in_ok-old.ensures.rises;
 }
 
-pub returns : goal.returns
-returns g c input =
+pub returns-clause-performs : goal.returns-clause-performs
+returns-clause-performs g c input =
     let from = c.args.from.now in
     let to = c.args.to.now in
     let old = disks c.args.root.now c.args.repo.now c.args.opened.now in
@@ -63,3 +64,8 @@ returns g c input =
     subst (Performs g.T.TreeDisk.disk g.P.TreeDisk.disk (changeset from to) input old new) (sym c.on_repository.ensures)
     (sent_ends g.met.T.TreeDisk.laws g.met.P.TreeDisk.laws laws from to input c.args.root.now c.read_config.new.root c.args.repo.now c.args.opened.now c.requires c.in_ok-config.config configured
     c.in_ok-old.old c.in_ok-old.ensures.ends c.in_ok-fresh.fresh c.in_ok-fresh.ensures.ends c.in_ok-fresh.ensures.committed c.send.new.repo c.send.result sent)
+
+-- both disks were only read
+pub returns-clause-again : goal.returns-clause-again
+returns-clause-again g c =
+    after_ok c.on_repository.result (ready_both c.args.root.now c.read_config.new.root c.args.repo.now c.send.new.repo c.args.opened.now c.read_config.ensures.same c.send.ensures.same c.requires)

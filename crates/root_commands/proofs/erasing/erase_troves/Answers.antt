@@ -1,5 +1,6 @@
 use Rattle.std.proofs.Common.{[], sym, ap, ◌∙◌}
 use Rattle.cny_report.specs.Jobs.{changes_text}
+use Rattle.cli_call.proofs.Again.{ready_changed, ready_rests}
 use Rattle.cli_call.specs.Alone.{PerformsAlone}
 use Rattle.cli_call.specs.Command.{disks, Performs}
 use Rattle.cli_call.specs.cny-laws.declared.failure.Failure.TheVariants as failure
@@ -22,7 +23,7 @@ returns-in_err-done-clause-performs g c = λ input.
     let options = c.args.options.now in
     let ran : Ran disk (sources_of [] no_answers options) (λ s. to_erased s.installed names) root root' c.erase.new.db c.erase.result = record {
       ends = c.erase.ensures.ends;
-      rests = c.erase.ensures.rests;
+      rests = λ told. ready_rests _ _ _ c.erase.result (c.erase.ensures.again told);
       refused = λ told. reads_refused g.met.T.TreeDisk.laws (sources_of [] no_answers options) (to_erased opened.db.installed names) opened.db root root' c.erase.new.db c.erase.result c.erase.ensures.answers told;
       causes = c.erase.ensures.causes;
       later = c.erase.ensures.later;
@@ -41,7 +42,7 @@ returns-in_err-done-clause-alone g c = λ input.
     let options = c.args.options.now in
     let ran : Ran disk (sources_of [] no_answers options) (λ s. to_erased s.installed names) root root' c.erase.new.db c.erase.result = record {
       ends = c.erase.ensures.ends;
-      rests = c.erase.ensures.rests;
+      rests = λ told. ready_rests _ _ _ c.erase.result (c.erase.ensures.again told);
       refused = λ told. reads_refused g.met.T.TreeDisk.laws (sources_of [] no_answers options) (to_erased opened.db.installed names) opened.db root root' c.erase.new.db c.erase.result c.erase.ensures.answers told;
       causes = c.erase.ensures.causes;
       later = c.erase.ensures.later;
@@ -60,7 +61,7 @@ returns-in_err-changes_text-clause-performs g c = λ input.
     let options = c.args.options.now in
     let ran : Ran disk (sources_of [] no_answers options) (λ s. to_erased s.installed names) root root' c.erase.new.db c.erase.result = record {
       ends = c.erase.ensures.ends;
-      rests = c.erase.ensures.rests;
+      rests = λ told. ready_rests _ _ _ c.erase.result (c.erase.ensures.again told);
       refused = λ told. reads_refused g.met.T.TreeDisk.laws (sources_of [] no_answers options) (to_erased opened.db.installed names) opened.db root root' c.erase.new.db c.erase.result c.erase.ensures.answers told;
       causes = c.erase.ensures.causes;
       later = c.erase.ensures.later;
@@ -79,7 +80,7 @@ returns-in_err-changes_text-clause-alone g c = λ input.
     let options = c.args.options.now in
     let ran : Ran disk (sources_of [] no_answers options) (λ s. to_erased s.installed names) root root' c.erase.new.db c.erase.result = record {
       ends = c.erase.ensures.ends;
-      rests = c.erase.ensures.rests;
+      rests = λ told. ready_rests _ _ _ c.erase.result (c.erase.ensures.again told);
       refused = λ told. reads_refused g.met.T.TreeDisk.laws (sources_of [] no_answers options) (to_erased opened.db.installed names) opened.db root root' c.erase.new.db c.erase.result c.erase.ensures.answers told;
       causes = c.erase.ensures.causes;
       later = c.erase.ensures.later;
@@ -98,7 +99,7 @@ returns-clause-performs g c = λ input.
     let options = c.args.options.now in
     let ran : Ran disk (sources_of [] no_answers options) (λ s. to_erased s.installed names) root root' c.erase.new.db c.erase.result = record {
       ends = c.erase.ensures.ends;
-      rests = c.erase.ensures.rests;
+      rests = λ told. ready_rests _ _ _ c.erase.result (c.erase.ensures.again told);
       refused = λ told. reads_refused g.met.T.TreeDisk.laws (sources_of [] no_answers options) (to_erased opened.db.installed names) opened.db root root' c.erase.new.db c.erase.result c.erase.ensures.answers told;
       causes = c.erase.ensures.causes;
       later = c.erase.ensures.later;
@@ -117,10 +118,15 @@ returns-clause-alone g c = λ input.
     let options = c.args.options.now in
     let ran : Ran disk (sources_of [] no_answers options) (λ s. to_erased s.installed names) root root' c.erase.new.db c.erase.result = record {
       ends = c.erase.ensures.ends;
-      rests = c.erase.ensures.rests;
+      rests = λ told. ready_rests _ _ _ c.erase.result (c.erase.ensures.again told);
       refused = λ told. reads_refused g.met.T.TreeDisk.laws (sources_of [] no_answers options) (to_erased opened.db.installed names) opened.db root root' c.erase.new.db c.erase.result c.erase.ensures.answers told;
       causes = c.erase.ensures.causes;
       later = c.erase.ensures.later;
     } in
     told_alone g.met.T.TreeDisk.laws c.distinct_databases.ensures.unique root root' c.args.repo.now g.P.TreeDisk.disk opened opened' c.requires (sources_of [] no_answers options) (λ s. to_erased s.installed names) input c.erase.result c.in_ok-done.done c.in_ok-changes_text.field-0 (sym c.on_root.ensures ∙ c.in_ok-done.was) ran
     (c.in_ok-changes_text.ensures.value ∙ ap changes_text c.get.ensures)
+
+pub returns-clause-again : goal.returns-clause-again
+returns-clause-again g c =
+    ready_changed c.args.root.now c.erase.new.root c.args.repo.now c.args.opened.now c.erase.new.db c.erase.result c.in_ok-done.done (sym c.on_root.ensures ∙ c.in_ok-done.was)
+    c.erase.ensures.again c.erase.ensures.fixed c.erase.ensures.rules c.requires

@@ -1,6 +1,7 @@
 use Rattle.std.proofs.Common.{sym, ap, ◌∙◌}
 use Rattle.cli_call.specs.cny-base.Count.{Rose}
 use Rattle.cny_report.specs.Jobs.{changes_text}
+use Rattle.cli_call.proofs.Again.{ready_changed, ready_rests}
 use Rattle.cli_call.specs.Alone.{PerformsAlone}
 use Rattle.cli_call.specs.Command.{disks, Performs}
 use Rattle.cli_call.specs.cny-laws.declared.failure.Failure.TheVariants as failure
@@ -24,7 +25,7 @@ returns-in_err-done-clause-performs g c = λ input.
     let options = c.args.options.now in
     let ran : Ran disk (sources_of made.contents no_answers options) (λ s. to_updated s.installed made.troves) root root' c.update.new.db c.update.result = record {
       ends = rw (c.get.ensures, c.get-2.ensures) at c.update.ensures.ends;
-      rests = c.update.ensures.rests;
+      rests = λ told. ready_rests _ _ _ c.update.result (c.update.ensures.again told);
       refused = λ told. reads_refused g.met.T.TreeDisk.laws (sources_of made.contents no_answers options) (to_updated opened.db.installed made.troves) opened.db root root' c.update.new.db c.update.result (rw (c.get.ensures, c.get-2.ensures) at c.update.ensures.answers) told;
       causes = own_causes _ _ (Rose (disk.faults root) (disk.faults root')) c.update.result c.update.ensures.causes;
       later = c.update.ensures.later;
@@ -43,7 +44,7 @@ returns-in_err-done-clause-alone g c = λ input.
     let options = c.args.options.now in
     let ran : Ran disk (sources_of made.contents no_answers options) (λ s. to_updated s.installed made.troves) root root' c.update.new.db c.update.result = record {
       ends = rw (c.get.ensures, c.get-2.ensures) at c.update.ensures.ends;
-      rests = c.update.ensures.rests;
+      rests = λ told. ready_rests _ _ _ c.update.result (c.update.ensures.again told);
       refused = λ told. reads_refused g.met.T.TreeDisk.laws (sources_of made.contents no_answers options) (to_updated opened.db.installed made.troves) opened.db root root' c.update.new.db c.update.result (rw (c.get.ensures, c.get-2.ensures) at c.update.ensures.answers) told;
       causes = own_causes _ _ (Rose (disk.faults root) (disk.faults root')) c.update.result c.update.ensures.causes;
       later = c.update.ensures.later;
@@ -62,7 +63,7 @@ returns-in_err-changes_text-clause-performs g c = λ input.
     let options = c.args.options.now in
     let ran : Ran disk (sources_of made.contents no_answers options) (λ s. to_updated s.installed made.troves) root root' c.update.new.db c.update.result = record {
       ends = rw (c.get.ensures, c.get-2.ensures) at c.update.ensures.ends;
-      rests = c.update.ensures.rests;
+      rests = λ told. ready_rests _ _ _ c.update.result (c.update.ensures.again told);
       refused = λ told. reads_refused g.met.T.TreeDisk.laws (sources_of made.contents no_answers options) (to_updated opened.db.installed made.troves) opened.db root root' c.update.new.db c.update.result (rw (c.get.ensures, c.get-2.ensures) at c.update.ensures.answers) told;
       causes = own_causes _ _ (Rose (disk.faults root) (disk.faults root')) c.update.result c.update.ensures.causes;
       later = c.update.ensures.later;
@@ -81,7 +82,7 @@ returns-in_err-changes_text-clause-alone g c = λ input.
     let options = c.args.options.now in
     let ran : Ran disk (sources_of made.contents no_answers options) (λ s. to_updated s.installed made.troves) root root' c.update.new.db c.update.result = record {
       ends = rw (c.get.ensures, c.get-2.ensures) at c.update.ensures.ends;
-      rests = c.update.ensures.rests;
+      rests = λ told. ready_rests _ _ _ c.update.result (c.update.ensures.again told);
       refused = λ told. reads_refused g.met.T.TreeDisk.laws (sources_of made.contents no_answers options) (to_updated opened.db.installed made.troves) opened.db root root' c.update.new.db c.update.result (rw (c.get.ensures, c.get-2.ensures) at c.update.ensures.answers) told;
       causes = own_causes _ _ (Rose (disk.faults root) (disk.faults root')) c.update.result c.update.ensures.causes;
       later = c.update.ensures.later;
@@ -100,7 +101,7 @@ returns-clause-performs g c = λ input.
     let options = c.args.options.now in
     let ran : Ran disk (sources_of made.contents no_answers options) (λ s. to_updated s.installed made.troves) root root' c.update.new.db c.update.result = record {
       ends = rw (c.get.ensures, c.get-2.ensures) at c.update.ensures.ends;
-      rests = c.update.ensures.rests;
+      rests = λ told. ready_rests _ _ _ c.update.result (c.update.ensures.again told);
       refused = λ told. reads_refused g.met.T.TreeDisk.laws (sources_of made.contents no_answers options) (to_updated opened.db.installed made.troves) opened.db root root' c.update.new.db c.update.result (rw (c.get.ensures, c.get-2.ensures) at c.update.ensures.answers) told;
       causes = own_causes _ _ (Rose (disk.faults root) (disk.faults root')) c.update.result c.update.ensures.causes;
       later = c.update.ensures.later;
@@ -119,7 +120,7 @@ returns-clause-alone g c = λ input.
     let options = c.args.options.now in
     let ran : Ran disk (sources_of made.contents no_answers options) (λ s. to_updated s.installed made.troves) root root' c.update.new.db c.update.result = record {
       ends = rw (c.get.ensures, c.get-2.ensures) at c.update.ensures.ends;
-      rests = c.update.ensures.rests;
+      rests = λ told. ready_rests _ _ _ c.update.result (c.update.ensures.again told);
       refused = λ told. reads_refused g.met.T.TreeDisk.laws (sources_of made.contents no_answers options) (to_updated opened.db.installed made.troves) opened.db root root' c.update.new.db c.update.result (rw (c.get.ensures, c.get-2.ensures) at c.update.ensures.answers) told;
       causes = own_causes _ _ (Rose (disk.faults root) (disk.faults root')) c.update.result c.update.ensures.causes;
       later = c.update.ensures.later;
@@ -135,3 +136,8 @@ update-requires-clause-rising g c = rw c.get-2.ensures c.requires.own.rising
 
 pub update-requires-clause-allowed : goal.update-requires-clause-allowed
 update-requires-clause-allowed g c = rw c.get.ensures c.requires.allowed
+
+pub returns-clause-again : goal.returns-clause-again
+returns-clause-again g c =
+    ready_changed c.args.root.now c.update.new.root c.args.repo.now c.args.opened.now c.update.new.db c.update.result c.in_ok-done.done (sym c.on_root.ensures ∙ c.in_ok-done.was)
+    c.update.ensures.again c.update.ensures.fixed c.update.ensures.rules c.requires.ready

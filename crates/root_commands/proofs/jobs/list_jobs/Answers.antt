@@ -1,11 +1,12 @@
 use Rattle.std.proofs.Common.{ℕ, List, Result, Ok, Err, IfOk, sym, ◌∙◌, subst}
 use Rattle.cli_call.specs.cny-base.Count.{Rose}
 use Rattle.cli_call.specs.cny-base.declared.stop.Stop.{Stop}
-use Rattle.rollback_stack.specs.declared.undo.Note.{Note as Undone}
+use Rattle.rollback_stack.specs.declared.undo.NotedJob.{NotedJob}
 use Rattle.rollback_stack.specs.Numbers.{job_count}
 use Rattle.rollback_stack.specs.Reading.{AreNotes}
 use Rattle.cli_call.specs.Alone.{PerformsAlone}
 use Rattle.cli_call.specs.Command.{disks, Performs}
+use Rattle.cli_call.proofs.ReadingEnds.{ready_on}
 use Rattle.cli_call.proofs.ReadingRoot.{read_alone, read_performed}
 use Rattle.cli_call.specs.cny-laws.declared.failure.Failure.TheVariants as failure
 use Rattle.root_commands.specs.Jobs as spec
@@ -47,8 +48,8 @@ returns-clause-performs g c = λ input.
     let read = read_of disk root root' c.all.ensures.value in
     let is = root_ok c.all.result c.in_ok-jobs.jobs (sym c.on_root.ensures ∙ c.in_ok-jobs.was) in
     let ends = found_ends disk g.P.TreeDisk.disk c.distinct_databases.ensures.unique c.one_record.ensures.one input root root' c.args.repo.now opened c.requires (λ told. (read told).same.reads) c.in_ok-jobs.jobs c.in_ok-told.field-0
-    (λ told. subst (λ (r : Result (List Undone) Stop). IfOk r (AreNotes (disk.reads root) (job_count opened.db.oldest opened.db.newest) opened.db.newest opened.db.installed)) is (c.all.ensures.value told).answer)
-    (subst (λ (l : List Undone). AreToldBy l c.in_ok-told.field-0) c.get.ensures c.in_ok-told.ensures) in
+    (λ told. subst (λ (r : Result (List NotedJob) Stop). IfOk r (AreNotes (disk.reads root) (job_count opened.db.oldest opened.db.newest) opened.db.newest opened.db.installed)) is (c.all.ensures.value told).answer)
+    (subst (λ (l : List NotedJob). AreToldBy l c.in_ok-told.field-0) c.get.ensures c.in_ok-told.ensures) in
     read_performed g.P.TreeDisk.disk g.met.T.TreeDisk.laws root root' c.args.repo.now opened spec.list_jobs input read (Ok c.in_ok-told.field-0) ends g.met.P.TreeDisk.laws c.store_laws.ensures c.requires c.all.ensures.later tt
 
 pub returns-in_err-jobs-clause-alone : goal.returns-in_err-jobs-clause-alone
@@ -81,8 +82,8 @@ returns-clause-alone g c = λ input.
     let read = read_of disk root root' c.all.ensures.value in
     let is = root_ok c.all.result c.in_ok-jobs.jobs (sym c.on_root.ensures ∙ c.in_ok-jobs.was) in
     let ends = found_ends disk g.P.TreeDisk.disk c.distinct_databases.ensures.unique c.one_record.ensures.one input root root' c.args.repo.now opened c.requires (λ told. (read told).same.reads) c.in_ok-jobs.jobs c.in_ok-told.field-0
-    (λ told. subst (λ (r : Result (List Undone) Stop). IfOk r (AreNotes (disk.reads root) (job_count opened.db.oldest opened.db.newest) opened.db.newest opened.db.installed)) is (c.all.ensures.value told).answer)
-    (subst (λ (l : List Undone). AreToldBy l c.in_ok-told.field-0) c.get.ensures c.in_ok-told.ensures) in
+    (λ told. subst (λ (r : Result (List NotedJob) Stop). IfOk r (AreNotes (disk.reads root) (job_count opened.db.oldest opened.db.newest) opened.db.newest opened.db.installed)) is (c.all.ensures.value told).answer)
+    (subst (λ (l : List NotedJob). AreToldBy l c.in_ok-told.field-0) c.get.ensures c.in_ok-told.ensures) in
     read_alone g.P.TreeDisk.disk g.met.T.TreeDisk.laws root root' c.args.repo.now opened spec.list_jobs input read (Ok c.in_ok-told.field-0) ends (λ path named. absurd (cc named))
 
 pub returns-in_err-jobs-clause-records : goal.returns-in_err-jobs-clause-records
@@ -103,4 +104,8 @@ returns-clause-records g c told =
     let db = c.args.opened.now.db in
     let is = root_ok c.all.result c.in_ok-jobs.jobs (sym c.on_root.ensures ∙ c.in_ok-jobs.was) in
     told_whole c.one_record.ensures.one (disk.reads root) db c.in_ok-jobs.jobs
-    (subst (λ (r : Result (List Undone) Stop). IfOk r (AreNotes (disk.reads root) (job_count db.oldest db.newest) db.newest db.installed)) is (c.all.ensures.value told).answer)
+    (subst (λ (r : Result (List NotedJob) Stop). IfOk r (AreNotes (disk.reads root) (job_count db.oldest db.newest) db.newest db.installed)) is (c.all.ensures.value told).answer)
+
+pub returns-clause-again : goal.returns-clause-again
+returns-clause-again g c =
+    ready_on c.args.root.now c.all.new.disk c.args.repo.now c.args.opened.now (read_of g.T.TreeDisk.disk c.args.root.now c.all.new.disk c.all.ensures.value) c.requires

@@ -3,6 +3,7 @@ use Rattle.cli_call.specs.Alone.{AnswersByTree, PerformsAlone}
 use Rattle.cli_call.specs.Command.{disks, Performs}
 use Rattle.cli_call.specs.cny-laws.Failures.{failure_of_fault}
 use Rattle.cli_call.proofs.AloneLaws.{fault_undamaged}
+use Rattle.cli_call.proofs.ReadingEnds.{ready_on}
 use Rattle.cli_call.proofs.ReadingRoot.{read_alone, read_performed}
 use Rattle.root_commands.specs.LocalChanges as spec
 use Rattle.root_commands.proofs.Answering.{seen_alone, seen_tree}
@@ -105,3 +106,6 @@ returns-clause-tree g c = λ input.
     let name = c.args.name.now in
     let m = disks root c.args.repo.now opened in
     seen_tree c.distinct_databases.ensures.unique m c.requires (spec.change_locally name) input root' c.local.ensures.finds.same (Ok c.in_ok-encode.field-0) (written_ends disk g.P.TreeDisk.disk c.distinct_databases.ensures.unique name input root root' c.args.repo.now opened c.requires c.local.result c.in_ok-set.set (sym c.on_root.ensures ∙ c.in_ok-set.was) c.local.ensures.finds.ends c.in_ok-encode.field-0 c.in_ok-encode.ensures.value c.in_ok-encode.ensures.small)
+
+pub returns-clause-again : goal.returns-clause-again
+returns-clause-again g c = ready_on c.args.root.now c.local.new.root c.args.repo.now c.args.opened.now c.local.ensures.finds.same c.requires

@@ -1,4 +1,5 @@
 use Rattle.std.proofs.Common.{ℕ, List, sym, ◌∙◌}
+use Rattle.cli_call.proofs.Again.{ready_rolled}
 use Rattle.cli_call.specs.Alone.{PerformsAlone}
 use Rattle.cli_call.specs.Command.{disks, Performs}
 use Rattle.cli_call.specs.cny-laws.declared.failure.Failure.TheVariants as failure
@@ -71,3 +72,8 @@ returns-in_err-rolled_back_text-clause-records g c told =
 pub returns-clause-records : goal.returns-clause-records
 returns-clause-records g c told =
     back_done g.T.TreeDisk.disk c.args.root.now c.rollback_to.new.root c.args.opened.now.db c.rollback_to.new.db c.one_record.ensures.one c.args.number told c.last_of-last.result c.last_of-last.ensures c.rollback_to.result c.in_ok-count.count (sym c.on_root.ensures ∙ c.in_ok-count.was) (c.rollback_to.ensures.done told)
+
+pub returns-clause-again : goal.returns-clause-again
+returns-clause-again g c =
+    ready_rolled c.args.root.now c.rollback_to.new.root c.args.repo.now c.args.opened.now c.rollback_to.new.db c.rollback_to.result c.in_ok-count.count (sym c.on_root.ensures ∙ c.in_ok-count.was)
+    c.rollback_to.ensures.again c.rollback_to.ensures.fixed c.rollback_to.ensures.rules c.requires

@@ -12,8 +12,8 @@ use Rattle.local_db.proofs.cny-base.Passing.{err_is}
 use Rattle.update_job.proofs.change-set.Carrying.{no_carried}
 use Rattle.root_commands.proofs.specified.update_specs.Goals as goal
 
-pub returns-in_err-config : goal.returns-in_err-config
-returns-in_err-config g c = λ input.
+pub returns-in_err-config-clause-performs : goal.returns-in_err-config-clause-performs
+returns-in_err-config-clause-performs g c = λ input.
     let meaning = spec.update_specs c.args.options.now c.args.givens.now in
     let old = disks c.args.root.now c.args.repo.now c.args.opened.now in
     let mid = disks c.read_config.new.root c.args.repo.now c.args.opened.now in
@@ -22,8 +22,8 @@ returns-in_err-config g c = λ input.
     (λ s refused has. inr (record { refusal = refused; refused = has; is = refl }))
     c.read_config.result c.read_config.ensures c.in_err-config.field-0.0 (sym c.on_root.ensures ∙ c.in_err-config.was))
 
-pub returns-in_err-ids : goal.returns-in_err-ids
-returns-in_err-ids g c = λ input.
+pub returns-in_err-ids-clause-performs : goal.returns-in_err-ids-clause-performs
+returns-in_err-ids-clause-performs g c = λ input.
     let meaning = spec.update_specs c.args.options.now c.args.givens.now in
     let old = disks c.args.root.now c.args.repo.now c.args.opened.now in
     let mid = disks c.read_config.new.root c.args.repo.now c.args.opened.now in
@@ -34,8 +34,8 @@ returns-in_err-ids g c = λ input.
     (λ refused is told repo_told s stands. none_meant c.stored_state.ensures.catalogue c.args.options.now c.args.givens.now old c.requires c.in_ok-config.config configured.ends told repo_told s stands refused
     (refused_as (spec.MeanAll c.args.opened.now.catalogue.troves c.in_ok-config.config c.args.givens.now) c.in_err-ids.field-0.0 c.in_err-ids.ensures refused is)))
 
-pub returns-in_err-troves : goal.returns-in_err-troves
-returns-in_err-troves g c = λ input.
+pub returns-in_err-troves-clause-performs : goal.returns-in_err-troves-clause-performs
+returns-in_err-troves-clause-performs g c = λ input.
     let meaning = spec.update_specs c.args.options.now c.args.givens.now in
     let old = disks c.args.root.now c.args.repo.now c.args.opened.now in
     let mid = disks c.read_config.new.root c.args.repo.now c.args.opened.now in
@@ -61,8 +61,8 @@ update_to-requires-clause-ready g c =
     let configured = config_made g.T.TreeDisk.disk c.args.root.now c.read_config.new.root c.read_config.result c.read_config.ensures c.in_ok-config.config (sym c.on_root.ensures ∙ c.in_ok-config.was) in
     ready_on c.args.root.now c.read_config.new.root c.args.repo.now c.args.opened.now configured.same c.requires
 
-pub returns : goal.returns
-returns g c = λ input.
+pub returns-clause-performs : goal.returns-clause-performs
+returns-clause-performs g c = λ input.
     let old = disks c.args.root.now c.args.repo.now c.args.opened.now in
     let mid = disks c.read_config.new.root c.args.repo.now c.args.opened.now in
     let new = disks c.update_to.new.root c.update_to.new.repo c.update_to.new.opened in
@@ -71,4 +71,4 @@ returns g c = λ input.
     (root_read g.met.T.TreeDisk.laws g.met.P.TreeDisk.laws c.args.root.now c.read_config.new.root c.args.repo.now c.args.opened.now configured.later configured.same) c.update_to.result
     (update.update_to c.args.options.now [] c.in_ok-troves.troves) (spec.update_specs c.args.options.now c.args.givens.now) input input
     (λ told repo_told s stands outcome is. all_updated c.stored_state.ensures.catalogue c.args.options.now c.args.givens.now old c.requires c.in_ok-config.config configured.ends told repo_told s stands c.in_ok-ids.ids c.in_ok-ids.ensures c.in_ok-troves.troves (rw c.get.ensures at c.in_ok-troves.ensures.ends) outcome is)
-    (rw c.get-2.ensures at c.update_to.ensures input)
+    (rw c.get-2.ensures at c.update_to.ensures.performs input)

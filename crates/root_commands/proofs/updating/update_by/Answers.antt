@@ -9,22 +9,22 @@ use Rattle.root_commands.proofs.ComingEnds.{set_made, set_refused}
 use Rattle.local_db.proofs.cny-base.Passing.{err_is}
 use Rattle.root_commands.proofs.updating.update_by.Goals as goal
 
-pub returns-in_err-troves : goal.returns-in_err-troves
-returns-in_err-troves g c = λ input.
+pub returns-in_err-troves-clause-performs : goal.returns-in_err-troves-clause-performs
+returns-in_err-troves-clause-performs g c = λ input.
     let m = disks c.args.root.now c.args.repo.now c.args.opened.now in
     let meaning = spec.update_by c.args.options.now c.args.set.now in
     err_is (Performs g.T.TreeDisk.disk g.P.TreeDisk.disk meaning input m m) c.from_residual.result (failure_of_fault c.in_err-troves.field-0.0) c.from_residual.ensures.1
     (fault_ends g.met.T.TreeDisk.laws g.met.P.TreeDisk.laws c.store_laws.ensures meaning input m m c.requires.ready (none_read g.met.T.TreeDisk.laws g.met.P.TreeDisk.laws m m refl refl) c.in_err-troves.field-0.0
     (λ refused is told repo_told s stands. set_refused c.distinct_databases.ensures.unique m c.requires.ready told s stands c.args.options.now c.args.set.now c.in_err-troves.field-0.0 (rw c.get.ensures at c.in_err-troves.ensures.refused) refused is))
 
-pub returns : goal.returns
-returns g c = λ input.
+pub returns-clause-performs : goal.returns-clause-performs
+returns-clause-performs g c = λ input.
     let old = disks c.args.root.now c.args.repo.now c.args.opened.now in
     let new = disks c.update_to.new.root c.update_to.new.repo c.update_to.new.opened in
     performs_since g.met.T.TreeDisk.laws g.met.P.TreeDisk.laws c.store_laws.ensures old old new (none_read g.met.T.TreeDisk.laws g.met.P.TreeDisk.laws old old refl refl) c.update_to.result
     (spec.update_to c.args.options.now c.args.set.now.contents c.in_ok-troves.troves) (spec.update_by c.args.options.now c.args.set.now) input input
     (λ told repo_told s stands outcome is. set_made c.distinct_databases.ensures.unique old c.requires.ready told s stands c.args.options.now c.args.set.now c.in_ok-troves.troves (rw c.get.ensures at c.in_ok-troves.ensures.made) outcome is)
-    (rw (c.get-2.ensures, c.get-3.ensures) at c.update_to.ensures input)
+    (rw (c.get-2.ensures, c.get-3.ensures) at c.update_to.ensures.performs input)
 
 pub update_to-requires-clause-allowed : goal.update_to-requires-clause-allowed
 update_to-requires-clause-allowed g c = rw c.get-2.ensures c.in_ok-troves.ensures.made.allowed

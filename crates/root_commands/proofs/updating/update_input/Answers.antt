@@ -7,16 +7,16 @@ use Rattle.root_commands.specs.Update as spec
 use Rattle.local_db.proofs.cny-base.Passing.{err_is}
 use Rattle.root_commands.proofs.updating.update_input.Goals as goal
 
-pub returns-in_err-set : goal.returns-in_err-set
-returns-in_err-set g c =
+pub returns-in_err-set-clause-performs : goal.returns-in_err-set-clause-performs
+returns-in_err-set-clause-performs g c =
     let m = disks c.args.root.now c.args.repo.now c.args.opened.now in
     err_is (Performs g.T.TreeDisk.disk g.P.TreeDisk.disk (spec.update_input c.args.options.now) c.args.input.now m m) c.from_residual.result (failure_of_fault c.in_err-set.field-0.0) c.from_residual.ensures.1
     (no_set g.met.T.TreeDisk.laws g.met.P.TreeDisk.laws c.store_laws.ensures (spec.update_input c.args.options.now) c.args.input.now m c.requires (λ s refusal none first. inr (record { none = none; fault = refusal; first = first; is = refl }))
     c.in_err-set.field-0.0 c.in_err-set.ensures.refused c.in_err-set.ensures.only)
 
-pub returns : goal.returns
-returns g c =
+pub returns-clause-performs : goal.returns-clause-performs
+returns-clause-performs g c =
     let old = disks c.args.root.now c.args.repo.now c.args.opened.now in
     let new = disks c.update_by.new.root c.update_by.new.repo c.update_by.new.opened in
     performs_more (spec.update_by c.args.options.now c.in_ok-set.set) (spec.update_input c.args.options.now) c.args.input.now c.args.input.now (λ s outcome is. inl (record { set = c.in_ok-set.set; spelled = c.in_ok-set.ensures.value; is = is }))
-    old new c.update_by.result (c.update_by.ensures c.args.input.now)
+    old new c.update_by.result (c.update_by.ensures.performs c.args.input.now)

@@ -1,7 +1,8 @@
-use Rattle.std.proofs.Common.{◌≡◌, Ok, Err, sym, ap, ◌∙◌, rules}
+use Rattle.std.proofs.Common.{◌≡◌, Ok, Err, sym, ap, ◌∙◌, rules, subst}
 use Rattle.cny_report.specs.Jobs.{changes_text}
 use Rattle.repo_load.specs.RepoContents.{repo_contents}
-use Rattle.cli_call.specs.Command.{disks, Performs}
+use Rattle.cli_call.proofs.Again.{ready_changed, ready_far, ready_rests}
+use Rattle.cli_call.specs.Command.{disks, AreReady, Performs}
 use Rattle.cli_call.specs.cny-laws.declared.failure.Failure.TheVariants as failure
 use Rattle.cli_call.specs.cny-laws.declared.opened.Opened.{Opened}
 use Rattle.system_core.specs.Job.{sources_of}
@@ -12,8 +13,8 @@ use Rattle.root_commands.proofs.SpecifiedEnds.{reads_refused}
 use Rattle.local_db.proofs.cny-base.Passing.{err_is}
 use Rattle.root_commands.proofs.updating.update_to.Goals as goal
 
-pub returns-in_err-done : goal.returns-in_err-done
-returns-in_err-done g c = λ input.
+pub returns-in_err-done-clause-performs : goal.returns-in_err-done-clause-performs
+returns-in_err-done-clause-performs g c = λ input.
     let disk = g.T.TreeDisk.disk in
     let repo_disk = g.P.TreeDisk.disk in
     let root = c.args.root.now in
@@ -28,7 +29,7 @@ returns-in_err-done g c = λ input.
     let laws : RepositoryLaws = record { catalogue = c.stored_state.ensures.catalogue; content = c.stored_state.ensures.content; contents = c.stored_state.ensures.contents; store = c.store_laws.ensures } in
     let ran : RanFar disk repo_disk options carried troves root root' far far' c.update.new.db c.update.result = record {
       ends = c.update.ensures.ends;
-      rests = c.update.ensures.rests;
+      rests = λ told. ready_rests _ _ _ c.update.result (c.update.ensures.again told);
       refused = λ told. reads_refused g.met.T.TreeDisk.laws (sources_of carried (let contents = repo_contents repo_disk in contents.answers far) options) (to_updated opened.db.installed troves) opened.db root root' c.update.new.db c.update.result c.update.ensures.answers told;
       causes = c.update.ensures.causes;
       later = c.update.ensures.later;
@@ -43,8 +44,8 @@ returns-in_err-done g c = λ input.
     (performed_at root root' opened opened' meaning input (Err c.in_err-done.field-0.0) far.disk.now c.args.repo.now far'.disk.now c.repo-1.given.0 c.new-far.ensures.disk after
     (failed_performs g.met.T.TreeDisk.laws g.met.P.TreeDisk.laws c.distinct_databases.ensures.unique laws root root' far far' opened opened' c.new-far.ensures.catalogue ready options carried troves input c.update.result c.in_err-done.field-0.0 (sym c.on_root.ensures ∙ c.in_err-done.was) ran))
 
-pub returns-in_err-changes_text : goal.returns-in_err-changes_text
-returns-in_err-changes_text g c = λ input.
+pub returns-in_err-changes_text-clause-performs : goal.returns-in_err-changes_text-clause-performs
+returns-in_err-changes_text-clause-performs g c = λ input.
     let disk = g.T.TreeDisk.disk in
     let repo_disk = g.P.TreeDisk.disk in
     let root = c.args.root.now in
@@ -59,7 +60,7 @@ returns-in_err-changes_text g c = λ input.
     let laws : RepositoryLaws = record { catalogue = c.stored_state.ensures.catalogue; content = c.stored_state.ensures.content; contents = c.stored_state.ensures.contents; store = c.store_laws.ensures } in
     let ran : RanFar disk repo_disk options carried troves root root' far far' c.update.new.db c.update.result = record {
       ends = c.update.ensures.ends;
-      rests = c.update.ensures.rests;
+      rests = λ told. ready_rests _ _ _ c.update.result (c.update.ensures.again told);
       refused = λ told. reads_refused g.met.T.TreeDisk.laws (sources_of carried (let contents = repo_contents repo_disk in contents.answers far) options) (to_updated opened.db.installed troves) opened.db root root' c.update.new.db c.update.result c.update.ensures.answers told;
       causes = c.update.ensures.causes;
       later = c.update.ensures.later;
@@ -74,8 +75,8 @@ returns-in_err-changes_text g c = λ input.
     (performed_at root root' opened opened' meaning input (Err failure.Memory) far.disk.now c.args.repo.now far'.disk.now c.repo-1.given.0 c.new-far.ensures.disk after
     (memory_performs g.met.T.TreeDisk.laws g.met.P.TreeDisk.laws c.distinct_databases.ensures.unique laws root root' far far' opened opened' c.new-far.ensures.catalogue ready options carried troves input c.update.result c.in_ok-done.done (sym c.on_root.ensures ∙ c.in_ok-done.was) ran))
 
-pub returns : goal.returns
-returns g c = λ input.
+pub returns-clause-performs : goal.returns-clause-performs
+returns-clause-performs g c = λ input.
     let disk = g.T.TreeDisk.disk in
     let repo_disk = g.P.TreeDisk.disk in
     let root = c.args.root.now in
@@ -90,7 +91,7 @@ returns g c = λ input.
     let laws : RepositoryLaws = record { catalogue = c.stored_state.ensures.catalogue; content = c.stored_state.ensures.content; contents = c.stored_state.ensures.contents; store = c.store_laws.ensures } in
     let ran : RanFar disk repo_disk options carried troves root root' far far' c.update.new.db c.update.result = record {
       ends = c.update.ensures.ends;
-      rests = c.update.ensures.rests;
+      rests = λ told. ready_rests _ _ _ c.update.result (c.update.ensures.again told);
       refused = λ told. reads_refused g.met.T.TreeDisk.laws (sources_of carried (let contents = repo_contents repo_disk in contents.answers far) options) (to_updated opened.db.installed troves) opened.db root root' c.update.new.db c.update.result c.update.ensures.answers told;
       causes = c.update.ensures.causes;
       later = c.update.ensures.later;
@@ -104,3 +105,19 @@ returns g c = λ input.
     (performed_at root root' opened opened' meaning input (Ok c.in_ok-changes_text.field-0) far.disk.now c.args.repo.now far'.disk.now c.repo-1.given.0 c.new-far.ensures.disk after
     (told_performs g.met.T.TreeDisk.laws g.met.P.TreeDisk.laws c.distinct_databases.ensures.unique laws root root' far far' opened opened' c.new-far.ensures.catalogue ready options carried troves input c.update.result c.in_ok-done.done c.in_ok-changes_text.field-0 (sym c.on_root.ensures ∙ c.in_ok-done.was) ran
     (c.in_ok-changes_text.ensures.value ∙ ap changes_text c.get.ensures)))
+
+-- a job was done, and the repository was only read
+pub returns-clause-again : goal.returns-clause-again
+returns-clause-again g c =
+    let root = c.args.root.now in
+    let root' = c.update.new.root in
+    let far = c.new-far.result in
+    let far' = c.update.new.far in
+    let opened = c.args.opened.now in
+    let opened' : Opened = record { db = c.update.new.db; catalogue = opened.catalogue } in
+    let ready = ready_at root root' opened opened' far.disk.now c.args.repo.now c.new-far.ensures.disk c.requires.ready in
+    let name = c.update.ensures.searches.searched.same_disk ∙ c.new-far.ensures.same_disk in
+    let given = c.repo-1.given in
+    let after : far'.disk.now ≡ c.repo-1.given.0 = search rules in
+    let changed = ready_changed root root' far.disk.now opened c.update.new.db c.update.result c.in_ok-done.done (sym c.on_root.ensures ∙ c.in_ok-done.was) c.update.ensures.again c.update.ensures.fixed c.update.ensures.rules ready in
+    subst (λ repo. AreReady g.T.TreeDisk.disk g.P.TreeDisk.disk (disks root' repo opened')) after (ready_far root' far.disk.now far'.disk.now opened' c.update.ensures.searches.searched.same changed)

@@ -1,13 +1,14 @@
-use Rattle.std.proofs.Common.{◌≡◌, Ok, Err, sym, ◌∙◌, rules}
-use Rattle.cli_call.specs.Command.{disks, Performs}
+use Rattle.std.proofs.Common.{◌≡◌, Ok, Err, sym, ◌∙◌, rules, subst}
+use Rattle.cli_call.proofs.Again.{ready_both}
+use Rattle.cli_call.specs.Command.{disks, AreReady, Performs}
 use Rattle.cli_call.specs.cny-laws.declared.failure.Failure.TheVariants as failure
 use Rattle.root_commands.specs.Verifying as spec
 use Rattle.root_commands.proofs.FullEnds.{failed_performs, memory_performs, performed_at, ready_at, told_performs, VerifyingLaws}
 use Rattle.local_db.proofs.cny-base.Passing.{err_is}
 use Rattle.root_commands.proofs.verifying.verify_fully.Goals as goal
 
-pub returns-in_err-found : goal.returns-in_err-found
-returns-in_err-found g c = λ input.
+pub returns-in_err-found-clause-performs : goal.returns-in_err-found-clause-performs
+returns-in_err-found-clause-performs g c = λ input.
     let root = c.args.root.now in
     let root' = c.verify.new.root in
     let far = c.new-contents.result in
@@ -23,8 +24,8 @@ returns-in_err-found g c = λ input.
     (performed_at root opened names input root' (Err c.in_err-found.field-0.0) far.disk.now c.args.repo.now far'.disk.now c.repo-1.given.0 c.new-contents.ensures.disk after
     (failed_performs g.met.T.TreeDisk.laws g.met.P.TreeDisk.laws c.distinct_databases.ensures.unique laws names input root root' far far' opened c.new-contents.ensures.catalogue ready c.verify.result c.in_err-found.field-0.0 (sym c.on_root.ensures ∙ c.in_err-found.was) c.verify.ensures.verified))
 
-pub returns-in_err-verified_text : goal.returns-in_err-verified_text
-returns-in_err-verified_text g c = λ input.
+pub returns-in_err-verified_text-clause-performs : goal.returns-in_err-verified_text-clause-performs
+returns-in_err-verified_text-clause-performs g c = λ input.
     let root = c.args.root.now in
     let root' = c.verify.new.root in
     let far = c.new-contents.result in
@@ -40,8 +41,8 @@ returns-in_err-verified_text g c = λ input.
     (performed_at root opened names input root' (Err failure.Memory) far.disk.now c.args.repo.now far'.disk.now c.repo-1.given.0 c.new-contents.ensures.disk after
     (memory_performs g.met.T.TreeDisk.laws g.met.P.TreeDisk.laws c.distinct_databases.ensures.unique laws names input root root' far far' opened c.new-contents.ensures.catalogue ready c.verify.result c.verify.ensures.verified))
 
-pub returns : goal.returns
-returns g c = λ input.
+pub returns-clause-performs : goal.returns-clause-performs
+returns-clause-performs g c = λ input.
     let root = c.args.root.now in
     let root' = c.verify.new.root in
     let far = c.new-contents.result in
@@ -56,3 +57,18 @@ returns g c = λ input.
     (performed_at root opened names input root' (Ok c.in_ok-verified_text.field-0) far.disk.now c.args.repo.now far'.disk.now c.repo-1.given.0 c.new-contents.ensures.disk after
     (told_performs g.met.T.TreeDisk.laws g.met.P.TreeDisk.laws c.distinct_databases.ensures.unique laws names input root root' far far' opened c.new-contents.ensures.catalogue ready c.verify.result c.in_ok-found.found c.in_ok-verified_text.field-0 (sym c.on_root.ensures ∙ c.in_ok-found.was) c.verify.ensures.verified
     c.verify.ensures.mapped c.verify.ensures.installed c.in_ok-verified_text.ensures.value))
+
+-- both disks were only read
+pub returns-clause-again : goal.returns-clause-again
+returns-clause-again g c =
+    let root = c.args.root.now in
+    let root' = c.verify.new.root in
+    let far = c.new-contents.result in
+    let far' = c.verify.new.far in
+    let opened = c.args.opened.now in
+    let ready = ready_at root opened far.disk.now c.args.repo.now c.new-contents.ensures.disk c.requires in
+    let name = c.verify.ensures.verified.keeps.searched.same_disk ∙ c.new-contents.ensures.same_disk in
+    let given = c.repo-1.given in
+    let after : far'.disk.now ≡ c.repo-1.given.0 = search rules in
+    subst (λ repo. AreReady g.T.TreeDisk.disk g.P.TreeDisk.disk (disks root' repo opened)) after
+    (ready_both root root' far.disk.now far'.disk.now opened c.verify.ensures.verified.same c.verify.ensures.verified.keeps.searched.same ready)

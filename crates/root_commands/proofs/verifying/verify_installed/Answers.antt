@@ -7,6 +7,7 @@ use Rattle.cli_call.specs.Alone.{AnswersByTree, PerformsAlone}
 use Rattle.cli_call.specs.Command.{disks, Performs}
 use Rattle.cli_call.specs.cny-laws.declared.failure.Failure.TheVariants as failure
 use Rattle.root_commands.specs.Verifying as spec
+use Rattle.cli_call.proofs.ReadingEnds.{ready_on}
 use Rattle.cli_call.proofs.ReadingRoot.{read_alone, read_performed}
 use Rattle.cli_call.proofs.RootResults.{root_ok}
 use Rattle.root_commands.proofs.Answering.{seen_alone, seen_tree}
@@ -91,3 +92,6 @@ returns-clause-tree g c = λ input.
     (subst (λ (r : Result Verified Stop). OnOk r (AreInstalled c.args.opened.now.db.installed names)) is c.verify.ensures.installed)
     c.in_ok-verified_text.field-0 c.in_ok-verified_text.ensures.value in
     seen_tree c.distinct_databases.ensures.unique m c.requires (spec.verify_installed names) input c.verify.new.root c.verify.ensures.verified.same (Ok c.in_ok-verified_text.field-0) ends
+
+pub returns-clause-again : goal.returns-clause-again
+returns-clause-again g c = ready_on c.args.root.now c.verify.new.root c.args.repo.now c.args.opened.now c.verify.ensures.verified.same c.requires

@@ -8,7 +8,7 @@ use Rattle.local_db.specs.Steps.{after_job, IsUnion}
 use Rattle.rollback_stack.specs.Saving.{dropped_below}
 use Rattle.system_core.specs.JobWriting.{database_write}
 use Rattle.system_core.proofs.JobRunning.{after_stored, can_write, joined, next_job, only_pushed, settled}
-use Rattle.system_core.proofs.Resting.{put_rests}
+use Rattle.system_core.proofs.Resting.{put_fixed, put_ready}
 use Rattle.system_core.proofs.JobEnding.{last_stops}
 use Rattle.system_core.proofs.job_writing.put_job.Goals as goal
 
@@ -53,5 +53,12 @@ returns-clause-goes g c tells s stores from =
 pub returns-clause-stops : goal.returns-clause-stops
 returns-clause-stops g c = last_stops g.T.TreeDisk.disk.tells _ _ _ c.write_all.result c.in_ok-pushed.ensures.later c.write_all.ensures.failed c.write_all.ensures.stops
 
-pub returns-clause-rests : goal.returns-clause-rests
-returns-clause-rests g c tells = put_rests g.T.TreeDisk.disk c.in_ok-all.all c.push_puts.new.disk c.write_all.new.root c.write_all.result (c.write_all.ensures.put tells)
+pub returns-clause-again : goal.returns-clause-again
+returns-clause-again g c tells =
+    put_ready c.args.targets c.args.before.now c.args.entries.now c.args.db.now c.requires.free c.requires.db c.args.root.now c.push_puts.new.disk c.write_all.new.root (c.requires.told tells) (c.in_ok-pushed.ensures.confined tells)
+    c.in_ok-pushed.pushed c.in_ok-all.all c.args.bytes (c.in_ok-pushed.ensures.pushed tells) c.in_ok-all.ensures c.requires.text c.write_all.result (c.write_all.ensures.put tells)
+
+pub returns-clause-fixed : goal.returns-clause-fixed
+returns-clause-fixed g c tells =
+    put_fixed c.args.targets c.args.before.now c.args.entries.now c.args.db.now c.requires.free c.requires.db c.args.root.now c.push_puts.new.disk c.write_all.new.root (c.requires.told tells) (c.in_ok-pushed.ensures.confined tells)
+    c.in_ok-pushed.pushed c.in_ok-all.all c.args.bytes (c.in_ok-pushed.ensures.pushed tells) c.in_ok-all.ensures c.requires.text c.write_all.result (c.write_all.ensures.put tells)

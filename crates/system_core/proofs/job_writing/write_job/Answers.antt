@@ -2,7 +2,7 @@ use Rattle.std.proofs.Common.{refl, sym, subst, arith}
 use Rattle.job_targets.specs.Agree.{AllAgree}
 use Rattle.rollback_stack.specs.job-record.Changed.{AreChangedNames}
 use Rattle.rollback_stack.specs.Entries.{AreEntries}
-use Rattle.system_core.proofs.JobEnding.{can_put, holds_after, job_from, pushed_stops, refused_job, refused_stops, stopped_answer, stopped_job, written_job}
+use Rattle.system_core.proofs.JobEnding.{can_put, job_from, pushed_stops, refused_job, refused_stops, stopped_answer, stopped_job, written_job}
 use Rattle.system_core.proofs.job_writing.write_job.Goals as goal
 
 pub returns-in_err-job-clause-ends : goal.returns-in_err-job-clause-ends
@@ -15,6 +15,11 @@ returns-in_err-job-clause-stops g c =
 
 pub returns-in_err-job-clause-answers : goal.returns-in_err-job-clause-answers
 returns-in_err-job-clause-answers g c = stopped_answer c.args.db.now c.args.db.now c.args.list c.args.puts c.from_residual.result _ refl c.from_residual.ensures.1
+
+pub returns-in_default-clause-again : goal.returns-in_default-clause-again
+returns-in_default-clause-again g c tells =
+    let can = c.requires.told tells in
+    record { flag_clear = can.flag_clear; synced = can.synced; pinned = can.pinned; holds = can.holds }
 
 pub put_job-requires-clause-db : goal.put_job-requires-clause-db
 put_job-requires-clause-db g c = let made = rw c.in-Some.is at c.in_ok-job.ensures.some in made.database
@@ -65,16 +70,6 @@ returns-clause-ends g c tells s stores =
     (g.T.TreeDisk.disk.reads c.args.root.now) s can.holds stores in
     written_job c.args.db.now c.args.list c.args.puts c.args.entries job.names.items job.db job.bytes is g.met.T.TreeDisk.laws c.args.root.now can
     c.distinct_databases.ensures.unique c.put_job.new.root s stores job.db.newest refl (c.in_ok-put_job.ensures.goes tells s stores from)
-
-pub returns-clause-holds : goal.returns-clause-holds
-returns-clause-holds g c tells s stores =
-    let job = c.in-Some.job in
-    let is = (rw c.in-Some.is at c.in_ok-job.ensures.some) in
-    let can = c.requires.told tells in
-    let from = job_from c.args.db.now c.args.list c.args.puts c.args.entries job.names.items job.db job.bytes is c.distinct_databases.ensures.unique
-    (g.T.TreeDisk.disk.reads c.args.root.now) s can.holds stores in
-    holds_after c.args.db.now c.args.list c.args.puts c.args.entries job.names.items job.db job.bytes is g.met.T.TreeDisk.laws c.args.root.now can
-    c.distinct_databases.ensures.unique c.put_job.new.root s stores (c.in_ok-put_job.ensures.goes tells s stores from)
 
 pub returns-clause-answers : goal.returns-clause-answers
 returns-clause-answers g c = let made = rw c.in-Some.is at c.in_ok-job.ensures.some in (made.next, made.db_is, (rw c.in-Some.is at c.in_ok-job.ensures.passes))

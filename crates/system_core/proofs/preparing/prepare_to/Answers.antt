@@ -14,7 +14,7 @@ returns-in_err-back-clause-stops g c =
     passed_on (IsBackStop disk.tells (disk.reads old) c.args.db.now c.args.number rose) c.in_err-back.field-0.0 c.from_residual.result c.in_err-back.ensures.stops c.from_residual.ensures.1
 
 pub database_put-requires : goal.database_put-requires
-database_put-requires g c = c.in_ok-back.ensures.fits
+database_put-requires g c = c.in_ok-back.ensures.database.fits
 
 pub returns-clause-value : goal.returns-clause-value
 returns-clause-value g c tells =

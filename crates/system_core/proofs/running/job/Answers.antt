@@ -1,7 +1,8 @@
-use Rattle.std.proofs.Common.{sym, subst}
+use Rattle.std.proofs.Common.{◌∙◌, ap, sym, subst}
 use Rattle.rollback_stack.specs.cny-base.Count.{Rose}
 use Rattle.rollback_stack.specs.cny-base.declared.stop.Stop.TheVariants.{Memory}
 use Rattle.update_job.specs.Changes.{AreChanges}
+use Rattle.system_core.specs.FixedDirs.{fixed_dirs}
 use Rattle.system_core.specs.Job.{sources_of}
 use Rattle.system_core.specs.Lists.{to_list}
 use Rattle.system_core.proofs.AnswerLaws.{answer_stop, done_answer, tests_answer, write_answer}
@@ -60,7 +61,10 @@ returns-clause-ends g c tells s stores =
     c.in_ok-made.made c.in_ok-made.ensures.gathers in
     write_done g.met.T.TreeDisk.laws tells _ c.args.db.now c.args.list c.requires.db.installed c.in_ok-made.ensures.troves c.requires.allowed c.args.root.now (c.requires.ready tells) c.distinct_databases.ensures.unique s stores
     c.in_ok-made.made c.in_ok-made.ensures.gathers c.in_ok-number.ensures.later c.write_job.new.db c.in_ok-changes.changes c.in_ok-number.number c.in_ok-changes.ensures
-    (c.in_ok-number.ensures.ends tells s at) c.in_ok-number.ensures.answers (c.in_ok-number.ensures.holds tells s at)
+    (c.in_ok-number.ensures.ends tells s at) c.in_ok-number.ensures.answers (c.in_ok-number.ensures.again tells).holds
+
+pub returns-clause-fixed : goal.returns-clause-fixed
+returns-clause-fixed g c tells = c.in_ok-number.ensures.fixed tells ∙ ap fixed_dirs (c.in_ok-made.ensures.gathers.same tells).same.reads
 
 pub returns-in_err-made-clause-answers : goal.returns-in_err-made-clause-answers
 returns-in_err-made-clause-answers g c =

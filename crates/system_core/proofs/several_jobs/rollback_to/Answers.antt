@@ -10,6 +10,7 @@ use Rattle.system_core.specs.Several.{IsRefusalKindTo, RollsBackTo, StopsTo, job
 use Rattle.system_core.proofs.EndingAll.{cause_to, cause_written, done_restores_to, done_rolls_to, err_is, failed_restores_to, failed_rolls_to, restores_to_err, stops_to, taken_back_to, written_to}
 use Rattle.system_core.proofs.Moving.{still}
 use Rattle.system_core.proofs.PuttingAll.{can_write_to}
+use Rattle.system_core.proofs.Rolled.{rolled_fixed, rolled_ready}
 use Rattle.system_core.proofs.SteppingAll.{unwritten_to}
 use Rattle.system_core.proofs.several_jobs.rollback_to.Goals as goal
 
@@ -123,6 +124,16 @@ returns-clause-rolls g c tells s stores =
     let made = c.in_ok-step.ensures.job.made in
     done_rolls_to disk g.met.T.TreeDisk.laws c.distinct_databases.ensures.unique c.one_record.ensures.one c.args.db.now c.args.number c.args.root.now c.prepare_to.new.disk c.write_all.new.root (c.requires.ready tells) c.in_ok-step.step
     (c.in_ok-step.ensures.value tells) c.in_ok-step.ensures.later c.in_ok-write_all.ensures.later _ (c.in_ok-write_all.ensures.goes tells) s stores refl _ (omega (arith, made))
+
+pub returns-clause-again : goal.returns-clause-again
+returns-clause-again g c tells =
+    rolled_ready g.T.TreeDisk.disk g.met.T.TreeDisk.laws c.args.db.now c.args.number c.args.root.now c.prepare_to.new.disk c.write_all.new.root (c.requires.ready tells) c.in_ok-step.step (c.in_ok-step.ensures.value tells)
+    (c.in_ok-write_all.ensures.put tells) c.in_ok-step.ensures.database
+
+pub returns-clause-fixed : goal.returns-clause-fixed
+returns-clause-fixed g c tells =
+    rolled_fixed g.T.TreeDisk.disk g.met.T.TreeDisk.laws c.args.db.now c.args.number c.args.root.now c.prepare_to.new.disk c.write_all.new.root (c.requires.ready tells) c.in_ok-step.step (c.in_ok-step.ensures.value tells)
+    (c.in_ok-write_all.ensures.put tells)
 
 pub returns-clause-restores : goal.returns-clause-restores
 returns-clause-restores g c tells s stores has unedited =
