@@ -7,7 +7,7 @@ set -eu
 [ $# -gt 0 ] || set -- 100 400
 most=$(printf '%s\n' "$@" | sort -n | tail -1)
 python3 "$top/bench/programs/commits/sets.py" "$top" $((most + 20)) >"$work/sets"
-build_bench commits 'cny_base change_set tree_memory line_words repo_index repo_load repository hex anyhow'
+build_bench commits 'cny_base change_set tree_memory root_words repo_index repo_load repository hex anyhow'
 commits() {
     "$program" "$@" <"$work/sets"
 }

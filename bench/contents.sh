@@ -6,7 +6,7 @@
 set -eu
 . "$(dirname "$0")/lib.sh"
 [ $# -gt 0 ] || set -- 5000 10000 20000
-build_bench contents 'cny_base content_store tree_memory line_words anyhow'
+build_bench contents 'cny_base content_store tree_memory root_words anyhow'
 for count in "$@"; do
     least 3 "$program" "$count" 600
 done

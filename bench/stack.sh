@@ -5,7 +5,7 @@
 # Usage: bench/stack.sh [TROVES JOBS]...
 set -eu
 . "$(dirname "$0")/lib.sh"
-build_bench stacks 'line_words rollback_stack root_words anyhow'
+build_bench stacks 'local_db rollback_stack system_core line_words root_words anyhow'
 [ $# -gt 0 ] || set -- 1000 500
 stack() {
     "$program" <"$work/root"

@@ -5,7 +5,7 @@
 # Usage: bench/write_sets.sh [HUNDREDS...]
 set -eu
 . "$(dirname "$0")/lib.sh"
-build_bench write_sets 'cny_base tree_disk tree_nodes tree_memory line_words tree_journal sha1 anyhow'
+build_bench write_sets 'cny_base tree_disk tree_nodes tree_memory root_words tree_journal sha1 anyhow'
 [ $# -gt 0 ] || set -- 25 50 100 200
 least 3 alone "$@" 0
 peak=$(peak_of "$work/told" "$program" 0)

@@ -3,13 +3,14 @@ ghost use Rattle.std.specs.Prelude.{Contains, IfOk};
 ghost use Rattle.repo_index.specs.Catalogue.{AreCommitted};
 ghost use Rattle.repository.specs.change-set.ChangeSet.{HasContents};
 
-use line_words::{Answer, Line, Quiet, Stop, Why};
+use line_words::{Answer, Line, Stop, Why};
 use repo_index::Catalogue;
 use repository::between;
 use repository::change_set::{ChangeSet, encode};
 use repository::cny_base::{Copies, Fault};
 use repository::trove_parts::TroveId;
 use repository::trove_stream::{Installed, Trove};
+use root_words::{Quiet, disk_of};
 use std::alloc::Global;
 
 // A copy of the trove of an id.
@@ -96,7 +97,7 @@ fn set_of(
 /// first call of the disk fails after the catalogue was loaded.
 pub fn set_between(catalogue: &Catalogue, line: &mut Line, answer: &mut Answer) {
     let failing = u64::from(line.has(3));
-    if let Some(mut disk) = line.disk(0, failing) {
+    if let Some(mut disk) = disk_of(line, 0, failing) {
         let (old, fresh) = (line.list::<TroveId>(1), line.list::<TroveId>(2));
         let told = set_of(&mut disk, catalogue, &old, &fresh, answer);
         answer.kept(told);

@@ -2,11 +2,12 @@
 ghost use Rattle.repository.specs.change-set.ChangeSet.{HasContents};
 
 use crate::held::{told_held, told_sizes};
-use line_words::{Answer, Line, Quiet};
+use line_words::{Answer, Line};
 use repo_index::Catalogue;
 use repository::change_set::{ChangeSet, decode};
 use repository::cny_base::Fault;
 use repository::{TroveIds, commit};
+use root_words::{Quiet, told_kept};
 
 // The private directory of a repository.
 const BASE: &str = "/conaryrepo";
@@ -47,5 +48,5 @@ pub fn committed(
     told_sizes(catalogue, answer);
     told_held(disk, answer);
     answer.tab();
-    answer.nodes_kept(&disk.tree, BASE);
+    told_kept(&disk.tree, BASE, answer);
 }

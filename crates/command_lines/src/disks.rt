@@ -1,7 +1,8 @@
 //! The two disks of a call.
-use line_words::tree_memory::cny_base::{self, Copies, Mode, Node, OutOfMemory, Path};
-use line_words::tree_memory::{MemoryTree, Nodes};
-use line_words::{Answer, Line, Quiet, Stop, paths_of, tree_with};
+use line_words::{Answer, Line, Stop};
+use root_words::tree_memory::MemoryTree;
+use root_words::tree_memory::cny_base::{self, Copies, OutOfMemory, Path};
+use root_words::{Quiet, crashed, disk_of, edit, empty_disk, paths_of, told_kept, told_nodes};
 use std::alloc::Global;
 use tree_journal::recover;
 
@@ -50,25 +51,17 @@ impl Drop for Disks {
     }
 }
 
-// What the crash leaves of a disk that a number picks.
-fn crashed(alloc: Global, disk: &Quiet, pick: u64) -> Result<Quiet, OutOfMemory> {
-    Ok(Quiet::new(disk.tree.crash(alloc, pick)?))
-}
-
 // Puts what stands at a path of a tree into a copy of it.
 fn copy_node(tree: &MemoryTree, copy: &mut Quiet, alloc: Global, path: &Path) -> Result<(), Stop> {
     if let Some(node) = tree.node(path) {
-        copy.tree.edit(alloc, path, Some(node.copy()?))?;
+        edit(alloc, &mut copy.tree, path, Some(node.copy()?))?;
     }
     Ok(())
 }
 
 // A disk with the same nodes, all synced. The call of this number fails.
 fn copy_of(tree: &MemoryTree, alloc: Global, failing: u64) -> Result<Quiet, Stop> {
-    let mode = Mode::owner_only();
-    let root = Path::read(alloc, "/")?;
-    let nodes = Nodes::new(vec![in alloc; (root, Node::Dir { mode })]?);
-    let mut copy = Quiet::new(tree_with(alloc, nodes, failing)?);
+    let mut copy = empty_disk(alloc, failing)?;
     for path in &paths_of(alloc, tree)? {
         copy_node(tree, &mut copy, alloc, path)?;
     }
@@ -78,8 +71,8 @@ fn copy_of(tree: &MemoryTree, alloc: Global, failing: u64) -> Result<Quiet, Stop
 // Whether a crash leaves just these nodes.
 fn leaves(disk: &Quiet, pick: u64, nodes: &str, answer: &mut Answer) -> bool {
     let mut left = answer.apart();
-    if let Some(image) = answer.kept(crashed(answer.alloc(), disk, pick)) {
-        left.nodes(&image.tree);
+    if let Some(image) = answer.kept(crashed(answer.alloc(), &disk.tree, pick)) {
+        told_nodes(&image.tree, &mut left);
     }
     answer.keep_failure(&left);
     left.get() == nodes
@@ -88,7 +81,7 @@ fn leaves(disk: &Quiet, pick: u64, nodes: &str, answer: &mut Answer) -> bool {
 /// Appends what stands on a disk, and whether crashes leave just that.
 pub fn push_kept(name: &str, disk: &Quiet, answer: &mut Answer) {
     let mut nodes = answer.apart();
-    nodes.nodes(&disk.tree);
+    told_nodes(&disk.tree, &mut nodes);
     // All unsynced names torn, and all as at the last sync.
     let (torn, old) = (u64::MAX, 0x5555_5555_5555_5555);
     let synced = leaves(disk, torn, nodes.get(), answer) && leaves(disk, old, nodes.get(), answer);
@@ -110,8 +103,8 @@ impl Disks {
     /// `ROOT_FAILS REPO_FAILS ROOT REPO`: the trees of a line, of which the calls of these numbers fail where they aren't 0.
     pub fn of(line: &mut Line) -> Option<Self> {
         let (root_fails, repo_fails) = (line.number(0), line.number(1));
-        let root = line.disk(2, root_fails)?;
-        let repo = line.disk(3, repo_fails)?;
+        let root = disk_of(line, 2, root_fails)?;
+        let repo = disk_of(line, 3, repo_fails)?;
         Some(Disks { root, repo })
     }
 
@@ -137,8 +130,8 @@ impl Disks {
             Side::Root => (pick, 0),
             Side::Repository => (0, pick),
         };
-        let root = crashed(alloc, &self.root, root_pick)?;
-        let repo = crashed(alloc, &self.repo, repo_pick)?;
+        let root = crashed(alloc, &self.root.tree, root_pick)?;
+        let repo = crashed(alloc, &self.repo.tree, repo_pick)?;
         Ok(Disks { root, repo })
     }
 
@@ -163,9 +156,10 @@ impl Disks {
     /// journal's own files.
     pub fn push_recovered(&self, side: Side, pick: u64, answer: &mut Answer) {
         if let Some(base) = answer.kept(Path::read(answer.alloc(), side.base())) {
-            if let Some(mut image) = answer.kept(crashed(answer.alloc(), self.side(side), pick)) {
+            let image = crashed(answer.alloc(), &self.side(side).tree, pick);
+            if let Some(mut image) = answer.kept(image) {
                 push_recovery(recover(answer.alloc(), &mut image, &base), answer);
-                answer.nodes_kept(&image.tree, side.base());
+                told_kept(&image.tree, side.base(), answer);
             }
         }
     }

@@ -2,10 +2,11 @@
 use crate::between::set_between;
 use crate::commits::committed;
 use content_store::Contents;
-use line_words::{Answer, Line, Quiet};
+use line_words::{Answer, Line};
 use repo_index::Catalogue;
 use repo_load::{Counts, RepoContents, content, counts, load};
 use repository::cny_base::{Bytes, Stop};
+use root_words::{Quiet, disk_of};
 
 // How many commits the catalogue has, and the ids of its troves.
 fn told_catalogue(catalogue: &Catalogue, answer: &mut Answer) {
@@ -33,7 +34,7 @@ fn told_content(found: &Option<Bytes>, answer: &mut Answer) {
 // after the catalogue was loaded.
 fn source(catalogue: &Catalogue, line: &mut Line, answer: &mut Answer) {
     let failing = u64::from(line.has(2));
-    if let Some(mut disk) = line.disk(0, failing) {
+    if let Some(mut disk) = disk_of(line, 0, failing) {
         let found = RepoContents::new(&mut disk, catalogue).find(line.alloc(), &line.digest(1));
         answer.outcome(found.map_err(Stop::from), told_content);
     }
@@ -61,7 +62,7 @@ fn answered(disk: &mut Quiet, catalogue: &mut Catalogue, line: &mut Line, answer
 /// fails.
 pub fn call(line: &mut Line, answer: &mut Answer) {
     let failing = u64::from(line.name() == "load" && line.has(1));
-    if let Some(mut disk) = line.disk(0, failing) {
+    if let Some(mut disk) = disk_of(line, 0, failing) {
         if let Some(mut catalogue) = answer.given(load(answer.alloc(), &mut disk)) {
             answered(&mut disk, &mut catalogue, line, answer);
         }

@@ -1,9 +1,10 @@
 //! What the calls of the program are made over.
 use crate::disks::{Disks, Side};
 use crate::streams::Streams;
-use line_words::tree_memory::MemoryTree;
-use line_words::tree_memory::cny_base::{Bytes, text_of};
 use line_words::{Answer, Line, Outcomes};
+use root_words::tree_memory::MemoryTree;
+use root_words::tree_memory::cny_base::{Bytes, text_of};
+use root_words::{edit_at, told_nodes};
 
 // More calls than any command makes of a disk.
 const MANY: u32 = 1000;
@@ -34,10 +35,7 @@ fn word_of(line: &mut Line, raw: &str) -> Option<String> {
 // `root NODES` or `repo NODES`: puts nodes, or takes away what stands; then all of the disk counts as synced.
 fn put(tree: &mut MemoryTree, line: &mut Line) {
     for part in line.raw(0).split(';') {
-        if let Some((path, node)) = line.placed_of(part) {
-            let edited = tree.edit(line.alloc(), &path, node);
-            line.kept(edited);
-        }
+        edit_at(tree, line, part);
     }
 }
 
@@ -55,6 +53,18 @@ impl Setting {
     fn run(&mut self, line: &mut Line, answer: &mut Answer) {
         let words = line.each_from(0, word_of);
         self.streams.run(&words, &mut self.disks, answer);
+    }
+
+    // `line WORD..`: a line by itself, with the input as its own, and what stands then.
+    fn line(&mut self, line: &mut Line, answer: &mut Answer) {
+        let words = line.each_from(0, word_of);
+        self.streams.line(words, &mut self.disks, answer);
+    }
+
+    // `tally WORD..`: the call, whose output is told by the number of its lines and by the last of them.
+    fn tally(&mut self, line: &mut Line, answer: &mut Answer) {
+        let words = line.each_from(0, word_of);
+        self.streams.tally(&words, &mut self.disks, answer);
     }
 
     // `cut DISK CALLS PICK WORD..`: the call over a disk that stops after so many calls, and what a recovery finds behind the crash
@@ -92,7 +102,7 @@ impl Setting {
         };
         let failed = self.streams.call(sweep.words, &mut disks, said);
         said.field("left");
-        said.nodes(&disks.side(sweep.side).tree);
+        told_nodes(&disks.side(sweep.side).tree, said);
         disks.push_recovered(sweep.side, 0, said);
         said.field("again ");
         self.streams.run(sweep.words, &mut disks, said);
@@ -167,6 +177,8 @@ impl Setting {
     pub fn call(&mut self, line: &mut Line, answer: &mut Answer) {
         match line.name() {
             "run" => self.run(line, answer),
+            "line" => self.line(line, answer),
+            "tally" => self.tally(line, answer),
             "cut" => self.cut(line, answer),
             "stops" => {
                 let pick = line.number(1);

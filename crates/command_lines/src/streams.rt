@@ -2,7 +2,8 @@
 use crate::disks::{Disks, push_kept};
 use cny_flow::cny_base::{Bytes, Copies, Fails};
 use cny_flow::{FlowFault, MemorySink, MemorySource, Source};
-use conary_cli::run;
+use conary_cli::cny_batch::{self, Words};
+use conary_cli::{run, run_line};
 use line_words::{Answer, Line, Stop};
 use std::alloc::Global;
 
@@ -57,6 +58,21 @@ fn push_written(answer: &mut Answer, stream: &str, bytes: &[u8]) {
     }
 }
 
+// Appends the number of the lines that were written, and the last of them.
+fn push_tally(answer: &mut Answer, bytes: &[u8]) {
+    let (mut count, mut last) = (0u64, "");
+    let text = str::from_utf8(bytes).unwrap_or("");
+    if let Some(lines) = text.strip_suffix('\n') {
+        for line in lines.split('\n') {
+            count = count.saturating_add(1);
+            last = line;
+        }
+    }
+    answer.text(" lines ");
+    answer.number(count);
+    answer.field(last);
+}
+
 impl Streams {
     /// No input, and no call that fails.
     pub fn new(alloc: Global) -> Self {
@@ -97,11 +113,45 @@ impl Streams {
         status == 5 || status == 6
     }
 
+    /// Calls the program once with these words. Tells its status, how many lines its output has, and the last of them.
+    pub fn tally(&self, words: &[String], disks: &mut Disks, answer: &mut Answer) {
+        let ports = Ports::of(answer.alloc(), self);
+        let Some(mut ports) = answer.kept(ports) else {
+            return;
+        };
+        let status = ports.run(answer.alloc(), words, disks);
+        answer.number(u64::from(status));
+        push_tally(answer, ports.out.bytes());
+    }
+
     /// The same, and what stands then.
     pub fn run(&self, words: &[String], disks: &mut Disks, answer: &mut Answer) {
         self.call(words, disks, answer);
         push_kept("root", &disks.root, answer);
         push_kept("repo", &disks.repo, answer);
+    }
+
+    // A line with these words, whose input is the standard input.
+    fn line_of(&self, words: Vec<String>) -> Result<cny_batch::Line, Stop> {
+        let words = Words::new(words);
+        let input = self.input.copy()?;
+        Ok(cny_batch::Line { words, input })
+    }
+
+    /// Runs a line by itself, with these words and with the standard input as its own. Tells its status, the lines of both outputs,
+    /// and what stands then.
+    pub fn line(&self, words: Vec<String>, disks: &mut Disks, answer: &mut Answer) {
+        let ports = Ports::of(answer.alloc(), self);
+        let Some(mut ports) = answer.kept(ports) else {
+            return;
+        };
+        if let Some(line) = answer.kept(self.line_of(words)) {
+            let status = ports.run_line(answer.alloc(), &line, disks);
+            answer.number(u64::from(status));
+            ports.push_outputs(answer);
+            push_kept("root", &disks.root, answer);
+            push_kept("repo", &disks.repo, answer);
+        }
     }
 }
 
@@ -141,9 +191,20 @@ impl Ports {
         run(alloc, words, input, out, err, repo, root)
     }
 
+    // The status of a line by itself.
+    fn run_line(&mut self, alloc: Global, line: &cny_batch::Line, disks: &mut Disks) -> u8 {
+        let Ports { out, err, .. } = self;
+        let Disks { root, repo } = disks;
+        run_line(alloc, line, out, err, repo, root)
+    }
+
     fn push(&self, answer: &mut Answer) {
         answer.text(" taken ");
         answer.number(self.input.taken);
+        self.push_outputs(answer);
+    }
+
+    fn push_outputs(&self, answer: &mut Answer) {
         push_written(answer, "out ", self.out.bytes());
         push_written(answer, "err ", self.err.bytes());
     }

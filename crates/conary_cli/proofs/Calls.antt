@@ -1,12 +1,12 @@
 -- A call of a command, from its steps.
-use Rattle.std.proofs.Common.{◌≡◌, ℕ, ◌≤◌, Bool, List, Result, Ok, Err, refl, sym, ap, subst, inl, inr, ⊎_elim, arith}
+use Rattle.std.proofs.Common.{◌≡◌, ℕ, ◌≤◌, Bool, List, Result, Ok, Err, refl, sym, subst, inl, inr, ⊎_elim, arith}
 use Rattle.cny_flow.specs.Flow.{SourceState, SinkState}
 use Rattle.cli_call.specs.tree-disk.Disk.{DiskModel, IsDisk}
 use Rattle.cli_call.specs.cny-laws.declared.failure.Failure.{Failure}
 use Rattle.cli_call.specs.cny-laws.declared.failure.Failure.TheVariants as failure
 use Rattle.cli_call.specs.cny-laws.Call.{CallState}
 use Rattle.cli_call.specs.Runs.{RunsOpen}
-use Rattle.cli_call.proofs.CallLaws.{memory_call, whole_call}
+use Rattle.cli_call.proofs.CallLaws.{whole_call}
 use Rattle.cli_call.specs.Line.{Moment, RunsLine}
 use Rattle.cli_call.specs.cny-laws.Reading.{ReadsGiven}
 use Rattle.cli_call.specs.cny-laws.Report.{End, Reports, status_of}
@@ -16,8 +16,7 @@ use Rattle.cli_call.specs.cny-laws.Stores.{repository_store}
 use Rattle.conary_cli.specs.declared.words.Command.{Command}
 use Rattle.conary_cli.specs.Commands.{meaning, scope_of, RunsWords, RunsSome, IsWholeCall, IsSomeCall}
 use Rattle.conary_cli.specs.Records.{EndsOpened}
-use Rattle.conary_cli.specs.Words.{AreWords, OrMemory, ReadsWords}
-use Rattle.conary_cli.proofs.RecordEnds.{memory_whole}
+use Rattle.conary_cli.specs.Words.{AreWords, OrMemory}
 use Rattle.conary_cli.proofs.RestoreEnds.{rollback_restores}
 
 module _ {T P : Type 0} {root_disk : DiskModel T} {repo_disk : DiskModel P} (scope : Scope) (m : Meaning) (takes : Bool) (old new : SourceState) where
@@ -32,19 +31,6 @@ module _ {T P : Type 0} {root_disk : DiskModel T} {repo_disk : DiskModel P} (sco
     reads = subst (λ (b : Bool). ReadsGiven b old new (Ok bytes)) is (subst (λ (l : List ℕ). ReadsGiven takes old new (Ok l)) (sym same) reads);
     runs = runs;
   })
-
-same_end : (f e : Failure) → ◌≡◌ {A = Result Command Failure} (Err f) (Err e) → ◌≡◌ {A = End} (Err e) (Err f)
-same_end f e h = let same : f ≡ e = cc h in ap Err (sym same)
-
--- words that weren't read as a command
-pub no_words : {T P : Type 0} {root_disk : DiskModel T} (repo_disk : DiskModel P) → IsDisk root_disk → (before : CallState T P) (words : Result Command Failure) (e : Failure) → ReadsWords words (Err e) → RunsWords root_disk repo_disk words before before (Err e)
-no_words repo_disk root_laws before (Ok c) failure.Memory reads = (memory_call root_laws (scope_of c) (meaning c) before, memory_whole c before before)
-no_words repo_disk root_laws before (Err f) failure.Memory reads = (refl, inr refl)
-no_words repo_disk root_laws before (Ok c) failure.Usage reads = absurd (cc reads)
-no_words repo_disk root_laws before (Err f) failure.Usage reads = (refl, inl (same_end f _ reads))
-no_words repo_disk root_laws before (Ok c) (failure.Refused r) reads = absurd (cc reads)
-no_words repo_disk root_laws before (Err f) (failure.Refused r) reads = (refl, inl (same_end f _ reads))
-no_words repo_disk root_laws before words _ reads = absurd reads
 
 -- the whole
 pub whole_words : {T P : Type 0} {root_disk : DiskModel T} {repo_disk : DiskModel P} → IsDisk root_disk → IsDisk repo_disk → IsStore repository_store → (before now : CallState T P) (err err' : SinkState) (status : ℕ) (end : End) (words : Result Command Failure)
@@ -91,12 +77,12 @@ small_status : (e : Failure) → status_of (Err e) ≤ 8
 small_status failure.Usage = omega arith
 small_status _ = omega arith
 
-known_status : (end : End) (err err' : SinkState) (status : ℕ) → Reports end err err' status → status ≤ 8
+pub known_status : (end : End) (err err' : SinkState) (status : ℕ) → Reports end err err' status → status ≤ 8
 known_status (Ok x) err err' status h = let is : status ≡ 0 = h.0 in omega (arith, is)
 known_status (Err e) err err' status (inl tells) = let is : status ≡ status_of (Err e) = tells.answered in omega (arith, is, small_status e)
 known_status (Err e) err err' status (inr want) = let is : status ≡ 7 = want.1.answered in omega (arith, is)
 
-whole_status : {T P : Type 0} (root_disk : DiskModel T) (repo_disk : DiskModel P) (words : Result Command Failure) (before now : CallState T P) (err err' : SinkState) (status : ℕ) → IsWholeCall root_disk repo_disk words before now err err' status → status ≤ 8
+pub whole_status : {T P : Type 0} (root_disk : DiskModel T) (repo_disk : DiskModel P) (words : Result Command Failure) (before now : CallState T P) (err err' : SinkState) (status : ℕ) → IsWholeCall root_disk repo_disk words before now err err' status → status ≤ 8
 whole_status root_disk repo_disk (Ok c) before now err err' status is = known_status is.call.end err err' status is.call.reports
 whole_status root_disk repo_disk (Err e) before now err err' status is = ⊎_elim (known_status (Err e) err err' status) (known_status (Err failure.Memory) err err' status) is.reports
 

@@ -6,3 +6,14 @@ pub mod Calls
 pub mod Reading
 pub mod SpecLists
 pub mod WordEnds
+pub mod Living
+pub mod LinesRun
+pub mod Silent
+pub mod LineWords
+pub mod LineCalls
+pub mod DemoLines
+pub mod CallWords
+pub mod SeveralEnds
+pub mod BatchEnds
+pub mod ProgramEnds
+pub mod ProgramWords

@@ -1,6 +1,6 @@
 -- How a command is performed, by what its own function says.
 use Rattle.std.proofs.Common.{◌≡◌, ℕ, Bool, true, false, List, Result, refl, subst, sym, ◌∙◌}
-use Rattle.std.specs.Prelude.{IsTrue}
+use Rattle.std.specs.Prelude.{IsTrue, OnOk}
 use Rattle.std.proofs.lemmas.Bool.{false≢true}
 use Rattle.cli_call.specs.tree-disk.Disk.{DiskModel, IsDisk}
 use Rattle.cli_call.specs.cny-laws.declared.failure.Failure.{Failure}
@@ -13,6 +13,10 @@ use Rattle.conary_cli.specs.declared.words.Command.{Command}
 use Rattle.conary_cli.specs.Commands.{is_of_lists, is_of_repository, is_of_root, is_of_tree, meaning, PerformsCommand}
 use Rattle.conary_cli.specs.Records.{EndsWhole, IsDamagedFirst, IsDamagedFor}
 use Rattle.conary_cli.proofs.RecordEnds.{none_read}
+
+-- what holds after Ok of the command's own function holds after Ok of what `perform` answers
+pub again_as : {A E : Type 0} (X : Type 0) (own shown : Result A E) → shown ≡ own → OnOk own X → OnOk shown X
+again_as {A = A} {E = E} X own shown is h = subst (λ (r : Result A E). OnOk r X) (sym is) h
 
 never : {A : Type 0} (b : Bool) → b ≡ false → b ≡ true → A
 never b off on = absurd (false≢true (sym off ∙ on))

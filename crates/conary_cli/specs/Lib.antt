@@ -3,3 +3,9 @@ pub mod Records
 pub mod Restores
 pub mod Commands
 pub mod Words
+pub mod Calls
+pub mod Lives
+pub mod Lines
+pub mod Several
+pub mod RunsSeveral
+pub mod Program

@@ -24,7 +24,7 @@ is_among words word = list_any (bytes_eq word) words
 -- the commands that aren't built yet
 abbrev pub planned_commands : List (List ℕ)
 planned_commands =
-    codes "batch" ∷ codes "demo" ∷ codes "serve" ∷ codes "mirror" ∷ codes "sync" ∷ []
+    codes "serve" ∷ codes "mirror" ∷ codes "sync" ∷ []
 
 unfoldable pub is_planned_command : List ℕ → Bool
 is_planned_command word = is_among planned_commands word

@@ -1,5 +1,5 @@
 //! The table of commands: what each takes, and which function performs it.
-ghost use Rattle.std.specs.Prelude.{◌≡◌, List, ℕ, not, true};
+ghost use Rattle.std.specs.Prelude.{◌≡◌, List, ℕ, not, true, OnOk};
 ghost use Rattle.cli_call.specs.Alone.{AnswersByTree, PerformsAlone};
 ghost use Rattle.cli_call.specs.Command.{disks, AreReady, Performs};
 ghost use Rattle.conary_cli.specs.Commands.{erasing, meaning, verify, PerformsCommand};
@@ -73,6 +73,8 @@ fn verify<T: TreeDisk, P: TreeDisk>(
     ensures performs { (input : List ℕ) → Performs T.disk P.disk (verify full names.now) input (disks root.old repo.old opened.now) (disks root.new repo.new opened.now) result }
     ensures alone { not full ≡ true → (input : List ℕ) → PerformsAlone T.disk P.disk (verify full names.now) input (disks root.old repo.old opened.now) (disks root.new repo.new opened.now) result }
     ensures tree { not full ≡ true → (input : List ℕ) → AnswersByTree T.disk P.disk (verify full names.now) input (disks root.old repo.old opened.now) (disks root.new repo.new opened.now) result }
+    // Where it is done, a further command may begin.
+    ensures again { OnOk result (AreReady T.disk P.disk (disks root.new repo.new opened.now)) }
 {
     if full {
         return verify_fully(alloc, names, opened, repo, root);
@@ -90,7 +92,9 @@ pub fn perform<T: TreeDisk, P: TreeDisk>(
     root: &mut T,
 ) -> Result<Bytes, Failure>
     requires { AreReady T.disk P.disk (disks root.old repo.old opened.old) }
-    ensures { PerformsCommand T.disk P.disk command.now input.now (disks root.old repo.old opened.old) (disks root.new repo.new opened.new) result }
+    ensures performs { PerformsCommand T.disk P.disk command.now input.now (disks root.old repo.old opened.old) (disks root.new repo.new opened.new) result }
+    // Where it is done, a further command may begin.
+    ensures again { OnOk result (AreReady T.disk P.disk (disks root.new repo.new opened.new)) }
 {
     match command {
         Command::Install { options } => {

@@ -1,25 +1,28 @@
 //! A whole call of the program.
-ghost use Rattle.std.specs.Prelude.{string_bytes, map, IsTrue, Result};
+ghost use Rattle.std.specs.Prelude.{string_bytes, map, IsTrue, OnOk, Result};
 ghost use Rattle.cli_call.specs.cny-laws.declared.failure.Failure.{Failure};
-ghost use Rattle.conary_cli.specs.declared.words.Command.{Command};
+ghost use Rattle.conary_cli.specs.declared.call_words.Call.{Call};
 ghost use Rattle.cny_flow.specs.Flow.{sink_state, source_state};
 ghost use Rattle.cli_call.specs.cny-laws.Call.{call_state};
 ghost use Rattle.cli_call.specs.Runs.{RunsCall, RunsOpen};
 ghost use Rattle.cli_call.specs.Command.{disks, AreReady};
 ghost use Rattle.cli_call.specs.Line.{moment, RunsLine};
-ghost use Rattle.conary_cli.specs.Commands.{meaning, scope_of, IsSomeCall, IsWholeCall, RunsSome, RunsWords};
+ghost use Rattle.conary_cli.specs.Calls.{AreCall};
+ghost use Rattle.conary_cli.specs.Commands.{meaning, scope_of};
+ghost use Rattle.conary_cli.specs.Program.{IsProgramCall, IsSomething, RunsProgram, RunsSomething};
 ghost use Rattle.conary_cli.specs.Records.{EndsOpened, EndsWhole};
-ghost use Rattle.conary_cli.specs.Words.{AreWords};
 
+use crate::call_words::{Call, read_call};
 use crate::commands::{perform, takes_input};
-use crate::words::{Command, read_words};
+use crate::several::{run_batch, run_demo};
+use crate::words::Command;
 use cli_call::tree_disk::TreeDisk;
 use cli_call::{Failure, Opened, open_disks, read_given, report, store_laws, write_answer};
 use cny_flow::{Sink, Source};
 use std::alloc::Global;
 
-// Performs a command over two disks that are open, and writes what it answers.
-fn run_command<O: Sink, T: TreeDisk, P: TreeDisk>(
+/// Performs a command over two disks that are open, and writes what it answers.
+pub(crate) fn run_command<O: Sink, T: TreeDisk, P: TreeDisk>(
     alloc: Global,
     command: &Command,
     input: &[u8],
@@ -30,6 +33,8 @@ fn run_command<O: Sink, T: TreeDisk, P: TreeDisk>(
 ) -> Result<(), Failure>
     requires { AreReady T.disk P.disk (disks root.old repo.old opened.old) }
     ensures line { RunsLine T.disk P.disk (scope_of command.now) (meaning command.now) input.now (moment O.sink root.old repo.old opened.old out.old) (moment O.sink root.new repo.new opened.new out.new) result }
+    // Where it is done, a further command may begin.
+    ensures again { OnOk result (AreReady T.disk P.disk (disks root.new repo.new opened.new)) }
     ensures records { IsTrue T.disk.tells → EndsWhole command.now (T.disk.reads root.old) opened.old.db result }
 {
     let answered = perform(alloc, command, input, opened, repo, root);
@@ -81,13 +86,16 @@ fn run_words<I: Source, O: Sink, T: TreeDisk, P: TreeDisk>(
     repo: &mut P,
     root: &mut T,
 ) -> Result<(), Failure>
-    ensures some { RunsSome T.disk P.disk (map string_bytes words.now) (call_state I.source O.sink input.old out.old root.old repo.old)
+    ensures some { RunsSomething T.disk P.disk (map string_bytes words.now) (call_state I.source O.sink input.old out.old root.old repo.old)
         (call_state I.source O.sink input.new out.new root.new repo.new) result }
-    ensures each { (expected : Result Command Failure) → AreWords (map string_bytes words.now) expected → RunsWords T.disk P.disk expected (call_state I.source O.sink input.old out.old root.old repo.old)
+    ensures each { (expected : Result Call Failure) → AreCall (map string_bytes words.now) expected → RunsProgram T.disk P.disk expected (call_state I.source O.sink input.old out.old root.old repo.old)
         (call_state I.source O.sink input.new out.new root.new repo.new) result }
 {
-    let command = read_words(alloc, words)?;
-    run_call(alloc, &command, input, out, repo, root)
+    match read_call(alloc, words)? {
+        Call::Single { command } => run_call(alloc, &command, input, out, repo, root),
+        Call::Batch => run_batch(alloc, input, out, repo, root),
+        Call::Demo { packages } => run_demo(alloc, packages, out, repo, root),
+    }
 }
 
 /// Does all that the program does, and answers its status.
@@ -100,12 +108,12 @@ pub fn run<I: Source, O: Sink, E: Sink, P: TreeDisk, T: TreeDisk>(
     repo: &mut P,
     root: &mut T,
 ) -> u8
-    // The words are something, and the call keeps all that one of it promises; or memory ran out before they were read, and nothing
+    // The words call something, and the call keeps all that one of it promises; or memory ran out before they were read, and nothing
     // was done.
-    ensures some { IsSomeCall T.disk P.disk (map string_bytes words.now) (call_state I.source O.sink input.old out.old root.old repo.old)
+    ensures some { IsSomething T.disk P.disk (map string_bytes words.now) (call_state I.source O.sink input.old out.old root.old repo.old)
         (call_state I.source O.sink input.new out.new root.new repo.new) (sink_state E.sink err.old) (sink_state E.sink err.new) result }
-    // All that a call promises, by the command that the words are.
-    ensures call { (expected : Result Command Failure) → AreWords (map string_bytes words.now) expected → IsWholeCall T.disk P.disk expected
+    // All that a call promises, by what the words call.
+    ensures call { (expected : Result Call Failure) → AreCall (map string_bytes words.now) expected → IsProgramCall T.disk P.disk expected
         (call_state I.source O.sink input.old out.old root.old repo.old) (call_state I.source O.sink input.new out.new root.new repo.new)
         (sink_state E.sink err.old) (sink_state E.sink err.new) result }
 {

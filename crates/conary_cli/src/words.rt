@@ -109,7 +109,7 @@ enum Form {
 fn is_planned(word: &str) -> bool
     ensures { result ≡ is_planned_command word.now }
 {
-    matches!(word, "batch" | "demo" | "serve" | "mirror" | "sync")
+    matches!(word, "serve" | "mirror" | "sync")
 }
 
 // The refusal of a word that isn't built yet.
@@ -631,8 +631,8 @@ fn first_form(words: &[String]) -> Form
     Form::Others
 }
 
-// The words behind the first one.
-fn words_behind(words: &[String]) -> &[String]
+/// The words behind the first one.
+pub(crate) fn words_behind(words: &[String]) -> &[String]
     ensures { map string_bytes result.now ≡ behind (map string_bytes words.now) }
 {
     let [_, rest @ ..] = words else {

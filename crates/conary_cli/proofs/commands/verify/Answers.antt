@@ -9,7 +9,7 @@ pub returns-then-full-clause-performs : goal.returns-then-full-clause-performs
 returns-then-full-clause-performs g c = λ input.
     let old = disks c.args.root.now c.args.repo.now c.args.opened.now in
     let new = disks c.verify_fully.new.root c.verify_fully.new.repo c.args.opened.now in
-    subst (λ (full : Bool). Performs g.T.TreeDisk.disk g.P.TreeDisk.disk (verify full c.args.names.now) input old new c.verify_fully.result) (sym c.if-full.true) (c.verify_fully.ensures input)
+    subst (λ (full : Bool). Performs g.T.TreeDisk.disk g.P.TreeDisk.disk (verify full c.args.names.now) input old new c.verify_fully.result) (sym c.if-full.true) (c.verify_fully.ensures.performs input)
 
 pub returns-then-full-clause-alone : goal.returns-then-full-clause-alone
 returns-then-full-clause-alone g c = λ is. absurd (false≢true (ap not (sym c.if-full.true) ∙ is))

@@ -1,0 +1,12 @@
+-- Bytes that are no batch.
+use Rattle.std.proofs.Common.{ℕ, List}
+use Rattle.cli_call.specs.cny-base.declared.refusal.Fault.{Fault}
+use Rattle.cli_call.specs.cny-base.declared.refusal.Fault.TheVariants as fault
+use Rattle.cny_batch.specs.FirstFault.{IsFaultOf}
+use Rattle.cli_call.specs.cny-laws.Failures.{failure_of_fault}
+use Rattle.conary_cli.specs.RunsSeveral.{MakesNone}
+use Rattle.conary_cli.specs.Several.{AreBatchLines}
+
+pub fault_makes_none : (bytes : List ℕ) (f : Fault) → IsFaultOf bytes f → MakesNone AreBatchLines bytes (failure_of_fault f)
+fault_makes_none bytes (fault.Refused r) is = is
+fault_makes_none bytes fault.Memory is = tt

@@ -1,0 +1,29 @@
+-- How a list of states that both disks lived goes on.
+use Rattle.std.proofs.Common.{List, [], ◌∷◌, inr, ⊎_elim}
+use Rattle.cli_call.specs.tree-disk.Tree.{Tree}
+use Rattle.cli_call.specs.tree-disk.Disk.{DiskModel}
+use Rattle.cli_call.proofs.tree-disk.ConfinedLaws.{leaves_then, leaves_weaker}
+use Rattle.cli_call.specs.cny-laws.State.{State}
+use Rattle.cli_call.specs.cny-laws.Store.{OneOf}
+use Rattle.cli_call.specs.cny-laws.Stores.{root_store, repository_store}
+use Rattle.conary_cli.specs.Lives.{LiveBoth, LiveStep, before_last, last_of}
+
+-- a step from a state to the next, and a list that begins with that
+pub live_first : {T P : Type 0} (root_disk : DiskModel T) (repo_disk : DiskModel P) (s t : State) (more : List State) (root mid root' : T) (repo far repo' : P)
+    → LiveStep root_disk repo_disk s t root mid repo far → LiveBoth root_disk repo_disk t more mid root' far repo' → LiveBoth root_disk repo_disk s (t ∷ more) root root' repo repo'
+live_first root_disk repo_disk s t [] root mid root' repo far repo' first then = record {
+  on_root = leaves_then first.on_root (leaves_weaker (λ image h. inr (⊎_elim (λ a. a) (λ b. b) h)) then.on_root);
+  on_repo = leaves_then first.on_repo (leaves_weaker (λ image h. inr (⊎_elim (λ a. a) (λ b. b) h)) then.on_repo);
+  apart = first.apart;
+}
+live_first root_disk repo_disk s t (u ∷ more) root mid root' repo far repo' first then = (mid, far, first, then)
+
+-- one of the last two states, where the second is the first of those behind it
+pub root_reads_on : (s next : State) (states : List State) (tree : Tree) → OneOf root_store (before_last next states).root (last_of next states).root tree → OneOf root_store (before_last s (next ∷ states)).root (last_of next states).root tree
+root_reads_on s next [] tree h = inr (⊎_elim (λ a. a) (λ b. b) h)
+root_reads_on s next (t ∷ states) tree h = h
+
+pub repo_reads_on : (s next : State) (states : List State) (tree : Tree) → OneOf repository_store (before_last next states).repository (last_of next states).repository tree
+    → OneOf repository_store (before_last s (next ∷ states)).repository (last_of next states).repository tree
+repo_reads_on s next [] tree h = inr (⊎_elim (λ a. a) (λ b. b) h)
+repo_reads_on s next (t ∷ states) tree h = h

@@ -1,0 +1,56 @@
+//! A line by itself.
+ghost use Rattle.std.specs.Prelude.{List, Result, ℕ};
+ghost use Rattle.cny_flow.specs.Flow.{sink_state};
+ghost use Rattle.cli_call.specs.cny-laws.declared.failure.Failure.{Failure};
+ghost use Rattle.conary_cli.specs.declared.words.Command.{Command};
+ghost use Rattle.conary_cli.specs.Program.{IsLineCall, IsLineCallOf, RunsAlone, line_state, told_source};
+ghost use Rattle.conary_cli.specs.Words.{AreWords};
+
+use crate::lines::given_of;
+use crate::program::run_command;
+use crate::words::read_words;
+use cli_call::tree_disk::TreeDisk;
+use cli_call::{Failure, open_disks, report, store_laws};
+use cny_batch::Line;
+use cny_flow::Sink;
+use std::alloc::Global;
+
+// Opens both disks, and performs the command of a line with its input.
+fn run_alone<O: Sink, T: TreeDisk, P: TreeDisk>(
+    alloc: Global,
+    line: &Line,
+    out: &mut O,
+    repo: &mut P,
+    root: &mut T,
+) -> Result<(), Failure>
+    ensures { (rest : List ℕ) × RunsAlone T.disk P.disk line.now.words (line_state (told_source line.now.input) root.old repo.old (sink_state O.sink out.old))
+        (line_state (told_source rest) root.new repo.new (sink_state O.sink out.new)) result }
+{
+    let command = read_words(alloc, line.words.get())?;
+    let mut opened = open_disks(alloc, repo, root)?;
+    let input = given_of(&command, line.input.get())?;
+    run_command(alloc, &command, input, &mut opened, out, repo, root)
+}
+
+/// Runs one line on the two disks, and answers its status: the call of its command with just its input. `batch` and `demo` are no
+/// commands of a line, and so a faulty command line.
+pub fn run_line<O: Sink, E: Sink, P: TreeDisk, T: TreeDisk>(
+    alloc: Global,
+    line: &Line,
+    out: &mut O,
+    err: &mut E,
+    repo: &mut P,
+    root: &mut T,
+) -> u8
+    // The words are something, and the call keeps all that one of it promises; or memory ran out before they were read, and nothing was
+    // done.
+    ensures some { IsLineCall T.disk P.disk line.now root.old repo.old (sink_state O.sink out.old) root.new repo.new (sink_state O.sink out.new) (sink_state E.sink err.old) (sink_state E.sink err.new) result }
+    // All that a call promises, by what the words are.
+    ensures call { (expected : Result Command Failure) → AreWords line.now.words expected → IsLineCallOf T.disk P.disk expected line.now root.old repo.old (sink_state O.sink out.old) root.new repo.new (sink_state O.sink out.new)
+        (sink_state E.sink err.old) (sink_state E.sink err.new) result }
+{
+    // What the disks store is told by the names that count.
+    store_laws();
+    let end = run_alone(alloc, line, out, repo, root);
+    report(alloc, &end, err)
+}
