@@ -1,4 +1,5 @@
-//! Paths, names, link targets, modes and numbers with their texts, nodes of a tree, and why a call stops.
+//! Paths, names, link targets, modes and numbers with their texts, nodes of a tree, and why a call stops. A text is read exactly
+//! where it is in its grammar, a copy equals what it was made from, and want of memory is told apart from a text that isn't read.
 #![tactic(auto)]
 
 mod bytes;

@@ -26,7 +26,7 @@ impl Copies for u64 {
 ///
 /// A crate names its lists as in `pub type Names = ListOf<Text>;`, and calls `Names::new(items)`.
 /// A list can be copied where its items can, so their type needs an `impl Copies`.
-#[derive(Debug, Drop)]
+#[derive(Drop)]
 pub struct ListOf<T> {
     items: Vec<T>,
 }

@@ -7,7 +7,7 @@ use std::marker::Model;
 /// The permission bits of a file or directory, at most 0o7777.
 // In another crate a pattern on a tuple that takes a mode by value out of an enum gets no proof
 // from this version of the kit: match on references there, as `match (&seen, wanted)`.
-#[derive(Clone, Copy, Debug, PartialEq, Eq)]
+#[derive(Clone, Copy, PartialEq, Eq)]
 pub struct Mode {
     bits: u16,
 }

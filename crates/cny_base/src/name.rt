@@ -16,7 +16,7 @@ use std::cmp::Ordering;
 use std::marker::Model;
 
 /// What a trove is, as its name tells.
-#[derive(Clone, Copy, Debug, PartialEq, Eq)]
+#[derive(Clone, Copy)]
 pub enum NameKind {
     /// `package:component`, which holds files.
     Component,
@@ -27,7 +27,7 @@ pub enum NameKind {
 }
 
 /// The name of a trove: a word, or two words with a colon between them; at most 255 bytes.
-#[derive(Debug, Drop)]
+#[derive(Drop)]
 pub struct Name {
     text: String,
 }

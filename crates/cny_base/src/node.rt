@@ -6,7 +6,6 @@ use crate::target::Target;
 use crate::text::OutOfMemory;
 
 /// What stands at a path.
-#[derive(Debug, Drop)]
 pub enum Node {
     /// A directory.
     Dir { mode: Mode },
@@ -14,6 +13,20 @@ pub enum Node {
     File { mode: Mode, bytes: Bytes },
     /// A symbolic link, which has no mode.
     Link { target: Target },
+}
+
+// Written by hand, so that to let a node go is a single call wherever a function ends early.
+impl Drop for Node {
+    fn drop(self) {
+        match self {
+            Node::Dir { mode: _ } => {}
+            Node::File {
+                mode: _,
+                bytes: _bytes,
+            } => {}
+            Node::Link { target: _target } => {}
+        }
+    }
 }
 
 impl Copies for Node {

@@ -1,7 +1,7 @@
 //! The options of a job.
 
 /// What a job may do at paths at which it would otherwise be refused.
-#[derive(Clone, Copy, Debug, PartialEq, Eq)]
+#[derive(Clone, Copy)]
 pub struct Options {
     /// Replace what stands there.
     pub replace: bool,

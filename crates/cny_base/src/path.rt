@@ -16,7 +16,7 @@ use std::marker::Model;
 
 /// A path of a tree: `/`, or one or more parts of 1 to 255 bytes, each after a slash; at most
 /// 1,024 bytes of UTF-8. A part has no control byte and is neither `.` nor `..`.
-#[derive(Debug, Drop)]
+#[derive(Drop)]
 pub struct Path {
     text: String,
 }

@@ -6,7 +6,7 @@ use crate::text::{OutOfMemory, Text};
 use std::alloc::{AllocError, AllocFailed};
 
 /// A quantity that has a limit.
-#[derive(Clone, Copy, Debug, PartialEq, Eq)]
+#[derive(Clone, Copy)]
 pub enum What {
     /// The whole input of a command.
     Input,

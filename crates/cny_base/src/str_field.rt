@@ -6,7 +6,7 @@ use crate::bytes::Bytes;
 use crate::text::OutOfMemory;
 
 /// Where a value stands in the bytes: from `from` up to `to`.
-#[derive(Clone, Copy, Debug, PartialEq, Eq)]
+#[derive(Clone, Copy)]
 pub struct Span {
     pub from: usize,
     pub to: usize,

@@ -12,7 +12,7 @@ use std::alloc::Global;
 use std::marker::Model;
 
 /// Where a symbolic link leads: 1 to 1,024 bytes of UTF-8 without control bytes.
-#[derive(Debug, Drop)]
+#[derive(Drop)]
 pub struct Target {
     text: String,
 }

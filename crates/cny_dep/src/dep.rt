@@ -23,7 +23,6 @@ use std::marker::Model;
 /// What a trove requires or provides: a class, a name and at most 64 flags, each above the one
 /// before it by its bytes. A name is 1 to 1,024 bytes of visible ASCII without `(`, `)` and `,`,
 /// a flag 1 to 255 of them.
-#[derive(Debug)]
 pub struct Dep {
     class: Class,
     name: Text,

@@ -14,7 +14,7 @@ use std::cmp::Ordering;
 use std::marker::Model;
 
 /// A flag of a dependency: 1 to 255 bytes of visible ASCII without `(`, `)` and `,`.
-#[derive(Debug, Drop)]
+#[derive(Drop)]
 pub struct Flag {
     text: String,
 }

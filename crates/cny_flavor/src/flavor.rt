@@ -21,7 +21,6 @@ use std::marker::Model;
 
 /// A flavor: flags and instruction sets, each list in the strictly rising order of its words, at most 64 in all.
 /// It keeps its canonical text.
-#[derive(Debug)]
 pub struct Flavor {
     parts: Parts,
     text: Text,

@@ -2,7 +2,7 @@
 use cny_base::{Copies, ListOf, OutOfMemory, Text};
 
 /// What a flag asks for.
-#[derive(Clone, Copy, Debug, PartialEq, Eq)]
+#[derive(Clone, Copy)]
 pub enum Sense {
     /// Written with nothing before the word.
     Required,
@@ -15,7 +15,7 @@ pub enum Sense {
 }
 
 /// A sense and a word.
-#[derive(Debug, Drop)]
+#[derive(Drop)]
 pub struct Flag {
     pub sense: Sense,
     pub word: Text,
@@ -34,7 +34,7 @@ impl Copies for Flag {
 pub type Flags = ListOf<Flag>;
 
 /// An instruction set, with flags of its own.
-#[derive(Debug, Drop)]
+#[derive(Drop)]
 pub struct InstructionSet {
     pub word: Text,
     pub flags: Flags,
@@ -53,7 +53,7 @@ impl Copies for InstructionSet {
 pub type InstructionSets = ListOf<InstructionSet>;
 
 /// The flags and the instruction sets of a flavor.
-#[derive(Debug, Drop)]
+#[derive(Drop)]
 pub struct Parts {
     pub flags: Flags,
     pub sets: InstructionSets,

@@ -5,7 +5,7 @@ ghost use Rattle.cny_flow.specs.declared.fault.FlowFault.TheVariants.{Memory};
 use std::alloc::{AllocError, AllocFailed};
 
 /// Why bytes didn't come or go.
-#[derive(Clone, Copy, Debug, PartialEq, Eq)]
+#[derive(Clone, Copy)]
 pub enum FlowFault {
     /// The source or sink failed: its count of faults rose.
     Failed,

@@ -20,7 +20,7 @@ use std::alloc::Global;
 use std::marker::Model;
 
 /// What was read of a manifest behind its version: whether owners are named, the id, and what the lines say.
-#[derive(Debug, Drop)]
+#[derive(Drop)]
 pub(crate) struct Draft {
     pub(crate) owners: bool,
     pub(crate) id: TroveId,

@@ -10,7 +10,7 @@ use manifest_troves::file_stream::{Flags, Owner};
 use std::alloc::Global;
 
 /// What a `dir` line says.
-#[derive(Debug, Drop)]
+#[derive(Drop)]
 pub(crate) struct DirLine {
     pub mode: Mode,
     pub owner: Owner,
@@ -18,7 +18,7 @@ pub(crate) struct DirLine {
 }
 
 /// What a `file` line says.
-#[derive(Debug, Drop)]
+#[derive(Drop)]
 pub(crate) struct FileLine {
     pub mode: Mode,
     pub size: u64,

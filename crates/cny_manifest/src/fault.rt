@@ -6,7 +6,7 @@ use manifest_troves::cny_base::OutOfMemory;
 use std::alloc::{AllocError, AllocFailed};
 
 /// Why bytes aren't those of a manifest.
-#[derive(Clone, Copy, Debug)]
+#[derive(Clone, Copy)]
 pub(crate) enum Unread {
     /// They aren't of its form; so many of them were left at the fault.
     At { left: usize },
@@ -15,7 +15,7 @@ pub(crate) enum Unread {
 }
 
 /// Why nothing was read.
-#[derive(Debug, Drop)]
+#[derive(Drop)]
 pub(crate) enum ReadError {
     Memory,
     Unread(Unread),

@@ -4,7 +4,7 @@ use manifest_troves::change_set::CarriedList;
 use manifest_troves::cny_base::{Copies, OutOfMemory};
 
 /// What a manifest makes: its troves, and the contents of their files.
-#[derive(Debug, Drop)]
+#[derive(Drop)]
 pub struct Made {
     /// By strictly rising names.
     pub troves: Troves,

@@ -6,7 +6,7 @@ ghost use Rattle.cny_manifest.specs.Reading.{Finds};
 use crate::fields::{field_of, is_same};
 
 /// The word of a line that is whole by itself.
-#[derive(Clone, Copy, Debug)]
+#[derive(Clone, Copy)]
 pub(crate) enum WholeLine {
     Flavor,
     Ref,
@@ -16,7 +16,7 @@ pub(crate) enum WholeLine {
 }
 
 /// The word of a line behind the version's.
-#[derive(Clone, Copy, Debug)]
+#[derive(Clone, Copy)]
 pub(crate) enum Word {
     Whole(WholeLine),
     /// A content follows.

@@ -3,7 +3,7 @@ use update_job::Changes;
 use update_job::cny_base::{Copies, ListOf, OutOfMemory};
 
 /// A job on the stack.
-#[derive(Debug, Drop)]
+#[derive(Drop)]
 pub struct Note {
     /// Its number.
     pub number: u32,

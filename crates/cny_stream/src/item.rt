@@ -6,7 +6,7 @@ ghost use Rattle.cny_stream.specs.ItemLaws.{SameItem};
 use cny_base::{Bytes, OutOfMemory};
 
 /// The tag of an item, and where its value stands in the bytes: from `from` up to `to`.
-#[derive(Clone, Copy, Debug, PartialEq, Eq)]
+#[derive(Clone, Copy)]
 pub struct Item {
     pub tag: u8,
     pub from: usize,
@@ -14,7 +14,7 @@ pub struct Item {
 }
 
 /// An item that was begun: where it stands in the bytes, and its tag.
-#[derive(Clone, Copy, Debug, PartialEq, Eq)]
+#[derive(Clone, Copy)]
 pub struct OpenItem {
     pub at: usize,
     pub tag: u8,

@@ -6,9 +6,9 @@ ghost use Rattle.cny_version.specs.Made.{shadowed, branched};
 ghost use Rattle.cny_version.specs.Reading.{branch_at};
 
 use crate::label::Label;
-use crate::part::{VersionPart, copy_labels, last_after};
+use crate::part::{VersionPart, last_after};
 use crate::revision::{Revision, push_revision};
-use cny_base::OutOfMemory;
+use cny_base::{Copies, OutOfMemory, copies_of};
 use std::alloc::Global;
 use std::marker::Model;
 
@@ -148,14 +148,10 @@ impl Branch {
     pub fn copy(&self) -> Result<Self, OutOfMemory>
         ensures { IfOk result (λ made. made ≡ self.now) }
     {
-        let mut before = Vec::new(*self.before.allocator());
-        for part in &self.before {
-            before.push(part.copy()?)?;
-        }
         Ok(Branch {
-            before,
+            before: copies_of(*self.before.allocator(), &self.before)?,
             first: self.first.copy()?,
-            shadows: copy_labels(*self.shadows.allocator(), &self.shadows)?,
+            shadows: copies_of(*self.shadows.allocator(), &self.shadows)?,
             depth: self.depth,
             text: self.text.clone()?,
         })

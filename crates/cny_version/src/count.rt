@@ -14,7 +14,7 @@ use std::alloc::Global;
 use std::marker::Model;
 
 /// A source count or a build count: numbers that a text joins by `.`.
-#[derive(Debug, Drop)]
+#[derive(Drop)]
 pub struct Count {
     numbers: Vec<u32>,
 }

@@ -12,10 +12,8 @@ ghost use Rattle.cny_version.specs.Reading.{Reads, checked_label, label_found};
 ghost use Rattle.cny_version.specs.Slices.{parts_of};
 
 use crate::cut::cut;
-use cny_base::{OutOfMemory, TextFault};
+use cny_base::{Copies, OutOfMemory, TextFault};
 use std::alloc::Global;
-use std::fmt;
-use std::fmt::Debug;
 use std::marker::Model;
 
 /// Where versions are made: `host@namespace:tag`, of at most 255 bytes.
@@ -48,13 +46,6 @@ impl Drop for Label {
             tag: _tag,
             text: _text,
         } = self;
-    }
-}
-
-// As its text.
-impl Debug for Label {
-    fn fmt<W: fmt::Write>(&self, f: &mut fmt::Formatter<W>) -> fmt::Result {
-        Debug::fmt(self.text(), f)
     }
 }
 
@@ -104,11 +95,10 @@ impl Label {
     {
         self.text.as_str()
     }
+}
 
-    /// An equal label.
-    pub fn copy(&self) -> Result<Self, OutOfMemory>
-        ensures { IfOk result (λ made. made ≡ self.now) }
-    {
+impl Copies for Label {
+    fn copy(&self) -> Result<Self, OutOfMemory> {
         Ok(Label {
             host: self.host.clone()?,
             namespace: self.namespace.clone()?,

@@ -1,11 +1,10 @@
 //! Parts of versions.
-ghost use Rattle.std.specs.Prelude.{◌≡◌, IfOk};
+ghost use Rattle.std.specs.Prelude.{◌≡◌};
 ghost use Rattle.cny_version.specs.Version.{last_of};
 
 use crate::label::Label;
 use crate::revision::Revision;
-use cny_base::OutOfMemory;
-use std::alloc::Global;
+use cny_base::{Copies, OutOfMemory, copies_of};
 use std::marker::Model;
 
 /// Labels, the first and the shadows of it, and a revision.
@@ -35,14 +34,11 @@ impl Drop for VersionPart {
     }
 }
 
-impl VersionPart {
-    /// An equal part.
-    pub fn copy(&self) -> Result<Self, OutOfMemory>
-        ensures { IfOk result (λ made. made ≡ self.now) }
-    {
+impl Copies for VersionPart {
+    fn copy(&self) -> Result<Self, OutOfMemory> {
         Ok(VersionPart {
             first: self.first.copy()?,
-            shadows: copy_labels(*self.shadows.allocator(), &self.shadows)?,
+            shadows: copies_of(*self.shadows.allocator(), &self.shadows)?,
             revision: self.revision.copy()?,
         })
     }
@@ -53,15 +49,4 @@ pub(crate) fn last_after<'a>(first: &'a Label, shadows: &'a [Label]) -> &'a Labe
     ensures { result.now ≡ last_of first.now shadows.now }
 {
     shadows.last().unwrap_or(first)
-}
-
-/// An equal list of labels.
-pub(crate) fn copy_labels(alloc: Global, labels: &[Label]) -> Result<Vec<Label>, OutOfMemory>
-    ensures { IfOk result (λ made. made.items ≡ labels.now) }
-{
-    let mut copies = Vec::new(alloc);
-    for label in labels {
-        copies.push(label.copy()?)?;
-    }
-    Ok(copies)
 }

@@ -11,7 +11,6 @@ use cny_base::{Copies, OutOfMemory, Text, TextFault};
 use std::alloc::Global;
 
 /// A revision: `upstream-source`, or `upstream-source-build` for what was built.
-#[derive(Debug)]
 pub struct Revision {
     /// The version that the authors of the software gave it.
     pub upstream: Text,

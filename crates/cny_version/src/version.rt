@@ -20,10 +20,8 @@ use crate::label::Label;
 use crate::read::read_parts;
 use crate::revision::{Revision, push_revision, revision_len};
 use crate::scan::is_version;
-use cny_base::{Fault, OutOfMemory, Refusal, TextFault, VERSION_LIMIT, What};
+use cny_base::{Copies, Fault, OutOfMemory, Refusal, TextFault, VERSION_LIMIT, What};
 use std::alloc::Global;
-use std::fmt;
-use std::fmt::Debug;
 use std::marker::Model;
 
 /// A version: where a trove was made and which one it is there. Its text has at most 512 bytes.
@@ -54,13 +52,6 @@ impl Drop for Version {
             revision: _revision,
             text: _text,
         } = self;
-    }
-}
-
-// As its text.
-impl Debug for Version {
-    fn fmt<W: fmt::Write>(&self, f: &mut fmt::Formatter<W>) -> fmt::Result {
-        Debug::fmt(self.text(), f)
     }
 }
 

@@ -3,7 +3,7 @@ ghost use Rattle.std.specs.Prelude.{◌≡◌};
 ghost use Rattle.file_stream.specs.Owner as spec;
 
 /// How the bytes of a record name its owner.
-#[derive(Clone, Copy, Debug, PartialEq, Eq)]
+#[derive(Clone, Copy)]
 pub enum Encoding {
     /// Only where it isn't root.
     Compact,

@@ -13,7 +13,6 @@ pub(crate) const ROOT: &str = "root";
 
 /// The user and the group that own a file or a directory, each a word of at most 32 bytes.
 // Root's names aren't kept, so that most owners take no memory.
-#[derive(Debug)]
 pub struct Owner {
     named: Option<(Text, Text)>,
 }

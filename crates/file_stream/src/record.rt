@@ -8,7 +8,7 @@ use crate::owner::Owner;
 use cny_base::{CONTENT_LIMIT, Copies, Mode, OutOfMemory, Target};
 
 /// What a trove asks for a file beside its contents.
-#[derive(Clone, Copy, Debug, PartialEq, Eq)]
+#[derive(Clone, Copy, PartialEq, Eq)]
 pub struct Flags {
     /// A configuration file, whose edits are kept.
     pub config: bool,
@@ -45,7 +45,7 @@ impl Flags {
 }
 
 /// What a trove records of a path.
-#[derive(Debug, PartialEq, Eq)]
+#[derive(PartialEq, Eq)]
 pub enum FileRec {
     /// A directory.
     Dir {

@@ -9,7 +9,6 @@ use std::marker::Model;
 use tree_disk::cny_base::{Bytes, Copies, ListOf, Mode, OutOfMemory, Path, Target};
 
 /// What is to stand at a path.
-#[derive(Debug)]
 pub enum Want {
     /// No node is to be there.
     Nothing,
@@ -108,7 +107,6 @@ impl Copies for Want {
 }
 
 /// What is to stand at one path.
-#[derive(Debug)]
 pub struct Put {
     pub path: Path,
     pub want: Want,
@@ -134,7 +132,7 @@ impl Copies for Put {
 }
 
 /// A write set: what is to stand at some paths, which strictly rise.
-#[derive(Debug, Drop)]
+#[derive(Drop)]
 pub struct Puts {
     items: ListOf<Put>,
 }

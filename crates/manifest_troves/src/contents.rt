@@ -31,13 +31,14 @@ fn put_content(kept: &mut BTreeMap<[u8; 20], Bytes>, content: Carried) -> Result
     ensures apart { OnOk result (differing kept.old.entries content ≡ None) }
     ensures refused { IfErr result (IsDifference kept.old.entries content) }
 {
-    let Carried { name, bytes } = content;
-    if let Some(other) = kept.get(&name) {
-        if *other != bytes {
-            let at = first_difference(other.get(), bytes.get()) as u64;
+    if let Some(other) = kept.get(&content.name) {
+        if *other != content.bytes {
+            let at = first_difference(other.get(), content.bytes.get()) as u64;
+            let name = content.name;
             return Err(Fault::Refused(Refusal::Collision { name, at }));
         }
     }
+    let (name, bytes) = content.into_parts();
     kept.insert(name, bytes)?;
     Ok(())
 }

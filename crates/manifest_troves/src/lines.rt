@@ -18,7 +18,7 @@ pub(crate) enum Added {
 }
 
 /// A trove by its name, and what it requires or provides.
-#[derive(Debug, Drop)]
+#[derive(Drop)]
 pub struct DepLine {
     pub name: Name,
     pub dep: Dep,
@@ -28,7 +28,7 @@ pub struct DepLine {
 pub type DepLines = ListOf<DepLine>;
 
 /// What the lines of a manifest say of its component, its package or its group, each list in the order of the lines.
-#[derive(Debug, Drop)]
+#[derive(Drop)]
 pub struct TroveLines {
     pub id: TroveId,
     /// The troves to which a group refers.

@@ -20,7 +20,6 @@ use std::collections::BTreeMap;
 use std::marker::Model;
 
 /// The entries that fall to a component, and what its lines say.
-#[derive(Debug)]
 pub(crate) struct Share {
     files: Vec<FileAt>,
     requires_: Vec<Dep>,

@@ -25,7 +25,6 @@ struct Content {
 }
 
 /// The places of the troves of each name, rising, and the contents that the troves record.
-#[derive(Drop)]
 pub(crate) struct Index {
     // A name may stand here without a place.
     names: IndexMap<String, Vec<usize>>,
@@ -33,6 +32,17 @@ pub(crate) struct Index {
     contents: IndexMap<[u8; 20], usize>,
     // What was recorded with another size of the same name.
     others: IndexSet<Content>,
+}
+
+// Written by hand, so that to let a value go is a single call wherever a function ends early.
+impl Drop for Index {
+    fn drop(self) {
+        let Index {
+            names: _names,
+            contents: _contents,
+            others: _others,
+        } = self;
+    }
 }
 
 impl Index {

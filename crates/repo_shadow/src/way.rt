@@ -10,7 +10,7 @@ use repo_index::trove_parts::TroveId;
 use std::alloc::Global;
 
 /// How versions come onto a label.
-#[derive(Clone, Copy, Debug, PartialEq, Eq)]
+#[derive(Clone, Copy)]
 pub enum Way {
     /// As shadows: the branch, `//` and the label, and the revision.
     Shadow,

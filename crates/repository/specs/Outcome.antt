@@ -60,8 +60,9 @@ CanBeRead contents troves tree = All (λ (c : Carried). FindsContent troves c.na
 -- ---- how it ends
 
 -- The commit is done: the files hold the catalogue with the new troves, each content that is carried can be read, also where
--- another one is damaged, and each repository that the disk stored became that after the commit. Where no name counted for it had changed since the last sync, none has now, and a crash leaves a tree that
--- recovers to that after the commit alone (the law `at_rest`).
+-- another one is damaged, and each repository that the disk stored became that after the commit. Where no name counted for it
+-- had changed since the last sync, none has now, and a crash leaves a tree that recovers to that after the commit alone (the law
+-- `at_rest`).
 pub record IsDone {D : Type 0} (disk : DiskModel D) (change : ChangeSet) (c c' : CatalogueParts) (ids : List TroveId) (old new : D) : Type 0 where
   pub troves : List TroveParts
   pub passes : Passes c (committed_contents c.troves (disk.reads old)) change troves

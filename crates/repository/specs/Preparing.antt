@@ -93,8 +93,9 @@ pub record RecoversSo (names : Name → Type 0) (c : CatalogueParts) (contents :
   pub recovers : RecoversTo repository_base image tree
   pub is : AgreesExcept names tree x ⊎ IsWritten c contents troves x tree
 
--- How the writing of a commit goes, which changes names in the repository's directory alone: a crash at any moment, and an error, leave a tree that recovers to one in which what
--- counts is as it was, or to one with the commit's file; after Ok that stands, and a crash leaves what is read.
+-- How the writing of a commit goes, which changes names in the repository's directory alone: a crash at any moment, and an
+-- error, leave a tree that recovers to one in which what counts is as it was, or to one with the commit's file; after Ok that
+-- stands, and a crash leaves what is read.
 pub record Writes {D : Type 0} (disk : DiskModel D) (c : CatalogueParts) (contents : List Carried) (troves : List TroveParts) (old new : D) (result : Result Unit Stop) : Type 0 where
   pub later : disk.faults old ≤ disk.faults new
   pub ends : EndsWith disk.tells (IsUntold disk.tells) (IsWritten c contents troves (disk.reads old) (disk.reads new)) result (disk.faults old) (disk.faults new)

@@ -10,7 +10,7 @@ use cny_base::{Copies, Mode, Names, OutOfMemory, Path, Target};
 use std::alloc::{AllocError, AllocFailed, Global};
 
 /// Why a call of a disk didn't do its work.
-#[derive(Clone, Copy, Debug, PartialEq, Eq)]
+#[derive(Clone, Copy)]
 pub enum DiskStop {
     /// The disk failed: its count of faults rose. A call that changes leaves anything at its own names, and
     /// changes no other; a call that reads and a sync change nothing.
@@ -46,7 +46,7 @@ impl From<OutOfMemory> for DiskStop {
 }
 
 /// What stands at a path.
-#[derive(Debug, Drop)]
+#[derive(Drop)]
 pub enum Look {
     /// Nothing, or a name above it isn't a directory.
     Nothing,

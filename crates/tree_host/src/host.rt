@@ -23,7 +23,7 @@ fn above_at(path: &str, at: usize) -> Option<&str> {
 const PERMISSION_BITS: u32 = 0o7777;
 
 /// What was seen at a path of the host.
-#[derive(Clone, Copy, Debug)]
+#[derive(Clone, Copy)]
 pub(crate) enum Seen {
     Nothing,
     Dir { mode: Mode },

@@ -4,7 +4,7 @@ use std::collections::BTreeMap;
 use tree_disk::cny_base::OutOfMemory;
 
 /// What stands at a path.
-#[derive(Clone, Copy, Debug, PartialEq, Eq)]
+#[derive(Clone, Copy)]
 pub(crate) enum Standing {
     Nothing,
     /// A directory. Whether it was synced since the program began, so that none of its names is unsynced that an earlier process

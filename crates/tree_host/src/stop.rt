@@ -6,7 +6,7 @@ use std::alloc::{AllocError, AllocFailed};
 use std::io;
 use tree_disk::cny_base::{OutOfMemory, TextFault};
 
-#[derive(Clone, Copy, Debug, PartialEq, Eq)]
+#[derive(Clone, Copy)]
 pub(crate) enum HostStop {
     /// The host answered an error, or it holds what no tree has, or the call isn't one that a tree allows.
     Failed,

@@ -151,7 +151,7 @@ impl MemoryTree {
 }
 
 /// Why a disk isn't made, or an edit isn't.
-#[derive(Clone, Copy, Debug, PartialEq, Eq)]
+#[derive(Clone, Copy)]
 pub enum TreeFault {
     /// The result wouldn't be a tree.
     NotATree,

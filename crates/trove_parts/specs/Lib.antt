@@ -6,6 +6,7 @@ pub mod Files
 pub mod Refs
 pub mod Deps
 pub mod Paths
+pub mod Places
 pub use Rattle.cny_version.specs.cny-base
 pub use Rattle.cny_flavor.specs as cny-flavor
 pub use Rattle.file_stream.specs as file-stream

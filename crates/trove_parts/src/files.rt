@@ -15,7 +15,7 @@ use file_stream::{Encoding, FileRec, decode_as, distinct_records, encode_as};
 use std::alloc::Global;
 
 /// What a trove records of one path.
-#[derive(Debug, Drop, PartialEq, Eq)]
+#[derive(Drop)]
 pub struct FileAt {
     pub path: Path,
     pub rec: FileRec,

@@ -12,7 +12,6 @@ use cny_version::{Version, distinct_texts};
 use std::cmp::Ordering;
 
 /// Which trove it is: its name, its version and its flavor.
-#[derive(Debug)]
 pub struct TroveId {
     pub name: Name,
     pub version: Version,

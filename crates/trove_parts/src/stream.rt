@@ -13,7 +13,7 @@ use cny_version::cny_base::{Bytes, OutOfMemory, Span, TextFault, next_str, put_s
 use std::alloc::Global;
 
 /// An id that stands in the bytes of a stream, and its end.
-#[derive(Debug, Drop)]
+#[derive(Drop)]
 pub struct IdAt {
     pub id: TroveId,
     /// The place behind the last byte of the id.

@@ -5,7 +5,7 @@ use Rattle.std.proofs.lemmas.Bool.{eqb-true}
 use Rattle.std.proofs.lemmas.List.Elements.{Contains-append_left, Contains-push, Contains-push_cases}
 use Rattle.std.proofs.lemmas.Map.Views.{Contains-from_any}
 use Rattle.std.proofs.lemmas.Option.{none-some, same_Some}
-use Rattle.indexmap.specs.IndexSet.{insert_key}
+use Rattle.repo_index.specs.trove-parts.Places.{with_place}
 use Rattle.repo_index.specs.trove-parts.declared.id.TroveId.{TroveId}
 use Rattle.repo_index.specs.trove-stream.declared.parts.TroveParts.{TroveParts}
 use Rattle.repo_index.specs.Places.{IsPlaceOf}
@@ -31,7 +31,7 @@ module _ (troves : List TroveParts) where
 
   -- the trove of the id stands at this place alone
   pub adds_place : (seen : List TroveId) (id : TroveId) (old new newer : List ℕ) (found : ℕ) → HasAddedPlaces troves seen old new → IsPlaceOf troves id found
-      → ((place : ℕ) → IsPlaceOf troves id place → Some found ≡ Some place) → newer ≡ insert_key eqb new found → HasAddedPlaces troves (seen ++ id ∷ []) old newer
+      → ((place : ℕ) → IsPlaceOf troves id place → Some found ≡ Some place) → newer ≡ with_place new found → HasAddedPlaces troves (seen ++ id ∷ []) old newer
   adds_place seen id old new newer found added found_is only inserted = by (list_any (eqb found) new) refl inserted
     where
       all_in : ((place : ℕ) → Contains new place → Contains newer place) → Contains newer found → (other : TroveId) (place : ℕ) → Contains (seen ++ id ∷ []) other → IsPlaceOf troves other place → Contains newer place

@@ -12,14 +12,15 @@ ghost use Rattle.trove_spec.specs.declared.config.Setting.{Setting};
 
 use cny_flavor::Flavor;
 use cny_version::{Label, distinct_texts};
-use repo_index::cny_base::{Copies, Fault, ListOf, OutOfMemory, Refusal, TextFault, text_of};
+use repo_index::cny_base::{
+    Copies, Fault, ListOf, OutOfMemory, Refusal, TextFault, copies_of, text_of,
+};
 use std::alloc::{AllocError, Global};
 
 /// A list of labels.
 pub type Labels = ListOf<Label>;
 
 /// What the configuration file says: the labels on which a trove is looked for, in their order, and the system's flavor.
-#[derive(Debug)]
 pub struct Config {
     pub labels: Labels,
     pub flavor: Flavor,
@@ -96,21 +97,10 @@ impl Config {
         ensures { IfOk result (λ made. made ≡ self.now) }
     {
         Ok(Config {
-            labels: copied(alloc, self.labels.get())?,
+            labels: Labels::new(copies_of(alloc, self.labels.get())?),
             flavor: self.flavor.copy()?,
         })
     }
-}
-
-// A list of copies of these labels.
-fn copied(alloc: Global, labels: &[Label]) -> Result<Labels, OutOfMemory>
-    ensures { IfOk result (λ made. made ≡ labels.now) }
-{
-    let mut items = Vec::new(alloc);
-    for label in labels {
-        items.push(label.copy()?)?;
-    }
-    Ok(Labels::new(items))
 }
 
 fn is_blank(byte: u8) -> bool

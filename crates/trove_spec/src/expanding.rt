@@ -8,10 +8,9 @@ ghost use Rattle.trove_spec.specs.Expansion as spec;
 ghost use Rattle.trove_spec.specs.Expansion.{IsExpansion, IsClosedIn, HasRisingNames, IsUnexpanded};
 ghost use Rattle.trove_spec.specs.Reached.{HasAddedPlaces, HasAddedRefs, ArePlacesReached};
 
-use indexmap::IndexSet;
 use repo_index::Catalogue;
 use repo_index::cny_base::{Copies, Fault, ListOf, OutOfMemory, Refusal};
-use repo_index::trove_parts::{TroveId, id_text};
+use repo_index::trove_parts::{Places, TroveId, id_text};
 use repo_index::trove_stream::Trove;
 use std::alloc::Global;
 
@@ -22,9 +21,9 @@ pub type Troves = ListOf<Trove>;
 fn add_places(
     catalogue: &Catalogue,
     ids: &[TroveId],
-    places: &mut IndexSet<usize>,
+    places: &mut Places,
 ) -> Result<(), OutOfMemory>
-    ensures { OnOk result (HasAddedPlaces catalogue.now.troves ids.now places.old.keys places.new.keys) }
+    ensures { OnOk result (HasAddedPlaces catalogue.now.troves ids.now places.old places.new) }
 {
     for id in ids {
         if let Some(place) = catalogue.place_of(id) {
@@ -35,12 +34,8 @@ fn add_places(
 }
 
 // Adds the places of the troves to which the trove at this place refers.
-fn add_refs(
-    catalogue: &Catalogue,
-    place: usize,
-    places: &mut IndexSet<usize>,
-) -> Result<(), OutOfMemory>
-    ensures { OnOk result (HasAddedRefs catalogue.now.troves place places.old.keys places.new.keys) }
+fn add_refs(catalogue: &Catalogue, place: usize, places: &mut Places) -> Result<(), OutOfMemory>
+    ensures { OnOk result (HasAddedRefs catalogue.now.troves place places.old places.new) }
 {
     if let Some(trove) = catalogue.trove_at(place) {
         add_places(catalogue, trove.refs(), places)?;
@@ -53,10 +48,10 @@ fn places_reached(
     alloc: Global,
     catalogue: &Catalogue,
     roots: &[TroveId],
-) -> Result<IndexSet<usize>, OutOfMemory>
-    ensures { IfOk result (λ places. ArePlacesReached catalogue.now.troves roots.now places.keys) }
+) -> Result<Places, OutOfMemory>
+    ensures { IfOk result (λ places. ArePlacesReached catalogue.now.troves roots.now places) }
 {
-    let mut places = IndexSet::new(alloc);
+    let mut places = Places::new(alloc);
     add_places(catalogue, roots, &mut places)?;
     let mut done = 0;
     while done < places.len() {

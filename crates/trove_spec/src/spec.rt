@@ -13,7 +13,6 @@ use repo_index::cny_base::{Copies, Name, OutOfMemory, TextFault};
 use std::alloc::Global;
 
 /// Where a trove is looked for.
-#[derive(Debug)]
 pub enum Place {
     /// On the first label of the configuration that has a candidate.
     Any,
@@ -45,7 +44,6 @@ impl Copies for Place {
 }
 
 /// Which trove is meant: its name, and where and for which flavor it is looked for.
-#[derive(Debug)]
 pub struct Spec {
     pub name: Name,
     pub place: Place,

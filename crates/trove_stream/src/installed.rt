@@ -1,19 +1,17 @@
 //! Lists of installed troves.
-ghost use Rattle.std.specs.Prelude.{◌≡◌, ◌↔◌, ℕ, Some, IsSome, IfSome, IfNone, IfOk, IsTrue};
+ghost use Rattle.std.specs.Prelude.{◌≡◌, ◌↔◌, ℕ, Some, IsSome, IfSome, IfNone, IsTrue};
 ghost use Rattle.std.specs.Option.{option_copied};
 ghost use Rattle.std.specs.Ordering.{is_lt};
 ghost use Rattle.trove_stream.specs.Installed.{by_name, IsRising, IsPlaceOf, IsNameless, trove_of};
 
 use crate::trove::Trove;
-use std::alloc::Global;
 use std::marker::Model;
-use trove_parts::cny_base::{Copies, ListOf, Name, OutOfMemory};
+use trove_parts::cny_base::{Copies, ListOf, Name, OutOfMemory, copies_of};
 
 /// A list of troves.
 pub type Troves = ListOf<Trove>;
 
 /// The troves that are installed: one of a name, each name above the one before it by its bytes.
-#[derive(Debug)]
 pub struct Installed {
     troves: Vec<Trove>,
 }
@@ -105,19 +103,9 @@ impl Installed {
     }
 }
 
-fn copied(alloc: Global, troves: &[Trove]) -> Result<Vec<Trove>, OutOfMemory>
-    ensures { IfOk result (λ copies. copies.items ≡ troves.now) }
-{
-    let mut copies = Vec::new(alloc);
-    for trove in troves {
-        copies.push(trove.copy()?)?;
-    }
-    Ok(copies)
-}
-
 impl Copies for Installed {
     fn copy(&self) -> Result<Self, OutOfMemory> {
-        let troves = copied(*self.troves.allocator(), self.troves())?;
+        let troves = copies_of(*self.troves.allocator(), self.troves())?;
         Ok(Installed::of_rising(troves))
     }
 }

@@ -3,7 +3,7 @@ use trove_parts::cny_base::{Copies, OutOfMemory};
 use trove_parts::{Deps, Files, Refs, TroveId};
 
 /// What a trove holds, with the rules of troves kept or not.
-#[derive(Debug, Drop)]
+#[derive(Drop)]
 pub struct TroveParts {
     pub id: TroveId,
     /// What it records of its paths.

@@ -9,7 +9,7 @@ use trove_parts::cny_base::{Copies, OutOfMemory, Paths, TextFault};
 use trove_parts::{Deps, Files, Refs, TroveId};
 
 /// The parts of a relative trove, which need not go together.
-#[derive(Debug, Drop)]
+#[derive(Drop)]
 pub struct RelParts {
     /// The id of the trove that it starts from.
     pub old: TroveId,
@@ -118,7 +118,6 @@ fn copied<A: Copies, B: Copies>(old: &A, fresh: &B) -> Result<Pair<A, B>, OutOfM
 /// What leads from one trove to another of its name: two ids of one name; paths that are gone, and others that are set
 /// to a record; references, requirements and provides that are gone, and others that are added. Each list strictly
 /// rises, and has any number of elements.
-#[derive(Debug)]
 pub struct RelTrove {
     parts: RelParts,
 }

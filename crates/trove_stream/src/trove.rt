@@ -12,7 +12,6 @@ use trove_parts::{Deps, FileAt, Files, Refs, TroveId};
 /// A version of a component, of a package or of a group. A component holds files, and what it requires and provides; a
 /// package refers to its components of the same version and flavor, a group to other troves. A component `NAME:source` has
 /// no build count, every other trove has one.
-#[derive(Debug)]
 pub struct Trove {
     parts: TroveParts,
 }

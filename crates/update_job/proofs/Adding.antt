@@ -5,7 +5,7 @@ use Rattle.std.proofs.lemmas.Bool.{eqb-true}
 use Rattle.std.proofs.lemmas.List.Elements.{Contains-append_left, Contains-push, Contains-push_cases}
 use Rattle.std.proofs.lemmas.Map.Views.{Contains-from_any}
 use Rattle.std.proofs.lemmas.Option.{none-some, same_Some}
-use Rattle.indexmap.specs.IndexSet.{insert_key}
+use Rattle.change_set.specs.trove-parts.Places.{with_place}
 use Rattle.change_set.specs.trove-stream.declared.parts.TroveParts.{TroveParts}
 use Rattle.update_job.specs.Places.{IsOpenPlace, IsPlaceOfItem, HasAddedPlaces}
 use Rattle.change_rel.proofs.cny-base.Lists.{nothing_in}
@@ -38,7 +38,7 @@ module _ {A : Type 0} (name_of : A → List ℕ) (list : List TroveParts) (barre
 
   -- the trove of the name stands at this place alone
   pub adds_place : (seen : List A) (item : A) (old new newer : List ℕ) (found : ℕ) → HasAddedPlaces name_of list barred seen old new → IsOpenPlace list barred (name_of item) found
-      → ((place : ℕ) → IsOpenPlace list barred (name_of item) place → Some found ≡ Some place) → newer ≡ insert_key eqb new found
+      → ((place : ℕ) → IsOpenPlace list barred (name_of item) place → Some found ≡ Some place) → newer ≡ with_place new found
       → HasAddedPlaces name_of list barred (seen ++ item ∷ []) old newer
   adds_place seen item old new newer found added found_is only inserted = by (list_any (eqb found) new) refl inserted
     where

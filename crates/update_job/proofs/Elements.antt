@@ -7,7 +7,7 @@ use Rattle.std.proofs.lemmas.List.Elements.{Contains-append_left, Contains-push,
 use Rattle.std.proofs.lemmas.Map.Keys.{any_passes_from_place}
 use Rattle.std.proofs.lemmas.Map.Views.{Contains-from_any}
 use Rattle.std.proofs.lemmas.Option.{slice_get-get_or}
-use Rattle.indexmap.specs.IndexSet.{insert_key}
+use Rattle.change_set.specs.trove-parts.Places.{with_place}
 use Rattle.update_job.specs.Places.{HasSame}
 use Rattle.change_rel.proofs.cny-base.Lists.{place_in}
 
@@ -36,21 +36,21 @@ at_key : (keys : List ℕ) (key : ℕ) (b : Bool) → list_any (eqb key) keys �
 at_key keys key true known other among = inl among
 at_key keys key false unknown other among = Contains-push_cases keys key other among
 
-pub in_inserted : (keys : List ℕ) (key other : ℕ) → Contains (insert_key eqb keys key) other → Contains keys other ⊎ (key ≡ other)
+pub in_inserted : (keys : List ℕ) (key other : ℕ) → Contains (with_place keys key) other → Contains keys other ⊎ (key ≡ other)
 in_inserted keys key other among = at_key keys key (list_any (eqb key) keys) refl other among
 
 kept_key : (keys : List ℕ) (key : ℕ) (b : Bool) → list_any (eqb key) keys ≡ b → (other : ℕ) → Contains keys other → Contains (cond b keys (keys ++ key ∷ [])) other
 kept_key keys key true known other among = among
 kept_key keys key false unknown other among = Contains-append_left keys (key ∷ []) other among
 
-pub inserted_keeps : (keys : List ℕ) (key other : ℕ) → Contains keys other → Contains (insert_key eqb keys key) other
+pub inserted_keeps : (keys : List ℕ) (key other : ℕ) → Contains keys other → Contains (with_place keys key) other
 inserted_keeps keys key other among = kept_key keys key (list_any (eqb key) keys) refl other among
 
 own_key : (keys : List ℕ) (key : ℕ) (b : Bool) → list_any (eqb key) keys ≡ b → Contains (cond b keys (keys ++ key ∷ [])) key
 own_key keys key true known = Contains-from_any eqb-true key keys known
 own_key keys key false unknown = Contains-push keys key
 
-pub inserted_in : (keys : List ℕ) (key : ℕ) → Contains (insert_key eqb keys key) key
+pub inserted_in : (keys : List ℕ) (key : ℕ) → Contains (with_place keys key) key
 inserted_in keys key = own_key keys key (list_any (eqb key) keys) refl
 
 -- ---- a place that isn't in a set
@@ -63,12 +63,12 @@ apart keys place none among =
 -- ---- the first of some places as a set
 
 -- one place more is inserted
-pub same_more : (places : List ℕ) (i : ℕ) (old new : List ℕ) → i < length places → HasSame (take i places) old → new ≡ insert_key eqb old (get_or places i 0) → HasSame (take (i + 1) places) new
+pub same_more : (places : List ℕ) (i : ℕ) (old new : List ℕ) → i < length places → HasSame (take i places) old → new ≡ with_place old (get_or places i 0) → HasSame (take (i + 1) places) new
 same_more places i old new within same inserted =
     let key = get_or places i 0 in record {
       there = λ place among. subst (λ (l : List ℕ). Contains l place) (sym inserted) (⊎_elim
           (λ before. inserted_keeps old key place (same.there place before))
-          (λ last. subst (λ (n : ℕ). Contains (insert_key eqb old key) n) last (inserted_in old key))
+          (λ last. subst (λ (n : ℕ). Contains (with_place old key) n) last (inserted_in old key))
           (in_more places i 0 key within refl place among));
       back = λ place among. ⊎_elim
           (λ before. more_in places i 0 key within refl place (same.back place before))

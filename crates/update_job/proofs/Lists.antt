@@ -1,11 +1,11 @@
 -- The lists after an update and an erasure.
-use Rattle.std.proofs.Common.{◌≡◌, ℕ, ◌+◌, ◌<◌, ◌⊎◌, ⊎_elim, inl, inr, List, [], length, get_or, take, Contains, eqb, Some, None, refl, sym, ap, subst, ◌∙◌}
+use Rattle.std.proofs.Common.{◌≡◌, ℕ, ◌+◌, ◌<◌, ◌⊎◌, ⊎_elim, inl, inr, List, [], length, get_or, take, Contains, Some, None, refl, sym, ap, subst, ◌∙◌}
 use Rattle.std.specs.BTreeMap.{IsOrdered, values, is_at}
 use Rattle.std.specs.Cmp.Lexicographic.{slice_cmp}
 use Rattle.std.specs.Map.{lookup}
 use Rattle.std.specs.Ordering.{nat_cmp}
 use Rattle.std.proofs.lemmas.Option.{same_Some, none-some}
-use Rattle.indexmap.specs.IndexSet.{insert_key}
+use Rattle.change_set.specs.trove-parts.Places.{with_place}
 use Rattle.change_set.specs.trove-stream.Installed.{IsPlaceOf}
 use Rattle.change_set.specs.trove-stream.declared.parts.TroveParts.{TroveParts}
 use Rattle.update_job.specs.Lists.{IsPlaceOfOne, Stays, IsErased, AreInstalled, HasTroveOf, IsUpdated}
@@ -32,7 +32,7 @@ module _ (list : List TroveParts) (Before After : List ℕ → Type 0) (name : L
         (last_or is.name is.named);
   }
 
-  pub roots_more : After name → (new : List ℕ) (at : ℕ) → IsPlaceOf name list at → ((place : ℕ) → IsPlaceOf name list place → Some at ≡ Some place) → new ≡ insert_key eqb old at → ArePlacesOf list After new
+  pub roots_more : After name → (new : List ℕ) (at : ℕ) → IsPlaceOf name list at → ((place : ℕ) → IsPlaceOf name list place → Some at ≡ Some place) → new ≡ with_place old at → ArePlacesOf list After new
   roots_more named new at at_is only inserted = record {
     each = λ place among. ⊎_elim
         (λ before. of_before place before)
@@ -40,7 +40,7 @@ module _ (list : List TroveParts) (Before After : List ℕ → Type 0) (name : L
         (in_inserted old at place (subst (λ (l : List ℕ). Contains l place) inserted among));
     all = λ place is. subst (λ (l : List ℕ). Contains l place) (sym inserted) (⊎_elim
         (λ before. inserted_keeps old at place (so_far.all place (record { name = is.name; named = before; place_of = is.place_of })))
-        (λ last. subst (Contains (insert_key eqb old at)) (same_Some at place (only place (subst (λ (n : List ℕ). IsPlaceOf n list place) (sym last) is.place_of))) (inserted_in old at))
+        (λ last. subst (Contains (with_place old at)) (same_Some at place (only place (subst (λ (n : List ℕ). IsPlaceOf n list place) (sym last) is.place_of))) (inserted_in old at))
         (last_or is.name is.named));
   }
 
@@ -50,7 +50,7 @@ pub record RootsSoFar (list : List TroveParts) (names : List (List ℕ)) (keys :
   pub installed : AreInstalled list names
 
 pub names_more : (list : List TroveParts) (names : List (List ℕ)) (i : ℕ) (name : List ℕ) (old new : List ℕ) (at : ℕ) → i < length names → name ≡ get_or names i name → RootsSoFar list (take i names) old
-    → IsPlaceOf name list at → ((place : ℕ) → IsPlaceOf name list place → Some at ≡ Some place) → new ≡ insert_key eqb old at → RootsSoFar list (take (i + 1) names) new
+    → IsPlaceOf name list at → ((place : ℕ) → IsPlaceOf name list place → Some at ≡ Some place) → new ≡ with_place old at → RootsSoFar list (take (i + 1) names) new
 names_more list names i name old new at within is so_far at_is only inserted = record {
   roots = roots_more list (Contains (take i names)) (Contains (take (i + 1) names)) name old (more_in names i name name within is) (in_more names i name name within is) so_far.roots
       (next_in names i name name within is) new at at_is only inserted;

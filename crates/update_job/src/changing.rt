@@ -7,8 +7,8 @@ ghost use Rattle.update_job.specs.Places.{ArePlacesOf};
 use crate::by_name::{by_name, in_order, put_all};
 use crate::reaching::places_left;
 use change_set::cny_base::{Fault, Name, OutOfMemory, Refusal, Text};
+use change_set::trove_parts::Places;
 use change_set::trove_stream::{Installed, Trove};
-use indexmap::IndexSet;
 use std::alloc::Global;
 use std::collections::BTreeMap;
 
@@ -22,16 +22,12 @@ fn not_installed(alloc: Global, name: &Name) -> Result<Refusal, OutOfMemory>
 }
 
 // The places of the installed troves of these names. `NotInstalled` for the first name of which none is installed.
-fn places_of_names(
-    alloc: Global,
-    installed: &Installed,
-    names: &[Name],
-) -> Result<IndexSet<usize>, Fault>
-    ensures value { IfOk result (λ places. ArePlacesOf installed.now (Contains names.now) places.keys) }
+fn places_of_names(alloc: Global, installed: &Installed, names: &[Name]) -> Result<Places, Fault>
+    ensures value { IfOk result (λ places. ArePlacesOf installed.now (Contains names.now) places) }
     ensures all { OnOk result (AreInstalled installed.now names.now) }
     ensures fault { IfErr result (IsUnerased installed.now names.now) }
 {
-    let mut places = IndexSet::new(alloc);
+    let mut places = Places::new(alloc);
     for name in names {
         let Some(place) = installed.place_of(name) else {
             let refusal = not_installed(alloc, name)?;
@@ -47,10 +43,10 @@ fn places_of_troves(
     alloc: Global,
     installed: &Installed,
     troves: &[Trove],
-) -> Result<IndexSet<usize>, OutOfMemory>
-    ensures { IfOk result (λ places. ArePlacesOf installed.now (HasTroveOf troves.now) places.keys) }
+) -> Result<Places, OutOfMemory>
+    ensures { IfOk result (λ places. ArePlacesOf installed.now (HasTroveOf troves.now) places) }
 {
-    let mut places = IndexSet::new(alloc);
+    let mut places = Places::new(alloc);
     for trove in troves {
         if let Some(place) = installed.place_of(&trove.id().name) {
             places.insert(place)?;

@@ -14,7 +14,7 @@ use std::alloc::Global;
 use std::collections::BTreeMap;
 
 /// A change of an installed list.
-#[derive(Debug, Drop)]
+#[derive(Drop)]
 pub enum Change {
     /// The list after has this trove, and the list before has none of its name.
     Installed(TroveId),

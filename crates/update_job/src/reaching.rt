@@ -5,18 +5,17 @@ ghost use Rattle.update_job.specs.Gone.{IsPlace};
 ghost use Rattle.update_job.specs.Places.{IsOpenPlace, HasAddedPlaces, HasAddedRefs, ArePlacesReached, ArePlacesFrom, HasSame, AreOthers, ArePlaces, ArePlacesLeft, name_of_id};
 
 use change_set::cny_base::{Name, OutOfMemory};
-use change_set::trove_parts::TroveId;
+use change_set::trove_parts::{Places, TroveId};
 use change_set::trove_stream::Installed;
-use indexmap::IndexSet;
 use std::alloc::Global;
 
 // The place of the trove of this name, if it is installed and its place isn't barred.
-fn open_place(installed: &Installed, barred: &IndexSet<usize>, name: &Name) -> Option<usize>
-    ensures some { IfSome result (IsOpenPlace installed.now barred.now.keys name.now) }
-    ensures only { (place : ℕ) → IsOpenPlace installed.now barred.now.keys name.now place → result ≡ Some place }
+fn open_place(installed: &Installed, barred: &Places, name: &Name) -> Option<usize>
+    ensures some { IfSome result (IsOpenPlace installed.now barred.now name.now) }
+    ensures only { (place : ℕ) → IsOpenPlace installed.now barred.now name.now place → result ≡ Some place }
 {
     let place = installed.place_of(name)?;
-    if barred.contains(&place) {
+    if barred.contains(place) {
         return None;
     }
     Some(place)
@@ -25,11 +24,11 @@ fn open_place(installed: &Installed, barred: &IndexSet<usize>, name: &Name) -> O
 // Adds the places of the troves with the names of these ids, behind those that are there, each once, without the barred ones.
 fn add_named(
     installed: &Installed,
-    barred: &IndexSet<usize>,
+    barred: &Places,
     ids: &[TroveId],
-    places: &mut IndexSet<usize>,
+    places: &mut Places,
 ) -> Result<(), OutOfMemory>
-    ensures { OnOk result (HasAddedPlaces name_of_id installed.now barred.now.keys ids.now places.old.keys places.new.keys) }
+    ensures { OnOk result (HasAddedPlaces name_of_id installed.now barred.now ids.now places.old places.new) }
 {
     for id in ids {
         if let Some(place) = open_place(installed, barred, &id.name) {
@@ -42,11 +41,11 @@ fn add_named(
 // Adds the places to which the trove at this place refers, without the barred ones.
 fn add_refs(
     installed: &Installed,
-    barred: &IndexSet<usize>,
+    barred: &Places,
     place: usize,
-    places: &mut IndexSet<usize>,
+    places: &mut Places,
 ) -> Result<(), OutOfMemory>
-    ensures { OnOk result (HasAddedRefs installed.now barred.now.keys place places.old.keys places.new.keys) }
+    ensures { OnOk result (HasAddedRefs installed.now barred.now place places.old places.new) }
 {
     if let Some(trove) = installed.troves().get(place) {
         add_named(installed, barred, trove.refs(), places)?;
@@ -55,10 +54,10 @@ fn add_refs(
 }
 
 // The set of these places.
-fn set_of(alloc: Global, places: &[usize]) -> Result<IndexSet<usize>, OutOfMemory>
-    ensures { IfOk result (λ set. HasSame places.now set.keys) }
+fn set_of(alloc: Global, places: &[usize]) -> Result<Places, OutOfMemory>
+    ensures { IfOk result (λ set. HasSame places.now set) }
 {
-    let mut set = IndexSet::new(alloc);
+    let mut set = Places::new(alloc);
     for place in places {
         set.insert(*place)?;
     }
@@ -69,11 +68,11 @@ fn set_of(alloc: Global, places: &[usize]) -> Result<IndexSet<usize>, OutOfMemor
 fn places_reached(
     alloc: Global,
     installed: &Installed,
-    barred: &IndexSet<usize>,
+    barred: &Places,
     starts: &[usize],
-) -> Result<IndexSet<usize>, OutOfMemory>
+) -> Result<Places, OutOfMemory>
     requires { ArePlaces installed.now starts.now }
-    ensures { IfOk result (λ places. ArePlacesReached installed.now barred.now.keys starts.now places.keys) }
+    ensures { IfOk result (λ places. ArePlacesReached installed.now barred.now starts.now places) }
 {
     let mut places = set_of(alloc, starts)?;
     let mut done = 0;
@@ -90,23 +89,19 @@ pub fn places_from(
     alloc: Global,
     installed: &Installed,
     start: usize,
-) -> Result<IndexSet<usize>, OutOfMemory>
+) -> Result<Places, OutOfMemory>
     requires { IsPlace installed.now start }
-    ensures { IfOk result (λ places. ArePlacesFrom installed.now start places.keys) }
+    ensures { IfOk result (λ places. ArePlacesFrom installed.now start places) }
 {
-    let none = IndexSet::new(alloc);
+    let none = Places::new(alloc);
     places_reached(alloc, installed, &none, &[start])
 }
 
 // Adds a place, unless it is among these.
-fn push_other(
-    places: &IndexSet<usize>,
-    place: usize,
-    others: &mut Vec<usize>,
-) -> Result<(), OutOfMemory>
-    ensures { OnOk result (others.new.items ≡ (if list_any (eqb place) places.now.keys then others.old.items else others.old.items ++ place ∷ [])) }
+fn push_other(places: &Places, place: usize, others: &mut Vec<usize>) -> Result<(), OutOfMemory>
+    ensures { OnOk result (others.new.items ≡ (if list_any (eqb place) places.now then others.old.items else others.old.items ++ place ∷ [])) }
 {
-    if places.contains(&place) {
+    if places.contains(place) {
         return Ok(());
     }
     others.push(place)?;
@@ -117,9 +112,9 @@ fn push_other(
 fn other_places(
     alloc: Global,
     installed: &Installed,
-    places: &IndexSet<usize>,
+    places: &Places,
 ) -> Result<Vec<usize>, OutOfMemory>
-    ensures { IfOk result (λ others. AreOthers installed.now places.now.keys others.items) }
+    ensures { IfOk result (λ others. AreOthers installed.now places.now others.items) }
 {
     let mut others = Vec::new(alloc);
     for place in 0..installed.troves().len() {
@@ -133,12 +128,12 @@ fn other_places(
 pub(crate) fn places_left(
     alloc: Global,
     installed: &Installed,
-    roots: &IndexSet<usize>,
-) -> Result<IndexSet<usize>, OutOfMemory>
-    requires { ArePlaces installed.now roots.now.keys }
-    ensures { IfOk result (λ places. ArePlacesLeft installed.now roots.now.keys places.keys) }
+    roots: &Places,
+) -> Result<Places, OutOfMemory>
+    requires { ArePlaces installed.now roots.now }
+    ensures { IfOk result (λ places. ArePlacesLeft installed.now roots.now places) }
 {
-    let none = IndexSet::new(alloc);
+    let none = Places::new(alloc);
     let reached = places_reached(alloc, installed, &none, roots.as_slice())?;
     let outside = other_places(alloc, installed, &reached)?;
     let left = places_reached(alloc, installed, roots, outside.as_slice())?;

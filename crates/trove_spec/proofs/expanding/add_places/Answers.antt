@@ -12,16 +12,16 @@ loop-id-preserved c =
     let ids = c.args.ids.now in
     let i = c.loop-id.id-index in
     let id = c.id-item.result in
-    let old = c.args.places.now.keys in
-    let new = c.loop-id.places.keys in
-    let newer = c.match-place_of.places.keys in
+    let old = c.args.places.now in
+    let new = c.loop-id.places in
+    let newer = c.match-place_of.places in
     let within : i < length ids = omega arith in
     let one_more : take (i + 1) ids ≡ take i ids ++ id ∷ [] = take_more ids i id within ∙ ap (λ (other : TroveId). take i ids ++ other ∷ []) (sym c.id-item.is) in
     subst (λ (l : List TroveId). HasAddedPlaces troves l old newer) (sym one_more)
     (elim c.match-place_of.branch [
       | in-Some+in_ok-insert w ↦
-          adds_place troves (take i ids) id old new newer w.in-Some.place c.loop-id.invariant w.in-Some.ensures.place w.in-Some.ensures.only (ap (λ v. v.keys) w.places-is ∙ w.in_ok-insert.ensures.keys)
+          adds_place troves (take i ids) id old new newer w.in-Some.place c.loop-id.invariant w.in-Some.ensures.place w.in-Some.ensures.only (w.places-is ∙ w.in_ok-insert.ensures.keys)
       | in_default w ↦
-          subst (λ (l : List ℕ). HasAddedPlaces troves (take i ids ++ id ∷ []) old l) (sym (ap (λ v. v.keys) w.places-is))
+          subst (λ (l : List ℕ). HasAddedPlaces troves (take i ids ++ id ∷ []) old l) (sym w.places-is)
           (adds_nothing troves (take i ids) id old new c.loop-id.invariant w.in_default.ensures.only)
     ])

@@ -3,4 +3,4 @@ use Rattle.trove_spec.specs.Reached.{HasAddedPlaces}
 use Rattle.trove_spec.proofs.expanding.add_places.Given as goal
 
 abbrev pub invariant-loop-id : goal.invariant-loop-id
-invariant-loop-id l = HasAddedPlaces l.catalogue.troves (take l.id-index l.ids) l.fn.places.keys l.places.keys
+invariant-loop-id l = HasAddedPlaces l.catalogue.troves (take l.id-index l.ids) l.fn.places l.places

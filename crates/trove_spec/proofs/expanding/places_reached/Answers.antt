@@ -7,13 +7,13 @@ pub loop-done-init : goal.loop-done-init
 loop-done-init c =
     let troves = c.args.catalogue.now.troves in
     let roots = c.args.roots.now in
-    let keys = c.add_places.new.places.keys in
+    let keys = c.add_places.new.places in
     gathered_first troves roots keys (subst (λ (l : List ℕ). HasAddedPlaces troves roots l keys) c.new-places.ensures.empty c.in_ok-add_places.ensures)
 
 pub loop-done-smaller : goal.loop-done-smaller
 loop-done-smaller c =
     let troves = c.args.catalogue.now.troves in
-    let keys = c.loop-done.places.keys in
+    let keys = c.loop-done.places in
     let few : length keys ≤ length troves = places_fit troves c.args.roots.now keys c.len.ensures.unique c.loop-done.invariant.steps in
     let within : c.loop-done.done < length keys = omega (arith, c.loop-done-test.true, c.len.ensures.len) in
     let behind : c.loop-done.done < length troves = omega (arith, few, within) in
@@ -23,8 +23,8 @@ pub loop-done-preserved : goal.loop-done-preserved
 loop-done-preserved c =
     let troves = c.args.catalogue.now.troves in
     let roots = c.args.roots.now in
-    let old = c.loop-done.places.keys in
-    let new = c.add_refs.new.places.keys in
+    let old = c.loop-done.places in
+    let new = c.add_refs.new.places in
     let done = c.loop-done.done in
     let within : done < length old = omega (arith, c.loop-done-test.true, c.len.ensures.len) in
     let adds : HasAddedRefs troves (get_or old done 0) old new = subst (λ (l : List ℕ). HasAddedRefs troves (get_or l done 0) old new) c.as_slice.ensures.keys c.in_ok-add_refs.ensures in
@@ -32,6 +32,6 @@ loop-done-preserved c =
 
 pub returns : goal.returns
 returns c =
-    let keys = c.loop-done.places.keys in
+    let keys = c.loop-done.places in
     let ended : length keys ≤ c.loop-done.done = omega (arith, c.loop-done-test.false, c.len.ensures.len) in
     gathered_all c.args.catalogue.now.troves c.args.roots.now keys c.loop-done.done ended c.len.ensures.unique c.loop-done.invariant

@@ -15,7 +15,7 @@ moved_of all keys places old new placed same moved =
 pub returns-clause-value : goal.returns-clause-value
 returns-clause-value c =
     let all = c.args.catalogue.now.troves in
-    let keys = c.in_ok-places.places.keys in
+    let keys = c.in_ok-places.places in
     let new = c.sort_unstable_by.new.self.items in
     let moved = moved_of all keys c.as_slice.result.now c.in_ok-troves.troves.items new c.in_ok-troves.ensures c.as_slice.ensures.keys c.sort_unstable_by.ensures.permutation in
     expansion_of all c.args.roots.now keys (map now_of new) c.in_ok-places.ensures moved c.troves-all.ensures.distinct
@@ -24,7 +24,7 @@ returns-clause-value c =
 pub returns-clause-closed : goal.returns-clause-closed
 returns-clause-closed c =
     let all = c.args.catalogue.now.troves in
-    let keys = c.in_ok-places.places.keys in
+    let keys = c.in_ok-places.places in
     let new = c.sort_unstable_by.new.self.items in
     let moved = moved_of all keys c.as_slice.result.now c.in_ok-troves.troves.items new c.in_ok-troves.ensures c.as_slice.ensures.keys c.sort_unstable_by.ensures.permutation in
     closed_in all c.args.roots.now keys (map now_of new) c.in_ok-places.ensures moved

@@ -6,24 +6,24 @@ use Rattle.update_job.proofs.Lists.{places_stand, left_stand, updated_named, upd
 use Rattle.update_job.proofs.changing.updated.Goals as goal
 
 pub places_left-requires : goal.places_left-requires
-places_left-requires c = places_stand c.args.installed.now (HasTroveOf c.args.come.now) c.in_ok-roots.roots.keys c.in_ok-roots.ensures
+places_left-requires c = places_stand c.args.installed.now (HasTroveOf c.args.come.now) c.in_ok-roots.roots c.in_ok-roots.ensures
 
 pub put_all-requires-clause-places : goal.put_all-requires-clause-places
-put_all-requires-clause-places c = left_stand c.args.installed.now c.in_ok-roots.roots.keys c.in_ok-left.left.keys c.as_slice.result.now c.in_ok-left.ensures c.as_slice.ensures.keys
+put_all-requires-clause-places c = left_stand c.args.installed.now c.in_ok-roots.roots c.in_ok-left.left c.as_slice.result.now c.in_ok-left.ensures c.as_slice.ensures.keys
 
 pub in_order-requires-clause-named : goal.in_order-requires-clause-named
 in_order-requires-clause-named c =
     let list = c.args.installed.now in
-    let left = c.in_ok-left.left.keys in
+    let left = c.in_ok-left.left in
     let fresh = c.in_ok-troves.troves in
     let put : HasPutAll list left fresh c.put_all.new.troves = subst (λ (l : List ℕ). HasPutAll list l fresh c.put_all.new.troves) c.as_slice.ensures.keys c.in_ok-put_all.ensures.put in
-    updated_named list c.args.come.now c.in_ok-roots.roots.keys left fresh c.put_all.new.troves c.in_ok-troves.ensures.value c.in_ok-roots.ensures c.in_ok-left.ensures put
+    updated_named list c.args.come.now c.in_ok-roots.roots left fresh c.put_all.new.troves c.in_ok-troves.ensures.value c.in_ok-roots.ensures c.in_ok-left.ensures put
 
 pub returns-clause-value : goal.returns-clause-value
 returns-clause-value c =
     let list = c.args.installed.now in
-    let left = c.in_ok-left.left.keys in
+    let left = c.in_ok-left.left in
     let fresh = c.in_ok-troves.troves in
     let put : HasPutAll list left fresh c.put_all.new.troves = subst (λ (l : List ℕ). HasPutAll list l fresh c.put_all.new.troves) c.as_slice.ensures.keys c.in_ok-put_all.ensures.put in
     subst (λ (l : List TroveParts). IsUpdated list c.args.come.now l) (sym c.in_ok-list.ensures)
-    (updated_of list c.args.come.now c.in_ok-roots.roots.keys left fresh c.put_all.new.troves c.in_ok-troves.ensures.value c.in_ok-roots.ensures c.in_ok-left.ensures put c.in_ok-put_all.ensures.ordered)
+    (updated_of list c.args.come.now c.in_ok-roots.roots left fresh c.put_all.new.troves c.in_ok-troves.ensures.value c.in_ok-roots.ensures c.in_ok-left.ensures put c.in_ok-put_all.ensures.ordered)

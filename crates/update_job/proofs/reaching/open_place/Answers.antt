@@ -11,7 +11,7 @@ returns-in_err-place-clause-only c = λ place is. absurd (none-some place (c.in_
 
 pub returns-then-contains-clause-only : goal.returns-then-contains-clause-only
 returns-then-contains-clause-only c = λ place is.
-    let barred = c.args.barred.now.keys in
+    let barred = c.args.barred.now in
     let known : list_any (eqb c.in_ok-place.place) barred ≡ true = sym c.contains.ensures ∙ c.if-contains.true in
     let one : c.in_ok-place.place ≡ place = same_Some c.in_ok-place.place place (c.in_ok-place.ensures.only place is.place_of) in
     absurd (is.free (subst (Contains barred) one (Contains-from_any eqb-true c.in_ok-place.place barred known)))

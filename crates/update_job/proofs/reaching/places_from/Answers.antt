@@ -11,5 +11,5 @@ places_reached-requires c = λ place among. subst (IsPlace c.args.installed.now)
 pub returns : goal.returns
 returns c =
     let list = c.args.installed.now in
-    IfOk-weaker c.places_reached.result (λ places. ArePlacesReached list c.new-none.result.keys (c.args.start ∷ []) places.keys) (λ places. ArePlacesFrom list c.args.start places.keys)
-    (λ places are. places_from_one list c.args.start places.keys (subst (λ (barred : List ℕ). ArePlacesReached list barred (c.args.start ∷ []) places.keys) c.new-none.ensures.empty are)) c.places_reached.ensures
+    IfOk-weaker c.places_reached.result (λ places. ArePlacesReached list c.new-none.result (c.args.start ∷ []) places) (λ places. ArePlacesFrom list c.args.start places)
+    (λ places are. places_from_one list c.args.start places (subst (λ (barred : List ℕ). ArePlacesReached list barred (c.args.start ∷ []) places) c.new-none.ensures.empty are)) c.places_reached.ensures

@@ -4,4 +4,4 @@ use Rattle.update_job.proofs.reaching.set_of.Goals as goal
 
 pub loop-place-preserved : goal.loop-place-preserved
 loop-place-preserved c =
-    same_more c.args.places.now c.loop-place.place-index c.loop-place.set.keys c.insert.new.self.keys (omega arith) c.loop-place.invariant c.in_ok-insert.ensures.keys
+    same_more c.args.places.now c.loop-place.place-index c.loop-place.set c.insert.new.self (omega arith) c.loop-place.invariant c.in_ok-insert.ensures.keys
