@@ -1,15 +1,12 @@
 """Cases of commits: change sets that are committed to the tree of a repository one after another, and commits of the program that are
 cut off or fail. The troves and most sets are rows of commits.txt: there a set is its parts and, behind a `:`, the contents that it carries.
 """
-from hashlib import sha1
-
-from tools.cases.repositories import collection, commit_answer, component, on, tree_of
-from tools.cases.samples import RELATIVE, SET, V1 as F1, V2 as F2, content_at, file
-from tools.cases.rows import ONE, OTHER, table
-from tools.lines.words import rows_of
+from tools.cases.repositories import commit_answer, component, tree_of
+from tools.cases.samples import RELATIVE, SET, V1 as F1, V2 as F2, carried, content_at, file
+from tools.cases.rows import ONE, OTHER, Rows
 from tools.model.relatives import relative_of
 from tools.model.repository import BASE, CONTENTS, commit_bytes, commit_path
-from tools.model.streams import id_text, regular, set_bytes
+from tools.model.streams import id_text, set_bytes
 from tools.model.trees import DIR
 
 OLD, NEW, ELSE = b"old\n", b"new\n", b"else\n"
@@ -19,37 +16,16 @@ LINK, JUNK, NARROW = ("link", b"elsewhere"), file(b"junk"), ("dir", 0o700)
 TEXTS = {
     "OLD": OLD, "NEW": NEW, "ELSE": ELSE, "ONE": ONE, "OTHER": OTHER, "EMPTY": b"", "A": b"a", "B": b"b", "ABC": b"abc", "ABCD": b"abcd",
 }  # fmt: skip
-TABLE = table("commits")
-
-
-def record(text, size=None):
-    return regular(0o644, 0, len(TEXTS[text]) if size is None else int(size), sha1(TEXTS[text]).digest())
-
-
-def trove(head, *rest):
-    """A component of these files, or a collection of these references."""
-    name, revision = head.encode().split()
-    if b":" not in name:
-        return collection(name, revision, [on(*one.encode().split()) for one in rest])
-    files = [(path.encode(), record(*more)) for path, *more in map(str.split, rest)]
-    return component(name, revision, [])._replace(files=files)
-
-
-TROVES = {"F1": F1, "F2": F2}
-TROVES.update((name, trove(*given.split("; "))) for name, given in (row.split(" = ") for row in rows_of(TABLE, "troves")))
-for row in rows_of(TABLE, "relative troves"):
+TABLE = Rows("commits", data=TEXTS.get)
+TROVES = {"F1": F1, "F2": F2, **{name: TABLE.trove(text) for name, text in (row.split(" = ") for row in TABLE.rows("troves"))}}
+for row in TABLE.rows("relative troves"):
     made, old, new = row.replace(" =", "").split()
     TROVES[made] = relative_of(TROVES[old], TROVES[new])
 
 
-def set_of(parts, texts):
-    """The change set with these contents, in the order of their names."""
-    return set_bytes(parts, sorted((sha1(text).digest(), text) for text in texts))
-
-
 def change_set(row):
     parts, _, texts = row.partition(":")
-    return set_of([TROVES[name] for name in parts.split()], [TEXTS[name] for name in texts.split()])
+    return set_bytes([TROVES[name] for name in parts.split()], carried(*(TEXTS[name] for name in texts.split())))
 
 
 def change_sets(row):
@@ -90,7 +66,7 @@ def roots():
 def collisions():
     """Repositories and change sets with two contents of one name."""
     tree = tree_of([[TROVES["ONES"]]], [ONE])
-    yield from ((tree, change_set(row)) for row in rows_of(TABLE, "sets that collide with a committed content"))
+    yield from ((tree, change_set(row)) for row in TABLE.rows("sets that collide with a committed content"))
     # What the catalogue doesn't name is cleared and not compared.
     yield {**FIRST, content_at(ONE): file(ONE)}, change_set("OTHERS: OTHER")
     # The first carried content by name: a damaged one before or behind one that differs.
@@ -103,13 +79,13 @@ def collisions():
             yield from ((broken, change_set(row)) for row in ("AGAIN: OTHER OLD NEW", "AGAIN"))
         # Tests that come before that of the damaged content, and all contents but the damaged one.
         others = [other for other in ("OTHER", "OLD", "NEW") if content_at(TEXTS[other]) != place]
-        for row in (*rows_of(TABLE, "sets behind a damaged content"), "AGAIN: " + " ".join(others)):
+        for row in (*TABLE.rows("sets behind a damaged content"), "AGAIN: " + " ".join(others)):
             yield {**both, place: JUNK}, change_set(row)
 
 
 def worked():
     """Whole calls by hand, each with the answers that it has to give."""
-    for given, _, said in (row.partition(" > ") for row in rows_of(TABLE, "worked")):
+    for given, _, said in (row.partition(" > ") for row in TABLE.rows("worked")):
         for name, one in (("F1", F1), ("F2", F2)):
             said = said.replace(name, id_text(one.identity).decode())
         assert commit_answer(NOTHING, change_sets(given)).split("\t")[:-1] == said.split("; ")
@@ -135,13 +111,13 @@ def cut_off():
 def calls():
     """Trees, and the change sets that are committed to them."""
     yield from ((tree, [text]) for tree, text in roots())
-    yield from ((FIRST, [change_set(row)]) for row in rows_of(TABLE, "sets"))
-    yield from ((NOTHING, [change_set(row)]) for row in rows_of(TABLE, "sets without a base"))
+    yield from ((FIRST, [change_set(row)]) for row in TABLE.rows("sets"))
+    yield from ((NOTHING, [change_set(row)]) for row in TABLE.rows("sets without a base"))
     yield from ((NOTHING, texts) for texts in worked())
     yield from ((tree, [text]) for tree, text in collisions())
-    yield from ((NOTHING, change_sets(row)) for row in rows_of(TABLE, "sets that follow one another"))
+    yield from ((NOTHING, change_sets(row)) for row in TABLE.rows("sets that follow one another"))
     many = [(component(b"many:runtime", b"%d-1-1" % count, [(b"/many", b"%d" % count)]), b"%d" % count) for count in range(12)]
-    yield SECOND, [set_of([one], [text]) for one, text in many]
+    yield SECOND, [set_bytes([one], carried(text)) for one, text in many]
 
 
 def failing_commits(script):

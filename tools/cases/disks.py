@@ -19,8 +19,11 @@ class Draws:
     def __init__(self, seed):
         self.state = seed
 
-    def below(self, bound):
+    def turn(self):
         self.state = (self.state * 6364136223846793005 + 1442695040888963407) % 2**64
+
+    def below(self, bound):
+        self.turn()
         return (self.state >> 33) * bound >> 31
 
     def chance(self, percent):

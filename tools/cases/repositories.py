@@ -2,15 +2,16 @@
 troves, and change sets committed one after another (tools/cases/commits.py). The first argument of each call is the tree of a repository;
 the answers are those of tools/model/repository.py.
 """
+import itertools
 from hashlib import sha1
 
 from tools.cases import samples
 from tools.cases.rows import Rows
-from tools.cases.samples import LABEL, V1 as F1, V2 as F2, at as on, content_at, file, group, plain
+from tools.cases.samples import LABEL, V1 as F1, V2 as F2, content_at, file, plain
 from tools.lines.words import items, standing, term, tree_term
 from tools.model import repository
 from tools.model.repository import BASE, CONTENTS, MAGIC, commit_bytes, commit_path
-from tools.model.streams import ChangeSet, id_of_text, id_text, item, read_set, regular, set_bytes
+from tools.model.streams import ChangeSet, id_text, item, read_set, regular, set_bytes
 from tools.model.trees import DIR, Damaged, Failed, Refused, Tree
 
 # ---- repositories
@@ -18,10 +19,6 @@ from tools.model.trees import DIR, Damaged, Failed, Refused, Tree
 
 def component(name, revision, files):
     return samples.component(name, revision, [(path, plain(text)) for path, text in files])
-
-
-def collection(name, revision, refs):
-    return group(name, revision, map(id_of_text, refs))
 
 
 def tree_of(commits, contents, more=()):
@@ -34,8 +31,7 @@ def tree_of(commits, contents, more=()):
 
 def with_node(nodes, path, node):
     """The nodes with this one at a path, or with none."""
-    others = {other: old for other, old in nodes.items() if other != path}
-    return others if node is None else {**others, path: node}
+    return dict(samples.with_node(nodes.items(), path, node))
 
 
 OLD, NEW = b"old\n", b"new\n"
@@ -63,9 +59,7 @@ def changed(text, at):
 
 def trees():
     """Each tree with which every call is made."""
-    yield {b"/": DIR}
-    yield {b"/": DIR, BASE: file(OLD, 0o644)}
-    yield {b"/": DIR, BASE: DIR}
+    yield from ({b"/": DIR}, {b"/": DIR, BASE: file(OLD, 0o644)}, {b"/": DIR, BASE: DIR})
     # What nothing refers to doesn't count; a reference to a trove that is committed later, or in the same commit.
     yield from trees_of("trees")
     for number in (1, 2, 3):
@@ -86,10 +80,8 @@ def damaged_contents():
         path = content_at(text)
         for node in (None, DIR, LINK, file(text + b"x"), file(text[:-1]), file(b""), file(b"other"), file(text, 0o644)):
             yield with_node(TREE, path, node)
-    yield with_node(tree_of([[V1]], []), CONTENTS, None)
-    yield with_node(tree_of([[V1]], []), CONTENTS, file(OLD))
-    yield tree_of([[SHORT]], [OLD])
-    yield tree_of([[SHORT], [V1]], [OLD, NEW])
+    yield from (with_node(tree_of([[V1]], []), CONTENTS, node) for node in (None, file(OLD)))
+    yield from (tree_of([[SHORT]], [OLD]), tree_of([[SHORT], [V1]], [OLD, NEW]))
 
 
 NAMES = [sha1(text).digest() for text in (OLD, NEW, b"", b"else")]
@@ -112,13 +104,9 @@ def lists():
     """Old and new troves, by rising names, among those of MANY."""
     yield [], []
     for trove in (V1, V2, EMPTY, PACKAGE, GROUP, OTHER, MODE):
-        yield [], [trove]
-        yield [trove], []
-        yield [trove], [trove]
-    for old in (V1, V2, MOVED, MODE):
-        for fresh in (V1, V2, MOVED, MODE):
-            yield [old], [fresh]
-            yield [EMPTY, old], [fresh, OTHER]
+        yield from (([], [trove]), ([trove], []), ([trove], [trove]))
+    for old, fresh in itertools.product((V1, V2, MOVED, MODE), repeat=2):
+        yield from (([old], [fresh]), ([EMPTY, old], [fresh, OTHER]))
     yield from pairs("old and new troves")
 
 
@@ -136,20 +124,13 @@ def sets():
 
 def reading():
     """The calls that read: a name, a tree, and the further arguments."""
-    for tree in trees():
-        yield "load", tree, []
-        yield "counts", tree, []
+    yield from ((call, tree, []) for tree in trees() for call in ("load", "counts"))
     yield "load", TREE, [FAILS]
-    for tree in [TREE, tree_of([[V1]], [OLD, NEW, b"else"])] + list(damaged_contents()):
-        for name in NAMES:
-            yield "content", tree, [name]
-            yield "source", tree, [name]
-    yield "source", TREE, [NAMES[0], FAILS]
-    yield "source", TREE, [NAMES[3], FAILS]
-    for tree, old, fresh in sets():
-        yield "between", tree, [old, fresh]
-    yield "between", WORKED, [[F1], [F2], FAILS]
-    yield "between", WORKED, [[F1], [F1], FAILS]
+    some = [TREE, tree_of([[V1]], [OLD, NEW, b"else"]), *damaged_contents()]
+    yield from ((call, tree, [name]) for tree in some for name in NAMES for call in ("content", "source"))
+    yield from (("source", TREE, [name, FAILS]) for name in (NAMES[0], NAMES[3]))
+    yield from (("between", tree, [old, fresh]) for tree, old, fresh in sets())
+    yield from (("between", WORKED, [[F1], [fresh], FAILS]) for fresh in (F2, F1))
 
 
 # ---- lines

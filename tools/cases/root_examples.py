@@ -9,7 +9,7 @@ from tools.cases.samples import BASE, COMPONENT, GATE, LOG, PICKS, SECOND, STAGE
 from tools.model import program, stacks
 from tools.model.records import DATABASE, database_bytes, read_database
 from tools.model.streams import set_bytes
-from tools.model.trees import DIR, is_within
+from tools.model.trees import DIR
 
 WRONG = []
 
@@ -58,7 +58,7 @@ class Examples:
         What stands then is told by indented rows. In capitals a topic means its rows."""
         for row in rows:
             verb, _, rest = row.partition(" ")
-            if verb in TABLE.topics:
+            if verb in TABLE.topics and verb.isupper():
                 self.play(*TABLE.topics[verb])
             elif verb == "shorten":
                 path = TABLE.bytes(rest)
@@ -104,15 +104,11 @@ class Examples:
 
 def table_examples(script):
     for name, rows in TABLE.topics.items():
-        if "_" in name and name.islower():
+        if name in ROWS or "_" in name and name.islower():
             Examples(script).begin(name).play(*rows)
 
 
-FIXED = (b"/", b"/var", b"/var/lib")
-
-
-def is_journals(path):
-    return any(is_within(path, own) for own in (GATE, LOG, STAGE, WORK))
+FIXED, is_journals = program.FIXED, program.JOURNAL.is_own
 
 
 def one_format(nodes):

@@ -32,8 +32,8 @@ CONTENTS = {"-": b"", "ONE": ONE, "OTHER": OTHER, "NO_DIRECTORY": b"no directory
 
 
 def content(text):
-    """One of these, or bytes of pieces."""
-    return CONTENTS[text] if text in CONTENTS else spelled(text)
+    """One of these, or bytes of pieces; where one of them isn't plain, `%` and two digits stand for a byte."""
+    return CONTENTS[text] if text in CONTENTS else unquote_to_bytes(text) if "%" in text else spelled(text)
 
 
 def from_hex(text):

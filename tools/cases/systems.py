@@ -77,6 +77,8 @@ def call_of(text):
         return Call(text, lambda system: (system.numbered(*map(int, words)).with_database(), "numbered"))
     if what == "rollback":
         return rollback(*map(int, words))
+    if what == "damaged":
+        return damaged(call_of(" ".join(words[1:])), words[0].encode())
     if what == "update":
         return update([TROVES[word] for word in words], contents, far, tuple(given))
     if what == "adopt":
@@ -371,12 +373,22 @@ def random_lines():
             yield from stop_lines("by chance", system, call[0], [chance.one_of([*PICKS, chance.dice.randrange(4**16)])])
 
 
+# ---- several jobs, and what takes them back
+
+def several_lines():
+    yield from (run_line(*row) for row in rows("several jobs"))
+    label, turned = "kinds of several jobs", SYSTEMS["TURNED"]
+    yield from (seen_line(label, turned, rollback(number)) for number in (1, 2, 3))
+    yield from stop_lines(label, turned, rollback(1), PICKS[2:])
+    yield fail_line(label, turned, rollback(2))
+
+
 ROWS = (
     "worked", "verified", "dropped", "places", refusal_rows, erasure_rows, "erasures", "too large", large_rows, "sources",
     "two contents of one SHA-1", "a mode that changes takes the bytes that stand", "nothing", "kinds that change",
     "several jobs that are taken back at once",
 )
-LINES = (step_lines, half_done_lines, fixed_dirs_lines, migrated_lines, hostile_lines, random_lines)
+LINES = (step_lines, half_done_lines, fixed_dirs_lines, migrated_lines, hostile_lines, random_lines, several_lines)
 
 
 def lines():

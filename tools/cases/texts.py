@@ -3,6 +3,7 @@ byte, place or list, on texts made from good ones by small changes, and on texts
 import itertools
 import re
 
+from tools.cases.disks import Draws
 from tools.cases.rows import table
 from tools.model.texts import (
     CLASSES, GREATEST, SENSES, dep_of, dep_text, flavor_of, flavor_text, id_bytes, id_of_text, id_text, revision_text, version_of,
@@ -117,18 +118,12 @@ def schedule_calls():
 # ---- calls at random
 
 
-class Draw:
-    """Numbers that look random and are the same in each run."""
-
-    def __init__(self):
-        self.state = 1
+class Draw(Draws):
+    """Numbers by the same generator, by their remainders."""
 
     def below(self, limit):
-        self.state = (self.state * 6364136223846793005 + 1442695040888963407) % 2**64
+        self.turn()
         return (self.state >> 33) % limit
-
-    def one_of(self, items):
-        return items[self.below(len(items))]
 
     def some_of(self, items, most):
         """Up to so many different ones, in any order."""
@@ -252,6 +247,6 @@ def further_calls():
     yield from (call for data in utf8_candidates() for call in (("path_bytes", b"/" + data), ("target_bytes", data + b"a")))
     for calls in (path_calls, copy_calls, written_calls, schedule_calls):
         yield from calls()
-    draw = Draw()
+    draw = Draw(1)
     for calls in (changed_calls, made_calls, version_calls, byte_calls):
         yield from calls(draw)

@@ -17,7 +17,6 @@ CALLS = (
 )
 
 
-
 class Node:
     """A file, link or directory as it is read, and as it was kept last: mode, and bytes, target or nodes by their names."""
 

@@ -8,10 +8,9 @@ The cases are in `cases/disks.py` (a disk in memory and a content store over it)
 `cases/journals.py` (the journal); the models that answer them are `model/trees.py` and `model/runs.py`. Here is how a line is written.
 """
 import itertools
-import sys
 
 from tools.cases import disks, journals, logs
-from tools.lines.words import digits, items, node_term, node_word, placed, puts_term, shown, standing, term, terms, tree_term
+from tools.lines.words import digits, items, node_term, node_word, placed, puts_term, say, shown, standing, term, terms, tree_term
 from tools.model import runs
 from tools.model.streams import NotOfForm, is_path, rises, sha
 from tools.model.trees import Collision, Disk, Failed, Journal, NotAllowed, Tree, is_of, is_tree, joined
@@ -218,15 +217,14 @@ CALLS = {
 }
 
 
-def main():
-    is_asked, steps = sys.argv[1:] == ["stdin"], Steps()
+def lines():
+    steps = Steps()
     disks.cases(steps)
-    texts = [text if is_asked else answer for text, answer in steps.lines]
+    yield from steps.lines
     for call, *given in itertools.chain(logs.cases(), *(cases() for cases in journals.CASES)):
         written, answer = CALLS[call]
-        texts.append(line(call, [write(one) for write, one in zip(written, given, strict=True)]) if is_asked else answer(*given))
-    sys.stdout.buffer.write("".join(text + "\n" for text in texts).encode())
+        yield line(call, [write(one) for write, one in zip(written, given, strict=True)]), lambda: answer(*given)
 
 
 if __name__ == "__main__":
-    main()
+    say(__doc__, lines())

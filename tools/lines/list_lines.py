@@ -6,19 +6,8 @@
 
 The lines are said by topic, by files of tools/cases/, each with a model of tools/model/.
 """
-import sys
-
 from tools.cases import catalogues, closures, jobs, local_changes, plans
-
-
-def main():
-    if sys.argv[1:] not in (["stdin"], ["stdout"]):
-        sys.exit(__doc__)
-    part = ["stdin", "stdout"].index(sys.argv[1])
-    for topic in (catalogues, closures, jobs, local_changes, plans):
-        for line in topic.lines():
-            sys.stdout.write(line[part] + "\n")
-
+from tools.lines.words import say
 
 if __name__ == "__main__":
-    main()
+    say(__doc__, (line for topic in (catalogues, closures, jobs, local_changes, plans) for line in topic.lines()))

@@ -6,25 +6,16 @@ has to answer.
     python3 -m tools.lines.root_lines stdout  >crates/root_lines/stdout      what each has to answer
     python3 -m tools.lines.root_lines root TROVES JOBS CHANGED FILES         the tree of a root with so many jobs, of so many changed troves
 
-The calls and their answers are told by cases/states.py, cases/stacks.py, cases/rollbacks.py, cases/systems.py and cases/more_jobs.py, by
-models that share nothing with the program.
+The calls and their answers are told by cases/states.py, cases/stacks.py, cases/rollbacks.py and cases/systems.py, by models
+that share nothing with the program.
 """
 import sys
 
-from tools.cases import more_jobs, rollbacks, stacks, states, systems
-
-
-def main():
-    match sys.argv[1:]:
-        case ["stdin" | "stdout" as part]:
-            for cases in (states, stacks, rollbacks, systems, more_jobs):
-                for call, answer in cases.lines():
-                    print(call if part == "stdin" else answer)
-        case ["root", *numbers]:
-            print(stacks.large_root(*map(int, numbers)))
-        case _:
-            sys.exit(__doc__)
-
+from tools.cases import rollbacks, stacks, states, systems
+from tools.lines.words import say
 
 if __name__ == "__main__":
-    main()
+    if sys.argv[1:2] == ["root"]:
+        print(stacks.large_root(*map(int, sys.argv[2:])))
+    else:
+        say(__doc__, (line for cases in (states, stacks, rollbacks, systems) for line in cases.lines()))

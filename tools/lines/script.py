@@ -5,9 +5,9 @@ Of the lines only those of `cut` and `from` depend on how many calls of its disk
 import re
 
 from tools.lines.words import puts_term, shown, standing, term, tree_term
-from tools.model import repository
-from tools.model.by_files import Call
+from tools.model import by_files, repository
 from tools.model.program import JOURNAL, Streams
+from tools.model.several import Call
 from tools.model.trees import DIR, Damaged, Refused, Tree
 
 JOURNALS = {"root": JOURNAL, "repo": repository.JOURNAL}
@@ -34,15 +34,26 @@ def words_of(words):
 # ---- answers
 
 
+def is_text(data):
+    try:
+        return data.decode() is not None
+    except UnicodeDecodeError:
+        return False
+
+
 def written(stream, data):
-    """The lines of an output, each as a field; what isn't lines as the bytes of a file."""
-    if data.endswith(b"\n"):
+    """The lines of an output, each as a field; what isn't lines of text as the bytes of a file."""
+    if data.endswith(b"\n") and is_text(data):
         return "".join(f"\t{stream} {line}" for line in data[:-1].decode().split("\n"))
     return f"\t{stream} {shown(data)}" if data else ""
 
 
+def outputs(call):
+    return written("out", call.out) + written("err", call.err)
+
+
 def told(call):
-    return f"{call.status} taken {call.taken}" + written("out", call.out) + written("err", call.err)
+    return f"{call.status} taken {call.taken}" + outputs(call)
 
 
 def kept(name, tree):
@@ -118,6 +129,19 @@ class Script:
         self.made = self.called(words, self.trees)
         self.say("run", *map(argument, words), answer=told(self.made) + both(self.trees))
         return self.made.out
+
+    def line(self, *words):
+        """A line by itself, with the input as its own."""
+        streams = Streams()
+        streams.data, streams.out_fails, streams.err_fails = self.streams.data, self.streams.out_fails, self.streams.err_fails
+        made = by_files.Call(words, streams, self.trees["root"], self.trees["repo"])
+        self.say("line", *map(argument, words), answer=str(made.status) + outputs(made) + both(self.trees))
+        return self
+
+    def tally(self, status, lines, last, *words):
+        """A call of which the status, the number of lines of its output and the last of them are written by hand."""
+        self.say("tally", *map(argument, words), answer=f"{status} lines {lines}\t{last}")
+        return self
 
     def fed(self, data, *words):
         """A call with this input."""

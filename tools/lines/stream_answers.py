@@ -375,33 +375,23 @@ UNREADABLE = {
     "applied": over_installed,
     "allowed": allowed,
 }
+SAID_BY_NAME = (
+    next_item, make_record, owner, id_item, make_trove, check, make_relative, joined, beginnings, changes, changes_to, refusal, manifest,
+    batch, demo,
+)  # fmt: skip
 CALLS = {
+    **{call.__name__: call for call in SAID_BY_NAME},
     "items": written_items,
-    "next_item": next_item,
     **{name + end: partial(decoded, name, bool(end)) for name in CODECS for end in ("", "_full")},
-    "make_record": make_record,
     "same_record": lambda one, other: yes_or_no(read_record(one, True) == read_record(other, True)),
-    "owner": owner,
     **{name: partial(take, name) for name in LISTS},
-    "id_item": id_item,
     **{f"are_{name}": partial(are, name, tag) for name, tag in (("files", 4), ("refs", 5), ("deps", 6), ("paths", 0x23))},
     "sized_file": lambda size, name: yes_or_no(int(size) <= streams.LARGEST_CONTENT and len(bytes.fromhex(name.decode())) == 20),
-    "make_trove": make_trove,
-    "check": check,
     "troves_text": lambda *given: on_a_line(b"".join(id_text(read_trove(text).identity) + b"\n" for text in given)),
-    "make_relative": make_relative,
     "set": change_set,
-    "joined": joined,
-    "beginnings": beginnings,
-    "changes": changes,
-    "changes_to": changes_to,
-    "refusal": refusal,
     **UNREADABLE,
-    "manifest": manifest,
     "dir_component": lambda path: manifests.component_of(path, True).decode(),
     "component": lambda path: manifests.component_of(path, False).decode(),
-    "batch": batch,
-    "demo": demo,
 }
 
 

@@ -13,7 +13,7 @@ import sys
 
 from tools.cases import batches, manifests, relatives, streams
 from tools.lines.stream_answers import answer
-from tools.lines.words import Terms, digits, value_bytes
+from tools.lines.words import Terms, digits, say, value_bytes
 
 CASES = streams.CASES + relatives.CASES + manifests.CASES + batches.CASES
 
@@ -37,15 +37,11 @@ def check_by_hand():
             sys.exit(f"{call} {arguments} is answered {answer_to(call, arguments)!r} and not {wanted!r}")
 
 
-def main(mode):
+def lines():
     check_by_hand()
-    for _, cases in CASES:
-        for call, *arguments in cases():
-            print(answer_to(call, arguments) if mode == "stdout" else "\t".join([call, *map(argument_text, arguments)]))
+    for call, *arguments in (call for _, cases in CASES for call in cases()):
+        yield (lambda: "\t".join([call, *map(argument_text, arguments)])), lambda: answer_to(call, arguments)
 
 
 if __name__ == "__main__":
-    if sys.argv[1:] not in (["stdin"], ["stdout"]):
-        sys.exit(__doc__)
-    sys.stdout.reconfigure(encoding="utf-8", newline="\n")
-    main(sys.argv[1])
+    say(__doc__, lines())

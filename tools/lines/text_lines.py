@@ -17,6 +17,7 @@ from functools import partial
 from tools.cases.low import low_lines
 from tools.cases.reports import report_lines
 from tools.cases.texts import further_calls, worked_cases
+from tools.lines.words import say
 from tools.model.texts import (
     CLASSES, FIXED, SENSES, NotOfForm, Version, branch_of, check_path, check_target, count_text, dep_of, dep_text, flavor_of, flavor_text,
     id_bytes, id_of_text, id_text, is_forbidden, is_reserved, is_utf8, is_word, label_of, label_text, matches, name_kind, need, next_answer,
@@ -235,13 +236,5 @@ def text_lines():
         yield b"\t".join([call[0].encode(), *map(argument, call[1:])]), answer_of(call)
 
 
-def main():
-    if sys.argv[1:] not in (["stdin"], ["stdout"]):
-        sys.exit(__doc__)
-    part = ["stdin", "stdout"].index(sys.argv[1])
-    for line in itertools.chain(text_lines(), report_lines(), low_lines()):
-        sys.stdout.buffer.write(line[part] + b"\n")
-
-
 if __name__ == "__main__":
-    main()
+    say(__doc__, itertools.chain(text_lines(), report_lines(), low_lines()))

@@ -5,6 +5,7 @@ A node is one of tools/model/trees.py, a fingerprint one of tools/model/records.
 import hashlib
 import itertools
 import re
+import sys
 
 LONGEST_SHOWN, LONGEST_NAMED = 40, 1_000_000
 MOST_TIMES, LONG_RUN = 1_000_000, 1_000
@@ -167,3 +168,13 @@ def tree_term(nodes):
     """The nodes of a tree below `/`, which has mode 0755, in the order of their paths."""
     assert nodes[b"/"] == ("dir", 0o755)
     return puts_term(sorted(item for item in nodes.items() if item[0] != b"/"))
+
+
+def say(usage, lines):
+    """Writes the calls or the answers, as the words of the program ask: `stdin` or `stdout`. What takes long is made where it is asked."""
+    if sys.argv[1:] not in (["stdin"], ["stdout"]):
+        sys.exit(usage)
+    part = ["stdin", "stdout"].index(sys.argv[1])
+    for line in lines:
+        text = line[part]() if callable(line[part]) else line[part]
+        sys.stdout.buffer.write((text if isinstance(text, bytes) else text.encode()) + b"\n")

@@ -22,7 +22,7 @@ PIECE, MOST_BYTES = 65_536, stacks.LIMIT[2]
 
 # ---- the words
 
-PLANNED_COMMANDS = b"batch demo serve mirror sync".split()
+PLANNED_COMMANDS = b"serve mirror sync".split()
 PLANNED_OPTIONS = {b"update": (b"--resolve",)}
 
 # A command takes at most so many names or specifications.
@@ -74,6 +74,10 @@ def command_of(words):
     if not short or not are_words_of(command, rest):
         raise Ended(2, b"")
     return command, options, rest
+
+
+def takes_input(command, rest):
+    return command in program.TAKES_INPUT or (command, rest) == (b"update", [b"-"])
 
 
 # ---- nodes and files
@@ -245,8 +249,8 @@ def taken_back(tree, db, number):
 class Call(program.Call):
     """A whole call of the program, with the commands of the root as jobs."""
 
-    def perform(self):
-        command, options, rest = command_of(self.words)
+    def open(self):
+        """Recovers both disks, and reads the database and the catalogue."""
         for path in program.FIXED:
             if not is_of(self.root.look(path), "dir"):
                 raise Refused(b"parent " + path)
@@ -254,8 +258,11 @@ class Call(program.Call):
         self.db = open_database(self.root)
         repository.JOURNAL.recover(self.repo)
         self.catalogue = repository.load(self.repo)
-        data = self.read_input() if command in program.TAKES_INPUT or (command, rest) == (b"update", [b"-"]) else None
-        return self.answer(command, options, rest, data)
+
+    def perform(self):
+        command, options, rest = command_of(self.words)
+        self.open()
+        return self.answer(command, options, rest, self.read_input() if takes_input(command, rest) else None)
 
     def answer(self, command, options, rest, data):
         calls = {

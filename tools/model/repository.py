@@ -4,7 +4,7 @@ specification means, what references reach, shadows and branches of that, and th
 from collections import namedtuple
 
 from tools.model import texts
-from tools.model.relatives import applied, contents_to_send, relative_of
+from tools.model.relatives import applied, check_allowed, contents_to_send, relative_of
 from tools.model.streams import (
     ChangeSet, NotOfForm, Relative, difference, forbidden_path, id_text, inner_items, item, items, need, read_trove, sha, trove_bytes,
 )
@@ -261,9 +261,7 @@ def troves_of(catalogue, parts):
             raise Refused(b"missing base " + id_text(part.old))
         if catalogue.find(trove.identity) is not None or any(one.identity == trove.identity for one in made):
             raise Refused(b"exists " + id_text(trove.identity))
-        path = forbidden_path(trove)
-        if path is not None:
-            raise Refused(b"reserved " + path)
+        check_allowed(trove)
         made.append(trove)
     return made
 

@@ -7,8 +7,8 @@ import hashlib
 from collections import namedtuple
 
 from tools.model.texts import (  # some of these are for those who read streams
-    Id, NotOfForm, Refused, check_path, has_build, id_bytes, id_of_text, id_text, is_forbidden, is_label, is_name, is_path, is_target,
-    is_word, name_kind, need, read_id, rises, str_field, take_str, version_of, whole_dep_of, whole_flavor_of,
+    Id, NotOfForm, Refused, check_id, check_path, has_build, id_bytes, id_of_text, id_text, is_forbidden, is_label, is_name, is_path,
+    is_target, is_word, name_kind, need, read_id, rises, str_field, take_str, whole_dep_of,
 )
 
 MOST_FILES, MOST_DEPS, MOST_PARTS = 65_535, 4_096, 4_096
@@ -223,12 +223,9 @@ def read_trove(text, full=False):
     """The stream of a whole trove."""
     found = inner_items(text)
     need([tag for tag, _ in found[:3]] == [1, 2, 3])
-    name, version, flavor = [value for _, value in found[:3]]
-    need(is_name(name))
-    version_of(version, True)
-    whole_flavor_of(flavor)
+    identity = check_id(Id(*(value for _, value in found[:3])))
     lists = read_lists(found[3:], {4: lambda value: read_file(value, full), 5: read_id, 6: read_dependency, 7: read_dependency})
-    return check_trove(Trove(Id(name, version, flavor), *lists.values()))
+    return check_trove(Trove(identity, *lists.values()))
 
 
 def forbidden_path(trove):
