@@ -58,19 +58,33 @@ fn push_written(answer: &mut Answer, stream: &str, bytes: &[u8]) {
     }
 }
 
+// How many lines these are.
+fn count_lines(lines: &str) -> u64 {
+    let mut count = 0u64;
+    for _line in lines.split('\n') {
+        count = count.saturating_add(1);
+    }
+    count
+}
+
 // Appends the number of the lines that were written, and the last of them.
 fn push_tally(answer: &mut Answer, bytes: &[u8]) {
-    let (mut count, mut last) = (0u64, "");
     let text = str::from_utf8(bytes).unwrap_or("");
-    if let Some(lines) = text.strip_suffix('\n') {
-        for line in lines.split('\n') {
-            count = count.saturating_add(1);
-            last = line;
-        }
-    }
     answer.text(" lines ");
-    answer.number(count);
-    answer.field(last);
+    if let Some(lines) = text.strip_suffix('\n') {
+        let count = count_lines(lines);
+        answer.number(count);
+        let mut place = 0u64;
+        for line in lines.split('\n') {
+            place = place.saturating_add(1);
+            if place == count {
+                answer.field(line);
+            }
+        }
+    } else {
+        answer.number(0);
+        answer.field("");
+    }
 }
 
 impl Streams {
