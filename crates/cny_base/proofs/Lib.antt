@@ -6,6 +6,7 @@ pub mod Joining
 pub mod Below
 pub mod Joins
 pub mod Parent
+pub mod Parts
 pub mod Utf8Laws
 pub mod Bools
 pub mod ByteLists

@@ -1,6 +1,6 @@
 //! The grammar of paths, and the parts of a path's text.
-ghost use Rattle.std.specs.Prelude.{◌≡◌, ◌≤◌, ◌<◌, ◌-◌, length, drop, false, slice_index, IsTrue};
-ghost use Rattle.std.specs.List.{list_all};
+ghost use Rattle.std.specs.Prelude.{◌≡◌, ◌≤◌, ◌<◌, ◌-◌, length, drop, false, slice_index, IfSome, IsTrue};
+ghost use Rattle.std.specs.List.{list_all, position};
 ghost use Rattle.cny_base.specs.Path as spec;
 ghost use Rattle.cny_base.specs.Path.{has_slash, join};
 ghost use Rattle.cny_base.specs.Reserved.{is_reserved, is_pinned};
@@ -43,10 +43,28 @@ fn is_part(part: &str) -> bool
     has_part_form(part.as_bytes())
 }
 
+// Where the first slash stands.
+fn slash_place(bytes: &[u8]) -> Option<usize>
+    ensures place { result ≡ position spec.is_slash bytes.now }
+    ensures within { IfSome result (λ at. at < length bytes.now) }
+{
+    bytes.iter().position(|byte| *byte == b'/')
+}
+
+// By bytes, since a slash is never inside a character.
 fn are_parts(text: &str) -> bool
     ensures { result ≡ spec.are_parts text.now }
 {
-    text.split('/').all(|part| is_part(part))
+    let mut rest = text;
+    'parts: loop {
+        let Some(at) = slash_place(rest.as_bytes()) else {
+            return is_part(rest);
+        };
+        if !is_part(&rest[..at]) {
+            return false;
+        }
+        rest = &rest[at + 1..];
+    }
 }
 
 /// Whether the text is that of a path.

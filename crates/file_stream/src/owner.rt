@@ -44,15 +44,21 @@ impl Owner {
         if !is_owner_word(user) || !is_owner_word(group) {
             return Err(TextFault::Bad);
         }
-        Ok(Owner::of_words(alloc, user, group)?)
+        Ok(Owner::of_words(alloc, user, group, are_root(user, group))?)
     }
 
-    // The owner of these words.
-    pub(crate) fn of_words(alloc: Global, user: &str, group: &str) -> Result<Self, OutOfMemory>
-        requires { is_owner (record { user = user.now; group = group.now }) ≡ true }
+    // The owner of these words, of which it is known whether they are root's.
+    pub(crate) fn of_words(
+        alloc: Global,
+        user: &str,
+        group: &str,
+        is_root: bool,
+    ) -> Result<Self, OutOfMemory>
+        requires owner { is_owner (record { user = user.now; group = group.now }) ≡ true }
+        requires root { is_root ≡ spec.is_root (record { user = user.now; group = group.now }) }
         ensures { IfOk result (λ owner. owner ≡ record { user = user.now; group = group.now }) }
     {
-        if user == ROOT && group == ROOT {
+        if is_root {
             return Ok(Owner { named: None });
         }
         let user = Text::new(alloc, user)?;
@@ -89,9 +95,10 @@ impl Owner {
         ensures value { result ≡ spec.is_root self.now }
         ensures owner { IsTrue (is_owner self.now) }
     {
-        let user = self.user() == ROOT;
-        let group = self.group() == ROOT;
-        user && group
+        match &self.named {
+            None => true,
+            Some((user, group)) => are_root(user.get(), group.get()),
+        }
     }
 }
 
@@ -113,12 +120,22 @@ impl PartialEq for Owner {
     ghost laws = { partial_equiv_from_equiv owner_equiv };
 
     fn eq(&self, other: &Owner) -> bool {
+        if self.named.is_none() && other.named.is_none() {
+            return true;
+        }
         self.user() == other.user() && self.group() == other.group()
     }
 }
 
 impl Eq for Owner {
     ghost laws = { owner_equiv };
+}
+
+/// Whether the names are root's.
+pub(crate) fn are_root(user: &str, group: &str) -> bool
+    ensures { result ≡ spec.is_root (record { user = user.now; group = group.now }) }
+{
+    user == ROOT && group == ROOT
 }
 
 /// Whether the text is a word of at most 32 bytes.

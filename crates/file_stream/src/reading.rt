@@ -1,24 +1,25 @@
 //! The record that some bytes spell.
-ghost use Rattle.std.specs.Prelude.{◌≡◌, ◌↔◌, true, false, Some, None, IfOk, IsErrOf, IfSome, IfNone};
+ghost use Rattle.std.specs.Prelude.{◌≡◌, ◌↔◌, ◌==◌, ◌&&◌, not, true, false, Some, None, IfOk, IsErrOf, IfSome, IfNone};
 ghost use Rattle.std.specs.Option.{option_map};
 ghost use Rattle.file_stream.specs.declared.encoding.Encoding.TheVariants.{Compact, Explicit};
 ghost use Rattle.file_stream.specs.declared.record.FileRec.{FileRec};
 ghost use Rattle.file_stream.specs.Owner as names;
 ghost use Rattle.file_stream.specs.Record.{IsFileRecord, IsRecordBytes, record_bytes, file_record_bytes, full_record_bytes};
 ghost use Rattle.file_stream.specs.Reading as spec;
-ghost use Rattle.file_stream.specs.Reading.{str_front, dir_at, file_at, link_at, kind_at, form_at, record_of, is_named_rightly};
+ghost use Rattle.file_stream.specs.Reading.{str_front, dir_at, file_at, link_at, kind_at, form_at, record_of};
 
 use crate::encoding::Encoding;
-use crate::owner::{Owner, ROOT, is_owner_word};
+use crate::owner::{Owner, ROOT, are_root, is_owner_word};
 use crate::record::{FileRec, Flags};
 use cny_base::{CONTENT_LIMIT, Mode, Target, TextFault, next_str};
 use std::alloc::Global;
 
-// An owner's names, and what stands behind them.
+// An owner's names, whether they are root's, and what stands behind them.
 #[derive(Clone, Copy)]
 struct OwnerAt<'a> {
     user: &'a str,
     group: &'a str,
+    is_root: bool,
     rest: &'a [u8],
 }
 
@@ -58,20 +59,25 @@ fn owner_word(bytes: &[u8]) -> Option<&str>
 fn owner_at(named: bool, bytes: &[u8]) -> Option<OwnerAt<'_>>
     ensures value { option_map (λ found. (record { user = found.user.now; group = found.group.now }, found.rest.now)) result ≡ spec.owner_at named bytes.now }
     ensures owner { IfSome result (λ found. names.is_owner (record { user = found.user.now; group = found.group.now }) ≡ true) }
+    ensures root { IfSome result (λ found. found.is_root ≡ names.is_root (record { user = found.user.now; group = found.group.now })) }
 {
     if !named {
         return Some(OwnerAt {
             user: ROOT,
             group: ROOT,
+            is_root: true,
             rest: bytes,
         });
     }
-    let user = front_str(bytes)?;
-    let group = front_str(user.rest)?;
+    let first = front_str(bytes)?;
+    let second = front_str(first.rest)?;
+    let user = owner_word(first.value)?;
+    let group = owner_word(second.value)?;
     Some(OwnerAt {
-        user: owner_word(user.value)?,
-        group: owner_word(group.value)?,
-        rest: group.rest,
+        user,
+        group,
+        is_root: are_root(user, group),
+        rest: second.rest,
     })
 }
 
@@ -82,9 +88,11 @@ fn dir_of(
     mode: u16,
     user: &str,
     group: &str,
+    is_root: bool,
     rest: &[u8],
 ) -> Result<FileRec, TextFault>
-    requires { names.is_owner (record { user = user.now; group = group.now }) ≡ true }
+    requires owner { names.is_owner (record { user = user.now; group = group.now }) ≡ true }
+    requires root { is_root ≡ names.is_root (record { user = user.now; group = group.now }) }
     ensures value { IfOk result (λ rec. dir_at flags mode (record { user = user.now; group = group.now }) rest.now ≡ Some rec) }
     ensures bad { IsErrOf result TextFault.Bad
         ↔ (dir_at flags mode (record { user = user.now; group = group.now }) rest.now ≡ None) }
@@ -93,7 +101,7 @@ fn dir_of(
     if flags != 0 || !rest.is_empty() {
         return Err(TextFault::Bad);
     }
-    let owner = Owner::of_words(alloc, user, group)?;
+    let owner = Owner::of_words(alloc, user, group, is_root)?;
     Ok(FileRec::Dir { mode, owner })
 }
 
@@ -104,9 +112,11 @@ fn file_of(
     mode: u16,
     user: &str,
     group: &str,
+    is_root: bool,
     rest: &[u8],
 ) -> Result<FileRec, TextFault>
-    requires { names.is_owner (record { user = user.now; group = group.now }) ≡ true }
+    requires owner { names.is_owner (record { user = user.now; group = group.now }) ≡ true }
+    requires root { is_root ≡ names.is_root (record { user = user.now; group = group.now }) }
     ensures value { IfOk result (λ rec. file_at flags mode (record { user = user.now; group = group.now }) rest.now ≡ Some rec) }
     ensures bad { IsErrOf result TextFault.Bad
         ↔ (file_at flags mode (record { user = user.now; group = group.now }) rest.now ≡ None) }
@@ -122,7 +132,7 @@ fn file_of(
         return Err(TextFault::Bad);
     }
     let name = *name.as_array::<20>().ok_or(TextFault::Bad)?;
-    let owner = Owner::of_words(alloc, user, group)?;
+    let owner = Owner::of_words(alloc, user, group, is_root)?;
     Ok(FileRec::File {
         mode,
         owner,
@@ -158,26 +168,27 @@ fn of_kind(
     mode: u16,
     user: &str,
     group: &str,
+    is_root: bool,
     rest: &[u8],
 ) -> Result<FileRec, TextFault>
-    requires { names.is_owner (record { user = user.now; group = group.now }) ≡ true }
+    requires owner { names.is_owner (record { user = user.now; group = group.now }) ≡ true }
+    requires root { is_root ≡ names.is_root (record { user = user.now; group = group.now }) }
     ensures value { IfOk result (λ rec. kind_at kind flags mode (record { user = user.now; group = group.now }) rest.now ≡ Some rec) }
     ensures bad { IsErrOf result TextFault.Bad
         ↔ (kind_at kind flags mode (record { user = user.now; group = group.now }) rest.now ≡ None) }
 {
     match kind {
-        b'd' => dir_of(alloc, flags, mode, user, group, rest),
-        b'f' => file_of(alloc, flags, mode, user, group, rest),
+        b'd' => dir_of(alloc, flags, mode, user, group, is_root, rest),
+        b'f' => file_of(alloc, flags, mode, user, group, is_root, rest),
         b'l' => link_of(alloc, flags, mode, rest),
         _ => Err(TextFault::Bad),
     }
 }
 
-// Whether a record of this kind names its owner as the encoding has it; a link names none.
-fn is_named_rightly(encoding: Encoding, kind: u8, named: bool, user: &str, group: &str) -> bool
-    ensures { result ≡ is_named_rightly encoding kind named (record { user = user.now; group = group.now }) }
+// Whether a record of this kind names its owner, who is root or not, as the encoding has it; a link names none.
+fn is_named_rightly(encoding: Encoding, kind: u8, named: bool, is_root: bool) -> bool
+    ensures { result ≡ spec.same (not (kind == 108) && names.names encoding is_root) named }
 {
-    let is_root = user == ROOT && group == ROOT;
     let wanted = kind != b'l' && encoding.names(is_root);
     named == wanted
 }
@@ -199,7 +210,7 @@ fn of_form(
     let Some(found) = owner_at(named, rest) else {
         return Err(TextFault::Bad);
     };
-    if !is_named_rightly(encoding, kind, named, found.user, found.group) {
+    if !is_named_rightly(encoding, kind, named, found.is_root) {
         return Err(TextFault::Bad);
     }
     of_kind(
@@ -209,6 +220,7 @@ fn of_form(
         mode,
         found.user,
         found.group,
+        found.is_root,
         found.rest,
     )
 }
