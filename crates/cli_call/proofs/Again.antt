@@ -28,7 +28,7 @@ use Rattle.cli_call.proofs.StoreLaws.{read_settled}
 -- ---- what a job and a rollback leave
 
 -- the root's step succeeded
-on_done : {A X : Type 0} (r : Result A Stop) (x : A) → root_result r ≡ Ok x → OnOk r X → X
+pub on_done : {A X : Type 0} (r : Result A Stop) (x : A) → root_result r ≡ Ok x → OnOk r X → X
 on_done {A = A} {X = X} r x is so = subst (λ (o : Result A Stop). OnOk o X) (root_ok r x is) so
 
 ready_with : {D : Type 0} {disk : DiskModel D} {db : Db} {d : D} → job.IsReady disk db d → IsReadyWith disk db d

@@ -4,7 +4,7 @@ use Rattle.std.specs.Prelude.{◌⊎◌, IsTrue}
 use Rattle.cny_laws.specs.system-core.cny-base.declared.refusal.Refusal.{Refusal}
 use Rattle.cny_laws.specs.system-core.cny-base.declared.stop.Stop.{Stop}
 use Rattle.cny_laws.specs.system-core.tree-disk.Tree.{Tree}
-use Rattle.cny_laws.specs.system-core.tree-disk.Disk.{DiskModel, IsDisk}
+use Rattle.cny_laws.specs.system-core.tree-disk.Disk.{DiskModel, HasRead, IsDisk}
 use Rattle.cny_laws.specs.system-core.tree-disk.Clear.{is_within}
 use Rattle.cny_laws.specs.system-core.tree-disk.Confined.{Among, Confined}
 use Rattle.cny_laws.proofs.system-core.tree-disk.ConfinedLaws.{confined_start, confined_then, confined_wider}
@@ -28,7 +28,7 @@ use Rattle.cny_laws.specs.State.{Meaning, Scope}
 use Rattle.cny_laws.specs.Stops.{root_failure, repository_failure}
 use Rattle.cny_laws.specs.Stores.{root_store, repository_store}
 use Rattle.local_db.specs.declared.db.Db.{Db}
-use Rattle.cny_laws.specs.WholeCall.{OnlyRead, CallCause, CallFacts}
+use Rattle.cny_laws.specs.WholeCall.{CallCause, CallFacts}
 use Rattle.cny_flow.specs.Flow.{SourceState, SinkState}
 use Rattle.cny_laws.proofs.system-core.Opened.{kept_so}
 use Rattle.cny_laws.specs.system-core.cny-base.declared.stop.Stop.TheVariants as stop
@@ -73,7 +73,7 @@ module _ {T P : Type 0} {root_disk : DiskModel T} {repo_disk : DiskModel P} (roo
     root_untouched = opens.untouched;
     repo_untouched = λ told none. subst (λ (d : P). Confined repo_disk (Among no_name) before.repo d) (sym same) (confined_start repo_laws (Among no_name) before.repo);
     repo_within = λ told off. subst (λ (d : P). Confined repo_disk (Among (is_within repository_base)) before.repo d) (sym same) (confined_start repo_laws (Among (is_within repository_base)) before.repo);
-    missing = λ told r is. record { root = opens.missing told r is; repo = same; unread = unread };
+    missing = λ told r is. (opens.missing told r is, same, unread);
   }
 
   -- ---- the root was opened, and the repository wasn't
@@ -121,7 +121,7 @@ module _ {T P : Type 0} {root_disk : DiskModel T} {repo_disk : DiskModel P} (roo
     opened_within : IsTrue repo_disk.tells → is_committed repository_store.base (repo_disk.reads before.repo) ≡ false → Confined repo_disk (Among (is_within repository_base)) before.repo repo
     opened_within told off = confined_wider (λ p none. absurd cc) (opens.opens.clear told off)
 
-    open_missing : IsTrue root_disk.tells → (r : Refusal) → fixed_dirs (root_disk.reads before.root) ≡ Err r → OnlyRead root_disk repo_disk before now
+    open_missing : IsTrue root_disk.tells → (r : Refusal) → fixed_dirs (root_disk.reads before.root) ≡ Err r → HasRead root_disk before.root now.root (Unit {0}) × (now.repo ≡ before.repo) × (now.input ≡ before.input)
     open_missing told r is = absurd (never_fixed (opens.opens_root.opened told).fixed is)
 
     kept_root : root_disk.reads now.root ≡ root_disk.reads root → IsTrue root_disk.tells → IsRootKept (root_disk.reads before.root) (root_disk.reads now.root)

@@ -6,7 +6,8 @@ use Rattle.cny_flow.specs.Flow.{SourceState}
 use Rattle.cny_laws.specs.system-core.tree-disk.Tree.{Name}
 use Rattle.cny_laws.specs.system-core.tree-disk.Disk.{DiskModel, HasRead, IsDisk}
 use Rattle.cny_laws.proofs.system-core.tree-disk.ConfinedLaws.{confined_start}
-use Rattle.repo_load.specs.Files.{repository_base}
+use Rattle.cny_laws.specs.system-core.content-store.Store.{stored}
+use Rattle.repo_load.specs.Files.{contents_dir, repository_base}
 use Rattle.cny_laws.specs.declared.failure.Failure.{Failure}
 use Rattle.cny_laws.specs.declared.failure.Failure.TheVariants as failure
 use Rattle.cny_laws.specs.declared.opened.Opened.{Opened}
@@ -17,6 +18,7 @@ use Rattle.cli_call.proofs.CallEnds.{own_ends, own_unread}
 use Rattle.cli_call.proofs.CallStates.{from_unopened, from_unread, from_run}
 use Rattle.cli_call.specs.Command.{disks}
 use Rattle.cli_call.proofs.InputLaws.{any_input, read_input_of}
+use Rattle.cli_call.proofs.OpenedEnds.{opened_holds}
 use Rattle.cli_call.specs.Line.{LineCause, Moment}
 use Rattle.cny_laws.specs.Reading.{IsInput, ReadsGiven}
 use Rattle.cny_laws.specs.Report.{End}
@@ -87,18 +89,22 @@ module _ {T P : Type 0} {root_disk : DiskModel T} {repo_disk : DiskModel P} (roo
             repo_same = λ none told. ap repo_disk.reads same_repo;
             repo_left = λ is. same_repo;
             root_left = λ is. same_root;
+            root_read = λ is told. subst (λ (d : T). HasRead root_disk root d (Unit {0})) (sym same_root) (nothing_done root_laws root);
+            repo_read = λ is told. subst (λ (d : P). HasRead repo_disk repo d (Unit {0})) (sym same_repo) (nothing_done repo_laws repo);
             repo_within = λ told. subst (λ (d : P). Confined repo_disk (Among (is_within repository_base)) repo d) (sym same_repo) (confined_start repo_laws (Among (is_within repository_base)) repo);
             root_rests = λ small told. subst (λ (d : T). IsSettled root_disk root_store.base d) (sym same_root) (opens.opens_root.opened told).settled;
             repo_rests = λ small told. subst (λ (d : P). IsSettled repo_disk repository_store.base d) (sym same_repo) (opens.opens.opened told).settled;
             root_damaged = λ is path named. absurd (not_damaged m.takes_input before.input now.input stops.failure path stops.reads named);
             repo_damaged = λ is path named. absurd (not_damaged m.takes_input before.input now.input stops.failure path stops.reads named);
             damaged = λ path is. absurd (not_damaged m.takes_input before.input now.input stops.failure path stops.reads is);
-            by_lists = λ is. record { same_root = same_root; same_repo = same_repo; ends = λ s has. own_unread m s read.input before.out now.out stops.failure stops.reads read.gives };
-            by_tree = λ is. record {
-              read = λ told. subst (λ (d : T). HasRead root_disk root d (Unit {0})) (sym same_root) (nothing_done root_laws root);
-              same_repo = same_repo;
-              ends = λ told s has. own_unread m s read.input before.out now.out stops.failure stops.reads read.gives;
+            by_lists = λ is. (same_root, same_repo, λ s has. own_unread m s read.input before.out now.out stops.failure stops.reads read.gives);
+            by_tree = λ is told s has. own_unread m s read.input before.out now.out stops.failure stops.reads read.gives;
+            by_opened = λ is told repo_told s has. record {
+              next = s;
+              ends = own_unread m s read.input before.out now.out stops.failure stops.reads read.gives;
+              holds = λ small. opened_holds root now.root repo now.repo opened (λ t. (opens.opens_root.opened t).holds) (λ t. (opens.opens.opened t).value_is) (λ t. ap root_disk.reads same_root) (λ t. ap repo_disk.reads same_repo) s has;
             };
+            contents_stay = λ is told name of_content. ap (λ (d : P). stored (repo_disk.reads d) contents_dir name) same_repo;
           });
           from = λ told repo_told s recovers. from_unread root_laws repo_laws store_laws scope m before now read.input told repo_told s recovers root repo opened opened' opens stops.failure stops.reads read.gives stops.same;
           on_root = λ is. record {
@@ -129,14 +135,22 @@ module _ {T P : Type 0} {root_disk : DiskModel T} {repo_disk : DiskModel P} (roo
             repo_same = λ none. (runs.runs.same none).repo;
             repo_left = λ is. (runs.runs.alone is).repo;
             root_left = λ is. (runs.runs.apart is).root;
+            root_read = runs.runs.root_read;
+            repo_read = runs.runs.repo_read;
             repo_within = runs.runs.within;
             root_rests = λ small. (runs.runs.rest small).root;
             repo_rests = λ small. (runs.runs.rest small).repo;
             root_damaged = λ is. (runs.runs.alone is).damaged;
             repo_damaged = λ is. (runs.runs.apart is).damaged;
             damaged = λ path is. (subst (λ (x : End). LineCause root_disk repo_disk begun ended x) is runs.runs.cause).0;
-            by_lists = λ is. let by = runs.runs.by_lists is in record { same_root = by.root; same_repo = by.repo; ends = λ s has. own_ends m s read.input runs.bytes read.gives before.out now.out s end (by.ends s has) };
-            by_tree = λ is. let by = runs.runs.by_tree is in record { read = by.root; same_repo = by.repo; ends = λ told s has. own_ends m s read.input runs.bytes read.gives before.out now.out s end (by.ends told s has) };
+            by_lists = λ is. let by = runs.runs.by_lists is in (by.root, by.repo, λ s has. own_ends m s read.input runs.bytes read.gives before.out now.out s end (by.ends s has));
+            by_tree = λ is told s has. own_ends m s read.input runs.bytes read.gives before.out now.out s end (runs.runs.by_tree is told s has);
+            by_opened = λ is told repo_told s has. let by = runs.runs.by_opened is told repo_told s has in record {
+              next = by.next;
+              ends = own_ends m s read.input runs.bytes read.gives before.out now.out by.next end by.ends;
+              holds = by.holds;
+            };
+            contents_stay = runs.runs.contents_stay;
           });
           from = λ told repo_told s recovers. from_run root_laws repo_laws store_laws scope m before now read.input told repo_told s recovers root repo opened opened' opens runs.bytes runs.reads read.gives end runs.runs;
           on_root = λ is. record {

@@ -4,7 +4,7 @@ use Rattle.std.specs.Prelude.{IsTrue}
 use Rattle.std.specs.FinMap.{get}
 use Rattle.cny_laws.specs.system-core.cny-base.declared.refusal.Refusal.{Refusal}
 use Rattle.cny_laws.specs.system-core.tree-disk.Tree.{Tree}
-use Rattle.cny_laws.specs.system-core.tree-disk.Disk.{DiskModel, IsDisk, HasRead}
+use Rattle.cny_laws.specs.system-core.tree-disk.Disk.{DiskModel, IsDisk, HasRead, Reads}
 use Rattle.cny_laws.specs.system-core.tree-disk.Clear.{is_within}
 use Rattle.cny_laws.specs.system-core.tree-disk.Confined.{Among}
 use Rattle.cny_laws.proofs.system-core.tree-disk.ConfinedLaws.{confined_read, leaves_weaker}
@@ -27,6 +27,10 @@ use Rattle.cli_call.proofs.StoreLaws.{nothing_done, read_settled, rest_lives, re
 -- a call that only reads shows one tree
 pub read_shown : {D : Type 0} {disk : DiskModel D} → IsDisk disk → {old new : D} {Answer : Type 0} → HasRead disk old new Answer → UnlessFailed disk old new (λ t. t ≡ disk.reads old)
 read_shown {disk = disk} laws {old = old} read = unfailed_confined (confined_read laws (Among no_name) read) (λ t agrees. same_tree t (disk.reads old) (λ p. agrees p (λ among. absurd cc)))
+
+-- the same of one disk under other names
+pub read_at : {D : Type 0} {disk : DiskModel D} (a b c d : D) → a ≡ b → c ≡ d → Reads disk a c (Unit {0}) → Reads disk b d (Unit {0})
+read_at {D = D} {disk = disk} a b c d before after read = subst (λ (x : D). Reads disk x d (Unit {0})) before (subst (λ (x : D). Reads disk a x (Unit {0})) after read)
 
 -- while a disk is only read, it stays at its state
 pub goes_read : {D X : Type 0} {store : Store X} → IsStore store → {disk : DiskModel D} → IsDisk disk → (old new : D) (x : X) (end : End) → HasRead disk old new (Unit {0}) → RestsAt store disk old x → Goes store disk x x old new end

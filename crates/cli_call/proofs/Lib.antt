@@ -9,6 +9,7 @@ pub mod Answered
 pub mod ReadingRoot
 pub mod ChangingRoot
 pub mod LineLaws
+pub mod OpenedEnds
 pub mod CallFacts
 pub mod CallEnds
 pub mod RootStates

@@ -1,5 +1,5 @@
 -- A command with what it writes, from what its own function did and from what was written.
-use Rattle.std.proofs.Common.{◌≡◌, ◌≤◌, ℕ, true, List, Option, Some, None, Result, Ok, Err, refl, sym, ap, subst, inr, arith}
+use Rattle.std.proofs.Common.{◌≡◌, ◌≤◌, ℕ, List, Option, Some, None, Result, Ok, Err, refl, sym, ap, subst, inr, arith}
 use Rattle.std.specs.Io.KnownBytes.{Appends, Keeps}
 use Rattle.cny_laws.specs.system-core.cny-base.declared.refusal.Refusal.{Refusal}
 use Rattle.cny_flow.specs.Flow.{SinkState, AppendsPart}
@@ -7,8 +7,8 @@ use Rattle.cny_laws.specs.system-core.tree-disk.Disk.{DiskModel}
 use Rattle.cny_laws.specs.system-core.tree-disk.Tree.{Name}
 use Rattle.cny_laws.specs.declared.failure.Failure.{Failure}
 use Rattle.cny_laws.specs.declared.failure.Failure.TheVariants as failure
-use Rattle.cli_call.specs.Alone.{ActsOnRepository, AnswersByLists, AnswersByTree, PerformsAlone}
-use Rattle.cli_call.specs.Command.{Disks, HasCause, Goes, Answers, Performs, end_of}
+use Rattle.cli_call.specs.Alone.{PerformsWithin}
+use Rattle.cli_call.specs.Command.{Disks, HasCause, Goes, Answers, end_of}
 use Rattle.cny_laws.specs.Report.{ChangesNothing, End, status_of}
 use Rattle.cli_call.specs.Line.{Moment, Writes, Ends, LineCause, RunsLine}
 use Rattle.cny_laws.specs.State.{Scope, State, Effect, Meaning, Takes}
@@ -51,17 +51,17 @@ module _ {T P : Type 0} {root_disk : DiskModel T} {repo_disk : DiskModel P} {m :
   line_ends : (result : Result (List ℕ) Failure) (end : End) → before.faults ≤ now.faults → LineCause root_disk repo_disk (with_out old before) (with_out new now) end
       → (status_of end ≤ 4 → status_of (end_of result) ≤ 4) → (ChangesNothing end → ChangesNothing (end_of result)) → ((path : Name) → end ≡ Err (failure.Damaged path) → result ≡ Err (failure.Damaged path))
       → ((s next : State) → Answers (m.IsOutcome s input) s next result → Ends (m.IsOutcome s input) s next before now end)
-      → Performs root_disk repo_disk m input old new result → (scope.of_root ≡ true → PerformsAlone root_disk repo_disk m input old new result) → (scope.of_repository ≡ true → ActsOnRepository root_disk repo_disk m input old new result) → (scope.of_lists ≡ true → AnswersByLists root_disk repo_disk m input old new result) → (scope.of_tree ≡ true → AnswersByTree root_disk repo_disk m input old new result)
+      → PerformsWithin root_disk repo_disk scope m input old new result
       → RunsLine root_disk repo_disk scope m input (with_out old before) (with_out new now) end
-  line_ends result end later cause fewer nothing named ends performs alone apart lists tree = record {
-    root_later = performs.root_later;
-    repo_later = performs.repo_later;
+  line_ends result end later cause fewer nothing named ends done = record {
+    root_later = done.performs.root_later;
+    repo_later = done.performs.repo_later;
     out_later = later;
     cause = cause;
-    rest = λ le. performs.rest (fewer le);
-    same = λ none. performs.same (nothing none);
-    within = performs.within;
-    told = λ root repo s stands. let f = performs.told root repo s stands in record {
+    rest = λ le. done.performs.rest (fewer le);
+    same = λ none. done.performs.same (nothing none);
+    within = done.performs.within;
+    told = λ root repo s stands. let f = done.performs.told root repo s stands in record {
       next = f.next;
       ends = ends s f.next f.answers;
       apart = f.apart;
@@ -70,7 +70,7 @@ module _ {T P : Type 0} {root_disk : DiskModel T} {repo_disk : DiskModel P} {m :
       outside = f.outside;
       seen = f.seen;
     };
-    alone = λ is. let a = alone is in record {
+    alone = λ is. let a = done.alone is in record {
       repo = a.repo;
       damaged = λ path same. a.damaged path (named path same);
       told = λ told s rests. let f = a.told told s rests in record {
@@ -82,7 +82,7 @@ module _ {T P : Type 0} {root_disk : DiskModel T} {repo_disk : DiskModel P} {m :
         seen = f.seen;
       };
     };
-    apart = λ is. let a = apart is in record {
+    apart = λ is. let a = done.apart is in record {
       root = a.root;
       damaged = λ path same. a.damaged path (named path same);
       told = λ told s rests. let f = a.told told s rests in record {
@@ -91,25 +91,33 @@ module _ {T P : Type 0} {root_disk : DiskModel T} {repo_disk : DiskModel P} {m :
         repo = goes_on (end_of result) end fewer f.goes;
       };
     };
-    by_lists = λ is. let a = lists is in record { root = a.root; repo = a.repo; ends = λ s has. ends s s (a.answers s has) };
-    by_tree = λ is. let a = tree is in record { root = a.root; repo = a.repo; ends = λ told s has. ends s s (a.answers told s has) };
+    by_lists = λ is. let a = done.lists is in record { root = a.root; repo = a.repo; ends = λ s has. ends s s (a.answers s has) };
+    by_tree = λ is told s has. ends s s ((done.tree is).answers told s has);
+    by_opened = λ is told repo_told s has. let a = done.opened is repo_told told s has in record {
+      next = a.next;
+      ends = ends s a.next a.answers;
+      holds = λ le. a.holds (fewer le);
+    };
+    contents_stay = done.contents;
+    root_read = done.root_read;
+    repo_read = done.repo_read;
   }
 
-  error_line : (e : Failure) → before.faults ≤ now.faults → now ≡ before → Performs root_disk repo_disk m input old new (Err e) → (scope.of_root ≡ true → PerformsAlone root_disk repo_disk m input old new (Err e)) → (scope.of_repository ≡ true → ActsOnRepository root_disk repo_disk m input old new (Err e)) → (scope.of_lists ≡ true → AnswersByLists root_disk repo_disk m input old new (Err e)) → (scope.of_tree ≡ true → AnswersByTree root_disk repo_disk m input old new (Err e))
+  error_line : (e : Failure) → before.faults ≤ now.faults → now ≡ before → PerformsWithin root_disk repo_disk scope m input old new (Err e)
       → RunsLine root_disk repo_disk scope m input (with_out old before) (with_out new now) (Err e)
-  error_line e later same performs alone apart lists tree =
+  error_line e later same done =
       let keeps = keeps_still before now same in
-      line_ends (Err e) (Err e) later (error_cause root_disk repo_disk old new before now e keeps performs.cause) (λ le. le) (λ none. none) (λ path is. let one : e ≡ failure.Damaged path = cc is in ap Err one)
-      (λ s next answers. error_ends (m.IsOutcome s input) s next before now e keeps answers) performs alone apart lists tree
+      line_ends (Err e) (Err e) later (error_cause root_disk repo_disk old new before now e keeps done.performs.cause) (λ le. le) (λ none. none) (λ path is. let one : e ≡ failure.Damaged path = cc is in ap Err one)
+      (λ s next answers. error_ends (m.IsOutcome s input) s next before now e keeps answers) done
 
   -- the whole line
-  pub line_written : (result : Result (List ℕ) Failure) (end : End) → Performs root_disk repo_disk m input old new result → (scope.of_root ≡ true → PerformsAlone root_disk repo_disk m input old new result) → (scope.of_repository ≡ true → ActsOnRepository root_disk repo_disk m input old new result) → (scope.of_lists ≡ true → AnswersByLists root_disk repo_disk m input old new result) → (scope.of_tree ≡ true → AnswersByTree root_disk repo_disk m input old new result) → Writes result before now end
+  pub line_written : (result : Result (List ℕ) Failure) (end : End) → PerformsWithin root_disk repo_disk scope m input old new result → Writes result before now end
       → RunsLine root_disk repo_disk scope m input (with_out old before) (with_out new now) end
-  line_written (Err e) end performs alone apart lists tree writes = subst (λ (x : End). RunsLine root_disk repo_disk scope m input (with_out old before) (with_out new now) x) (sym writes.wrote.0) (error_line e writes.later writes.wrote.1 performs alone apart lists tree)
-  line_written (Ok text) (Ok x) performs alone apart lists tree writes = line_ends (Ok text) (Ok x) writes.later tt (λ le. le) (λ none. none) (λ path is. absurd (cc is))
-      (λ s next answers. takes_so (λ bytes is. subst (λ b. Appends before.written now.written b) (sym is) writes.wrote) answers) performs alone apart lists tree
-  line_written (Ok text) (Err failure.OutputFault) performs alone apart lists tree writes = line_ends (Ok text) (Err failure.OutputFault) writes.later writes.wrote.0 (λ le. omega arith) (λ none. none) (λ path is. absurd (cc is))
-      (λ s next answers. takes_so (λ bytes is. subst (λ b. AppendsPart before.written now.written b) (sym is) writes.wrote.1) answers) performs alone apart lists tree
-  line_written (Ok text) (Err failure.Memory) performs alone apart lists tree writes = line_ends (Ok text) (Err failure.Memory) writes.later writes.wrote (λ le. absurd (omega (arith, le))) (λ none. none) (λ path is. absurd (cc is))
-      (λ s next answers. (inr (takes_so (λ bytes is. tt) answers), writes.wrote)) performs alone apart lists tree
-  line_written (Ok text) _ performs alone apart lists tree writes = absurd writes.wrote
+  line_written (Err e) end done writes = subst (λ (x : End). RunsLine root_disk repo_disk scope m input (with_out old before) (with_out new now) x) (sym writes.wrote.0) (error_line e writes.later writes.wrote.1 done)
+  line_written (Ok text) (Ok x) done writes = line_ends (Ok text) (Ok x) writes.later tt (λ le. le) (λ none. none) (λ path is. absurd (cc is))
+      (λ s next answers. takes_so (λ bytes is. subst (λ b. Appends before.written now.written b) (sym is) writes.wrote) answers) done
+  line_written (Ok text) (Err failure.OutputFault) done writes = line_ends (Ok text) (Err failure.OutputFault) writes.later writes.wrote.0 (λ le. omega arith) (λ none. none) (λ path is. absurd (cc is))
+      (λ s next answers. takes_so (λ bytes is. subst (λ b. AppendsPart before.written now.written b) (sym is) writes.wrote.1) answers) done
+  line_written (Ok text) (Err failure.Memory) done writes = line_ends (Ok text) (Err failure.Memory) writes.later writes.wrote (λ le. absurd (omega (arith, le))) (λ none. none) (λ path is. absurd (cc is))
+      (λ s next answers. (inr (takes_so (λ bytes is. tt) answers), writes.wrote)) done
+  line_written (Ok text) _ done writes = absurd writes.wrote

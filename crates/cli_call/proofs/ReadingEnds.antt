@@ -24,8 +24,11 @@ use Rattle.trove_spec.specs.RootConfig.{config_path, within_limit, HasConfig, Ha
 use Rattle.cny_laws.specs.declared.failure.Failure.{Failure}
 use Rattle.cny_laws.specs.declared.failure.Failure.TheVariants as failure
 use Rattle.cny_laws.specs.declared.opened.Opened.{Opened}
+use Rattle.cny_laws.specs.Call.{HasOpened}
+use Rattle.cli_call.specs.Alone.{AnswersByOpened}
 use Rattle.cli_call.specs.Command.{Disks, disks, AreReady, Performs, StandsFor}
 use Rattle.cli_call.proofs.CommandLaws.{AreRead, performs_reading}
+use Rattle.cli_call.proofs.OpenedEnds.{memory_opened, refused_opened, root_fault_opened}
 use Rattle.cny_laws.specs.Failures.{failure_of_fault}
 use Rattle.cli_call.proofs.RootLaws.{root_laws, stored_outside}
 use Rattle.cny_laws.specs.State.{tree_of, Meaning, State}
@@ -51,6 +54,10 @@ same_config t u r same has = subst (λ (o : Option Node). HasConfigIn (within_li
 pub config_made : {D : Type 0} (disk : DiskModel D) (old new : D) (r : Result Config Stop) → ReadsConfig disk old new r → (config : Config) → root_result r ≡ Ok config → ReadsConfig disk old new (Ok config)
 config_made disk old new (Ok made) reads config is = subst (λ (x : Result Config Failure). IfOk x (λ k. ReadsConfig disk old new (Ok k))) is reads
 config_made disk old new (Err e) reads config is = absurd (cc is)
+
+-- each state that has what was read when the disks were opened has the configuration that was read
+pub config_opened : {T : Type 0} {root_disk : DiskModel T} (root : T) (opened : Opened) (r : Result Config Refusal) → HasConfig (root_disk.reads root) r → (s : State) → HasOpened root_disk root opened s → HasConfig (tree_of s.root) r
+config_opened {root_disk = root_disk} root opened r has s is = same_config (root_disk.reads root) (tree_of s.root) r (is.outer config_path foreign) has
 
 module _ {T P : Type 0} {root_disk : DiskModel T} {repo_disk : DiskModel P} where
   -- the state has the configuration that was read
@@ -107,6 +114,23 @@ module _ {T P : Type 0} {root_disk : DiskModel T} {repo_disk : DiskModel P} wher
         pub config_stopped : ((s : State) (refused : Refusal) → HasConfig (tree_of s.root) (Err refused) → m.IsOutcome s input (Err refused)) → (r : Result Config Stop) → ReadsConfig root_disk root root' r → (f : Failure) → root_result r ≡ Err f → Stopped f
         config_stopped refuses (Ok config) reads f is = absurd (cc is)
         config_stopped refuses (Err e) reads f is = subst (λ (x : Result Config Failure). IfErr x Stopped) is (stopped refuses e reads)
+
+        -- also by what was read when the disks were opened
+        abbrev pub StoppedOpened : Failure → Type 0
+        StoppedOpened f = AnswersByOpened root_disk repo_disk m input (disks root repo opened) (disks root' repo opened) (Err f)
+
+        stopped_opened : ((s : State) (refused : Refusal) → HasConfig (tree_of s.root) (Err refused) → m.IsOutcome s input (Err refused)) → (e : Stop) → ReadsConfig root_disk root root' (Err e) → IfErr (let r : Result Config Stop = Err e in root_result r) StoppedOpened
+        stopped_opened refuses (stop.Refused refused) reads = refused_opened m input (disks root repo opened) (disks root' repo opened) ready (λ told. (reads.same told).same.reads) (λ told. refl) refused
+            (λ told s has. refuses s refused (config_opened root opened (Err refused) (reads.ends told) s has))
+        stopped_opened refuses stop.Failed reads = root_fault_opened m input (disks root repo opened) (disks root' repo opened)
+        stopped_opened refuses stop.Memory reads = memory_opened m input (disks root repo opened) (disks root' repo opened)
+        stopped_opened refuses (stop.Damaged path) reads = absurd reads.ends
+        stopped_opened refuses stop.FarFailed reads = absurd reads.ends
+        stopped_opened refuses (stop.FarDamaged path) reads = absurd reads.ends
+
+        pub config_stopped_opened : ((s : State) (refused : Refusal) → HasConfig (tree_of s.root) (Err refused) → m.IsOutcome s input (Err refused)) → (r : Result Config Stop) → ReadsConfig root_disk root root' r → (f : Failure) → root_result r ≡ Err f → StoppedOpened f
+        config_stopped_opened refuses (Ok config) reads f is = absurd (cc is)
+        config_stopped_opened refuses (Err e) reads f is = subst (λ (x : Result Config Failure). IfErr x StoppedOpened) is (stopped_opened refuses e reads)
 
       -- ---- a test refused, or memory ran out
 

@@ -1,20 +1,21 @@
--- What the function of a command does that works on one of the disks alone, or on the lists alone that were read when they were opened.
-use Rattle.std.specs.Prelude.{◌≡◌, ℕ, ◌≤◌, IsTrue, List, Result}
+-- What the function of a command does that works on one of the disks alone, or on the lists alone that were read when they were opened,
+-- or that only reads a disk.
+use Rattle.std.specs.Prelude.{◌≡◌, ℕ, ◌≤◌, false, true, IsTrue, List, Result}
 use Rattle.cny_laws.specs.system-core.cny-base.declared.refusal.Refusal.{Refusal}
 use Rattle.cny_laws.specs.system-core.tree-disk.Clear.{is_within}
 use Rattle.cny_laws.specs.system-core.tree-disk.Confined.{Among, Confined}
-use Rattle.cny_laws.specs.system-core.tree-disk.Disk.{DiskModel, HasRead}
+use Rattle.cny_laws.specs.system-core.tree-disk.Disk.{DiskModel, Reads}
 use Rattle.cny_laws.specs.system-core.tree-disk.Unfailed.{UnlessFailed}
 use Rattle.repo_load.specs.Files.{repository_base}
 use Rattle.repo_load.specs.State.{RepositoryState}
 use Rattle.cny_laws.specs.declared.failure.Failure.{Failure}
-use Rattle.cli_call.specs.Command.{Disks, Goes, Answers, HasCause, end_of}
+use Rattle.cli_call.specs.Command.{Disks, Goes, Answers, HasCause, Performs, end_of}
 use Rattle.cny_laws.specs.Report.{ChangesNothing, status_of}
 use Rattle.cny_laws.specs.Shown.{KeepsOthers, IsShown}
-use Rattle.cny_laws.specs.State.{State, Effect, Meaning}
+use Rattle.cny_laws.specs.State.{State, Effect, Meaning, Scope}
 use Rattle.cny_laws.specs.Store.{IsSettled, NamesDamaged, RestsAt}
 use Rattle.cny_laws.specs.Stores.{root_store, repository_store}
-use Rattle.cny_laws.specs.Call.{HasLists, HasTree}
+use Rattle.cny_laws.specs.Call.{ContentsStay, HasLists, HasOpened, HasTree, HoldsOpened}
 
 module _ {T P : Type 0} (root_disk : DiskModel T) (repo_disk : DiskModel P) where
   -- From a state whose root the root's disk stores, whatever repository the state has: the state after it, and what the root went
@@ -64,6 +65,31 @@ module _ {T P : Type 0} (root_disk : DiskModel T) (repo_disk : DiskModel P) wher
   -- THE CLAUSE of the function of a command that works on the root's tree and its installed list alone: it answers as on each state that
   -- has them, whatever else the disks store; the root was only read, and the repository's disk wasn't touched.
   pub record AnswersByTree (m : Meaning) (input : List ℕ) (old new : Disks T P) (result : Result (List ℕ) Failure) : Type 0 where
-    pub root : IsTrue root_disk.tells → HasRead root_disk old.root new.root (Unit {0})
+    pub root : Reads root_disk old.root new.root (Unit {0})
     pub repo : new.repo ≡ old.repo
     pub answers : IsTrue root_disk.tells → (s : State) → HasTree root_disk old.root old.opened s → Answers (m.IsOutcome s input) s s result
+
+  -- By a state that has what was read when the disks were opened: the state after it, of which, after a status up to 4, the disks hold
+  -- the database and the catalogue.
+  pub record AnswersOpened (IsOutcome : Result Effect Refusal → Type 0) (s : State) (new : Disks T P) (result : Result (List ℕ) Failure) : Type 0 where
+    pub next : State
+    pub answers : Answers IsOutcome s next result
+    pub holds : status_of (end_of result) ≤ 4 → HoldsOpened root_disk repo_disk new.root new.repo next
+
+  -- THE CLAUSE of the function of a command that works on the root's tree and on what was read when the disks were opened, whatever else
+  -- both store: it answers as on each state that has these.
+  abbrev pub AnswersByOpened : Meaning → List ℕ → Disks T P → Disks T P → Result (List ℕ) Failure → Type 0
+  AnswersByOpened m input old new result = IsTrue root_disk.tells → (s : State) → HasOpened root_disk old.root old.opened s → AnswersOpened (m.IsOutcome s input) s new result
+
+  -- ALL CLAUSES of a command that works on so much: it was performed, also where it is told of no more than what it works on, and a disk
+  -- that it only reads was only read.
+  pub record PerformsWithin (scope : Scope) (m : Meaning) (input : List ℕ) (old new : Disks T P) (result : Result (List ℕ) Failure) : Type 0 where
+    pub performs : Performs root_disk repo_disk m input old new result
+    pub alone : scope.of_root ≡ true → PerformsAlone m input old new result
+    pub apart : scope.of_repository ≡ true → ActsOnRepository m input old new result
+    pub tree : scope.of_tree ≡ true → AnswersByTree m input old new result
+    pub opened : scope.of_opened ≡ true → (scope.of_root ≡ false → IsTrue repo_disk.tells) → AnswersByOpened m input old new result
+    pub contents : scope.of_opened ≡ true → ContentsStay repo_disk old.repo new.repo
+    pub lists : scope.of_lists ≡ true → AnswersByLists m input old new result
+    pub root_read : scope.reads_root ≡ true → Reads root_disk old.root new.root (Unit {0})
+    pub repo_read : scope.reads_repository ≡ true → Reads repo_disk old.repo new.repo (Unit {0})

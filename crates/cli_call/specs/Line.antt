@@ -1,19 +1,19 @@
 -- A command over two disks that are open, with what it writes.
-use Rattle.std.specs.Prelude.{◌≡◌, ℕ, ◌≤◌, true, IsTrue, List, Result, Ok, Err}
+use Rattle.std.specs.Prelude.{◌≡◌, ℕ, ◌≤◌, false, true, IsTrue, List, Result, Ok, Err}
 use Rattle.std.specs.Io.KnownBytes.{Appends, Keeps}
 use Rattle.cny_laws.specs.system-core.cny-base.Count.{Rose}
 use Rattle.cny_laws.specs.system-core.cny-base.declared.refusal.Refusal.{Refusal}
 use Rattle.cny_flow.specs.Flow.{SinkModel, SinkState, sink_state, AppendsPart}
 use Rattle.cny_laws.specs.system-core.tree-disk.Clear.{is_within}
 use Rattle.cny_laws.specs.system-core.tree-disk.Confined.{Among, Confined}
-use Rattle.cny_laws.specs.system-core.tree-disk.Disk.{DiskModel, HasRead}
+use Rattle.cny_laws.specs.system-core.tree-disk.Disk.{DiskModel, Reads}
 use Rattle.repo_load.specs.Files.{repository_base}
 use Rattle.repo_load.specs.State.{RepositoryState}
 use Rattle.cny_laws.specs.system-core.tree-disk.Unfailed.{UnlessFailed}
 use Rattle.cny_laws.specs.declared.failure.Failure.{Failure}
 use Rattle.cny_laws.specs.declared.failure.Failure.TheVariants as failure
 use Rattle.cny_laws.specs.declared.opened.Opened.{Opened}
-use Rattle.cny_laws.specs.Call.{HasLists, HasTree}
+use Rattle.cny_laws.specs.Call.{ContentsStay, HasLists, HasOpened, HasTree, HoldsOpened}
 use Rattle.cli_call.specs.Command.{Disks, disks, Goes, StandsFor, Rest, ReadsSame, HasDamage}
 use Rattle.cny_laws.specs.Shown.{KeepsOthers, IsShown}
 use Rattle.cny_laws.specs.Report.{ChangesNothing, End, status_of}
@@ -112,10 +112,14 @@ module _ {T P : Type 0} (root_disk : DiskModel T) (repo_disk : DiskModel P) wher
     pub ends : (s : State) → HasLists old.at.opened s → Ends (m.IsOutcome s input) s s old.out new.out end
 
   -- By the root's tree and its installed list alone.
-  pub record LineByTree (m : Meaning) (input : List ℕ) (old new : Moment T P) (end : End) : Type 0 where
-    pub root : IsTrue root_disk.tells → HasRead root_disk old.at.root new.at.root (Unit {0})
-    pub repo : new.at.repo ≡ old.at.repo
-    pub ends : IsTrue root_disk.tells → (s : State) → HasTree root_disk old.at.root old.at.opened s → Ends (m.IsOutcome s input) s s old.out new.out end
+  abbrev pub LineByTree : Meaning → List ℕ → Moment T P → Moment T P → End → Type 0
+  LineByTree m input old new end = IsTrue root_disk.tells → (s : State) → HasTree root_disk old.at.root old.at.opened s → Ends (m.IsOutcome s input) s s old.out new.out end
+
+  -- By the root's tree and what was read when the disks were opened.
+  pub record LineByOpened (IsOutcome : Result Effect Refusal → Type 0) (s : State) (old new : Moment T P) (end : End) : Type 0 where
+    pub next : State
+    pub ends : Ends IsOutcome s next old.out new.out end
+    pub holds : status_of end ≤ 4 → HoldsOpened root_disk repo_disk new.at.root new.at.repo next
 
   -- A command of this meaning, which works on so much, was performed with this input, what it answered was written, and it
   -- ended so.
@@ -132,3 +136,8 @@ module _ {T P : Type 0} (root_disk : DiskModel T) (repo_disk : DiskModel P) wher
     pub apart : scope.of_repository ≡ true → LineApart m input old new end
     pub by_lists : scope.of_lists ≡ true → LineByLists m input old new end
     pub by_tree : scope.of_tree ≡ true → LineByTree m input old new end
+    pub by_opened : scope.of_opened ≡ true → IsTrue root_disk.tells → (scope.of_root ≡ false → IsTrue repo_disk.tells) → (s : State) → HasOpened root_disk old.at.root old.at.opened s → LineByOpened (m.IsOutcome s input) s old new end
+    pub contents_stay : scope.of_opened ≡ true → ContentsStay repo_disk old.at.repo new.at.repo
+    -- a disk that it only reads
+    pub root_read : scope.reads_root ≡ true → Reads root_disk old.at.root new.at.root (Unit {0})
+    pub repo_read : scope.reads_repository ≡ true → Reads repo_disk old.at.repo new.at.repo (Unit {0})

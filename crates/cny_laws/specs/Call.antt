@@ -1,10 +1,10 @@
 -- What a call works on, and how its disks are opened.
-use Rattle.std.specs.Prelude.{◌≡◌, ◌⊎◌, Result, Ok, Err}
+use Rattle.std.specs.Prelude.{◌≡◌, ◌⊎◌, ℕ, IsTrue, List, Result, Ok, Err}
 use Rattle.system_core.specs.cny-base.declared.stop.Stop.{Stop}
 use Rattle.cny_flow.specs.Flow.{SourceModel, SourceState, source_state, SinkModel, SinkState, sink_state}
 use Rattle.system_core.specs.tree-disk.Disk.{DiskModel}
 use Rattle.repo_index.specs.Catalogue.{CatalogueParts}
-use Rattle.repo_load.specs.Files.{HoldsCatalogue}
+use Rattle.repo_load.specs.Files.{contents_dir, HoldsCatalogue}
 use Rattle.repo_load.specs.Loading.{IsCatalogue}
 use Rattle.cny_laws.specs.declared.failure.Failure.{Failure}
 use Rattle.cny_laws.specs.declared.opened.Opened.{Opened}
@@ -14,9 +14,14 @@ use Rattle.cny_laws.specs.RootOpening.{OpensSystem}
 use Rattle.cny_laws.specs.Stops.{root_failure, repository_failure}
 use Rattle.cny_laws.specs.Stores.{repository_store}
 use Rattle.local_db.specs.declared.db.Db.{Db}
+use Rattle.local_db.specs.declared.format.Format.TheVariants.{Two}
+use Rattle.local_db.specs.Stores.{HoldsDatabase}
+use Rattle.local_db.specs.SystemState.{IsSystemState, newest, oldest}
+use Rattle.system_core.specs.Job.{db_of}
+use Rattle.system_core.specs.content-store.Store.{stored, IsContentName}
 use Rattle.system_core.specs.cny-base.Reserved.{is_reserved}
 use Rattle.system_core.specs.tree-disk.Tree.{AgreesOutside}
-use Rattle.repo_load.specs.State.{troves_of}
+use Rattle.repo_load.specs.State.{catalogue_of, troves_of}
 use Rattle.cny_laws.specs.State.{State, tree_of}
 
 -- all that a call works on but the error output, at one moment
@@ -38,6 +43,22 @@ pub record HasLists (opened : Opened) (s : State) : Type 0 where
 pub record HasTree {T : Type 0} (root_disk : DiskModel T) (root : T) (opened : Opened) (s : State) : Type 0 where
   pub lists : HasLists opened s
   pub outer : AgreesOutside is_reserved (root_disk.reads root) (tree_of s.root)
+
+-- the same of a state whose root keeps its rules, with all that was read when the disks were opened: the database and the catalogue
+pub record HasOpened {T : Type 0} (root_disk : DiskModel T) (root : T) (opened : Opened) (s : State) : Type 0 where
+  pub system : IsSystemState s.root
+  pub outer : AgreesOutside is_reserved (root_disk.reads root) (tree_of s.root)
+  pub database : db_of s.root ≡ opened.db
+  pub catalogue : catalogue_of s.repository.commits ≡ opened.catalogue
+
+-- each disk that is told holds the database, or the catalogue, of the state
+pub record HoldsOpened {T P : Type 0} (root_disk : DiskModel T) (repo_disk : DiskModel P) (root : T) (repo : P) (s : State) : Type 0 where
+  pub database : IsTrue root_disk.tells → HoldsDatabase Two (root_disk.reads root) s.root.installed (oldest s.root.stack) (newest s.root.stack)
+  pub catalogue : IsTrue repo_disk.tells → HoldsCatalogue (repo_disk.reads repo) (catalogue_of s.repository.commits)
+
+-- what stands in a repository under the name of each content is what stood there
+abbrev pub ContentsStay : {P : Type 0} → DiskModel P → P → P → Type 0
+ContentsStay repo_disk old new = IsTrue repo_disk.tells → (name : List ℕ) → IsContentName name → stored (repo_disk.reads new) contents_dir name ≡ stored (repo_disk.reads old) contents_dir name
 
 module _ {T P : Type 0} (root_disk : DiskModel T) (repo_disk : DiskModel P) where
   -- ---- opening

@@ -44,8 +44,7 @@ OpeningStops store disk tests old new stop.Failed = Rose (disk.faults old) (disk
 OpeningStops store disk tests old new stop.Memory = Unit {0}
 OpeningStops store disk tests old new (stop.Refused r) = RefusesOpening disk store.base tests old new r
 OpeningStops store disk tests old new (stop.Damaged path) = MeetsDamage store disk old new path
-OpeningStops store disk tests old new stop.FarFailed = ⊥
-OpeningStops store disk tests old new (stop.FarDamaged path) = ⊥
+OpeningStops store disk tests old new _ = ⊥
 
 -- A disk is opened. At every moment a crash leaves an image at entry, or a tree that recovers to all that the disk, as it read then,
 -- recovers to; however it ends, it recovers to all that it recovered to.

@@ -35,11 +35,7 @@ ReadFrom takes input now (Ok bytes) = (given takes input ≡ Ok bytes) × (now.l
 ReadFrom takes input now (Err (failure.Refused r)) = (given takes input ≡ Err r) × (now.left ≡ Some (left_by takes input))
 ReadFrom takes input now (Err failure.InputFault) = Unit {0}
 ReadFrom takes input now (Err failure.Memory) = Unit {0}
-ReadFrom takes input now (Err failure.Usage) = ⊥
-ReadFrom takes input now (Err failure.OutputFault) = ⊥
-ReadFrom takes input now (Err failure.RootFault) = ⊥
-ReadFrom takes input now (Err failure.RepositoryFault) = ⊥
-ReadFrom takes input now (Err (failure.Damaged path)) = ⊥
+ReadFrom takes input now (Err _) = ⊥
 
 -- why reading ended so
 abbrev pub ReadCause : SourceState → SourceState → Result (List ℕ) Failure → Type 0
@@ -47,11 +43,7 @@ ReadCause before now (Ok bytes) = Unit {0}
 ReadCause before now (Err (failure.Refused r)) = Unit {0}
 ReadCause before now (Err failure.InputFault) = Rose before.faults now.faults
 ReadCause before now (Err failure.Memory) = Unit {0}
-ReadCause before now (Err failure.Usage) = ⊥
-ReadCause before now (Err failure.OutputFault) = ⊥
-ReadCause before now (Err failure.RootFault) = ⊥
-ReadCause before now (Err failure.RepositoryFault) = ⊥
-ReadCause before now (Err (failure.Damaged path)) = ⊥
+ReadCause before now (Err _) = ⊥
 
 -- What a command is given was read, or why it wasn't. A command that takes no input is given nothing, and nothing is read. Of an input
 -- that isn't told there are bytes of which reading gives the same.

@@ -85,10 +85,7 @@ abbrev pub IsDecided : {V : Type 0} → Result V Stop → Type 0
 IsDecided (Ok value) = Unit {0}
 IsDecided (Err (stop.Refused r)) = Unit {0}
 IsDecided (Err (stop.Damaged path)) = Unit {0}
-IsDecided (Err stop.Failed) = ⊥
-IsDecided (Err stop.Memory) = ⊥
-IsDecided (Err stop.FarFailed) = ⊥
-IsDecided (Err (stop.FarDamaged path)) = ⊥
+IsDecided _ = ⊥
 
 -- The root is opened.
 pub record OpensSystem {D : Type 0} (disk : DiskModel D) (old new : D) (result : Result Db Stop) : Type 0 where

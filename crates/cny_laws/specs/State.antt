@@ -41,13 +41,16 @@ pub record Meaning : Type 1 where
   pub IsOutcome : State → List ℕ → Result Effect Refusal → Type 0
 
 -- What a command works on: the root alone, whatever the repository's disk tells or stores; the repository alone, whatever the root's
--- does; the root's tree outside its private directory and its installed list alone, whatever else both disks store; or only the lists
--- that were read when they were opened.
+-- does; the root's tree outside its private directory and its installed list alone, whatever else both disks store; the same with all that
+-- was read when the disks were opened; or only the lists that were read then. And which of the disks it only reads.
 pub record Scope : Type 0 where
   pub of_root : Bool
   pub of_repository : Bool
   pub of_tree : Bool
+  pub of_opened : Bool
   pub of_lists : Bool
+  pub reads_root : Bool
+  pub reads_repository : Bool
 
 -- one disk at most stores another state
 abbrev pub OneDisk : State → State → Type 0

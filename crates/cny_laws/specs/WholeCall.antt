@@ -5,7 +5,7 @@ use Rattle.system_core.specs.cny-base.Count.{Rose}
 use Rattle.system_core.specs.cny-base.declared.refusal.Refusal.{Refusal}
 use Rattle.cny_flow.specs.Flow.{SinkState, AppendsPart}
 use Rattle.system_core.specs.tree-disk.Tree.{Name, Tree}
-use Rattle.system_core.specs.tree-disk.Disk.{DiskModel, HasRead}
+use Rattle.system_core.specs.tree-disk.Disk.{DiskModel, HasRead, Reads}
 use Rattle.system_core.specs.tree-disk.Clear.{is_within}
 use Rattle.system_core.specs.tree-disk.Confined.{Among, Confined, LeavesOnly}
 use Rattle.system_core.specs.tree-disk.Steps.{no_name}
@@ -18,7 +18,7 @@ use Rattle.repo_load.specs.Files.{repository_base}
 use Rattle.repo_load.specs.State.{RepositoryState}
 use Rattle.cny_laws.specs.declared.failure.Failure.{Failure}
 use Rattle.cny_laws.specs.declared.opened.Opened.{Opened}
-use Rattle.cny_laws.specs.Call.{HasLists, HasTree, CallState, AreOpened, NotOpened, OpensRoot, StopsForRepository, StopsForRoot}
+use Rattle.cny_laws.specs.Call.{ContentsStay, HasLists, HasOpened, HasTree, HoldsOpened, CallState, AreOpened, NotOpened, OpensRoot, StopsForRepository, StopsForRoot}
 use Rattle.cny_laws.specs.Shown.{KeepsOthers, IsShown}
 use Rattle.cny_laws.specs.Report.{ChangesNothing, End, Reports, status_of}
 use Rattle.system_core.specs.FixedDirs.{fixed_dirs}
@@ -130,12 +130,6 @@ module _ {T P : Type 0} (root_disk : DiskModel T) (repo_disk : DiskModel P) wher
     pub root : IsTrue root_disk.tells → IsRootKept (root_disk.reads before.root) (root_disk.reads now.root)
     pub repo : IsTrue repo_disk.tells → IsKept repository_store.base (repo_disk.reads before.repo) (repo_disk.reads now.repo)
 
-  -- the root was only read, and the repository and the input weren't touched
-  pub record OnlyRead (before now : CallState T P) : Type 0 where
-    pub root : HasRead root_disk before.root now.root (Unit {0})
-    pub repo : now.repo ≡ before.repo
-    pub unread : now.input ≡ before.input
-
   -- ---- how far it came
 
   -- The input wasn't read: this is why, and nothing was done on the disks that were opened.
@@ -154,19 +148,12 @@ module _ {T P : Type 0} (root_disk : DiskModel T) (repo_disk : DiskModel P) wher
     pub gives : given m.takes_input input ≡ Ok bytes
     pub reads : ReadsGiven m.takes_input before.input now.input (Ok bytes)
 
-  -- A command that works on the lists alone that were read when the disks were opened ends as its outcome on each state that has them,
-  -- whatever else the disks tell or store, and touched neither.
-  pub record EndsByLists (m : Meaning) (input : List ℕ) (root : T) (repo : P) (opened : Opened) (before now : CallState T P) (end : End) : Type 0 where
-    pub same_root : now.root ≡ root
-    pub same_repo : now.repo ≡ repo
-    pub ends : (s : State) → HasLists opened s → CallEnds (OwnOutcome m s input) s s before.out now.out end
-
-  -- One that works on the root's tree and its installed list alone, the same on each state that has them, where the root is told; the root
-  -- was only read from then on, and the repository not touched.
-  pub record EndsByTree (m : Meaning) (input : List ℕ) (root : T) (repo : P) (opened : Opened) (before now : CallState T P) (end : End) : Type 0 where
-    pub read : IsTrue root_disk.tells → HasRead root_disk root now.root (Unit {0})
-    pub same_repo : now.repo ≡ repo
-    pub ends : IsTrue root_disk.tells → (s : State) → HasTree root_disk root opened s → CallEnds (OwnOutcome m s input) s s before.out now.out end
+  -- By a state that has what a command works on: the state after it, as on this one, and of which, after a status up to 4, the disks hold
+  -- the database and the catalogue.
+  pub record EndsByOpened (m : Meaning) (input : List ℕ) (s : State) (before now : CallState T P) (end : End) : Type 0 where
+    pub next : State
+    pub ends : CallEnds (OwnOutcome m s input) s next before.out now.out end
+    pub holds : status_of end ≤ 4 → HoldsOpened root_disk repo_disk now.root now.repo next
 
   -- Both disks were opened: the root first, and then the repository.
   pub record WasOpened (scope : Scope) (m : Meaning) (input : List ℕ) (before now : CallState T P) (end : End) : Type 0 where
@@ -183,6 +170,9 @@ module _ {T P : Type 0} (root_disk : DiskModel T) (repo_disk : DiskModel P) wher
     pub repo_left : scope.of_root ≡ true → now.repo ≡ repo
     pub root_left : scope.of_repository ≡ true → now.root ≡ root
     pub repo_within : IsTrue repo_disk.tells → Confined repo_disk (Among (is_within repository_base)) repo now.repo
+    -- A disk that the command only reads was only read from its opening on, where it is told.
+    pub root_read : scope.reads_root ≡ true → Reads root_disk root now.root (Unit {0})
+    pub repo_read : scope.reads_repository ≡ true → Reads repo_disk repo now.repo (Unit {0})
     -- After a status up to 4 each disk that is told is at rest, and a crash leaves just what it reads.
     pub root_rests : status_of end ≤ 4 → IsTrue root_disk.tells → IsSettled root_disk root_store.base now.root
     pub repo_rests : status_of end ≤ 4 → IsTrue repo_disk.tells → IsSettled repo_disk repository_store.base now.repo
@@ -191,8 +181,14 @@ module _ {T P : Type 0} (root_disk : DiskModel T) (repo_disk : DiskModel P) wher
     pub root_damaged : scope.of_root ≡ true → NamesDamaged root_store root_disk now.root end
     pub repo_damaged : scope.of_repository ≡ true → NamesDamaged repository_store repo_disk now.repo end
     pub damaged : (path : Name) → end ≡ Err (failure.Damaged path) → (IsTrue root_disk.tells → HasDamagedFile root_store (root_disk.reads now.root) path) ⊎ (IsTrue repo_disk.tells → HasDamagedFile repository_store (repo_disk.reads now.repo) path)
-    pub by_lists : scope.of_lists ≡ true → EndsByLists m input root repo opened before now end
-    pub by_tree : scope.of_tree ≡ true → EndsByTree m input root repo opened before now end
+    -- A command that works on the lists alone that were read when the disks were opened touches neither disk, and ends as its outcome on each
+    -- state that has them, whatever else the disks tell or store. Where the root is told, so does one that works on its tree and its installed
+    -- list alone; and, where the repository is told too, unless it works on the root alone, one that works on the root's tree and on all that
+    -- was read then, and leaves what stands under the names of contents.
+    pub by_lists : scope.of_lists ≡ true → (now.root ≡ root) × (now.repo ≡ repo) × ((s : State) → HasLists opened s → CallEnds (OwnOutcome m s input) s s before.out now.out end)
+    pub by_tree : scope.of_tree ≡ true → IsTrue root_disk.tells → (s : State) → HasTree root_disk root opened s → CallEnds (OwnOutcome m s input) s s before.out now.out end
+    pub by_opened : scope.of_opened ≡ true → IsTrue root_disk.tells → (scope.of_root ≡ false → IsTrue repo_disk.tells) → (s : State) → HasOpened root_disk root opened s → EndsByOpened m input s before now end
+    pub contents_stay : scope.of_opened ≡ true → ContentsStay repo_disk repo now.repo
 
   -- The disks weren't opened, and nothing else was done; or they were.
   abbrev pub Reaches : Scope → Meaning → List ℕ → CallState T P → CallState T P → End → Type 0
@@ -203,14 +199,12 @@ module _ {T P : Type 0} (root_disk : DiskModel T) (repo_disk : DiskModel P) wher
   -- why a call ended so, and what was written
   abbrev pub CallCause : CallState T P → CallState T P → End → Type 0
   CallCause before now (Ok x) = Unit {0}
-  CallCause before now (Err (failure.Refused r)) = Keeps before.out.written now.out.written
   CallCause before now (Err failure.InputFault) = Rose before.input.faults now.input.faults × Keeps before.out.written now.out.written
   CallCause before now (Err failure.OutputFault) = Rose before.out.faults now.out.faults
   CallCause before now (Err failure.RootFault) = Rose (root_disk.faults before.root) (root_disk.faults now.root) × Keeps before.out.written now.out.written
   CallCause before now (Err failure.RepositoryFault) = Rose (repo_disk.faults before.repo) (repo_disk.faults now.repo) × Keeps before.out.written now.out.written
-  CallCause before now (Err failure.Memory) = Keeps before.out.written now.out.written
-  CallCause before now (Err (failure.Damaged path)) = Keeps before.out.written now.out.written
   CallCause before now (Err failure.Usage) = ⊥
+  CallCause before now _ = Keeps before.out.written now.out.written
 
   -- no count of faults fell
   pub record AreLater (before now : CallState T P) : Type 0 where
@@ -225,12 +219,12 @@ module _ {T P : Type 0} (root_disk : DiskModel T) (repo_disk : DiskModel P) wher
     pub cause : CallCause before now end
     -- where it was refused, the input failed or a file is damaged, both disks recover to what they recovered to
     pub kept : ChangesNothing end → AreKept before now
-    -- A disk that recovers to no tree is left as it stands, and a root of which a fixed directory isn't one is only read.
+    -- A disk that recovers to no tree is left as it stands. A root of which a fixed directory isn't one is only read, and nothing else is done.
     pub root_untouched : IsTrue root_disk.tells → RecoversToNone root_store.base (root_disk.reads before.root) → Confined root_disk (Among no_name) before.root now.root
     pub repo_untouched : IsTrue repo_disk.tells → RecoversToNone repository_store.base (repo_disk.reads before.repo) → Confined repo_disk (Among no_name) before.repo now.repo
     -- A repository whose commit flag isn't set is changed below its directory alone, however the call ends.
     pub repo_within : IsTrue repo_disk.tells → is_committed repository_store.base (repo_disk.reads before.repo) ≡ false → Confined repo_disk (Among (is_within repository_base)) before.repo now.repo
-    pub missing : IsTrue root_disk.tells → (r : Refusal) → fixed_dirs (root_disk.reads before.root) ≡ Err r → OnlyRead before now
+    pub missing : IsTrue root_disk.tells → (r : Refusal) → fixed_dirs (root_disk.reads before.root) ≡ Err r → HasRead root_disk before.root now.root (Unit {0}) × (now.repo ≡ before.repo) × (now.input ≡ before.input)
 
   -- ---- a root whose log can't be put
 

@@ -1,16 +1,20 @@
 -- How a command is performed, by what its own function says.
-use Rattle.std.proofs.Common.{◌≡◌, ℕ, Bool, true, false, List, Result, refl, subst, sym, ◌∙◌}
+use Rattle.std.proofs.Common.{◌≡◌, ℕ, Bool, true, false, List, Result, ap, refl, subst, sym, ◌∙◌}
 use Rattle.std.specs.Prelude.{IsTrue, OnOk}
 use Rattle.std.proofs.lemmas.Bool.{false≢true}
-use Rattle.cli_call.specs.tree-disk.Disk.{DiskModel, IsDisk}
+use Rattle.cli_call.specs.tree-disk.Disk.{DiskModel, HasRead, IsDisk, Reads}
+use Rattle.cli_call.specs.content-store.Store.{stored}
+use Rattle.repo_load.specs.Files.{contents_dir}
+use Rattle.cli_call.specs.cny-laws.Call.{ContentsStay}
 use Rattle.cli_call.specs.cny-laws.declared.failure.Failure.{Failure}
-use Rattle.cli_call.specs.Alone.{ActsOnRepository, AnswersByLists, AnswersByTree, PerformsAlone}
+use Rattle.cli_call.specs.Alone.{ActsOnRepository, AnswersByLists, AnswersByOpened, AnswersByTree, PerformsAlone}
 use Rattle.cli_call.specs.Command.{AreReady, Disks, Performs}
 use Rattle.cli_call.proofs.CommandLaws.{acts_performed}
 use Rattle.cli_call.proofs.RootLaws.{root_laws}
+use Rattle.cli_call.proofs.StoreLaws.{nothing_done}
 use Rattle.root_commands.specs.Records.{NoneIs}
 use Rattle.conary_cli.specs.declared.words.Command.{Command}
-use Rattle.conary_cli.specs.Commands.{is_of_lists, is_of_repository, is_of_root, is_of_tree, meaning, PerformsCommand}
+use Rattle.conary_cli.specs.Commands.{is_of_lists, is_of_opened, is_of_repository, is_of_root, is_of_tree, meaning, reads_repository, reads_root, PerformsCommand}
 use Rattle.conary_cli.specs.Records.{EndsWhole, IsDamagedFirst, IsDamagedFor}
 use Rattle.conary_cli.proofs.RecordEnds.{none_read}
 
@@ -21,7 +25,15 @@ again_as {A = A} {E = E} X own shown is h = subst (λ (r : Result A E). OnOk r X
 never : {A : Type 0} (b : Bool) → b ≡ false → b ≡ true → A
 never b off on = absurd (false≢true (sym off ∙ on))
 
-module _ {T P : Type 0} (root_disk : DiskModel T) (repo_disk : DiskModel P) (input : List ℕ) (old new : Disks T P) (result : Result (List ℕ) Failure) where
+-- contents on a disk on which nothing was done
+contents_left : {P : Type 0} {disk : DiskModel P} (old new : P) → new ≡ old → ContentsStay disk old new
+contents_left {P = P} {disk = disk} old new same told name of_content = ap (λ (d : P). stored (disk.reads d) contents_dir name) same
+
+-- a disk on which nothing was done was only read
+pub untouched : {D : Type 0} {disk : DiskModel D} → IsDisk disk → (old new : D) → new ≡ old → Reads disk old new (Unit {0})
+untouched {D = D} {disk = disk} laws old new same told = subst (λ (d : D). HasRead disk old d (Unit {0})) (sym same) (nothing_done laws old)
+
+module _ {T P : Type 0} {root_disk : DiskModel T} {repo_disk : DiskModel P} (root_disk_laws : IsDisk root_disk) (repo_disk_laws : IsDisk repo_disk) (input : List ℕ) (old new : Disks T P) (result : Result (List ℕ) Failure) where
   -- it reads no record
   abbrev pub ReadsNone : Command → Type 0
   ReadsNone c = NoneIs (IsDamagedFor c (root_disk.reads old.root) old.opened.db)
@@ -35,62 +47,128 @@ module _ {T P : Type 0} (root_disk : DiskModel T) (repo_disk : DiskModel P) (inp
   no_record : (c : Command) → ReadsNone c → RefusedNone c → Whole c
   no_record c none first told = none_read c c (root_disk.reads old.root) old.opened.db result refl none first
 
-  -- also by its lists alone, or not
-  abbrev pub Lists : Command → Type 0
-  Lists c = is_of_lists c ≡ true → AnswersByLists root_disk repo_disk (meaning c) input old new result
+  abbrev RootRead : Type 0
+  RootRead = Reads root_disk old.root new.root (Unit {0})
 
-  no_lists : (c : Command) → is_of_lists c ≡ false → Lists c
-  no_lists c off is = never (is_of_lists c) off is
+  abbrev RepoRead : Type 0
+  RepoRead = Reads repo_disk old.repo new.repo (Unit {0})
 
-  abbrev pub ByTree : Command → Type 0
-  ByTree c = is_of_tree c ≡ true → AnswersByTree root_disk repo_disk (meaning c) input old new result
+  -- by what was read when the disks were opened, where the repository is told, if it works on both
+  abbrev pub ByOpened : Command → Type 0
+  ByOpened c = is_of_opened c ≡ true → (is_of_root c ≡ false → IsTrue repo_disk.tells) → AnswersByOpened root_disk repo_disk (meaning c) input old new result
 
-  no_tree : (c : Command) → is_of_tree c ≡ false → ByTree c
-  no_tree c off is = never (is_of_tree c) off is
+  no_opened : (c : Command) → is_of_opened c ≡ false → ByOpened c
+  no_opened c off is = never (is_of_opened c) off is
 
-  abbrev pub Alone : Command → Type 0
-  Alone c = is_of_root c ≡ true → PerformsAlone root_disk repo_disk (meaning c) input old new result
-
-  -- on the root, and also on it alone
-  all_of_root : (c : Command) → is_of_repository c ≡ false → Performs root_disk repo_disk (meaning c) input old new result → Alone c → Lists c → ByTree c → Whole c → PerformsCommand root_disk repo_disk c input old new result
-  all_of_root c off performs alone lists tree whole = record { performs = performs; alone = alone; apart = λ is. never (is_of_repository c) off is; tree = tree; lists = lists; records = whole }
-
-  pub on_root : (c : Command) → is_of_repository c ≡ false → is_of_lists c ≡ false → is_of_tree c ≡ false → Performs root_disk repo_disk (meaning c) input old new result → Alone c → ReadsNone c → RefusedNone c → PerformsCommand root_disk repo_disk c input old new result
-  on_root c off none none' performs alone reads refused = all_of_root c off performs alone (no_lists c none) (no_tree c none') (no_record c reads refused)
+  -- on the root alone, and neither on its tree nor on the lists alone
+  of_root : (c : Command) → is_of_repository c ≡ false → is_of_lists c ≡ false → is_of_tree c ≡ false → ByOpened c → Performs root_disk repo_disk (meaning c) input old new result → PerformsAlone root_disk repo_disk (meaning c) input old new result
+      → (reads_root c ≡ true → RootRead) → Whole c → PerformsCommand root_disk repo_disk c input old new result
+  of_root c off none none' opened performs alone read whole = record {
+    performs = record {
+      performs = performs;
+      alone = λ is. alone;
+      apart = λ is. never (is_of_repository c) off is;
+      tree = λ is. never (is_of_tree c) none' is;
+      opened = opened;
+      contents = λ is. contents_left old.repo new.repo alone.repo;
+      lists = λ is. never (is_of_lists c) none is;
+      root_read = read;
+      repo_read = λ is. untouched repo_disk_laws old.repo new.repo alone.repo;
+    };
+    records = whole;
+  }
 
   -- of one that reads records
-  pub on_records : (c : Command) → is_of_repository c ≡ false → is_of_lists c ≡ false → is_of_tree c ≡ false → Performs root_disk repo_disk (meaning c) input old new result → Alone c → Whole c → PerformsCommand root_disk repo_disk c input old new result
-  on_records c off none none' performs alone whole = all_of_root c off performs alone (no_lists c none) (no_tree c none') whole
+  pub on_records : (c : Command) → is_of_repository c ≡ false → is_of_lists c ≡ false → is_of_tree c ≡ false → is_of_opened c ≡ false → Performs root_disk repo_disk (meaning c) input old new result → PerformsAlone root_disk repo_disk (meaning c) input old new result
+      → (reads_root c ≡ true → RootRead) → Whole c → PerformsCommand root_disk repo_disk c input old new result
+  on_records c off none none' shut performs alone read whole = of_root c off none none' (no_opened c shut) performs alone read whole
 
-  -- of one that works on its tree and its list
-  pub on_tree : (c : Command) → is_of_repository c ≡ false → is_of_lists c ≡ false → Performs root_disk repo_disk (meaning c) input old new result → Alone c → ByTree c → ReadsNone c → RefusedNone c → PerformsCommand root_disk repo_disk c input old new result
-  on_tree c off none performs alone tree reads refused = all_of_root c off performs alone (no_lists c none) tree (no_record c reads refused)
+  -- of a job, which reads none
+  pub on_root : (c : Command) → is_of_repository c ≡ false → is_of_lists c ≡ false → is_of_tree c ≡ false → reads_root c ≡ false → Performs root_disk repo_disk (meaning c) input old new result → PerformsAlone root_disk repo_disk (meaning c) input old new result
+      → AnswersByOpened root_disk repo_disk (meaning c) input old new result → ReadsNone c → RefusedNone c → PerformsCommand root_disk repo_disk c input old new result
+  on_root c off none none' writes performs alone opened reads refused = of_root c off none none' (λ is told. opened) performs alone (λ is. never (reads_root c) writes is) (no_record c reads refused)
 
-  -- of one that works on lists
-  pub on_list : (c : Command) → is_of_repository c ≡ false → is_of_tree c ≡ false → Performs root_disk repo_disk (meaning c) input old new result → Alone c → Lists c → ReadsNone c → RefusedNone c → PerformsCommand root_disk repo_disk c input old new result
-  on_list c off none performs alone lists reads refused = all_of_root c off performs alone lists (no_tree c none) (no_record c reads refused)
-
-  -- on the repository alone
-  all_of_repository : IsDisk root_disk → AreReady root_disk repo_disk old → (c : Command) → is_of_root c ≡ false → is_of_tree c ≡ false → ActsOnRepository root_disk repo_disk (meaning c) input old new result → Lists c → ReadsNone c → RefusedNone c → PerformsCommand root_disk repo_disk c input old new result
-  all_of_repository root_disk_laws ready c off none acts lists reads refused = record {
-    performs = acts_performed root_disk_laws root_laws (meaning c) input old new result ready acts;
-    alone = λ is. never (is_of_root c) off is;
-    apart = λ is. acts;
-    tree = no_tree c none;
-    lists = lists;
+  -- of one that works on its tree and its list, where it works on the root alone
+  pub on_tree : (c : Command) → is_of_repository c ≡ false → is_of_lists c ≡ false → is_of_opened c ≡ false → Performs root_disk repo_disk (meaning c) input old new result → (is_of_root c ≡ true → PerformsAlone root_disk repo_disk (meaning c) input old new result)
+      → (is_of_tree c ≡ true → AnswersByTree root_disk repo_disk (meaning c) input old new result) → RootRead → RepoRead → ReadsNone c → RefusedNone c → PerformsCommand root_disk repo_disk c input old new result
+  on_tree c off none shut performs alone tree root_read repo_read reads refused = record {
+    performs = record {
+      performs = performs;
+      alone = alone;
+      apart = λ is. never (is_of_repository c) off is;
+      tree = tree;
+      opened = no_opened c shut;
+      contents = λ is. never (is_of_opened c) shut is;
+      lists = λ is. never (is_of_lists c) none is;
+      root_read = λ is. root_read;
+      repo_read = λ is. repo_read;
+    };
     records = no_record c reads refused;
   }
 
-  pub on_repository : IsDisk root_disk → AreReady root_disk repo_disk old → (c : Command) → is_of_root c ≡ false → is_of_tree c ≡ false → is_of_lists c ≡ false → ActsOnRepository root_disk repo_disk (meaning c) input old new result → ReadsNone c → RefusedNone c → PerformsCommand root_disk repo_disk c input old new result
-  on_repository root_disk_laws ready c off none none' acts reads refused = all_of_repository root_disk_laws ready c off none acts (no_lists c none') reads refused
+  -- of one that works on lists
+  pub on_list : (c : Command) → is_of_repository c ≡ false → is_of_tree c ≡ false → is_of_opened c ≡ false → Performs root_disk repo_disk (meaning c) input old new result → PerformsAlone root_disk repo_disk (meaning c) input old new result
+      → AnswersByLists root_disk repo_disk (meaning c) input old new result → ReadsNone c → RefusedNone c → PerformsCommand root_disk repo_disk c input old new result
+  on_list c off none shut performs alone lists reads refused = record {
+    performs = record {
+      performs = performs;
+      alone = λ is. alone;
+      apart = λ is. never (is_of_repository c) off is;
+      tree = λ is. never (is_of_tree c) none is;
+      opened = no_opened c shut;
+      contents = λ is. never (is_of_opened c) shut is;
+      lists = λ is. lists;
+      root_read = λ is. untouched root_disk_laws old.root new.root lists.root;
+      repo_read = λ is. untouched repo_disk_laws old.repo new.repo lists.repo;
+    };
+    records = no_record c reads refused;
+  }
+
+  -- on the repository alone
+  all_of_repository : AreReady root_disk repo_disk old → (c : Command) → is_of_root c ≡ false → is_of_tree c ≡ false → is_of_opened c ≡ false → ActsOnRepository root_disk repo_disk (meaning c) input old new result
+      → (is_of_lists c ≡ true → AnswersByLists root_disk repo_disk (meaning c) input old new result) → (reads_repository c ≡ true → RepoRead) → ReadsNone c → RefusedNone c → PerformsCommand root_disk repo_disk c input old new result
+  all_of_repository ready c off none shut acts lists read reads refused = record {
+    performs = record {
+      performs = acts_performed root_disk_laws root_laws (meaning c) input old new result ready acts;
+      alone = λ is. never (is_of_root c) off is;
+      apart = λ is. acts;
+      tree = λ is. never (is_of_tree c) none is;
+      opened = no_opened c shut;
+      contents = λ is. never (is_of_opened c) shut is;
+      lists = lists;
+      root_read = λ is. untouched root_disk_laws old.root new.root acts.root;
+      repo_read = read;
+    };
+    records = no_record c reads refused;
+  }
+
+  -- of one that commits
+  pub on_repository : AreReady root_disk repo_disk old → (c : Command) → is_of_root c ≡ false → is_of_tree c ≡ false → is_of_opened c ≡ false → is_of_lists c ≡ false → reads_repository c ≡ false → ActsOnRepository root_disk repo_disk (meaning c) input old new result
+      → ReadsNone c → RefusedNone c → PerformsCommand root_disk repo_disk c input old new result
+  on_repository ready c off none shut none' writes acts reads refused = all_of_repository ready c off none shut acts (λ is. never (is_of_lists c) none' is) (λ is. never (reads_repository c) writes is) reads refused
 
   -- of one that works on lists
-  pub on_catalogue : IsDisk root_disk → AreReady root_disk repo_disk old → (c : Command) → is_of_root c ≡ false → is_of_tree c ≡ false → ActsOnRepository root_disk repo_disk (meaning c) input old new result → Lists c → ReadsNone c → RefusedNone c → PerformsCommand root_disk repo_disk c input old new result
-  on_catalogue root_disk_laws ready c off none acts lists reads refused = all_of_repository root_disk_laws ready c off none acts lists reads refused
+  pub on_catalogue : AreReady root_disk repo_disk old → (c : Command) → is_of_root c ≡ false → is_of_tree c ≡ false → is_of_opened c ≡ false → ActsOnRepository root_disk repo_disk (meaning c) input old new result → AnswersByLists root_disk repo_disk (meaning c) input old new result
+      → ReadsNone c → RefusedNone c → PerformsCommand root_disk repo_disk c input old new result
+  on_catalogue ready c off none shut acts lists reads refused = all_of_repository ready c off none shut acts (λ is. lists) (λ is. untouched repo_disk_laws old.repo new.repo lists.repo) reads refused
 
   -- on both
-  pub on_both : (c : Command) → is_of_root c ≡ false → is_of_repository c ≡ false → is_of_lists c ≡ false → is_of_tree c ≡ false → Performs root_disk repo_disk (meaning c) input old new result → ReadsNone c → RefusedNone c → PerformsCommand root_disk repo_disk c input old new result
-  on_both c off off' none none' performs reads refused = on_root c off' none none' performs (λ is. never (is_of_root c) off is) reads refused
+  pub on_both : (c : Command) → is_of_root c ≡ false → is_of_repository c ≡ false → is_of_lists c ≡ false → is_of_tree c ≡ false → ByOpened c → (is_of_opened c ≡ true → ContentsStay repo_disk old.repo new.repo) → Performs root_disk repo_disk (meaning c) input old new result → (reads_root c ≡ true → RootRead)
+      → (reads_repository c ≡ true → RepoRead) → ReadsNone c → RefusedNone c → PerformsCommand root_disk repo_disk c input old new result
+  on_both c off off' none none' opened contents performs root_read repo_read reads refused = record {
+    performs = record {
+      performs = performs;
+      alone = λ is. never (is_of_root c) off is;
+      apart = λ is. never (is_of_repository c) off' is;
+      tree = λ is. never (is_of_tree c) none' is;
+      opened = opened;
+      contents = contents;
+      lists = λ is. never (is_of_lists c) none is;
+      root_read = root_read;
+      repo_read = repo_read;
+    };
+    records = no_record c reads refused;
+  }
 
 -- of the command that was given, and of the bytes that were answered
 pub performs_as : {T P : Type 0} {root_disk : DiskModel T} {repo_disk : DiskModel P} (c d : Command) (input : List ℕ) (old new : Disks T P) (r q : Result (List ℕ) Failure) → c ≡ d → q ≡ r → PerformsCommand root_disk repo_disk d input old new r

@@ -4,7 +4,7 @@ use Rattle.std.specs.Prelude.{◌⊎◌}
 use Rattle.cny_flow.specs.Flow.{SourceState, SinkState}
 use Rattle.cli_call.specs.tree-disk.Disk.{DiskModel, IsDisk}
 use Rattle.cli_call.proofs.tree-disk.Moments.{rose_before}
-use Rattle.cli_call.specs.Alone.{AnswersByLists, PerformsAlone}
+use Rattle.cli_call.specs.Alone.{AnswersByLists, PerformsAlone, PerformsWithin}
 use Rattle.cli_call.specs.Command.{AreReady, Performs, disks}
 use Rattle.cli_call.specs.Line.{Moment, RunsLine}
 use Rattle.cli_call.specs.Runs.{RunsCall, after_opening}
@@ -54,8 +54,21 @@ module _ {T P : Type 0} {root_disk : DiskModel T} {repo_disk : DiskModel P} (roo
   none_listed failure.Memory none = record { root = refl; repo = refl; answers = λ s has. inl refl }
   none_listed _ none = absurd none
 
+  none_within : (e : Failure) → MakesNone AreLines bytes e → PerformsWithin root_disk repo_disk of_input (before_lines takes AreLines) bytes at.at at.at (Err e)
+  none_within e none = record {
+    performs = none_performs e none;
+    alone = λ is. none_alone e none;
+    apart = λ is. absurd (cc is);
+    tree = λ is. absurd (cc is);
+    opened = λ is. absurd (cc is);
+    contents = λ is. absurd (cc is);
+    lists = λ is. none_listed e none;
+    root_read = λ is told. nothing_done root_disk_laws at.at.root;
+    repo_read = λ is told. nothing_done repo_disk_laws at.at.repo;
+  }
+
   pub none_made : (e : Failure) → MakesNone AreLines bytes e → RunsLine root_disk repo_disk of_input (before_lines takes AreLines) bytes at at (Err e)
-  none_made e none = line_written at.out at.out of_input (Err e) (Err e) (none_performs e none) (λ is. none_alone e none) (λ is. absurd (cc is)) (λ is. none_listed e none) (λ is. absurd (cc is)) (record { later = omega arith; wrote = (refl, refl) })
+  none_made e none = line_written at.out at.out of_input (Err e) (Err e) (none_within e none) (record { later = omega arith; wrote = (refl, refl) })
 
 -- a system to which a root recovers
 as_pair : (x : Tree) (s : RootState) → Recovers root_store x s → RecoversToSystem x s

@@ -4,13 +4,13 @@ use Rattle.cny_flow.specs.Flow.{SinkState}
 use Rattle.cli_call.specs.tree-disk.Tree.{Tree}
 use Rattle.cli_call.specs.tree-disk.Disk.{DiskModel}
 use Rattle.cli_call.proofs.tree-disk.Unfailed.{unfailed_weaker}
-use Rattle.cli_call.specs.Alone.{ActsOnRepository, AnswersByLists, AnswersByTree, PerformsAlone}
+use Rattle.cli_call.specs.Alone.{ActsOnRepository, AnswersByLists, AnswersByOpened, AnswersByTree, PerformsAlone, PerformsWithin}
 use Rattle.cli_call.specs.Command.{Answers, Disks, Performs, end_of}
 use Rattle.cli_call.specs.Line.{RunsLine, Writes}
 use Rattle.cli_call.specs.cny-laws.declared.failure.Failure.{Failure}
 use Rattle.cli_call.specs.cny-laws.declared.failure.Failure.TheVariants as failure
 use Rattle.cli_call.specs.cny-laws.Shown.{IsShown}
-use Rattle.cli_call.specs.cny-laws.State.{Effect, IsNext, Meaning, State, Takes}
+use Rattle.cli_call.specs.cny-laws.State.{Effect, IsNext, Meaning, Scope, State, Takes}
 use Rattle.cli_call.proofs.LineLaws.{line_written}
 use Rattle.std.proofs.KnownBytes.{Appends-nil}
 use Rattle.conary_cli.specs.declared.words.Command.{Command}
@@ -138,12 +138,30 @@ module _ {T P : Type 0} {root_disk : DiskModel T} {repo_disk : DiskModel P} {m :
   tree_silent : (result : Result (List ℕ) Failure) → AnswersByTree root_disk repo_disk m input old new result → AnswersByTree root_disk repo_disk (silent m) input old new (unspoken result)
   tree_silent result done = record { root = done.root; repo = done.repo; answers = λ told s has. answers_silent m input s s result (done.answers told s has) }
 
+  opened_silent : (result : Result (List ℕ) Failure) → AnswersByOpened root_disk repo_disk m input old new result → AnswersByOpened root_disk repo_disk (silent m) input old new (unspoken result)
+  opened_silent (Ok text) done told s has = let by = done told s has in record { next = by.next; answers = answers_silent m input s by.next (Ok text) by.answers; holds = by.holds }
+  opened_silent (Err e) done told s has = let by = done told s has in record { next = by.next; answers = answers_silent m input s by.next (Err e) by.answers; holds = by.holds }
+
 nothing_written : (result : Result (List ℕ) Failure) (out : SinkState) → Writes (unspoken result) out out (end_of result)
 nothing_written (Ok text) out = record { later = omega arith; wrote = Appends-nil out.written }
 nothing_written (Err e) out = record { later = omega arith; wrote = (refl, refl) }
 
+-- what a command promises that works on so much
+within_silent : {T P : Type 0} {root_disk : DiskModel T} {repo_disk : DiskModel P} (scope : Scope) (m : Meaning) (input : List ℕ) (old new : Disks T P) (result : Result (List ℕ) Failure) → PerformsWithin root_disk repo_disk scope m input old new result
+    → PerformsWithin root_disk repo_disk scope (silent m) input old new (unspoken result)
+within_silent scope m input old new result done = record {
+  performs = performs_silent result done.performs;
+  alone = λ is. alone_silent result (done.alone is);
+  apart = λ is. acts_silent result (done.apart is);
+  tree = λ is. tree_silent result (done.tree is);
+  opened = λ is repo_told. opened_silent result (done.opened is repo_told);
+  contents = done.contents;
+  lists = λ is. lists_silent result (done.lists is);
+  root_read = done.root_read;
+  repo_read = done.repo_read;
+}
+
 -- the whole line
 pub silent_line : {T P : Type 0} {root_disk : DiskModel T} {repo_disk : DiskModel P} (c : Command) (bytes : List ℕ) (old new : Disks T P) (result : Result (List ℕ) Failure) (out : SinkState) → PerformsCommand root_disk repo_disk c bytes old new result
     → RunsLine root_disk repo_disk (scope_of c) (silent (meaning c)) bytes (record { at = old; out = out }) (record { at = new; out = out }) (end_of result)
-silent_line c bytes old new result out done = line_written out out (scope_of c) (unspoken result) (end_of result) (performs_silent result done.performs) (λ is. alone_silent result (done.alone is)) (λ is. acts_silent result (done.apart is))
-    (λ is. lists_silent result (done.lists is)) (λ is. tree_silent result (done.tree is)) (nothing_written result out)
+silent_line c bytes old new result out done = line_written out out (scope_of c) (unspoken result) (end_of result) (within_silent (scope_of c) (meaning c) bytes old new result done.performs) (nothing_written result out)

@@ -8,8 +8,8 @@ use Rattle.cli_call.specs.cny-laws.declared.failure.Failure.TheVariants as failu
 use Rattle.cli_call.specs.cny-laws.Call.{CallState}
 use Rattle.cli_call.specs.Runs.{RunsCall}
 use Rattle.cli_call.specs.cny-laws.Report.{End}
-use Rattle.cli_call.specs.Alone.{ActsOnRepository, AnswersByLists, AnswersByTree, PerformsAlone}
-use Rattle.cli_call.specs.Command.{Disks, Performs}
+use Rattle.cli_call.specs.Alone.{PerformsWithin}
+use Rattle.cli_call.specs.Command.{Disks}
 use Rattle.cli_call.specs.cny-laws.State.{Meaning, Scope}
 use Rattle.cli_call.specs.cny-laws.WholeCall.{IsCall, IsNoCall}
 use Rattle.repo_commands.specs.Commit.{commit}
@@ -91,20 +91,47 @@ is_of_tree (command.Verify full names) = not full
 is_of_tree (command.LocalChanges name) = true
 is_of_tree _ = false
 
+-- the commands that work on the root's tree and on the database and the catalogue that are read when the disks are opened
+abbrev pub is_of_opened : Command → Bool
+is_of_opened (command.Install options) = true
+is_of_opened (command.Erase names replace) = true
+is_of_opened (command.Move way label given) = true
+is_of_opened _ = false
+
+-- the commands that only read the root: all but the jobs and `rollback`
+abbrev pub reads_root : Command → Bool
+reads_root (command.Install options) = false
+reads_root (command.Update specs options) = false
+reads_root (command.UpdateByInput options) = false
+reads_root (command.Erase names replace) = false
+reads_root (command.Rollback number) = false
+reads_root _ = true
+
+-- the commands that only read the repository: all but those that commit
+abbrev pub reads_repository : Command → Bool
+reads_repository (command.Cook next) = false
+reads_repository command.Commit = false
+reads_repository (command.Move way label given) = false
+reads_repository _ = true
+
 abbrev pub scope_of : Command → Scope
-scope_of c = record { of_root = is_of_root c; of_repository = is_of_repository c; of_tree = is_of_tree c; of_lists = is_of_lists c }
+scope_of c = record {
+  of_root = is_of_root c;
+  of_repository = is_of_repository c;
+  of_tree = is_of_tree c;
+  of_opened = is_of_opened c;
+  of_lists = is_of_lists c;
+  reads_root = reads_root c;
+  reads_repository = reads_repository c;
+}
 
 module _ {T P : Type 0} (root_disk : DiskModel T) (repo_disk : DiskModel P) where
   -- ---- over two disks that are open
 
   -- THE CLAUSE of `perform`: the command was performed with this input, as it means, also where it is told of no more than what it works
-  -- on; and no damaged record was passed over.
+  -- on, and what it only reads was only read; and no damaged record was passed over.
   pub record PerformsCommand (c : Command) (input : List ℕ) (old new : Disks T P) (result : Result (List ℕ) Failure) : Type 0 where
-    pub performs : Performs root_disk repo_disk (meaning c) input old new result
-    pub alone : is_of_root c ≡ true → PerformsAlone root_disk repo_disk (meaning c) input old new result
-    pub apart : is_of_repository c ≡ true → ActsOnRepository root_disk repo_disk (meaning c) input old new result
-    pub tree : is_of_tree c ≡ true → AnswersByTree root_disk repo_disk (meaning c) input old new result
-    pub lists : is_of_lists c ≡ true → AnswersByLists root_disk repo_disk (meaning c) input old new result
+    pub performs : PerformsWithin root_disk repo_disk (scope_of c) (meaning c) input old new result
     pub records : IsTrue root_disk.tells → EndsWhole c (root_disk.reads old.root) old.opened.db result
 
   -- ---- a whole call

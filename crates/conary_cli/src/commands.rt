@@ -2,6 +2,7 @@
 ghost use Rattle.std.specs.Prelude.{◌≡◌, List, ℕ, not, true, OnOk};
 ghost use Rattle.cli_call.specs.Alone.{AnswersByTree, PerformsAlone};
 ghost use Rattle.cli_call.specs.Command.{disks, AreReady, Performs};
+ghost use Rattle.cli_call.specs.tree-disk.Disk.{Reads};
 ghost use Rattle.conary_cli.specs.Commands.{erasing, meaning, verify, PerformsCommand};
 
 use crate::words::Command;
@@ -73,6 +74,9 @@ fn verify<T: TreeDisk, P: TreeDisk>(
     ensures performs { (input : List ℕ) → Performs T.disk P.disk (verify full names.now) input (disks root.old repo.old opened.now) (disks root.new repo.new opened.now) result }
     ensures alone { not full ≡ true → (input : List ℕ) → PerformsAlone T.disk P.disk (verify full names.now) input (disks root.old repo.old opened.now) (disks root.new repo.new opened.now) result }
     ensures tree { not full ≡ true → (input : List ℕ) → AnswersByTree T.disk P.disk (verify full names.now) input (disks root.old repo.old opened.now) (disks root.new repo.new opened.now) result }
+    // Both disks are only read.
+    ensures root_read { Reads T.disk root.old root.new (Unit {0}) }
+    ensures repo_read { Reads P.disk repo.old repo.new (Unit {0}) }
     // Where it is done, a further command may begin.
     ensures again { OnOk result (AreReady T.disk P.disk (disks root.new repo.new opened.now)) }
 {

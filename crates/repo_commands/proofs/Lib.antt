@@ -1,5 +1,6 @@
 pub mod ListingEnds
 pub mod CommitEnds
+pub mod CommitOpened
 pub mod MadeVersions
 pub mod KeptContents
 pub mod CookEnds

@@ -1,7 +1,8 @@
 //! Commits of change sets.
-ghost use Rattle.std.specs.Prelude.{List, ℕ, OnOk};
+ghost use Rattle.std.specs.Prelude.{◌≡◌, [], IsTrue, List, ℕ, OnOk};
 ghost use Rattle.cli_call.specs.change-set.ChangeSet.{HasContents};
-ghost use Rattle.cli_call.specs.Alone.{ActsOnRepository};
+ghost use Rattle.cli_call.specs.cny-laws.Call.{ContentsStay};
+ghost use Rattle.cli_call.specs.Alone.{ActsOnRepository, AnswersByOpened};
 ghost use Rattle.cli_call.specs.Command.{disks, AreReady};
 ghost use Rattle.repo_commands.specs.Commit as spec;
 ghost use Rattle.repo_commands.specs.Commit.{commit_of};
@@ -12,7 +13,7 @@ use cli_call::tree_disk::TreeDisk;
 use cli_call::{Failure, Opened, on_repository, store_laws};
 use cny_report::committed_text;
 use repo_load::stored_state;
-use repository::{commit, commit_step, same_contents};
+use repository::{commit, commit_step, kept_files, same_contents};
 use std::alloc::Global;
 
 /// Commits a change set, and tells the ids of the troves that it makes.
@@ -27,6 +28,11 @@ pub fn commit_set<T: TreeDisk, P: TreeDisk>(
     requires ready { AreReady T.disk P.disk (disks root.now repo.old opened.old) }
     ensures performs { (input : List ℕ) → ActsOnRepository T.disk P.disk (commit_of set.now) input (disks root.now repo.old opened.old)
         (disks root.now repo.new opened.new) result }
+    // A set without contents by the catalogue alone, whatever contents of the repository are damaged.
+    ensures opened { IsTrue P.disk.tells → set.now.contents ≡ [] → (input : List ℕ) → AnswersByOpened T.disk P.disk (commit_of set.now) input (disks root.now repo.old opened.old)
+        (disks root.now repo.new opened.new) result }
+    // And it leaves what stands under the names of contents.
+    ensures stay { set.now.contents ≡ [] → ContentsStay P.disk repo.old repo.new }
     // Where it is done, a further command may begin.
     ensures again { OnOk result (AreReady T.disk P.disk (disks root.now repo.new opened.new)) }
 {
@@ -34,6 +40,7 @@ pub fn commit_set<T: TreeDisk, P: TreeDisk>(
     stored_state();
     same_contents();
     commit_step();
+    kept_files();
     let ids = on_repository(commit(alloc, repo, &mut opened.catalogue, set))?;
     Ok(committed_text(alloc, ids.get())?)
 }

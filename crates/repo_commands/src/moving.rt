@@ -1,7 +1,10 @@
 //! The commands that commit what a specification means as shadows or as branches.
-ghost use Rattle.std.specs.Prelude.{◌≡◌, List, [], ℕ, IfOk, map, OnOk};
+ghost use Rattle.std.specs.Prelude.{◌≡◌, List, [], ℕ, IfOk, IsTrue, map, OnOk};
 ghost use Rattle.cli_call.specs.change-set.declared.change.Part.TheVariants.{Whole};
+ghost use Rattle.cli_call.specs.cny-laws.Call.{ContentsStay};
+ghost use Rattle.cli_call.specs.Alone.{AnswersByOpened};
 ghost use Rattle.cli_call.specs.Command.{disks, AreReady, Performs};
+ghost use Rattle.cli_call.specs.tree-disk.Disk.{Reads};
 ghost use Rattle.repo_commands.specs.Moving.{move};
 
 use crate::committing::commit_set;
@@ -44,6 +47,13 @@ pub fn commit_moved<T: TreeDisk, P: TreeDisk>(
     requires { AreReady T.disk P.disk (disks root.old repo.old opened.old) }
     ensures performs { (input : List ℕ) → Performs T.disk P.disk (move way label.now given.now) input (disks root.old repo.old opened.old)
         (disks root.new repo.new opened.new) result }
+    // Also where other files of the root or contents of the repository are damaged.
+    ensures opened { IsTrue P.disk.tells → (input : List ℕ) → AnswersByOpened T.disk P.disk (move way label.now given.now) input (disks root.old repo.old opened.old)
+        (disks root.new repo.new opened.new) result }
+    // What stands in the repository under the names of contents stays.
+    ensures contents { ContentsStay P.disk repo.old repo.new }
+    // The root is only read.
+    ensures root_read { Reads T.disk root.old root.new (Unit {0}) }
     // Where it is done, a further command may begin.
     ensures again { OnOk result (AreReady T.disk P.disk (disks root.new repo.new opened.new)) }
 {

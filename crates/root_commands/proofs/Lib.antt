@@ -11,6 +11,7 @@ pub mod LocalEnds
 pub mod RecordEnds
 pub mod JobStates
 pub mod SpecifiedEnds
+pub mod JobOpened
 pub mod InstallEnds
 pub mod MoreAnswers
 pub mod FarJobs

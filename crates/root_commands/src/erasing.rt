@@ -1,6 +1,6 @@
 //! The command that takes troves away.
 ghost use Rattle.std.specs.Prelude.{List, ℕ, OnOk};
-ghost use Rattle.cli_call.specs.Alone.{PerformsAlone};
+ghost use Rattle.cli_call.specs.Alone.{AnswersByOpened, PerformsAlone};
 ghost use Rattle.cli_call.specs.Command.{disks, AreReady, Performs};
 ghost use Rattle.root_commands.specs.Erase as spec;
 
@@ -26,6 +26,9 @@ pub fn erase_troves<T: TreeDisk, P: TreeDisk>(
     ensures performs { (input : List ℕ) → Performs T.disk P.disk (spec.erase names.now options.now) input (disks root.old repo.now opened.old)
         (disks root.new repo.now opened.new) result }
     ensures alone { (input : List ℕ) → PerformsAlone T.disk P.disk (spec.erase names.now options.now) input (disks root.old repo.now opened.old)
+        (disks root.new repo.now opened.new) result }
+    // Also where records or saved contents of the root are damaged.
+    ensures opened { (input : List ℕ) → AnswersByOpened T.disk P.disk (spec.erase names.now options.now) input (disks root.old repo.now opened.old)
         (disks root.new repo.now opened.new) result }
     // Where it is done, a further command may begin.
     ensures again { OnOk result (AreReady T.disk P.disk (disks root.new repo.now opened.new)) }

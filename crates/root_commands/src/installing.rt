@@ -1,7 +1,8 @@
 //! The command that installs what a manifest makes.
-ghost use Rattle.std.specs.Prelude.{List, ℕ, OnOk};
+ghost use Rattle.std.specs.Prelude.{All, List, ℕ, OnOk};
+ghost use Rattle.cli_call.specs.trove-stream.Trove.{IsTrove};
 ghost use Rattle.cny_manifest.specs.Makes.{HasOwnContents};
-ghost use Rattle.cli_call.specs.Alone.{PerformsAlone};
+ghost use Rattle.cli_call.specs.Alone.{AnswersByOpened, PerformsAlone};
 ghost use Rattle.cli_call.specs.Command.{disks, AreReady, Performs};
 ghost use Rattle.system_core.specs.Lists.{AreAllowed};
 ghost use Rattle.root_commands.specs.Install as spec;
@@ -32,6 +33,8 @@ fn install_made<T: TreeDisk, P: TreeDisk>(
     ensures performs { (input : List ℕ) → Performs T.disk P.disk (spec.install_made options.now made.now) input (disks root.old repo.now opened.old)
         (disks root.new repo.now opened.new) result }
     ensures alone { (input : List ℕ) → PerformsAlone T.disk P.disk (spec.install_made options.now made.now) input (disks root.old repo.now opened.old)
+        (disks root.new repo.now opened.new) result }
+    ensures opened { All IsTrove made.now.troves → (input : List ℕ) → AnswersByOpened T.disk P.disk (spec.install_made options.now made.now) input (disks root.old repo.now opened.old)
         (disks root.new repo.now opened.new) result }
     // Where it is done, a further command may begin.
     ensures again { OnOk result (AreReady T.disk P.disk (disks root.new repo.now opened.new)) }
@@ -65,6 +68,8 @@ pub fn install_manifest<T: TreeDisk, P: TreeDisk>(
     requires { AreReady T.disk P.disk (disks root.old repo.now opened.old) }
     ensures performs { Performs T.disk P.disk (spec.install options.now) input.now (disks root.old repo.now opened.old) (disks root.new repo.now opened.new) result }
     ensures alone { PerformsAlone T.disk P.disk (spec.install options.now) input.now (disks root.old repo.now opened.old) (disks root.new repo.now opened.new) result }
+    // Also where records or saved contents of the root are damaged.
+    ensures opened { AnswersByOpened T.disk P.disk (spec.install options.now) input.now (disks root.old repo.now opened.old) (disks root.new repo.now opened.new) result }
     // Where it is done, a further command may begin.
     ensures again { OnOk result (AreReady T.disk P.disk (disks root.new repo.now opened.new)) }
 {

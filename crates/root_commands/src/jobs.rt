@@ -2,6 +2,7 @@
 ghost use Rattle.std.specs.Prelude.{List, ℕ, IfOk, IsTrue, OnOk};
 ghost use Rattle.cli_call.specs.Alone.{PerformsAlone};
 ghost use Rattle.cli_call.specs.Command.{disks, AreReady, Performs};
+ghost use Rattle.cli_call.specs.tree-disk.Disk.{Reads};
 ghost use Rattle.root_commands.specs.Jobs as spec;
 ghost use Rattle.root_commands.specs.Noting.{AreToldBy};
 ghost use Rattle.root_commands.specs.Records.{ListsWhole};
@@ -39,6 +40,8 @@ pub fn list_jobs<T: TreeDisk, P: TreeDisk>(
         (disks root.new repo.now opened.now) result }
     // Also on a root that stores no system.
     ensures records { IsTrue T.disk.tells → ListsWhole (T.disk.reads root.old) opened.now.db result }
+    // The root is only read.
+    ensures root_read { Reads T.disk root.old root.new (Unit {0}) }
     // Where it is done, a further command may begin.
     ensures again { OnOk result (AreReady T.disk P.disk (disks root.new repo.now opened.now)) }
 {

@@ -2,6 +2,7 @@
 ghost use Rattle.std.specs.Prelude.{IfOk, List, ℕ, OnOk};
 ghost use Rattle.repo_load.specs.Loading.{IsCatalogue};
 ghost use Rattle.cli_call.specs.Command.{disks, AreReady, Performs};
+ghost use Rattle.cli_call.specs.tree-disk.Disk.{Reads};
 ghost use Rattle.trove_spec.specs.AndThen.{EndsAs};
 ghost use Rattle.system_core.specs.Lists.{AreAllowed};
 ghost use Rattle.root_commands.specs.UpdateSpecs as spec;
@@ -59,6 +60,8 @@ pub fn update_specs<T: TreeDisk, P: TreeDisk>(
     requires { AreReady T.disk P.disk (disks root.old repo.old opened.old) }
     ensures performs { (input : List ℕ) → Performs T.disk P.disk (spec.update_specs options.now givens.now) input (disks root.old repo.old opened.old)
         (disks root.new repo.new opened.new) result }
+    // The repository is only read.
+    ensures repo_read { Reads P.disk repo.old repo.new (Unit {0}) }
     // Where it is done, a further command may begin.
     ensures again { OnOk result (AreReady T.disk P.disk (disks root.new repo.new opened.new)) }
 {

@@ -5,6 +5,7 @@ ghost use Rattle.sha1.specs.Sha1.{sha1};
 ghost use Rattle.cli_call.specs.change-set.declared.change.Carried as carried_content;
 ghost use Rattle.cli_call.specs.change-set.ChangeSet.{content_cmp, HasContents};
 ghost use Rattle.cli_call.specs.Command.{disks, AreReady, Performs};
+ghost use Rattle.cli_call.specs.tree-disk.Disk.{Reads};
 ghost use Rattle.system_core.specs.Lists.{AreAllowed};
 ghost use Rattle.root_commands.specs.Update as spec;
 
@@ -36,6 +37,8 @@ pub(crate) fn update_to<T: TreeDisk, P: TreeDisk>(
     requires ready { AreReady T.disk P.disk (disks root.old repo.old opened.old) }
     ensures performs { (input : List ℕ) → Performs T.disk P.disk (spec.update_to options.now carried.now troves.now) input (disks root.old repo.old opened.old)
         (disks root.new repo.new opened.new) result }
+    // The repository is only read.
+    ensures repo_read { Reads P.disk repo.old repo.new (Unit {0}) }
     // Where it is done, a further command may begin.
     ensures again { OnOk result (AreReady T.disk P.disk (disks root.new repo.new opened.new)) }
 {
@@ -68,6 +71,8 @@ fn update_by<T: TreeDisk, P: TreeDisk>(
     requires ready { AreReady T.disk P.disk (disks root.old repo.old opened.old) }
     ensures performs { (input : List ℕ) → Performs T.disk P.disk (spec.update_by options.now set.now) input (disks root.old repo.old opened.old)
         (disks root.new repo.new opened.new) result }
+    // The repository is only read.
+    ensures repo_read { Reads P.disk repo.old repo.new (Unit {0}) }
     // Where it is done, a further command may begin.
     ensures again { OnOk result (AreReady T.disk P.disk (disks root.new repo.new opened.new)) }
 {
@@ -99,6 +104,8 @@ pub fn update_input<T: TreeDisk, P: TreeDisk>(
 ) -> Result<Text, Failure>
     requires { AreReady T.disk P.disk (disks root.old repo.old opened.old) }
     ensures performs { Performs T.disk P.disk (spec.update_input options.now) input.now (disks root.old repo.old opened.old) (disks root.new repo.new opened.new) result }
+    // The repository is only read.
+    ensures repo_read { Reads P.disk repo.old repo.new (Unit {0}) }
     // Where it is done, a further command may begin.
     ensures again { OnOk result (AreReady T.disk P.disk (disks root.new repo.new opened.new)) }
 {

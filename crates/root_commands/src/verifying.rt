@@ -2,6 +2,7 @@
 ghost use Rattle.std.specs.Prelude.{List, ℕ, OnOk};
 ghost use Rattle.cli_call.specs.Alone.{AnswersByTree, PerformsAlone};
 ghost use Rattle.cli_call.specs.Command.{disks, AreReady, Performs};
+ghost use Rattle.cli_call.specs.tree-disk.Disk.{Reads};
 ghost use Rattle.root_commands.specs.Verifying as spec;
 
 use cli_call::cny_base::{Name, Text};
@@ -54,6 +55,9 @@ pub fn verify_fully<T: TreeDisk, P: TreeDisk>(
     requires { AreReady T.disk P.disk (disks root.old repo.old opened.now) }
     ensures performs { (input : List ℕ) → Performs T.disk P.disk (spec.verify_fully names.now) input (disks root.old repo.old opened.now)
         (disks root.new repo.new opened.now) result }
+    // Both disks are only read.
+    ensures root_read { Reads T.disk root.old root.new (Unit {0}) }
+    ensures repo_read { Reads P.disk repo.old repo.new (Unit {0}) }
     // Where it is done, a further command may begin.
     ensures again { OnOk result (AreReady T.disk P.disk (disks root.new repo.new opened.now)) }
 {

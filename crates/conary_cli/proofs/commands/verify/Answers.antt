@@ -1,8 +1,9 @@
-use Rattle.std.proofs.Common.{Bool, true, false, not, sym, ap, subst, ◌∙◌}
+use Rattle.std.proofs.Common.{Bool, true, false, [], not, sym, ap, subst, ◌∙◌}
 use Rattle.std.proofs.lemmas.Bool.{false≢true}
 use Rattle.cli_call.specs.Alone.{AnswersByTree, PerformsAlone}
 use Rattle.cli_call.specs.Command.{disks, Performs}
 use Rattle.conary_cli.specs.Commands.{verify}
+use Rattle.cli_call.proofs.StoreLaws.{nothing_done}
 use Rattle.conary_cli.proofs.commands.verify.Goals as goal
 
 pub returns-then-full-clause-performs : goal.returns-then-full-clause-performs
@@ -34,3 +35,15 @@ returns-clause-tree g c = λ is input.
     let old = disks c.args.root.now c.args.repo.now c.args.opened.now in
     let new = disks c.verify_installed.new.root c.args.repo.now c.args.opened.now in
     subst (λ (full : Bool). AnswersByTree g.T.TreeDisk.disk g.P.TreeDisk.disk (verify full c.args.names.now) input old new c.verify_installed.result) (sym c.if-full.false) (c.verify_installed.ensures.tree input)
+
+pub returns-then-full-clause-root_read : goal.returns-then-full-clause-root_read
+returns-then-full-clause-root_read g c = c.verify_fully.ensures.root_read
+
+pub returns-then-full-clause-repo_read : goal.returns-then-full-clause-repo_read
+returns-then-full-clause-repo_read g c = c.verify_fully.ensures.repo_read
+
+pub returns-clause-root_read : goal.returns-clause-root_read
+returns-clause-root_read g c = (c.verify_installed.ensures.tree []).root
+
+pub returns-clause-repo_read : goal.returns-clause-repo_read
+returns-clause-repo_read g c = λ told. nothing_done g.met.P.TreeDisk.laws c.args.repo.now

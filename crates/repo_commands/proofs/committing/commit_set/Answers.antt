@@ -1,11 +1,13 @@
 use Rattle.std.proofs.Common.{ap, ◌∙◌, refl, sym}
 use Rattle.cli_call.specs.cny-laws.declared.failure.Failure.TheVariants as failure
-use Rattle.cli_call.specs.Alone.{ActsOnRepository}
+use Rattle.cli_call.specs.Alone.{ActsOnRepository, AnswersByOpened}
+use Rattle.cli_call.proofs.OpenedEnds.{memory_opened}
 use Rattle.cli_call.proofs.Again.{ready_joined}
 use Rattle.cli_call.specs.Command.{disks}
 use Rattle.cny_report.specs.Troves.{committed_text}
 use Rattle.repo_commands.specs.Commit.{commit_of}
 use Rattle.repo_commands.proofs.CommitEnds.{CommitLaws, Committing, commit_failed, commit_joined, commit_made, commit_rules, commit_told, commit_untold}
+use Rattle.repo_commands.proofs.CommitOpened.{contents_stay, failed_opened, told_opened}
 use Rattle.cny_version.proofs.cny-base.Passing.{err_is}
 use Rattle.repo_commands.proofs.committing.commit_set.Goals as goal
 
@@ -43,3 +45,33 @@ returns-clause-again g c =
     ready_joined c.args.root.now c.args.repo.now c.commit.new.disk c.args.opened.now c.commit.new.catalogue
     (λ told. commit_joined c.args.set.now c.args.opened.now.catalogue c.commit.new.catalogue c.args.repo.now c.commit.new.disk c.commit.result c.in_ok-ids.ids was (c.commit.ensures.ends told))
     (commit_rules c.commit.new.catalogue c.commit.result c.in_ok-ids.ids was (c.commit.ensures.rules c.requires.ready.rules)) c.requires.ready
+
+pub returns-in_err-ids-clause-opened : goal.returns-in_err-ids-clause-opened
+returns-in_err-ids-clause-opened g c told none input =
+    let old = disks c.args.root.now c.args.repo.now c.args.opened.now in
+    let new = disks c.args.root.now c.commit.new.disk (record { db = c.args.opened.now.db; catalogue = c.commit.new.catalogue }) in
+    err_is (AnswersByOpened g.T.TreeDisk.disk g.P.TreeDisk.disk (commit_of c.args.set.now) input old new) c.from_residual.result c.in_err-ids.field-0.0 c.from_residual.ensures.1
+    (failed_opened c.args.set.now none input old new c.requires.ready refl c.commit.new.catalogue c.commit.result (c.commit.ensures.ends told) c.in_err-ids.field-0.0 (sym c.on_repository.ensures ∙ c.in_err-ids.was))
+
+pub returns-in_err-committed_text-clause-opened : goal.returns-in_err-committed_text-clause-opened
+returns-in_err-committed_text-clause-opened g c told none input =
+    let old = disks c.args.root.now c.args.repo.now c.args.opened.now in
+    let new = disks c.args.root.now c.commit.new.disk (record { db = c.args.opened.now.db; catalogue = c.commit.new.catalogue }) in
+    err_is (AnswersByOpened g.T.TreeDisk.disk g.P.TreeDisk.disk (commit_of c.args.set.now) input old new) c.from_residual-in_err-committed_text.result failure.Memory c.from_residual-in_err-committed_text.ensures.1
+    (memory_opened (commit_of c.args.set.now) input old new)
+
+pub returns-clause-opened : goal.returns-clause-opened
+returns-clause-opened g c told none input =
+    let old = disks c.args.root.now c.args.repo.now c.args.opened.now in
+    let new = disks c.args.root.now c.commit.new.disk (record { db = c.args.opened.now.db; catalogue = c.commit.new.catalogue }) in
+    told_opened c.args.set.now none input old new c.requires.ready refl c.commit.new.catalogue c.commit.result (c.commit.ensures.ends told) c.in_ok-ids.ids (sym c.on_repository.ensures ∙ c.in_ok-ids.was)
+    c.in_ok-committed_text.field-0 (c.in_ok-committed_text.ensures.value ∙ ap committed_text c.get.ensures)
+
+pub returns-in_err-ids-clause-stay : goal.returns-in_err-ids-clause-stay
+returns-in_err-ids-clause-stay g c none = contents_stay g.P.TreeDisk.disk c.args.set.now none c.requires.contents c.args.opened.now.catalogue c.args.repo.now c.commit.new.disk c.kept_files.ensures.contents c.commit.ensures.only
+
+pub returns-in_err-committed_text-clause-stay : goal.returns-in_err-committed_text-clause-stay
+returns-in_err-committed_text-clause-stay g c none = contents_stay g.P.TreeDisk.disk c.args.set.now none c.requires.contents c.args.opened.now.catalogue c.args.repo.now c.commit.new.disk c.kept_files.ensures.contents c.commit.ensures.only
+
+pub returns-clause-stay : goal.returns-clause-stay
+returns-clause-stay g c none = contents_stay g.P.TreeDisk.disk c.args.set.now none c.requires.contents c.args.opened.now.catalogue c.args.repo.now c.commit.new.disk c.kept_files.ensures.contents c.commit.ensures.only

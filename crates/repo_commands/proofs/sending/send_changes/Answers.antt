@@ -9,6 +9,7 @@ use Rattle.cli_call.proofs.Again.{ready_both}
 use Rattle.cli_call.proofs.ReadingEnds.{config_made, config_stopped}
 use Rattle.repo_commands.proofs.SendingEnds.{after_ok, fresh_fails, old_fails, refused_config, sent_ends, SendingLaws}
 use Rattle.cny_version.proofs.cny-base.Passing.{err_is}
+use Rattle.cli_call.proofs.StoreLaws.{nothing_done}
 use Rattle.repo_commands.proofs.sending.send_changes.Goals as goal
 
 pub returns-in_err-config-clause-performs : goal.returns-in_err-config-clause-performs
@@ -69,3 +70,29 @@ returns-clause-performs g c input =
 pub returns-clause-again : goal.returns-clause-again
 returns-clause-again g c =
     after_ok c.on_repository.result (ready_both c.args.root.now c.read_config.new.root c.args.repo.now c.send.new.repo c.args.opened.now c.read_config.ensures.same c.send.ensures.same c.requires)
+
+-- the root was only read
+pub returns-in_err-config-clause-root_read : goal.returns-in_err-config-clause-root_read
+returns-in_err-config-clause-root_read g c = c.read_config.ensures.same
+
+pub returns-in_err-old-clause-root_read : goal.returns-in_err-old-clause-root_read
+returns-in_err-old-clause-root_read g c = c.read_config.ensures.same
+
+pub returns-in_err-fresh-clause-root_read : goal.returns-in_err-fresh-clause-root_read
+returns-in_err-fresh-clause-root_read g c = c.read_config.ensures.same
+
+pub returns-clause-root_read : goal.returns-clause-root_read
+returns-clause-root_read g c = c.read_config.ensures.same
+
+-- and the repository
+pub returns-in_err-config-clause-repo_read : goal.returns-in_err-config-clause-repo_read
+returns-in_err-config-clause-repo_read g c = λ told. nothing_done g.met.P.TreeDisk.laws c.args.repo.now
+
+pub returns-in_err-old-clause-repo_read : goal.returns-in_err-old-clause-repo_read
+returns-in_err-old-clause-repo_read g c = λ told. nothing_done g.met.P.TreeDisk.laws c.args.repo.now
+
+pub returns-in_err-fresh-clause-repo_read : goal.returns-in_err-fresh-clause-repo_read
+returns-in_err-fresh-clause-repo_read g c = λ told. nothing_done g.met.P.TreeDisk.laws c.args.repo.now
+
+pub returns-clause-repo_read : goal.returns-clause-repo_read
+returns-clause-repo_read g c = c.send.ensures.same

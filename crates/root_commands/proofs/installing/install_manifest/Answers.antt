@@ -1,6 +1,7 @@
 use Rattle.std.proofs.Common.{refl}
-use Rattle.cli_call.specs.Alone.{PerformsAlone}
+use Rattle.cli_call.specs.Alone.{AnswersByOpened, PerformsAlone}
 use Rattle.cli_call.proofs.AloneLaws.{alone_more}
+use Rattle.cli_call.proofs.OpenedEnds.{fault_opened, opened_more}
 use Rattle.cli_call.specs.Command.{disks, Performs}
 use Rattle.cli_call.proofs.CommandLaws.{performs_more}
 use Rattle.cli_call.specs.cny-laws.Failures.{failure_of_fault}
@@ -39,3 +40,25 @@ returns-clause-alone g c = alone_more (install_made c.args.options.now c.in_ok-m
 
 pub install_made-requires-clause-allowed : goal.install_made-requires-clause-allowed
 install_made-requires-clause-allowed g c = let allowed = c.in_ok-check_allowed.ensures.allowed.0 refl in rw c.get.ensures at allowed
+
+-- ---- by what was read when the disks were opened
+
+pub returns-in_err-made-clause-opened : goal.returns-in_err-made-clause-opened
+returns-in_err-made-clause-opened g c =
+    let m = disks c.args.root.now c.args.repo.now c.args.opened.now in
+    let means = install c.args.options.now in
+    let f = c.in_err-made.field-0.0 in
+    err_is (AnswersByOpened g.T.TreeDisk.disk g.P.TreeDisk.disk means c.args.input.now m m) c.from_residual.result (failure_of_fault f) c.from_residual.ensures.1
+    (fault_opened means c.args.input.now m m c.requires (λ told. refl) (λ told. refl) f (λ refused is told s has. unread_refuses c.args.options.now c.args.input.now f c.in_err-made.ensures.refused refused is s))
+
+pub returns-in_err-check_allowed-clause-opened : goal.returns-in_err-check_allowed-clause-opened
+returns-in_err-check_allowed-clause-opened g c =
+    let m = disks c.args.root.now c.args.repo.now c.args.opened.now in
+    let means = install c.args.options.now in
+    let f = c.in_err-check_allowed.field-0.0 in
+    err_is (AnswersByOpened g.T.TreeDisk.disk g.P.TreeDisk.disk means c.args.input.now m m) c.from_residual-in_err-check_allowed.result (failure_of_fault f) c.from_residual-in_err-check_allowed.ensures.1
+    (fault_opened means c.args.input.now m m c.requires (λ told. refl) (λ told. refl) f
+    (λ refused is told s has. reserved_refuses c.args.options.now c.args.input.now c.in_ok-made.made c.in_ok-made.ensures.value f (rw c.get.ensures at c.in_err-check_allowed.ensures.reserved) refused is s))
+
+pub returns-clause-opened : goal.returns-clause-opened
+returns-clause-opened g c = opened_more (install_made c.args.options.now c.in_ok-made.made) (install c.args.options.now) c.args.input.now c.args.input.now (installs_more c.args.options.now c.args.input.now c.in_ok-made.made c.in_ok-made.ensures.value c.get.ensures (c.in_ok-check_allowed.ensures.allowed.0 refl)) (disks c.args.root.now c.args.repo.now c.args.opened.now) (disks c.install_made.new.root c.args.repo.now c.install_made.new.opened) c.install_made.result (c.install_made.ensures.opened c.in_ok-made.ensures.troves c.args.input.now)

@@ -109,3 +109,13 @@ returns-clause-records g c told =
 pub returns-clause-again : goal.returns-clause-again
 returns-clause-again g c =
     ready_on c.args.root.now c.all.new.disk c.args.repo.now c.args.opened.now (read_of g.T.TreeDisk.disk c.args.root.now c.all.new.disk c.all.ensures.value) c.requires
+
+-- the root was only read
+pub returns-in_err-jobs-clause-root_read : goal.returns-in_err-jobs-clause-root_read
+returns-in_err-jobs-clause-root_read g c = read_of g.T.TreeDisk.disk c.args.root.now c.all.new.disk c.all.ensures.value
+
+pub returns-in_err-told-clause-root_read : goal.returns-in_err-told-clause-root_read
+returns-in_err-told-clause-root_read g c = read_of g.T.TreeDisk.disk c.args.root.now c.all.new.disk c.all.ensures.value
+
+pub returns-clause-root_read : goal.returns-clause-root_read
+returns-clause-root_read g c = read_of g.T.TreeDisk.disk c.args.root.now c.all.new.disk c.all.ensures.value

@@ -10,6 +10,7 @@ use Rattle.root_commands.specs.UpdateSpecs as spec
 use Rattle.root_commands.proofs.SpecEnds.{all_updated, none_meant, none_reached, refused_as}
 use Rattle.local_db.proofs.cny-base.Passing.{err_is}
 use Rattle.update_job.proofs.change-set.Carrying.{no_carried}
+use Rattle.cli_call.proofs.StoreLaws.{nothing_done}
 use Rattle.root_commands.proofs.specified.update_specs.Goals as goal
 
 pub returns-in_err-config-clause-performs : goal.returns-in_err-config-clause-performs
@@ -72,3 +73,15 @@ returns-clause-performs g c = λ input.
     (update.update_to c.args.options.now [] c.in_ok-troves.troves) (spec.update_specs c.args.options.now c.args.givens.now) input input
     (λ told repo_told s stands outcome is. all_updated c.stored_state.ensures.catalogue c.args.options.now c.args.givens.now old c.requires c.in_ok-config.config configured.ends told repo_told s stands c.in_ok-ids.ids c.in_ok-ids.ensures c.in_ok-troves.troves (rw c.get.ensures at c.in_ok-troves.ensures.ends) outcome is)
     (rw c.get-2.ensures at c.update_to.ensures.performs input)
+
+pub returns-in_err-config-clause-repo_read : goal.returns-in_err-config-clause-repo_read
+returns-in_err-config-clause-repo_read g c = λ told. nothing_done g.met.P.TreeDisk.laws c.args.repo.now
+
+pub returns-in_err-ids-clause-repo_read : goal.returns-in_err-ids-clause-repo_read
+returns-in_err-ids-clause-repo_read g c = λ told. nothing_done g.met.P.TreeDisk.laws c.args.repo.now
+
+pub returns-in_err-troves-clause-repo_read : goal.returns-in_err-troves-clause-repo_read
+returns-in_err-troves-clause-repo_read g c = λ told. nothing_done g.met.P.TreeDisk.laws c.args.repo.now
+
+pub returns-clause-repo_read : goal.returns-clause-repo_read
+returns-clause-repo_read g c = c.update_to.ensures.repo_read

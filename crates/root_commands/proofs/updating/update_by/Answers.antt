@@ -7,6 +7,7 @@ use Rattle.cli_call.proofs.ReadingEnds.{fault_ends}
 use Rattle.root_commands.specs.Update as spec
 use Rattle.root_commands.proofs.ComingEnds.{set_made, set_refused}
 use Rattle.local_db.proofs.cny-base.Passing.{err_is}
+use Rattle.cli_call.proofs.StoreLaws.{nothing_done}
 use Rattle.root_commands.proofs.updating.update_by.Goals as goal
 
 pub returns-in_err-troves-clause-performs : goal.returns-in_err-troves-clause-performs
@@ -28,3 +29,9 @@ returns-clause-performs g c = λ input.
 
 pub update_to-requires-clause-allowed : goal.update_to-requires-clause-allowed
 update_to-requires-clause-allowed g c = rw c.get-2.ensures c.in_ok-troves.ensures.made.allowed
+
+pub returns-in_err-troves-clause-repo_read : goal.returns-in_err-troves-clause-repo_read
+returns-in_err-troves-clause-repo_read g c = λ told. nothing_done g.met.P.TreeDisk.laws c.args.repo.now
+
+pub returns-clause-repo_read : goal.returns-clause-repo_read
+returns-clause-repo_read g c = c.update_to.ensures.repo_read

@@ -5,6 +5,7 @@ use Rattle.cli_call.specs.cny-laws.Failures.{failure_of_fault}
 use Rattle.cli_call.proofs.SetFaults.{no_set}
 use Rattle.root_commands.specs.Update as spec
 use Rattle.local_db.proofs.cny-base.Passing.{err_is}
+use Rattle.cli_call.proofs.StoreLaws.{nothing_done}
 use Rattle.root_commands.proofs.updating.update_input.Goals as goal
 
 pub returns-in_err-set-clause-performs : goal.returns-in_err-set-clause-performs
@@ -20,3 +21,9 @@ returns-clause-performs g c =
     let new = disks c.update_by.new.root c.update_by.new.repo c.update_by.new.opened in
     performs_more (spec.update_by c.args.options.now c.in_ok-set.set) (spec.update_input c.args.options.now) c.args.input.now c.args.input.now (λ s outcome is. inl (record { set = c.in_ok-set.set; spelled = c.in_ok-set.ensures.value; is = is }))
     old new c.update_by.result (c.update_by.ensures.performs c.args.input.now)
+
+pub returns-in_err-set-clause-repo_read : goal.returns-in_err-set-clause-repo_read
+returns-in_err-set-clause-repo_read g c = λ told. nothing_done g.met.P.TreeDisk.laws c.args.repo.now
+
+pub returns-clause-repo_read : goal.returns-clause-repo_read
+returns-clause-repo_read g c = c.update_by.ensures.repo_read

@@ -11,6 +11,7 @@ use Rattle.root_commands.specs.Update as spec
 use Rattle.root_commands.proofs.FarJobs.{RanFar, RepositoryLaws, failed_performs, memory_performs, performed_at, ready_at, told_performs}
 use Rattle.root_commands.proofs.SpecifiedEnds.{reads_refused}
 use Rattle.local_db.proofs.cny-base.Passing.{err_is}
+use Rattle.cli_call.proofs.CommandLaws.{read_at}
 use Rattle.root_commands.proofs.updating.update_to.Goals as goal
 
 pub returns-in_err-done-clause-performs : goal.returns-in_err-done-clause-performs
@@ -121,3 +122,30 @@ returns-clause-again g c =
     let after : far'.disk.now ≡ c.repo-1.given.0 = search rules in
     let changed = ready_changed root root' far.disk.now opened c.update.new.db c.update.result c.in_ok-done.done (sym c.on_root.ensures ∙ c.in_ok-done.was) c.update.ensures.again c.update.ensures.fixed c.update.ensures.rules ready in
     subst (λ repo. AreReady g.T.TreeDisk.disk g.P.TreeDisk.disk (disks root' repo opened')) after (ready_far root' far.disk.now far'.disk.now opened' c.update.ensures.searches.searched.same changed)
+
+pub returns-in_err-done-clause-repo_read : goal.returns-in_err-done-clause-repo_read
+returns-in_err-done-clause-repo_read g c =
+    let far = c.new-far.result in
+    let far' = c.update.new.far in
+    let name = c.update.ensures.searches.searched.same_disk ∙ c.new-far.ensures.same_disk in
+    let given = c.repo-1.given in
+    let after : far'.disk.now ≡ c.repo-1.given.0 = search rules in
+    read_at far.disk.now c.args.repo.now far'.disk.now c.repo-1.given.0 c.new-far.ensures.disk after c.update.ensures.searches.searched.same
+
+pub returns-in_err-changes_text-clause-repo_read : goal.returns-in_err-changes_text-clause-repo_read
+returns-in_err-changes_text-clause-repo_read g c =
+    let far = c.new-far.result in
+    let far' = c.update.new.far in
+    let name = c.update.ensures.searches.searched.same_disk ∙ c.new-far.ensures.same_disk in
+    let given = c.repo-1.given in
+    let after : far'.disk.now ≡ c.repo-1.given.0 = search rules in
+    read_at far.disk.now c.args.repo.now far'.disk.now c.repo-1.given.0 c.new-far.ensures.disk after c.update.ensures.searches.searched.same
+
+pub returns-clause-repo_read : goal.returns-clause-repo_read
+returns-clause-repo_read g c =
+    let far = c.new-far.result in
+    let far' = c.update.new.far in
+    let name = c.update.ensures.searches.searched.same_disk ∙ c.new-far.ensures.same_disk in
+    let given = c.repo-1.given in
+    let after : far'.disk.now ≡ c.repo-1.given.0 = search rules in
+    read_at far.disk.now c.args.repo.now far'.disk.now c.repo-1.given.0 c.new-far.ensures.disk after c.update.ensures.searches.searched.same

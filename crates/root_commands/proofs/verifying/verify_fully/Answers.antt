@@ -5,6 +5,7 @@ use Rattle.cli_call.specs.cny-laws.declared.failure.Failure.TheVariants as failu
 use Rattle.root_commands.specs.Verifying as spec
 use Rattle.root_commands.proofs.FullEnds.{failed_performs, memory_performs, performed_at, ready_at, told_performs, VerifyingLaws}
 use Rattle.local_db.proofs.cny-base.Passing.{err_is}
+use Rattle.cli_call.proofs.CommandLaws.{read_at}
 use Rattle.root_commands.proofs.verifying.verify_fully.Goals as goal
 
 pub returns-in_err-found-clause-performs : goal.returns-in_err-found-clause-performs
@@ -72,3 +73,40 @@ returns-clause-again g c =
     let after : far'.disk.now ≡ c.repo-1.given.0 = search rules in
     subst (λ repo. AreReady g.T.TreeDisk.disk g.P.TreeDisk.disk (disks root' repo opened)) after
     (ready_both root root' far.disk.now far'.disk.now opened c.verify.ensures.verified.same c.verify.ensures.verified.keeps.searched.same ready)
+
+-- of the root, and of the repository
+pub returns-in_err-found-clause-root_read : goal.returns-in_err-found-clause-root_read
+returns-in_err-found-clause-root_read g c = c.verify.ensures.verified.same
+
+pub returns-in_err-verified_text-clause-root_read : goal.returns-in_err-verified_text-clause-root_read
+returns-in_err-verified_text-clause-root_read g c = c.verify.ensures.verified.same
+
+pub returns-clause-root_read : goal.returns-clause-root_read
+returns-clause-root_read g c = c.verify.ensures.verified.same
+
+pub returns-in_err-found-clause-repo_read : goal.returns-in_err-found-clause-repo_read
+returns-in_err-found-clause-repo_read g c =
+    let far = c.new-contents.result in
+    let far' = c.verify.new.far in
+    let name = c.verify.ensures.verified.keeps.searched.same_disk ∙ c.new-contents.ensures.same_disk in
+    let given = c.repo-1.given in
+    let after : far'.disk.now ≡ c.repo-1.given.0 = search rules in
+    read_at far.disk.now c.args.repo.now far'.disk.now c.repo-1.given.0 c.new-contents.ensures.disk after c.verify.ensures.verified.keeps.searched.same
+
+pub returns-in_err-verified_text-clause-repo_read : goal.returns-in_err-verified_text-clause-repo_read
+returns-in_err-verified_text-clause-repo_read g c =
+    let far = c.new-contents.result in
+    let far' = c.verify.new.far in
+    let name = c.verify.ensures.verified.keeps.searched.same_disk ∙ c.new-contents.ensures.same_disk in
+    let given = c.repo-1.given in
+    let after : far'.disk.now ≡ c.repo-1.given.0 = search rules in
+    read_at far.disk.now c.args.repo.now far'.disk.now c.repo-1.given.0 c.new-contents.ensures.disk after c.verify.ensures.verified.keeps.searched.same
+
+pub returns-clause-repo_read : goal.returns-clause-repo_read
+returns-clause-repo_read g c =
+    let far = c.new-contents.result in
+    let far' = c.verify.new.far in
+    let name = c.verify.ensures.verified.keeps.searched.same_disk ∙ c.new-contents.ensures.same_disk in
+    let given = c.repo-1.given in
+    let after : far'.disk.now ≡ c.repo-1.given.0 = search rules in
+    read_at far.disk.now c.args.repo.now far'.disk.now c.repo-1.given.0 c.new-contents.ensures.disk after c.verify.ensures.verified.keeps.searched.same

@@ -1,0 +1,131 @@
+-- How a commit of a change set without contents ends by the catalogue alone, whatever contents are damaged.
+use Rattle.std.proofs.Common.{◌≡◌, inl, inr, ℕ, true, IsTrue, List, [], ◌∷◌, Result, Ok, Err, IfErr, refl, sym, ap, ◌∙◌, subst, length-append}
+use Rattle.std.specs.Prelude.{Contains, IfOk}
+use Rattle.cli_call.specs.cny-base.declared.refusal.Refusal.{Refusal}
+use Rattle.cli_call.specs.cny-base.declared.stop.Stop.{Stop}
+use Rattle.cli_call.specs.cny-base.declared.stop.Stop.TheVariants as stop
+use Rattle.cli_call.specs.tree-disk.Disk.{DiskModel}
+use Rattle.cli_call.specs.tree-disk.Confined.{Confined}
+use Rattle.cli_call.specs.trove-parts.declared.id.TroveId.{TroveId}
+use Rattle.cli_call.specs.trove-stream.declared.parts.TroveParts.{TroveParts}
+use Rattle.cli_call.specs.change-set.declared.change.Carried.{Carried}
+use Rattle.cli_call.specs.change-set.declared.change.ChangeSet.{ChangeSet}
+use Rattle.cli_call.specs.change-set.ChangeSet.{HasContents}
+use Rattle.cli_call.specs.content-store.Contents.{ContentMap}
+use Rattle.cli_call.specs.content-store.Store.{content_path, file_bytes, IsContentName}
+use Rattle.cny_version.proofs.cny-base.Lists.{nothing_in}
+use Rattle.cli_call.specs.local-db.declared.format.Format.TheVariants.{Two}
+use Rattle.cli_call.specs.local-db.Stores.{HoldsDatabase}
+use Rattle.repo_index.specs.Catalogue.{CatalogueParts, has_content}
+use Rattle.repo_load.specs.Files.{contents_dir, HoldsCatalogue}
+use Rattle.repo_load.specs.State.{catalogue_of, RepositoryState}
+use Rattle.repo_load.proofs.Following.{troves_push}
+use Rattle.repository.specs.Outcome.{committed_contents, EndsSo, IsDone, StopsSo}
+use Rattle.repository.specs.Preparing.{IsWrittenName}
+use Rattle.repository.specs.Steps.{after_commit, catalogue_after}
+use Rattle.repository.specs.Tests.{later_refusal, IsRefused, Passes}
+use Rattle.cny_report.specs.Troves.{committed_text}
+use Rattle.cli_call.specs.cny-laws.declared.failure.Failure.{Failure}
+use Rattle.cli_call.specs.cny-laws.Call.{ContentsStay, HasOpened}
+use Rattle.cli_call.specs.cny-laws.State.{State}
+use Rattle.cli_call.specs.cny-laws.Stops.{repository_failure, repository_result}
+use Rattle.cli_call.specs.Alone.{AnswersByOpened}
+use Rattle.cli_call.specs.Command.{AreReady, Disks}
+use Rattle.cli_call.proofs.OpenedEnds.{database_held, memory_opened, refused_opened, repo_fault_opened}
+use Rattle.repo_commands.specs.Commit.{commit_of, committed}
+
+-- a commit writes no file of a content, but of those that it carries and no trove records
+abbrev pub KeepsFiles : Type 0
+KeepsFiles = (c : CatalogueParts) (change : ChangeSet) (name : List ℕ) → HasContents change → IsContentName name
+    → ((content : Carried) → Contains change.contents content → content.name ≡ name → has_content name c.troves ≡ true) → IsWrittenName c change.contents (content_path contents_dir name) → ⊥
+
+-- ---- values
+
+-- without contents no test looks at those that are held
+later_same : (c : CatalogueParts) (held other : ContentMap) (troves : List TroveParts) → later_refusal c held [] troves ≡ later_refusal c other [] troves
+later_same c held other [] = refl
+later_same c held other (t ∷ troves) = refl
+
+-- the catalogue after a commit is that of the commits after it
+after_catalogue : (troves : List TroveParts) (contents : List Carried) (r : RepositoryState) → catalogue_after troves (catalogue_of r.commits) ≡ catalogue_of (after_commit troves contents r).commits
+after_catalogue [] contents r = refl
+after_catalogue (t ∷ troves) contents r =
+    let long = length-append r.commits ((t ∷ troves) ∷ []) in
+    λ i. record { commits = sym long i; troves = sym (troves_push r.commits (t ∷ troves)) i }
+
+module _ (set : ChangeSet) (none : set.contents ≡ []) (c : CatalogueParts) (held other : ContentMap) where
+  tests_same : (troves : List TroveParts) → later_refusal c other set.contents troves ≡ later_refusal c held set.contents troves
+  tests_same troves = subst (λ (l : List Carried). later_refusal c other l troves ≡ later_refusal c held l troves) (sym none) (later_same c other held troves)
+
+  passes_same : (troves : List TroveParts) → Passes c held set troves → Passes c other set troves
+  passes_same troves p = record { made = p.made; passed = tests_same troves ∙ p.passed }
+
+  refused_same : (refused : Refusal) → IsRefused c held set refused → IsRefused c other set refused
+  refused_same refused (inl first) = inl first
+  refused_same refused (inr later) = inr (record { troves = later.troves; made = later.made; fails = tests_same later.troves ∙ later.fails })
+
+-- ---- contents
+
+-- it leaves what stands under the names of contents
+pub contents_stay : {P : Type 0} (disk : DiskModel P) (set : ChangeSet) → set.contents ≡ [] → HasContents set → (c : CatalogueParts) (old new : P) → KeepsFiles
+    → (IsTrue disk.tells → Confined disk (IsWrittenName c set.contents) old new) → ContentsStay disk old new
+contents_stay disk set none has c old new kept only told name of_content =
+    ap file_bytes ((only told).reads (content_path contents_dir name)
+    (kept c set name has of_content (λ content among is. absurd (nothing_in content (subst (λ (l : List Carried). Contains l content) none among)))))
+
+-- ---- the clause
+
+module _ {T P : Type 0} {root_disk : DiskModel T} {repo_disk : DiskModel P} (set : ChangeSet) (none : set.contents ≡ []) (input : List ℕ) (old new : Disks T P) (ready : AreReady root_disk repo_disk old) (root_same : new.root ≡ old.root) (c' : CatalogueParts) where
+  abbrev Ends : Result (List TroveId) Stop → Type 0
+  Ends r = EndsSo repo_disk set old.opened.catalogue c' old.repo new.repo r
+
+  abbrev pub Answered : Result (List ℕ) Failure → Type 0
+  Answered f = AnswersByOpened root_disk repo_disk (commit_of set) input old new f
+
+  -- what is so of the catalogue is so of the commits of a state that has it
+  abbrev there : ContentMap
+  there = committed_contents old.opened.catalogue.troves (repo_disk.reads old.repo)
+
+  of_commits : (s : State) → HasOpened root_disk old.root old.opened s → (Q : CatalogueParts → Type 0) → Q old.opened.catalogue → Q (catalogue_of s.repository.commits)
+  of_commits s has Q h = subst Q (sym has.catalogue) h
+
+  root_reads : IsTrue root_disk.tells → root_disk.reads new.root ≡ root_disk.reads old.root
+  root_reads told = ap root_disk.reads root_same
+
+  told_by : (ids : List TroveId) (text : List ℕ) → IsDone repo_disk set old.opened.catalogue c' ids old.repo new.repo → text ≡ committed_text ids → Answered (Ok text)
+  told_by ids text d is told s has = record {
+    next = record { root = s.root; repository = after_commit d.troves set.contents s.repository };
+    answers = record {
+      effect = committed s.repository set d.troves;
+      is = record {
+        troves = d.troves;
+        passes = of_commits s has (λ k. Passes k s.repository.contents set d.troves) (passes_same set none old.opened.catalogue there s.repository.contents d.troves d.passes);
+        is = refl;
+      };
+      leads = refl;
+      bytes = sym (is ∙ ap committed_text d.ids_are);
+    };
+    holds = λ le. record {
+      database = λ t. database_held old.root old.opened s has (root_disk.reads new.root) (subst (λ (r : T). HoldsDatabase Two (root_disk.reads r) old.opened.db.installed old.opened.db.oldest old.opened.db.newest) (sym root_same) (ready.root t).holds);
+      catalogue = λ t. subst (λ (k : CatalogueParts). HoldsCatalogue (repo_disk.reads new.repo) k)
+          (d.catalogue_is ∙ ap (catalogue_after d.troves) (sym has.catalogue) ∙ after_catalogue d.troves set.contents s.repository) d.rests.holds;
+    };
+  }
+
+  stopped : (e : Stop) → StopsSo repo_disk set old.opened.catalogue c' old.repo new.repo e → Answered (Err (repository_failure e))
+  stopped (stop.Refused refused) ends = refused_opened (commit_of set) input old new ready root_reads (λ told. ends.0.same.reads) refused
+      (λ told s has. of_commits s has (λ k. IsRefused k s.repository.contents set refused) (refused_same set none old.opened.catalogue there s.repository.contents refused ends.0.answer))
+  stopped (stop.Damaged path) ends = let source = ends.0.answer in absurd (nothing_in source.content (subst (λ (l : List Carried). Contains l source.content) none source.listed))
+  stopped stop.Failed ends = repo_fault_opened (commit_of set) input old new
+  stopped stop.Memory ends = memory_opened (commit_of set) input old new
+  stopped stop.FarFailed ends = absurd ends
+  stopped (stop.FarDamaged path) ends = absurd ends
+
+  -- by the result, with its stop as a failure
+  pub failed_opened : (r : Result (List TroveId) Stop) → Ends r → (f : Failure) → repository_result r ≡ Err f → Answered (Err f)
+  failed_opened (Ok ids) ends f is = absurd (cc is)
+  failed_opened (Err e) ends f is = subst (λ (x : Result (List TroveId) Failure). IfErr x (λ k. Answered (Err k))) is (stopped e ends)
+
+  pub told_opened : (r : Result (List TroveId) Stop) → Ends r → (ids : List TroveId) → repository_result r ≡ Ok ids → (text : List ℕ) → text ≡ committed_text ids → Answered (Ok text)
+  told_opened (Ok made) ends ids is text text_is = told_by ids text (subst (λ (x : Result (List TroveId) Failure). IfOk x (λ k. IsDone repo_disk set old.opened.catalogue c' k old.repo new.repo)) is ends) text_is
+  told_opened (Err e) ends ids is text text_is = absurd (cc is)

@@ -1,0 +1,206 @@
+-- How a job ends by the root's tree and its database, also on a root that stores no system.
+use Rattle.std.proofs.Common.{◌≡◌, ⊎_elim, inl, inr, ℕ, false, List, Option, Some, None, Result, Ok, Err, IfErr, All, refl, sym, ap, ◌∙◌, subst}
+use Rattle.std.specs.Prelude.{◌≢◌, Contains, IsTrue}
+use Rattle.std.proofs.lemmas.List.Elements.{All-contains, All-contains_itself, All-weaker}
+use Rattle.cli_call.specs.cny-base.Count.{Rose}
+use Rattle.cli_call.specs.cny-base.declared.limits.TheConstants.{JOBS_LIMIT}
+use Rattle.cli_call.specs.cny-base.declared.refusal.Refusal.{Refusal}
+use Rattle.cli_call.specs.cny-base.declared.stop.Stop.{Stop}
+use Rattle.cli_call.specs.cny-base.declared.stop.Stop.TheVariants as stop
+use Rattle.cli_call.specs.journal-log.declared.put.Put.{Put}
+use Rattle.cli_call.specs.tree-disk.Disk.{DiskModel, IsDisk}
+use Rattle.cli_call.specs.trove-stream.Trove.{IsTrove}
+use Rattle.cli_call.specs.trove-stream.declared.parts.TroveParts.{TroveParts}
+use Rattle.local_db.proofs.cny-base.Lists.{contains_at}
+use Rattle.local_db.specs.declared.db.Db.{Db}
+use Rattle.local_db.specs.declared.format.Format.TheVariants.{Two}
+use Rattle.local_db.specs.Steps.{after_job, old_of}
+use Rattle.local_db.specs.Stores.{HoldsDatabase}
+use Rattle.local_db.specs.SystemState.{newest, IsSystemState}
+use Rattle.update_job.specs.Changes.{AreChanges}
+use Rattle.update_job.specs.Lists.{IsErased, IsOld, IsUpdated, Stays}
+use Rattle.system_core.specs.declared.done.Done.{Done}
+use Rattle.system_core.specs.Answers.{AnswersCall, AnswersDone, AnswersRefusal, HasWrites, collided, last, no_list, untested}
+use Rattle.system_core.specs.Job as job
+use Rattle.system_core.specs.Job.{IsTestRefusal, IsTested, PassesTests, Sources, db_of}
+use Rattle.system_core.specs.JobWriting.{AnswersJob}
+use Rattle.system_core.specs.Last.{ChangesNothing, IsRefusedLast, PassesLast, db_after}
+use Rattle.system_core.specs.Lists.{ListStep}
+use Rattle.system_core.specs.Steps as steps
+use Rattle.system_core.specs.Steps.{HasOwnCause, IsRefusal}
+use Rattle.system_core.proofs.CallLaws.{erased_allowed, updated_allowed}
+use Rattle.system_core.proofs.JobNumbers.{number_is, oldest_pushed}
+use Rattle.system_core.proofs.Managed.{IsManaged, KeepsOut}
+use Rattle.system_core.proofs.ManagedTargets.{test_refusal_managed, tested_managed}
+use Rattle.cny_report.specs.Jobs.{changes_text}
+use Rattle.cli_call.specs.cny-laws.declared.failure.Failure.{Failure}
+use Rattle.cli_call.specs.cny-laws.declared.opened.Opened.{Opened}
+use Rattle.cli_call.specs.cny-laws.Call.{HasOpened}
+use Rattle.cli_call.specs.cny-laws.State.{nothing, on_root, Meaning, RootState, State}
+use Rattle.cli_call.specs.cny-laws.Stops.{root_failure, root_result}
+use Rattle.cli_call.specs.Alone.{AnswersByOpened, AnswersOpened}
+use Rattle.cli_call.specs.Command.{AreReady, disks}
+use Rattle.cli_call.proofs.OpenedEnds.{catalogue_held, database_held, memory_opened, root_fault_opened, same_holds}
+use Rattle.cli_call.proofs.RootResults.{root_ok}
+use Rattle.root_commands.specs.JobOutcome.{JobOutcome}
+use Rattle.root_commands.proofs.SpecifiedEnds.{reads_refused}
+
+-- ---- lists that may follow
+
+stays_trove : (list : List TroveParts) (IsNamed : List ℕ → Type 0) (t : TroveParts) → All IsTrove list → Stays list IsNamed t → IsTrove t
+stays_trove list IsNamed t all stays = All-contains IsTrove list t all (contains_at list stays.place t stays.there)
+
+-- what an update leads to keeps the rules of troves, and records no path that no trove may record
+pub updated_out : (installed come list : List TroveParts) → KeepsOut installed → KeepsOut come → IsUpdated installed come list → KeepsOut list
+updated_out installed come list old fresh is = record {
+  troves = All-weaker (Contains list) IsTrove
+      (λ t among. ⊎_elim
+      (λ (new : Contains come t). All-contains IsTrove come t fresh.troves new)
+      (λ (was : IsOld installed come t). stays_trove installed _ t old.troves was.stays)
+      (is.from t among))
+      list (All-contains_itself list);
+  allowed = updated_allowed installed come list old.allowed fresh.allowed is;
+}
+
+-- nor an erasure
+pub erased_out : (installed : List TroveParts) (names : List (List ℕ)) (list : List TroveParts) → KeepsOut installed → IsErased installed names list → KeepsOut list
+erased_out installed names list old is = record {
+  troves = All-weaker (Contains list) IsTrove (λ t among. stays_trove installed _ t old.troves (is.stays t among)) list (All-contains_itself list);
+  allowed = erased_allowed installed names list old.allowed is;
+}
+
+-- ---- the database after a job
+
+-- it is that of the system after it
+after_database : (s : RootState) → IsSystemState s → (puts : List Put) (list : List TroveParts) → newest s.stack ≢ JOBS_LIMIT → db_after (db_of s) list ≡ db_of (after_job puts list s)
+after_database s system puts list room =
+    let low = oldest_pushed (old_of puts s) s.stack system.numbered system.few refl system.number room in
+    let high = number_is (newest s.stack) system.number room in
+    λ i. record { installed = list; oldest = sym low i; newest = high i }
+
+-- ---- how a job ends
+
+module _ {T P : Type 0} {root_disk : DiskModel T} {repo_disk : DiskModel P} (root_disk_laws : IsDisk root_disk) (root root' : T) (repo : P) (opened opened' : Opened) (ready : AreReady root_disk repo_disk (disks root repo opened)) (from : Sources) (step : List TroveParts → ListStep)
+    (keeps : (list : List TroveParts) → (step opened.db.installed).leads list → KeepsOut list) where
+  abbrev means : Meaning
+  means = record { takes_input = false; IsOutcome = λ s input. JobOutcome from (step s.root.installed) s.root }
+
+  abbrev pub Answered : List ℕ → Result (List ℕ) Failure → Type 0
+  Answered input f = AnswersByOpened root_disk repo_disk means input (disks root repo opened) (disks root' repo opened') f
+
+  abbrev pub Calls : Result Done Stop → Type 0
+  Calls r = AnswersCall root_disk from (step opened.db.installed) opened.db root root' opened'.db r
+
+  olds : KeepsOut opened.db.installed
+  olds = record { troves = ready.database.installed.troves; allowed = ready.database.installed.allowed }
+
+  -- ---- by a state that has the tree and the database
+
+  module _ (told : IsTrue root_disk.tells) (s : State) (has : HasOpened root_disk root opened s) where
+    list_is : opened.db.installed ≡ s.root.installed
+    list_is = sym (ap (λ (d : Db). d.installed) has.database)
+
+    managed : IsManaged (root_disk.reads root) s.root.tree
+    managed = record { formed = root_disk_laws.reads_well_formed root; managed_formed = has.system.tree; agrees = has.outer; empty = has.system.managed }
+
+    leads_in : (list : List TroveParts) → (step opened.db.installed).leads list → (step s.root.installed).leads list
+    leads_in list leads = subst (λ (l : List TroveParts). (step l).leads list) list_is leads
+
+    passes_in : (list : List TroveParts) → KeepsOut list → (puts : List Put) → HasWrites from opened.db.installed list (root_disk.reads root) puts → PassesTests from s.root list puts
+    passes_in list out puts writes = (
+      writes.0,
+      writes.1,
+      subst (λ (l : List TroveParts). IsTested from l list s.root.tree writes.0) list_is (tested_managed from opened.db.installed list (root_disk.reads root) s.root.tree managed olds out writes.0 writes.2),
+    )
+
+    refused_in : (why : Refusal) → AnswersRefusal root_disk from (step opened.db.installed) opened.db root root' why → IsRefusal from (step s.root.installed) s.root why
+    refused_in why (no_list is same) = steps.no_list (subst (λ (l : List TroveParts). (step l).refuses why) list_is is)
+    refused_in why (untested list leads is reads) =
+        steps.no_job list (leads_in list leads) (job.untested (subst (λ (l : List TroveParts). IsTestRefusal from l list s.root.tree why) list_is
+        (test_refusal_managed from opened.db.installed list (root_disk.reads root) s.root.tree managed olds (keeps list leads) why (reads told).answer)))
+    refused_in why (last list leads passes puts refused reads) =
+        steps.no_job list (leads_in list leads) (job.last puts (passes_in list (keeps list leads) puts (reads told).answer) (subst (λ (d : Db). IsRefusedLast d list puts why) (sym has.database) refused))
+    refused_in why (collided list leads passes puts collides) = absurd (collides.collision.untold told)
+
+    -- it is done, and this was told
+    module _ (made : Done) (text : List ℕ) (text_is : text ≡ changes_text made.changes) (d : AnswersDone root_disk from (step opened.db.installed) opened.db root opened'.db made) (held : HoldsDatabase Two (root_disk.reads root') opened'.db.installed opened'.db.oldest opened'.db.newest) where
+      passes : PassesTests from s.root d.list d.puts
+      passes = passes_in d.list (keeps d.list d.leads) d.puts (d.tested told)
+
+      held_by : (db : Db) → opened'.db ≡ db → HoldsDatabase Two (root_disk.reads root') db.installed db.oldest db.newest
+      held_by db is = subst (λ (b : Db). HoldsDatabase Two (root_disk.reads root') b.installed b.oldest b.newest) is held
+
+      by_number : (number : Option ℕ) → AnswersJob opened.db d.list d.puts opened'.db (Ok number) → AnswersOpened root_disk repo_disk (JobOutcome from (step s.root.installed) s.root) s (disks root' repo opened') (Ok text)
+      by_number None answers =
+          let none : ChangesNothing (db_of s.root) d.list d.puts = subst (λ (b : Db). ChangesNothing b d.list d.puts) (sym has.database) answers.1 in
+          record {
+            next = s;
+            answers = record {
+              effect = record { change = nothing; out = changes_text made.changes };
+              is = record {
+                list = d.list;
+                leads = leads_in d.list d.leads;
+                puts = d.puts;
+                passes = passes;
+                changes = made.changes;
+                are = subst (λ (l : List TroveParts). AreChanges l d.list made.changes) list_is d.changes;
+                change = inl (none, refl);
+                out = refl;
+              };
+              leads = refl;
+              bytes = sym text_is;
+            };
+            holds = λ le. record {
+              database = λ t. database_held root opened s has (root_disk.reads root') (held_by opened.db answers.0);
+              catalogue = λ t. catalogue_held root opened s has (repo_disk.reads repo) (ready.repo t).catalogue;
+            };
+          }
+      by_number (Some number) answers =
+          let passed : PassesLast (db_of s.root) d.list d.puts = subst (λ (b : Db). PassesLast b d.list d.puts) (sym has.database) answers.2 in
+          let then = after_job d.puts d.list s.root in
+          record {
+            next = record { root = then; repository = s.repository };
+            answers = record {
+              effect = record { change = on_root then; out = changes_text made.changes };
+              is = record {
+                list = d.list;
+                leads = leads_in d.list d.leads;
+                puts = d.puts;
+                passes = passes;
+                changes = made.changes;
+                are = subst (λ (l : List TroveParts). AreChanges l d.list made.changes) list_is d.changes;
+                change = inr (passed, refl);
+                out = refl;
+              };
+              leads = refl;
+              bytes = sym text_is;
+            };
+            holds = λ le. record {
+              database = λ t. held_by (db_of then) (answers.1 ∙ ap (λ (b : Db). db_after b d.list) (sym has.database) ∙ after_database s.root has.system d.puts d.list passed.room);
+              catalogue = λ t. catalogue_held root opened s has (repo_disk.reads repo) (ready.repo t).catalogue;
+            };
+          }
+
+      pub done_in : AnswersOpened root_disk repo_disk (JobOutcome from (step s.root.installed) s.root) s (disks root' repo opened') (Ok text)
+      done_in = by_number made.number d.answers
+
+  -- ---- by the result
+
+  stopped : (input : List ℕ) (e : Stop) → Calls (Err e) → HasOwnCause (Rose (root_disk.faults root) (root_disk.faults root')) e → Answered input (Err (root_failure e))
+  stopped input (stop.Refused why) calls cause = λ told s has. record {
+    next = s;
+    answers = (refused_in told s has why calls, refl);
+    holds = λ le. same_holds (disks root repo opened) (disks root' repo opened') ready (λ t. let read = reads_refused root_disk_laws from (step opened.db.installed) opened.db root root' opened'.db (Err (stop.Refused why)) calls t in read.same.reads) (λ t. refl) s has;
+  }
+  stopped input stop.Failed calls cause = root_fault_opened means input (disks root repo opened) (disks root' repo opened')
+  stopped input stop.Memory calls cause = memory_opened means input (disks root repo opened) (disks root' repo opened')
+  stopped input (stop.Damaged path) calls cause = absurd calls
+  stopped input stop.FarFailed calls cause = absurd cause
+  stopped input (stop.FarDamaged path) calls cause = absurd cause
+
+  pub failed_opened : (input : List ℕ) (r : Result Done Stop) (f : Failure) → root_result r ≡ Err f → Calls r → IfErr r (HasOwnCause (Rose (root_disk.faults root) (root_disk.faults root'))) → Answered input (Err f)
+  failed_opened input (Ok made) f is calls causes = absurd (cc is)
+  failed_opened input (Err e) f is calls causes = subst (λ (x : Result Done Failure). IfErr x (λ k. Answered input (Err k))) is (stopped input e calls causes)
+
+  pub told_opened : (input : List ℕ) (r : Result Done Stop) (made : Done) (text : List ℕ) → root_result r ≡ Ok made → Calls r → (IsTrue root_disk.tells → HoldsDatabase Two (root_disk.reads root') opened'.db.installed opened'.db.oldest opened'.db.newest) → text ≡ changes_text made.changes → Answered input (Ok text)
+  told_opened input r made text is calls held text_is = λ told s has. done_in told s has made text text_is (subst Calls (root_ok r made is) calls) (held told)
