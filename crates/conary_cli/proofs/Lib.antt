@@ -17,3 +17,4 @@ pub mod SeveralEnds
 pub mod BatchEnds
 pub mod ProgramEnds
 pub mod ProgramWords
+pub use Rattle.cli_call.proofs as cli-call

@@ -9,3 +9,6 @@ pub mod Lines
 pub mod Several
 pub mod RunsSeveral
 pub mod Program
+pub use Rattle.cli_call.specs as cli-call
+pub use Rattle.repo_commands.specs as repo-commands
+pub use Rattle.root_commands.specs as root-commands

@@ -17,6 +17,7 @@ mod several;
 mod words;
 
 pub use call_words::{Call, read_call};
+pub use cli_call;
 pub use cny_batch;
 pub use entry::start;
 pub use laws::call_laws;

@@ -1,16 +1,16 @@
 -- `commit` and `cook` have one outcome.
 use Rattle.std.proofs.Common.{◌≡◌, Bool, Result, Ok, Err, refl, sym, ap, ◌∙◌}
-use Rattle.cli_call.specs.cny-base.declared.refusal.Refusal.{Refusal}
-use Rattle.cli_call.specs.trove-stream.declared.parts.TroveParts.{TroveParts}
-use Rattle.cli_call.specs.trove-stream.declared.rel.RelParts.{RelParts}
-use Rattle.cli_call.specs.change-rel.Leads.{Leads}
-use Rattle.cli_call.specs.change-set.declared.change.ChangeSet.{ChangeSet}
+use Rattle.conary_cli.specs.cli-call.cny-base.declared.refusal.Refusal.{Refusal}
+use Rattle.conary_cli.specs.cli-call.trove-stream.declared.parts.TroveParts.{TroveParts}
+use Rattle.conary_cli.specs.cli-call.trove-stream.declared.rel.RelParts.{RelParts}
+use Rattle.conary_cli.specs.cli-call.change-rel.Leads.{Leads}
+use Rattle.conary_cli.specs.cli-call.change-set.declared.change.ChangeSet.{ChangeSet}
 use Rattle.repo_load.specs.State.{catalogue_of, troves_of, RepositoryState}
 use Rattle.repository.specs.Steps.{after_commit, IsStep}
 use Rattle.repository.specs.Tests.{IsRefused}
 use Rattle.repository.proofs.Unique.{make_once}
-use Rattle.repo_commands.specs.Commit.{commit, committed, Commits}
-use Rattle.repo_commands.specs.Cook.{cook, cooked_set, Cooks, CommitsSet}
+use Rattle.conary_cli.specs.repo-commands.Commit.{commit, committed, Commits}
+use Rattle.conary_cli.specs.repo-commands.Cook.{cook, cooked_set, Cooks, CommitsSet}
 use Rattle.outcome_laws.specs.OneOutcome.{AtMostOne, HasOneOutcome}
 use Rattle.outcome_laws.proofs.Tests.{done, refused, with_shared, SetLaws, set_once, ManifestLaws, manifest_once}
 

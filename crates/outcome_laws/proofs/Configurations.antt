@@ -4,9 +4,9 @@ use Rattle.std.proofs.lemmas.Bool.{cases_lt}
 use Rattle.std.proofs.lemmas.List.{get_or-take, length-take}
 use Rattle.std.proofs.lemmas.List.Elements.{All-nil, All-cons}
 use Rattle.std.specs.List.{fold}
-use Rattle.cli_call.specs.cny-base.declared.refusal.Refusal.{Refusal}
-use Rattle.cli_call.specs.cny-base.declared.refusal.Refusal.TheVariants as refusal
-use Rattle.cli_call.specs.tree-disk.Tree.{Tree}
+use Rattle.conary_cli.specs.cli-call.cny-base.declared.refusal.Refusal.{Refusal}
+use Rattle.conary_cli.specs.cli-call.cny-base.declared.refusal.Refusal.TheVariants as refusal
+use Rattle.conary_cli.specs.cli-call.tree-disk.Tree.{Tree}
 use Rattle.cny_flavor.specs.declared.parts.Parts.{Parts}
 use Rattle.cny_flavor.specs.Spelling.{IsRelaxedText}
 use Rattle.cny_flavor.proofs.Plain.{relaxed_read}

@@ -1,6 +1,6 @@
 -- `showcs` has one outcome.
 use Rattle.std.proofs.Common.{List, ℕ, Ok, Err, sym, ap, ◌∙◌}
-use Rattle.repo_commands.specs.ShowChangeSet.{described, show_change_set, IsDescribed}
+use Rattle.conary_cli.specs.repo-commands.ShowChangeSet.{described, show_change_set, IsDescribed}
 use Rattle.outcome_laws.specs.OneOutcome.{AtMostOne, HasOneOutcome}
 use Rattle.outcome_laws.proofs.Tests.{done, refused, with_shared, SetLaws}
 

@@ -1,27 +1,27 @@
 -- A job of a system has one outcome: its effect, or the first test that fails.
 use Rattle.std.proofs.Common.{◌≡◌, ◌≤◌, inl, inr, ℕ, List, Ok, Err, sym, ap, ◌∙◌, subst, arith}
-use Rattle.cli_call.specs.cny-base.declared.limits.TheConstants.{DATABASE_LIMIT}
-use Rattle.cli_call.specs.cny-base.declared.options.Options.{Options}
-use Rattle.cli_call.specs.cny-base.declared.refusal.Refusal.{Refusal}
-use Rattle.cli_call.specs.trove-stream.declared.parts.TroveParts.{TroveParts}
-use Rattle.cli_call.specs.tree-disk.Tree.{Tree, WellFormed}
-use Rattle.cli_call.specs.journal-log.declared.put.Put.{Put}
-use Rattle.cli_call.specs.conflict-plan.declared.planned.Planned.{Planned}
-use Rattle.cli_call.specs.conflict-plan.Plan as planning
-use Rattle.cli_call.specs.job-targets.declared.targets.Targets.{Targets}
-use Rattle.cli_call.specs.job-targets.Outcome.{AreTargets, IsFirstRefusal}
+use Rattle.conary_cli.specs.cli-call.cny-base.declared.limits.TheConstants.{DATABASE_LIMIT}
+use Rattle.conary_cli.specs.cli-call.cny-base.declared.options.Options.{Options}
+use Rattle.conary_cli.specs.cli-call.cny-base.declared.refusal.Refusal.{Refusal}
+use Rattle.conary_cli.specs.cli-call.trove-stream.declared.parts.TroveParts.{TroveParts}
+use Rattle.conary_cli.specs.cli-call.tree-disk.Tree.{Tree, WellFormed}
+use Rattle.conary_cli.specs.cli-call.journal-log.declared.put.Put.{Put}
+use Rattle.conary_cli.specs.cli-call.conflict-plan.declared.planned.Planned.{Planned}
+use Rattle.conary_cli.specs.cli-call.conflict-plan.Plan as planning
+use Rattle.conary_cli.specs.cli-call.job-targets.declared.targets.Targets.{Targets}
+use Rattle.conary_cli.specs.cli-call.job-targets.Outcome.{AreTargets, IsFirstRefusal}
 use Rattle.local_db.specs.declared.db.Db.{Db}
 use Rattle.local_db.specs.SystemState.{IsSystemState}
-use Rattle.cli_call.specs.system-core.Job.{db_of, unmet, unplanned, untargeted, untested, last, IsJobRefusal, IsTested, IsTestRefusal, PassesTests, Sources}
-use Rattle.cli_call.specs.system-core.Last.{database_size, too_large, too_many, IsRefusedLast}
-use Rattle.cli_call.specs.system-core.Lists.{ListStep}
-use Rattle.cli_call.specs.system-core.Steps.{no_list, no_job, IsRefusal}
-use Rattle.cli_call.specs.cny-laws.State.{Change as Step, Effect, RootState}
+use Rattle.conary_cli.specs.cli-call.system-core.Job.{db_of, unmet, unplanned, untargeted, untested, last, IsJobRefusal, IsTested, IsTestRefusal, PassesTests, Sources}
+use Rattle.conary_cli.specs.cli-call.system-core.Last.{database_size, too_large, too_many, IsRefusedLast}
+use Rattle.conary_cli.specs.cli-call.system-core.Lists.{ListStep}
+use Rattle.conary_cli.specs.cli-call.system-core.Steps.{no_list, no_job, IsRefusal}
+use Rattle.conary_cli.specs.cli-call.cny-laws.State.{Change as Step, Effect, RootState}
 use Rattle.cny_report.specs.Jobs.{changes_text}
 use Rattle.update_job.specs.declared.comparing.Change.{Change}
 use Rattle.update_job.specs.Changes.{AreChanges}
-use Rattle.root_commands.specs.JobOutcome.{IsChangeBy, IsJobEffect, JobOutcome}
-use Rattle.cli_call.proofs.system-core.JobEnding.{passes_size}
+use Rattle.conary_cli.specs.root-commands.JobOutcome.{IsChangeBy, IsJobEffect, JobOutcome}
+use Rattle.conary_cli.proofs.cli-call.system-core.JobEnding.{passes_size}
 use Rattle.outcome_laws.specs.OneOutcome.{AtMostOne}
 use Rattle.outcome_laws.proofs.Jobs.{changes_once}
 use Rattle.outcome_laws.proofs.Requirements.{never_unmet, unmet_once}

@@ -3,16 +3,16 @@ use Rattle.std.proofs.Common.{◌≡◌, ⊎_elim, ℕ, List, [], ◌∷◌, Ok,
 use Rattle.std.proofs.lemmas.Cmp.{on_total}
 use Rattle.std.specs.Cmp.{IsTotalOrder}
 use Rattle.std.specs.Cmp.Lexicographic.{nat_list_cmp_total}
-use Rattle.cli_call.specs.trove-stream.declared.parts.TroveParts.{TroveParts}
-use Rattle.cli_call.specs.trove-stream.Installed.{by_name}
+use Rattle.conary_cli.specs.cli-call.trove-stream.declared.parts.TroveParts.{TroveParts}
+use Rattle.conary_cli.specs.cli-call.trove-stream.Installed.{by_name}
 use Rattle.local_db.specs.SystemState.{StackItem}
-use Rattle.cli_call.specs.Answer.{answer}
-use Rattle.cli_call.specs.cny-laws.State.{RootState}
+use Rattle.conary_cli.specs.cli-call.Answer.{answer}
+use Rattle.conary_cli.specs.cli-call.cny-laws.State.{RootState}
 use Rattle.cny_report.specs.declared.note.Note.{Note}
 use Rattle.cny_report.specs.Jobs.{undos_text}
 use Rattle.update_job.specs.Changes.{name_of, by_change, AreChanges}
 use Rattle.update_job.specs.Lists.{IsErased, IsUpdated}
-use Rattle.root_commands.specs.Jobs.{IsNoteOf, AreNotesOf, ListsJobs, list_jobs}
+use Rattle.conary_cli.specs.root-commands.Jobs.{IsNoteOf, AreNotesOf, ListsJobs, list_jobs}
 use Rattle.change_rel.proofs.Members.{same_members}
 use Rattle.local_db.proofs.Sorted.{trove_total}
 use Rattle.outcome_laws.specs.OneOutcome.{AtMostOne, HasOneOutcome}

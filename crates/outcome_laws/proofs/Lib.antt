@@ -13,3 +13,15 @@ pub mod JobOutcomes
 pub mod Updates
 pub mod Rollbacks
 pub mod Descriptions
+pub mod RootSteps
+pub mod SinceJobs
+pub mod SoundLists
+pub mod RollingBack
+pub mod OneAnswer
+pub mod StepsKept
+pub mod CrashLeft
+pub mod Counted
+pub mod CountedLines
+pub mod OneSpec
+pub mod OneWords
+pub mod OnDisks

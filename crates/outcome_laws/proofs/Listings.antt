@@ -2,14 +2,14 @@
 use Rattle.std.proofs.Common.{◌≡◌, ◌<◌, ⊎_elim, ℕ, zero, suc, List, [], ◌∷◌, take, slice_get, Option, Ok, Err, refl, sym, ap, ◌∙◌, arith}
 use Rattle.std.proofs.lemmas.Bool.{cases_lt}
 use Rattle.std.proofs.lemmas.Option.{same_Some}
-use Rattle.cli_call.specs.cny-base.declared.refusal.Refusal.{Refusal}
-use Rattle.cli_call.specs.cny-base.declared.refusal.Refusal.TheVariants as refusal
-use Rattle.cli_call.specs.trove-stream.declared.parts.TroveParts.{TroveParts}
-use Rattle.cli_call.specs.content-store.Contents.{ContentMap}
-use Rattle.cli_call.specs.cny-laws.State.{RootState}
-use Rattle.repo_commands.specs.Listing.{list_committed}
-use Rattle.root_commands.specs.Listing.{list_installed}
-use Rattle.root_commands.specs.Verifying.{no_contents, VerifiesWith, verify_fully, verify_installed}
+use Rattle.conary_cli.specs.cli-call.cny-base.declared.refusal.Refusal.{Refusal}
+use Rattle.conary_cli.specs.cli-call.cny-base.declared.refusal.Refusal.TheVariants as refusal
+use Rattle.conary_cli.specs.cli-call.trove-stream.declared.parts.TroveParts.{TroveParts}
+use Rattle.conary_cli.specs.cli-call.content-store.Contents.{ContentMap}
+use Rattle.conary_cli.specs.cli-call.cny-laws.State.{RootState}
+use Rattle.conary_cli.specs.repo-commands.Listing.{list_committed}
+use Rattle.conary_cli.specs.root-commands.Listing.{list_installed}
+use Rattle.conary_cli.specs.root-commands.Verifying.{no_contents, VerifiesWith, verify_fully, verify_installed}
 use Rattle.update_job.specs.Lists.{AreInstalled, IsNotInstalled}
 use Rattle.change_rel.proofs.cny-base.Lists.{contains_at}
 use Rattle.outcome_laws.specs.OneOutcome.{AtMostOne, HasOneOutcome}

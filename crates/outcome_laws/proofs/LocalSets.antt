@@ -1,22 +1,22 @@
 -- There is one set of local changes; `localcs` has one outcome.
 use Rattle.std.proofs.Common.{◌≡◌, inl, inr, ℕ, List, [], ◌∷◌, Ok, Err, sym, ap, ◌∙◌, subst}
-use Rattle.cli_call.specs.cny-base.declared.refusal.Refusal.{Refusal}
-use Rattle.cli_call.specs.trove-parts.Order.{id_cmp, id_total}
-use Rattle.cli_call.specs.trove-stream.declared.parts.TroveParts.{TroveParts}
-use Rattle.cli_call.specs.trove-stream.Installed.{by_name}
-use Rattle.cli_call.specs.trove-stream.declared.rel.RelParts.{RelParts}
-use Rattle.cli_call.specs.change-rel.Leads.{Leads}
-use Rattle.cli_call.specs.change-set.declared.change.ChangeSet.{ChangeSet}
-use Rattle.cli_call.specs.change-set.declared.change.Part.{Part}
-use Rattle.cli_call.specs.change-set.declared.change.Part.TheVariants.{Whole, Relative}
-use Rattle.cli_call.specs.tree-disk.Tree.{Tree}
-use Rattle.cli_call.specs.cny-laws.State.{RootState, tree_of}
+use Rattle.conary_cli.specs.cli-call.cny-base.declared.refusal.Refusal.{Refusal}
+use Rattle.conary_cli.specs.cli-call.trove-parts.Order.{id_cmp, id_total}
+use Rattle.conary_cli.specs.cli-call.trove-stream.declared.parts.TroveParts.{TroveParts}
+use Rattle.conary_cli.specs.cli-call.trove-stream.Installed.{by_name}
+use Rattle.conary_cli.specs.cli-call.trove-stream.declared.rel.RelParts.{RelParts}
+use Rattle.conary_cli.specs.cli-call.change-rel.Leads.{Leads}
+use Rattle.conary_cli.specs.cli-call.change-set.declared.change.ChangeSet.{ChangeSet}
+use Rattle.conary_cli.specs.cli-call.change-set.declared.change.Part.{Part}
+use Rattle.conary_cli.specs.cli-call.change-set.declared.change.Part.TheVariants.{Whole, Relative}
+use Rattle.conary_cli.specs.cli-call.tree-disk.Tree.{Tree}
+use Rattle.conary_cli.specs.cli-call.cny-laws.State.{RootState, tree_of}
 use Rattle.manifest_troves.specs.Contents.{contents_of}
 use Rattle.root_edits.specs.Local.{all_contents, first_refusal, AreLocalParts, IsLocal, IsLocalPart, IsLocalRefusal, IsLocalTrove, IsNotInstalled, IsRefusedTrove}
 use Rattle.root_edits.specs.Moved.{AreLocalRefs}
 use Rattle.root_edits.specs.Reached.{AreReached}
 use Rattle.root_edits.specs.Standing.{Sight, sights}
-use Rattle.root_commands.specs.LocalChanges.{change_locally, ChangesLocally, IsAnswered, IsSetOf}
+use Rattle.conary_cli.specs.root-commands.LocalChanges.{change_locally, ChangesLocally, IsAnswered, IsSetOf}
 use Rattle.change_rel.proofs.Members.{same_members}
 use Rattle.local_db.proofs.Sorted.{trove_total}
 use Rattle.outcome_laws.specs.OneOutcome.{AtMostOne, HasOneOutcome}

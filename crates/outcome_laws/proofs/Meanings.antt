@@ -1,11 +1,11 @@
 -- What specifications mean is one trove, or one refusal; `shadow` and `branch` have one outcome.
 use Rattle.std.proofs.Common.{◌≡◌, ℕ, Bool, true, false, List, [], ◌∷◌, Option, Some, None, Ok, Err, refl, sym, ap, ◌∙◌}
 use Rattle.std.specs.Option.{option_map}
-use Rattle.cli_call.specs.cny-base.declared.refusal.Refusal.{Refusal}
-use Rattle.cli_call.specs.cny-base.declared.refusal.Refusal.TheVariants as refusal
-use Rattle.cli_call.specs.trove-parts.Id.{id_text_of}
-use Rattle.cli_call.specs.trove-parts.declared.id.TroveId.{TroveId}
-use Rattle.cli_call.specs.trove-stream.declared.parts.TroveParts.{TroveParts}
+use Rattle.conary_cli.specs.cli-call.cny-base.declared.refusal.Refusal.{Refusal}
+use Rattle.conary_cli.specs.cli-call.cny-base.declared.refusal.Refusal.TheVariants as refusal
+use Rattle.conary_cli.specs.cli-call.trove-parts.Id.{id_text_of}
+use Rattle.conary_cli.specs.cli-call.trove-parts.declared.id.TroveId.{TroveId}
+use Rattle.conary_cli.specs.cli-call.trove-stream.declared.parts.TroveParts.{TroveParts}
 use Rattle.cny_flavor.specs.declared.parts.Parts.{Parts}
 use Rattle.cny_version.specs.Label.{LabelParts}
 use Rattle.trove_spec.specs.declared.config.Config.{Config}
@@ -19,13 +19,13 @@ use Rattle.repo_load.specs.State.{troves_of}
 use Rattle.repo_shadow.specs.declared.way.Way.{Way}
 use Rattle.repo_shadow.specs.Moved.{IsMovedExpansion, IsMoveRefusal}
 use Rattle.repo_shadow.proofs.OneMove.{OneExpansion}
-use Rattle.cli_call.specs.cny-laws.State.{tree_of}
+use Rattle.conary_cli.specs.cli-call.cny-laws.State.{tree_of}
 use Rattle.trove_spec.specs.declared.given.GivenSpec.{GivenSpec}
 use Rattle.trove_spec.specs.AndThen.{AndThen}
-use Rattle.repo_commands.specs.Commit.{Commits}
+use Rattle.conary_cli.specs.repo-commands.Commit.{Commits}
 use Rattle.trove_spec.specs.Meant.{Means, Reaches, Expands, ExpandsFrom}
-use Rattle.repo_commands.specs.Moving.{IsMoved, move, set_of}
-use Rattle.root_commands.specs.UpdateSpecs.{ReachAll}
+use Rattle.conary_cli.specs.repo-commands.Moving.{IsMoved, move, set_of}
+use Rattle.conary_cli.specs.root-commands.UpdateSpecs.{ReachAll}
 use Rattle.outcome_laws.specs.OneOutcome.{AtMostOne, HasOneOutcome}
 use Rattle.outcome_laws.proofs.Tests.{with_shared, and_then_once}
 use Rattle.outcome_laws.proofs.Commits.{CommitLaws, commits_once}

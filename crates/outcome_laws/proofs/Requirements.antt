@@ -4,10 +4,10 @@ use Rattle.std.proofs.lemmas.Bool.{cases_lt}
 use Rattle.std.proofs.lemmas.List.Elements.{All-contains}
 use Rattle.std.proofs.lemmas.Option.{same_Some}
 use Rattle.cny_dep.specs.Dep.{Dependency, dep_text}
-use Rattle.cli_call.specs.cny-base.declared.refusal.Fault.TheVariants as fault
-use Rattle.cli_call.specs.cny-base.declared.refusal.Refusal.{Refusal}
-use Rattle.cli_call.specs.cny-base.declared.refusal.Refusal.TheVariants.{Unmet}
-use Rattle.cli_call.specs.trove-stream.declared.parts.TroveParts.{TroveParts}
+use Rattle.conary_cli.specs.cli-call.cny-base.declared.refusal.Fault.TheVariants as fault
+use Rattle.conary_cli.specs.cli-call.cny-base.declared.refusal.Refusal.{Refusal}
+use Rattle.conary_cli.specs.cli-call.cny-base.declared.refusal.Refusal.TheVariants.{Unmet}
+use Rattle.conary_cli.specs.cli-call.trove-stream.declared.parts.TroveParts.{TroveParts}
 use Rattle.dep_closure.specs.Closed.{HasAllMet, IsClosed, IsFirstOf, IsFirstUnmet, IsMet, IsUnmetOrMemory}
 use Rattle.change_rel.proofs.cny-base.Lists.{contains_at}
 use Rattle.outcome_laws.proofs.Listings.{take_get}

@@ -8,20 +8,20 @@ use Rattle.std.specs.Ordering.{nat_cmp, ordering_reverse}
 use Rattle.std.specs.Cmp.Lexicographic.{slice_cmp, nat_list_cmp_total}
 use Rattle.std.specs.declared.cmp.Ordering.{Ordering}
 use Rattle.std.specs.declared.cmp.Ordering.TheVariants.{Less, Equal, Greater}
-use Rattle.cli_call.specs.cny-base.declared.node.Node.{Node}
-use Rattle.cli_call.specs.cny-base.declared.refusal.Refusal.{Refusal}
-use Rattle.cli_call.specs.cny-base.declared.refusal.Refusal.TheVariants.{Edited, NoJob, Parent, StackEmpty}
-use Rattle.cli_call.specs.cny-base.Path.{parent}
-use Rattle.cli_call.specs.tree-disk.Tree.{Name, Tree, is_dir}
-use Rattle.cli_call.proofs.tree-disk.Children.{stands_or_not}
-use Rattle.cli_call.specs.tree-scan.Marks.{fingerprint}
-use Rattle.cli_call.specs.journal-log.Targets.{with_targets}
+use Rattle.conary_cli.specs.cli-call.cny-base.declared.node.Node.{Node}
+use Rattle.conary_cli.specs.cli-call.cny-base.declared.refusal.Refusal.{Refusal}
+use Rattle.conary_cli.specs.cli-call.cny-base.declared.refusal.Refusal.TheVariants.{Edited, NoJob, Parent, StackEmpty}
+use Rattle.conary_cli.specs.cli-call.cny-base.Path.{parent}
+use Rattle.conary_cli.specs.cli-call.tree-disk.Tree.{Name, Tree, is_dir}
+use Rattle.conary_cli.proofs.cli-call.tree-disk.Children.{stands_or_not}
+use Rattle.conary_cli.specs.cli-call.tree-scan.Marks.{fingerprint}
+use Rattle.conary_cli.specs.cli-call.journal-log.Targets.{with_targets}
 use Rattle.local_db.specs.SystemState.{newest, AreNumbered, IsSystemState, StackItem, SystemState}
 use Rattle.local_db.specs.Steps.{after_rollback, after_rollbacks, backs, CanRollBack, CanRollBackAll, HasForeignEntry}
-use Rattle.cli_call.specs.system-core.Several.{count_to, jobs_below, jobs_to, CanTakeBackTo, HasJob, IsRefusalTo, OfTurn}
-use Rattle.cli_call.specs.system-core.Tests.{IsEdited, IsFirstEdited, IsFirstOrphan}
-use Rattle.cli_call.specs.cny-laws.State.{RootState}
-use Rattle.root_commands.specs.RollingBack.{meant_number, roll_back, TakesBackTo}
+use Rattle.conary_cli.specs.cli-call.system-core.Several.{count_to, jobs_below, jobs_to, CanTakeBackTo, HasJob, IsRefusalTo, OfTurn}
+use Rattle.conary_cli.specs.cli-call.system-core.Tests.{IsEdited, IsFirstEdited, IsFirstOrphan}
+use Rattle.conary_cli.specs.cli-call.cny-laws.State.{RootState}
+use Rattle.conary_cli.specs.root-commands.RollingBack.{meant_number, roll_back, TakesBackTo}
 use Rattle.local_db.proofs.Writes.{not_both}
 use Rattle.change_rel.proofs.cny-base.Lists.{nothing_in, contains_first}
 use Rattle.outcome_laws.specs.OneOutcome.{AtMostOne, HasOneOutcome}

@@ -1,9 +1,9 @@
 -- One change set leads from some troves to others; `changeset` has one outcome.
 use Rattle.std.proofs.Common.{◌≡◌, List, Option, Result, Ok, Err, sym, ap, ◌∙◌, subst}
-use Rattle.cli_call.specs.cny-base.declared.refusal.Refusal.{Refusal}
-use Rattle.cli_call.specs.trove-stream.declared.parts.TroveParts.{TroveParts}
-use Rattle.cli_call.specs.change-set.declared.change.ChangeSet.{ChangeSet}
-use Rattle.cli_call.specs.cny-laws.State.{Effect, State, tree_of}
+use Rattle.conary_cli.specs.cli-call.cny-base.declared.refusal.Refusal.{Refusal}
+use Rattle.conary_cli.specs.cli-call.trove-stream.declared.parts.TroveParts.{TroveParts}
+use Rattle.conary_cli.specs.cli-call.change-set.declared.change.ChangeSet.{ChangeSet}
+use Rattle.conary_cli.specs.cli-call.cny-laws.State.{Effect, State, tree_of}
 use Rattle.repo_load.specs.State.{troves_of, RepositoryState}
 use Rattle.repository.proofs.SetLaws.{OneRelative, one_contents, one_parts}
 use Rattle.trove_spec.specs.declared.config.Config.{Config}
@@ -12,7 +12,7 @@ use Rattle.trove_spec.proofs.OneConfig.{OneLabel}
 use Rattle.trove_spec.specs.declared.given.GivenSpec.{GivenSpec}
 use Rattle.trove_spec.specs.AndThen.{AndThen}
 use Rattle.trove_spec.specs.Meant.{Expands, ExpandsFrom}
-use Rattle.repo_commands.specs.Sending.{IsAnswered, IsSent, changeset}
+use Rattle.conary_cli.specs.repo-commands.Sending.{IsAnswered, IsSent, changeset}
 use Rattle.outcome_laws.specs.OneOutcome.{AtMostOne, HasOneOutcome}
 use Rattle.outcome_laws.proofs.Tests.{done, refused, with_shared, and_then_once}
 use Rattle.outcome_laws.proofs.Configurations.{configured_once}

@@ -4,24 +4,24 @@ use Rattle.std.specs.Option.{option_or}
 use Rattle.std.proofs.lemmas.Bool.Decides.{nat_tests}
 use Rattle.std.proofs.lemmas.List.Elements.{Contains-append_left, Contains-append_right}
 use Rattle.sha1.specs.Sha1.{sha1}
-use Rattle.cli_call.specs.cny-base.declared.refusal.Refusal.{Refusal}
-use Rattle.cli_call.specs.cny-base.declared.refusal.Refusal.TheVariants.{MissingContent, TooLarge, Collision}
-use Rattle.cli_call.specs.change-set.declared.change.Carried.{Carried}
-use Rattle.cli_call.specs.content-store.Contents.{Answers}
-use Rattle.cli_call.specs.content-store.Difference.{first_difference, shifted}
-use Rattle.cli_call.specs.conflict-plan.declared.planned.Planned.{Planned}
-use Rattle.cli_call.specs.file-stream.declared.record.FileRec.{FileRec}
-use Rattle.cli_call.specs.file-stream.declared.record.FileRec.TheVariants as rec
-use Rattle.cli_call.specs.journal-log.declared.put.Put.{Put}
-use Rattle.cli_call.specs.journal-log.declared.put.Want.{Want}
-use Rattle.cli_call.specs.journal-log.declared.put.Want.TheVariants as want
-use Rattle.cli_call.specs.tree-disk.Tree.{Tree}
-use Rattle.cli_call.specs.job-targets.declared.entry.Entry.{Entry}
-use Rattle.cli_call.specs.job-targets.declared.targets.Targets.{Targets}
-use Rattle.cli_call.specs.job-targets.Agree.{AllAgree, Collides, IsFirstCollision, IsOld}
-use Rattle.cli_call.specs.job-targets.Contents.{carried_bytes, of_size, standing, Finds, FindsBehind}
-use Rattle.cli_call.specs.job-targets.Outcome.{AreTargets, IsFirstRefusal, IsFirstUnfound, IsMissing}
-use Rattle.cli_call.specs.job-targets.Targets.{ArePutsOf, IsPutOf, IsTarget, entries_at}
+use Rattle.conary_cli.specs.cli-call.cny-base.declared.refusal.Refusal.{Refusal}
+use Rattle.conary_cli.specs.cli-call.cny-base.declared.refusal.Refusal.TheVariants.{MissingContent, TooLarge, Collision}
+use Rattle.conary_cli.specs.cli-call.change-set.declared.change.Carried.{Carried}
+use Rattle.conary_cli.specs.cli-call.content-store.Contents.{Answers}
+use Rattle.conary_cli.specs.cli-call.content-store.Difference.{first_difference, shifted}
+use Rattle.conary_cli.specs.cli-call.conflict-plan.declared.planned.Planned.{Planned}
+use Rattle.conary_cli.specs.cli-call.file-stream.declared.record.FileRec.{FileRec}
+use Rattle.conary_cli.specs.cli-call.file-stream.declared.record.FileRec.TheVariants as rec
+use Rattle.conary_cli.specs.cli-call.journal-log.declared.put.Put.{Put}
+use Rattle.conary_cli.specs.cli-call.journal-log.declared.put.Want.{Want}
+use Rattle.conary_cli.specs.cli-call.journal-log.declared.put.Want.TheVariants as want
+use Rattle.conary_cli.specs.cli-call.tree-disk.Tree.{Tree}
+use Rattle.conary_cli.specs.cli-call.job-targets.declared.entry.Entry.{Entry}
+use Rattle.conary_cli.specs.cli-call.job-targets.declared.targets.Targets.{Targets}
+use Rattle.conary_cli.specs.cli-call.job-targets.Agree.{AllAgree, Collides, IsFirstCollision, IsOld}
+use Rattle.conary_cli.specs.cli-call.job-targets.Contents.{carried_bytes, of_size, standing, Finds, FindsBehind}
+use Rattle.conary_cli.specs.cli-call.job-targets.Outcome.{AreTargets, IsFirstRefusal, IsFirstUnfound, IsMissing}
+use Rattle.conary_cli.specs.cli-call.job-targets.Targets.{ArePutsOf, IsPutOf, IsTarget, entries_at}
 use Rattle.change_rel.proofs.cny-base.Lists.{contains_first}
 use Rattle.outcome_laws.specs.OneOutcome.{AtMostOne}
 use Rattle.outcome_laws.proofs.Splits.{Cuts, same, earlier, later, cuts}

@@ -1,18 +1,18 @@
 -- At most one outcome where tests follow one another, each of which ends in one way.
 use Rattle.std.proofs.Common.{◌≡◌, inl, inr, ℕ, List, Result, Ok, Err, sym, ◌∙◌, subst}
-use Rattle.cli_call.specs.cny-base.declared.refusal.Refusal.{Refusal}
-use Rattle.cli_call.specs.change-set.declared.change.ChangeSet.{ChangeSet}
-use Rattle.cli_call.specs.change-set.ChangeSet.{IsSetStream}
-use Rattle.cli_call.specs.change-set.FirstFault.{IsFirstFault}
-use Rattle.cli_call.specs.cny-laws.Reading.{given}
-use Rattle.cli_call.specs.cny-laws.State.{Effect, Meaning, State, Then, tree_of}
-use Rattle.cli_call.specs.system-core.FixedDirs.{fixed_dirs}
+use Rattle.conary_cli.specs.cli-call.cny-base.declared.refusal.Refusal.{Refusal}
+use Rattle.conary_cli.specs.cli-call.change-set.declared.change.ChangeSet.{ChangeSet}
+use Rattle.conary_cli.specs.cli-call.change-set.ChangeSet.{IsSetStream}
+use Rattle.conary_cli.specs.cli-call.change-set.FirstFault.{IsFirstFault}
+use Rattle.conary_cli.specs.cli-call.cny-laws.Reading.{given}
+use Rattle.conary_cli.specs.cli-call.cny-laws.State.{Effect, Meaning, State, Then, tree_of}
+use Rattle.conary_cli.specs.cli-call.system-core.FixedDirs.{fixed_dirs}
 use Rattle.cny_manifest.specs.declared.made.Made.{Made}
 use Rattle.cny_manifest.specs.FirstFault as manifest_fault
 use Rattle.cny_manifest.specs.Makes.{Makes}
 use Rattle.trove_spec.specs.AndThen.{AndThen}
-use Rattle.cli_call.specs.ManifestInput.{OfManifest}
-use Rattle.cli_call.specs.SetInput.{OfChangeSet}
+use Rattle.conary_cli.specs.cli-call.ManifestInput.{OfManifest}
+use Rattle.conary_cli.specs.cli-call.SetInput.{OfChangeSet}
 use Rattle.outcome_laws.specs.OneOutcome.{AtMostOne, IsState, HasOneOutcome}
 
 abbrev pub done : Effect → Result Effect Refusal

@@ -3,19 +3,19 @@ use Rattle.std.proofs.Common.{◌≡◌, ◌<◌, ◌≤◌, ⊎_elim, ℕ, List
 use Rattle.std.proofs.lemmas.Bool.{cases_lt}
 use Rattle.std.proofs.lemmas.List.{length-take}
 use Rattle.std.proofs.lemmas.Option.{same_Some}
-use Rattle.cli_call.specs.cny-base.declared.options.Options.{Options}
-use Rattle.cli_call.specs.cny-base.declared.refusal.Refusal.{Refusal}
-use Rattle.cli_call.specs.cny-base.declared.refusal.Refusal.TheVariants as refusal
-use Rattle.cli_call.specs.trove-parts.Id.{id_text_of}
-use Rattle.cli_call.specs.trove-parts.declared.id.TroveId.{TroveId}
-use Rattle.cli_call.specs.trove-stream.declared.parts.TroveParts.{TroveParts}
-use Rattle.cli_call.specs.change-set.declared.change.Carried.{Carried}
-use Rattle.cli_call.specs.change-set.declared.change.ChangeSet.{ChangeSet}
-use Rattle.cli_call.specs.change-set.declared.change.Part.{Part}
+use Rattle.conary_cli.specs.cli-call.cny-base.declared.options.Options.{Options}
+use Rattle.conary_cli.specs.cli-call.cny-base.declared.refusal.Refusal.{Refusal}
+use Rattle.conary_cli.specs.cli-call.cny-base.declared.refusal.Refusal.TheVariants as refusal
+use Rattle.conary_cli.specs.cli-call.trove-parts.Id.{id_text_of}
+use Rattle.conary_cli.specs.cli-call.trove-parts.declared.id.TroveId.{TroveId}
+use Rattle.conary_cli.specs.cli-call.trove-stream.declared.parts.TroveParts.{TroveParts}
+use Rattle.conary_cli.specs.cli-call.change-set.declared.change.Carried.{Carried}
+use Rattle.conary_cli.specs.cli-call.change-set.declared.change.ChangeSet.{ChangeSet}
+use Rattle.conary_cli.specs.cli-call.change-set.declared.change.Part.{Part}
 use Rattle.local_db.specs.SystemState.{IsSystemState}
-use Rattle.cli_call.specs.system-core.Job.{no_answers, sources_of}
-use Rattle.cli_call.specs.system-core.Lists.{to_erased, to_updated}
-use Rattle.cli_call.specs.cny-laws.State.{RootState, State, tree_of}
+use Rattle.conary_cli.specs.cli-call.system-core.Job.{no_answers, sources_of}
+use Rattle.conary_cli.specs.cli-call.system-core.Lists.{to_erased, to_updated}
+use Rattle.conary_cli.specs.cli-call.cny-laws.State.{RootState, State, tree_of}
 use Rattle.cny_manifest.specs.declared.made.Made.{Made}
 use Rattle.repo_load.specs.State.{troves_of}
 use Rattle.trove_spec.specs.declared.config.Config.{Config}
@@ -28,10 +28,10 @@ use Rattle.update_job.proofs.Mapped.{one_named}
 use Rattle.trove_spec.specs.declared.given.GivenSpec.{GivenSpec}
 use Rattle.trove_spec.specs.AndThen.{AndThen}
 use Rattle.trove_spec.specs.Meant.{Means}
-use Rattle.root_commands.specs.Erase.{erase}
-use Rattle.root_commands.specs.Install.{first_reserved, install, InstallsMade, UnlessReserved}
-use Rattle.root_commands.specs.Update.{answers_of, update_input, Comes, UpdatesBy, UpdatesTo}
-use Rattle.root_commands.specs.UpdateSpecs.{update_specs, AreMeant, IsFirstUnmeant, MeanAll, ReachAll}
+use Rattle.conary_cli.specs.root-commands.Erase.{erase}
+use Rattle.conary_cli.specs.root-commands.Install.{first_reserved, install, InstallsMade, UnlessReserved}
+use Rattle.conary_cli.specs.root-commands.Update.{answers_of, update_input, Comes, UpdatesBy, UpdatesTo}
+use Rattle.conary_cli.specs.root-commands.UpdateSpecs.{update_specs, AreMeant, IsFirstUnmeant, MeanAll, ReachAll}
 use Rattle.outcome_laws.specs.OneOutcome.{AtMostOne, HasOneOutcome, IsState}
 use Rattle.outcome_laws.proofs.Configurations.{configured_once}
 use Rattle.outcome_laws.proofs.JobOutcomes.{PlanLaws, StepLaws, job_once}

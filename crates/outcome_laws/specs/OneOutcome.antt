@@ -2,8 +2,8 @@
 use Rattle.std.specs.Prelude.{◌≡◌, ℕ, List}
 use Rattle.repo_load.specs.State.{IsRepository}
 use Rattle.local_db.specs.SystemState.{IsSystemState}
-use Rattle.cli_call.specs.cny-laws.State.{Meaning, State}
-use Rattle.cli_call.specs.cny-laws.WholeCall.{Outcome}
+use Rattle.conary_cli.specs.cli-call.cny-laws.State.{Meaning, State}
+use Rattle.conary_cli.specs.cli-call.cny-laws.WholeCall.{Outcome}
 
 -- no two different ones are so
 abbrev pub AtMostOne : {A : Type 0} → (A → Type 0) → Type 0

@@ -1,9 +1,17 @@
-//! Laws of what the commands mean: that a command has at most one outcome on a state and an input. They are functions that do nothing,
-//! whose clauses are the laws.
+//! Laws of what the commands mean: that a command has at most one outcome on a state and an input, and what holds of whole histories of
+//! calls, edits and crashes. They are functions that do nothing, whose clauses are the laws.
+//!
+//! Begin with `specs/Machine` (what a call means, without disks and faults) and `specs/Histories` (events, and their fold).
 #![tactic(auto)]
 
+mod histories;
+mod images;
 mod outcomes;
 
+pub use histories::{
+    counted_calls, one_history, one_outcome, one_reading, restored_jobs, root_steps, sound_lists,
+};
+pub use images::{crash_histories, crash_images};
 pub use outcomes::{
     one_commit, one_cook, one_description, one_erasure, one_installation, one_list_committed,
     one_list_installed, one_list_jobs, one_local_change, one_moving, one_rollback, one_sending,

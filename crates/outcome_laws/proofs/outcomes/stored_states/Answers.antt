@@ -1,4 +1,4 @@
-use Rattle.cli_call.proofs.cny-laws.EditedSystems.{the_system}
+use Rattle.conary_cli.proofs.cli-call.cny-laws.EditedSystems.{the_system}
 use Rattle.outcome_laws.proofs.outcomes.stored_states.Goals as goal
 
 pub returns : goal.returns
