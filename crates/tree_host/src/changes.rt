@@ -55,26 +55,15 @@ impl<R: Files> Host<'_, R> {
         Ok(self.waiting.add(alloc, path)?)
     }
 
-    // A name is made or taken away, in a directory: a sync waits for the directory too.
-    fn begin_name(&mut self, alloc: Global, path: &str) -> Result<(), HostStop> {
+    // A name is made or taken away, in a directory: a sync waits for the directory too. Answers what was known to stand there.
+    fn begin_name(&mut self, alloc: Global, path: &str) -> Result<Option<Standing>, HostStop> {
         if !self.is_below_dirs(alloc, path)? {
             return Err(HostStop::Failed);
         }
         self.begin(alloc, path)?;
-        self.known.forget(alloc, path)?;
-        Ok(self.waiting.add(alloc, parent_of(path))?)
-    }
-
-    // Nothing stands at the path from now on.
-    fn end_free(&mut self, path: &str) {
-        self.known.tell(path, Standing::Nothing);
-        self.waiting.leave(path);
-    }
-
-    // A link stands at the path from now on, which its directory keeps.
-    fn end_link(&mut self, path: &str, link: Standing) {
-        self.known.tell(path, link);
-        self.waiting.leave(path);
+        self.waiting.add_dir(alloc, parent_of(path))?;
+        self.waiting.leave_dir(path);
+        Ok(self.known.forget(alloc, path)?)
     }
 
     // Gives a new file its mode, where its directory isn't known to give each file just that for which it is made.
@@ -170,8 +159,7 @@ impl<R: Files> Host<'_, R> {
     fn begin_writer(&mut self, alloc: Global, path: &str, bytes: &[u8]) -> Result<(), HostStop> {
         let name = String::from_str(alloc, path)?;
         self.open.close_writer();
-        let known = self.known.get(path);
-        self.begin_name(alloc, path)?;
+        let known = self.begin_name(alloc, path)?;
         let mut file = self.open_end(alloc, path, known)?;
         file.write_all(bytes)?;
         self.open.set_writer(name, file);
@@ -207,7 +195,7 @@ impl<R: Files> Host<'_, R> {
         let place = self.place(alloc, path)?;
         self.begin_name(alloc, path)?;
         self.rt.symlink(target.text(), place.as_str())?;
-        self.end_link(path, Standing::Link { is_own: true });
+        self.known.tell(path, Standing::Link { is_own: true });
         Ok(())
     }
 
@@ -228,6 +216,12 @@ impl<R: Files> Host<'_, R> {
         mode: Mode,
     ) -> Result<(), HostStop> {
         let path = path.text();
+        if let Some(file) = self.open.writer(path) {
+            // The sync waits for it since it is written.
+            let answer = set_file_mode(file, mode);
+            self.forget_last();
+            return answer;
+        }
         let place = self.place(alloc, path)?;
         let standing = self.standing(alloc, path)?;
         if !standing.is_dir() && !standing.is_file() {
@@ -235,10 +229,7 @@ impl<R: Files> Host<'_, R> {
         }
         self.known.learn(alloc, path, standing)?;
         self.begin(alloc, path)?;
-        match self.open.writer(path) {
-            Some(file) => set_file_mode(file, mode),
-            None => self.set_mode_at(place.as_str(), mode),
-        }
+        self.set_mode_at(place.as_str(), mode)
     }
 
     /// Takes away a file, a link or an empty directory, but not the directory itself.
@@ -256,7 +247,7 @@ impl<R: Files> Host<'_, R> {
         } else {
             fs::remove_file(self.rt, place.as_str())?;
         }
-        self.end_free(path);
+        self.known.tell(path, Standing::Nothing);
         Ok(())
     }
 
@@ -277,8 +268,8 @@ impl<R: Files> Host<'_, R> {
         if !moved.is_own() {
             self.end_rename(old.as_str())?;
         }
-        self.end_free(from);
-        self.end_moved(to, moved);
+        self.known.tell(from, Standing::Nothing);
+        self.known.tell(to, moved);
         Ok(())
     }
 
@@ -288,15 +279,6 @@ impl<R: Files> Host<'_, R> {
             Ok(_) => Ok(fs::remove_file(self.rt, old)?),
             Err(e) if e.kind() == ErrorKind::NotFound => Ok(()),
             Err(_) => Err(HostStop::Failed),
-        }
-    }
-
-    // What was moved stands at the path from now on.
-    fn end_moved(&mut self, path: &str, moved: Standing) {
-        if moved.is_link() {
-            self.end_link(path, moved);
-        } else {
-            self.known.tell(path, moved);
         }
     }
 }

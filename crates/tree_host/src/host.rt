@@ -120,7 +120,9 @@ impl<'a, R: Files> Host<'a, R> {
 
     /// The host's name of a path.
     pub(crate) fn place(&self, alloc: Global, path: &str) -> Result<String, HostStop> {
-        let mut place = String::from_str(alloc, self.dir()?)?;
+        let dir = self.dir()?;
+        let mut place = String::with_capacity(alloc, dir.len().saturating_add(path.len()))?;
+        place.push_str(dir)?;
         place.push_str(path)?;
         Ok(place)
     }
@@ -173,7 +175,8 @@ impl<'a, R: Files> Host<'a, R> {
 
     /// Whether all names above a path are directories. They are looked at only as far as it isn't known of the last.
     pub(crate) fn is_below_dirs(&mut self, alloc: Global, path: &str) -> Result<bool, HostStop> {
-        if self.known.is_dir(parent_of(path)) {
+        let dir = parent_of(path);
+        if self.waiting.is_changing(dir) || self.known.is_dir(dir) {
             return Ok(true);
         }
         self.is_way_open(alloc, path)
@@ -205,7 +208,7 @@ impl<'a, R: Files> Host<'a, R> {
         if let Some(seen) = self.last_seen(path) {
             return Ok(seen);
         }
-        if !self.is_below_dirs(alloc, path)? || self.known.is_nothing(path) {
+        if self.known.is_nothing(path) || !self.is_below_dirs(alloc, path)? {
             return Ok(Seen::Nothing);
         }
         self.look_again(alloc, path)
@@ -284,7 +287,9 @@ impl<'a, R: Files> Host<'a, R> {
 
     // Whether a sync has waited for a directory, or the next one will; then it is the same of all above it.
     fn is_noted(&self, path: &str) -> bool {
-        self.known.is_synced_dir(path) || self.waiting.has(path)
+        self.waiting.is_changing(path)
+            || self.known.is_synced_dir(path)
+            || self.waiting.has(path)
     }
 
     /// A sync waits for each directory above a path for which none has waited yet: an earlier process may have made it.

@@ -115,24 +115,28 @@ impl Known {
         path: &str,
         standing: Standing,
     ) -> Result<(), OutOfMemory> {
-        if !self.names.contains_key(path) {
-            self.names
-                .insert(String::from_str(alloc, path)?, Some(standing))?;
-        } else if !(standing.is_dir() && self.is_dir(path)) {
-            self.tell(path, standing);
+        match self.names.get_mut(path) {
+            Some(Some(Standing::Dir { .. })) if standing.is_dir() => {}
+            Some(known) => *known = Some(standing),
+            None => {
+                let name = String::from_str(alloc, path)?;
+                self.names.insert(name, Some(standing))?;
+            }
         }
         Ok(())
     }
 
-    /// Forgets what stands at a path, but keeps room for what `tell` says of it.
-    pub(crate) fn forget(&mut self, alloc: Global, path: &str) -> Result<(), OutOfMemory> {
-        match self.names.get_mut(path) {
-            Some(known) => *known = None,
-            None => {
-                self.names.insert(String::from_str(alloc, path)?, None)?;
-            }
+    /// Forgets what stands at a path and answers what was known, but keeps room for what `tell` says of it.
+    pub(crate) fn forget(
+        &mut self,
+        alloc: Global,
+        path: &str,
+    ) -> Result<Option<Standing>, OutOfMemory> {
+        if let Some(known) = self.names.get_mut(path) {
+            return Ok(known.take());
         }
-        Ok(())
+        self.names.insert(String::from_str(alloc, path)?, None)?;
+        Ok(None)
     }
 
     /// Says what stands at a path for which there is room: it asks for no memory, so it can't fail behind a change.
@@ -142,31 +146,17 @@ impl Known {
         }
     }
 
-    /// Says that what stands at a path was synced.
+    /// Says that the directory at a path was synced.
     pub(crate) fn tell_synced(&mut self, path: &str) {
-        if let Some(Standing::Dir { keeps_modes, .. }) = self.get(path) {
-            let is_synced = true;
-            self.tell(
-                path,
-                Standing::Dir {
-                    is_synced,
-                    keeps_modes,
-                },
-            );
+        if let Some(Some(Standing::Dir { is_synced, .. })) = self.names.get_mut(path) {
+            *is_synced = true;
         }
     }
 
     /// Says that a file that was made in the directory had just the mode that was asked for.
     pub(crate) fn tell_keeps_modes(&mut self, path: &str) {
-        if let Some(Standing::Dir { is_synced, .. }) = self.get(path) {
-            let keeps_modes = true;
-            self.tell(
-                path,
-                Standing::Dir {
-                    is_synced,
-                    keeps_modes,
-                },
-            );
+        if let Some(Some(Standing::Dir { keeps_modes, .. })) = self.names.get_mut(path) {
+            *keeps_modes = true;
         }
     }
 }

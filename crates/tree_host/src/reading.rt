@@ -61,7 +61,7 @@ impl<R: Files> Host<'_, R> {
         let paths = self.waiting.take(alloc);
         let answer = self.sync_each(alloc, &paths);
         match answer {
-            Ok(()) => self.end_sync(&paths),
+            Ok(()) => self.waiting.end(),
             Err(_) => self.waiting.put_back(paths),
         }
         answer
@@ -86,13 +86,9 @@ impl<R: Files> Host<'_, R> {
             self.waiting.lose();
             return Err(HostStop::Failed);
         }
-        Ok(())
-    }
-
-    fn end_sync(&mut self, paths: &BTreeSet<String>) {
-        for path in paths.iter() {
-            self.known.tell_synced(path.as_str());
+        if standing.is_dir() {
+            self.known.tell_synced(path);
         }
-        self.waiting.end();
+        Ok(())
     }
 }

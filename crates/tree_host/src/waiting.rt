@@ -9,6 +9,10 @@ use tree_disk::cny_base::OutOfMemory;
 #[derive(Drop)]
 pub(crate) struct Waiting {
     paths: BTreeSet<String>,
+    // The two directories in which a name was changed last, as those of the work name and of the path to which it is moved: each
+    // stands, and the sync waits for it and for those above it. A text is empty where there is none.
+    last: String,
+    other: String,
     // Whether all that a sync waited for was kept at least once.
     was_synced: bool,
     // Whether the host failed to keep something.
@@ -19,6 +23,8 @@ impl Waiting {
     pub(crate) fn new(alloc: Global) -> Self {
         Waiting {
             paths: BTreeSet::new(alloc),
+            last: String::new(alloc),
+            other: String::new(alloc),
             was_synced: false,
             is_lost: false,
         }
@@ -39,15 +45,34 @@ impl Waiting {
     }
 
     pub(crate) fn add(&mut self, alloc: Global, path: &str) -> Result<(), OutOfMemory> {
-        if !self.has(path) {
-            self.paths.insert(String::from_str(alloc, path)?)?;
+        self.paths.insert(String::from_str(alloc, path)?)?;
+        Ok(())
+    }
+
+    /// Whether it is one of the two directories in which a name was changed last.
+    pub(crate) fn is_changing(&self, dir: &str) -> bool {
+        self.last.as_str() == dir || self.other.as_str() == dir
+    }
+
+    /// A name changes in a directory that stands.
+    pub(crate) fn add_dir(&mut self, alloc: Global, dir: &str) -> Result<(), OutOfMemory> {
+        if !self.is_changing(dir) {
+            self.add(alloc, dir)?;
+            self.other = mem::replace(&mut self.last, String::from_str(alloc, dir)?);
         }
         Ok(())
     }
 
-    /// Nothing that can be synced stands at the path any more.
-    pub(crate) fn leave(&mut self, path: &str) {
-        self.paths.remove(path);
+    /// A name changes: no directory may stand there any more.
+    pub(crate) fn leave_dir(&mut self, path: &str) {
+        if self.is_changing(path) {
+            self.forget_dirs();
+        }
+    }
+
+    fn forget_dirs(&mut self) {
+        self.last.clear();
+        self.other.clear();
     }
 
     /// The host failed to keep something.
@@ -57,6 +82,7 @@ impl Waiting {
 
     /// Takes all paths out, for a sync.
     pub(crate) fn take(&mut self, alloc: Global) -> BTreeSet<String> {
+        self.forget_dirs();
         mem::replace(&mut self.paths, BTreeSet::new(alloc))
     }
 
