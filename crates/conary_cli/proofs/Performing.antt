@@ -22,12 +22,12 @@ use Rattle.conary_cli.proofs.RecordEnds.{none_read}
 pub again_as : {A E : Type 0} (X : Type 0) (own shown : Result A E) → shown ≡ own → OnOk own X → OnOk shown X
 again_as {A = A} {E = E} X own shown is h = subst (λ (r : Result A E). OnOk r X) (sym is) h
 
-never : {A : Type 0} (b : Bool) → b ≡ false → b ≡ true → A
+pub never : {A : Type 0} (b : Bool) → b ≡ false → b ≡ true → A
 never b off on = absurd (false≢true (sym off ∙ on))
 
 -- contents on a disk on which nothing was done
-contents_left : {P : Type 0} {disk : DiskModel P} (old new : P) → new ≡ old → ContentsStay disk old new
-contents_left {P = P} {disk = disk} old new same told name of_content = ap (λ (d : P). stored (disk.reads d) contents_dir name) same
+contents_left : {P : Type 0} (disk : DiskModel P) (old new : P) → new ≡ old → ContentsStay disk old new
+contents_left {P = P} disk old new same told name of_content = ap (λ (d : P). stored (disk.reads d) contents_dir name) same
 
 -- a disk on which nothing was done was only read
 pub untouched : {D : Type 0} {disk : DiskModel D} → IsDisk disk → (old new : D) → new ≡ old → Reads disk old new (Unit {0})
@@ -70,7 +70,7 @@ module _ {T P : Type 0} {root_disk : DiskModel T} {repo_disk : DiskModel P} (roo
       apart = λ is. never (is_of_repository c) off is;
       tree = λ is. never (is_of_tree c) none' is;
       opened = opened;
-      contents = λ is. contents_left old.repo new.repo alone.repo;
+      contents = λ is. contents_left repo_disk old.repo new.repo alone.repo;
       lists = λ is. never (is_of_lists c) none is;
       root_read = read;
       repo_read = λ is. untouched repo_disk_laws old.repo new.repo alone.repo;

@@ -138,23 +138,24 @@ module _ {T P : Type 0} {root_disk : DiskModel T} {repo_disk : DiskModel P} {m :
   tree_silent : (result : Result (List ℕ) Failure) → AnswersByTree root_disk repo_disk m input old new result → AnswersByTree root_disk repo_disk (silent m) input old new (unspoken result)
   tree_silent result done = record { root = done.root; repo = done.repo; answers = λ told s has. answers_silent m input s s result (done.answers told s has) }
 
-  opened_silent : (result : Result (List ℕ) Failure) → AnswersByOpened root_disk repo_disk m input old new result → AnswersByOpened root_disk repo_disk (silent m) input old new (unspoken result)
-  opened_silent (Ok text) done told s has = let by = done told s has in record { next = by.next; answers = answers_silent m input s by.next (Ok text) by.answers; holds = by.holds }
-  opened_silent (Err e) done told s has = let by = done told s has in record { next = by.next; answers = answers_silent m input s by.next (Err e) by.answers; holds = by.holds }
-
 nothing_written : (result : Result (List ℕ) Failure) (out : SinkState) → Writes (unspoken result) out out (end_of result)
 nothing_written (Ok text) out = record { later = omega arith; wrote = Appends-nil out.written }
 nothing_written (Err e) out = record { later = omega arith; wrote = (refl, refl) }
 
+opened_silent : {T P : Type 0} (root_disk : DiskModel T) (repo_disk : DiskModel P) (m : Meaning) (input : List ℕ) (old new : Disks T P) (result : Result (List ℕ) Failure) → AnswersByOpened root_disk repo_disk m input old new result
+    → AnswersByOpened root_disk repo_disk (silent m) input old new (unspoken result)
+opened_silent root_disk repo_disk m input old new (Ok text) done told s has = let by = done told s has in record { next = by.next; answers = answers_silent m input s by.next (Ok text) by.answers; holds = by.holds }
+opened_silent root_disk repo_disk m input old new (Err e) done told s has = let by = done told s has in record { next = by.next; answers = answers_silent m input s by.next (Err e) by.answers; holds = by.holds }
+
 -- what a command promises that works on so much
 within_silent : {T P : Type 0} {root_disk : DiskModel T} {repo_disk : DiskModel P} (scope : Scope) (m : Meaning) (input : List ℕ) (old new : Disks T P) (result : Result (List ℕ) Failure) → PerformsWithin root_disk repo_disk scope m input old new result
     → PerformsWithin root_disk repo_disk scope (silent m) input old new (unspoken result)
-within_silent scope m input old new result done = record {
+within_silent {root_disk = root_disk} {repo_disk = repo_disk} scope m input old new result done = record {
   performs = performs_silent result done.performs;
   alone = λ is. alone_silent result (done.alone is);
   apart = λ is. acts_silent result (done.apart is);
   tree = λ is. tree_silent result (done.tree is);
-  opened = λ is repo_told. opened_silent result (done.opened is repo_told);
+  opened = λ is repo_told. opened_silent root_disk repo_disk m input old new result (done.opened is repo_told);
   contents = done.contents;
   lists = λ is. lists_silent result (done.lists is);
   root_read = done.root_read;

@@ -4,7 +4,7 @@ use Rattle.cli_call.specs.Command.{AreReady, disks, Performs}
 use Rattle.conary_cli.specs.Commands.{erasing, verify}
 use Rattle.root_commands.specs.Erase.{erase}
 use Rattle.root_commands.specs.UpdateSpecs.{update_specs}
-use Rattle.conary_cli.proofs.Performing.{again_as, on_both, on_catalogue, on_list, on_records, on_repository, on_root, on_tree, performs_as, untouched}
+use Rattle.conary_cli.proofs.Performing.{again_as, never, on_both, on_catalogue, on_list, on_records, on_repository, on_root, on_tree, performs_as, untouched}
 use Rattle.conary_cli.proofs.commands.perform.Goals as goal
 
 pub returns-in-Install-clause-performs : goal.returns-in-Install-clause-performs
@@ -48,14 +48,14 @@ returns-in-Update-clause-performs g c =
     let new = disks c.update_specs.new.root c.update_specs.new.repo c.update_specs.new.opened in
     let by_specs = subst (λ given. Performs g.T.TreeDisk.disk g.P.TreeDisk.disk (update_specs c.in-Update.options given) c.args.input.now old new c.update_specs.result) c.get.ensures (c.update_specs.ensures.performs c.args.input.now) in
     performs_as _ _ c.args.input.now old new c.update_specs.result _ c.in-Update.is c.as_bytes-in-Update.ensures
-    (on_both g.met.T.TreeDisk.laws g.met.P.TreeDisk.laws c.args.input.now old new c.update_specs.result _ refl refl refl refl (λ is. absurd (cc is)) (λ is. absurd (cc is)) by_specs (λ is. absurd (cc is)) (λ is. c.update_specs.ensures.repo_read) (λ path none. none) (λ path none. none))
+    (on_both g.met.T.TreeDisk.laws g.met.P.TreeDisk.laws c.args.input.now old new c.update_specs.result _ refl refl refl refl (never _ refl) (never _ refl) by_specs (never _ refl) (λ is. c.update_specs.ensures.repo_read) (λ path none. none) (λ path none. none))
 
 pub returns-in-UpdateByInput-clause-performs : goal.returns-in-UpdateByInput-clause-performs
 returns-in-UpdateByInput-clause-performs g c =
     let old = disks c.args.root.now c.args.repo.now c.args.opened.now in
     let new = disks c.update_input.new.root c.update_input.new.repo c.update_input.new.opened in
     performs_as _ _ c.args.input.now old new c.update_input.result _ c.in-UpdateByInput.is c.as_bytes-in-UpdateByInput.ensures
-    (on_both g.met.T.TreeDisk.laws g.met.P.TreeDisk.laws c.args.input.now old new c.update_input.result _ refl refl refl refl (λ is. absurd (cc is)) (λ is. absurd (cc is)) c.update_input.ensures.performs (λ is. absurd (cc is)) (λ is. c.update_input.ensures.repo_read) (λ path none. none) (λ path none. none))
+    (on_both g.met.T.TreeDisk.laws g.met.P.TreeDisk.laws c.args.input.now old new c.update_input.result _ refl refl refl refl (never _ refl) (never _ refl) c.update_input.ensures.performs (never _ refl) (λ is. c.update_input.ensures.repo_read) (λ path none. none) (λ path none. none))
 
 pub returns-in-Erase-clause-performs : goal.returns-in-Erase-clause-performs
 returns-in-Erase-clause-performs g c =
@@ -75,7 +75,7 @@ returns-in-Rollback-clause-performs g c =
     let old = disks c.args.root.now c.args.repo.now c.args.opened.now in
     let new = disks c.roll_back.new.root c.args.repo.now c.roll_back.new.opened in
     performs_as _ _ c.args.input.now old new c.roll_back.result _ c.in-Rollback.is c.as_bytes-in-Rollback.ensures
-    (on_records g.met.T.TreeDisk.laws g.met.P.TreeDisk.laws c.args.input.now old new c.roll_back.result _ refl refl refl refl (c.roll_back.ensures.performs c.args.input.now) (c.roll_back.ensures.alone c.args.input.now) (λ is. absurd (cc is)) c.roll_back.ensures.records)
+    (on_records g.met.T.TreeDisk.laws g.met.P.TreeDisk.laws c.args.input.now old new c.roll_back.result _ refl refl refl refl (c.roll_back.ensures.performs c.args.input.now) (c.roll_back.ensures.alone c.args.input.now) (never _ refl) c.roll_back.ensures.records)
 
 pub returns-in-ListInstalled-clause-performs : goal.returns-in-ListInstalled-clause-performs
 returns-in-ListInstalled-clause-performs g c =
@@ -111,14 +111,14 @@ returns-in-SendChanges-clause-performs g c =
     let old = disks c.args.root.now c.args.repo.now c.args.opened.now in
     let new = disks c.send_changes.new.root c.send_changes.new.repo c.args.opened.now in
     performs_as _ _ c.args.input.now old new c.send_changes.result _ c.in-SendChanges.is refl
-    (on_both g.met.T.TreeDisk.laws g.met.P.TreeDisk.laws c.args.input.now old new c.send_changes.result _ refl refl refl refl (λ is. absurd (cc is)) (λ is. absurd (cc is)) (c.send_changes.ensures.performs c.args.input.now) (λ is. c.send_changes.ensures.root_read) (λ is. c.send_changes.ensures.repo_read) (λ path none. none) (λ path none. none))
+    (on_both g.met.T.TreeDisk.laws g.met.P.TreeDisk.laws c.args.input.now old new c.send_changes.result _ refl refl refl refl (never _ refl) (never _ refl) (c.send_changes.ensures.performs c.args.input.now) (λ is. c.send_changes.ensures.root_read) (λ is. c.send_changes.ensures.repo_read) (λ path none. none) (λ path none. none))
 
 pub returns-in-Move-clause-performs : goal.returns-in-Move-clause-performs
 returns-in-Move-clause-performs g c =
     let old = disks c.args.root.now c.args.repo.now c.args.opened.now in
     let new = disks c.commit_moved.new.root c.commit_moved.new.repo c.commit_moved.new.opened in
     performs_as _ _ c.args.input.now old new c.commit_moved.result _ c.in-Move.is c.as_bytes-in-Move.ensures
-    (on_both g.met.T.TreeDisk.laws g.met.P.TreeDisk.laws c.args.input.now old new c.commit_moved.result _ refl refl refl refl (λ is repo_told. c.commit_moved.ensures.opened (repo_told refl) c.args.input.now) (λ is. c.commit_moved.ensures.contents) (c.commit_moved.ensures.performs c.args.input.now) (λ is. c.commit_moved.ensures.root_read) (λ is. absurd (cc is)) (λ path none. none) (λ path none. none))
+    (on_both g.met.T.TreeDisk.laws g.met.P.TreeDisk.laws c.args.input.now old new c.commit_moved.result _ refl refl refl refl (λ is repo_told. c.commit_moved.ensures.opened (repo_told refl) c.args.input.now) (λ is. c.commit_moved.ensures.contents) (c.commit_moved.ensures.performs c.args.input.now) (λ is. c.commit_moved.ensures.root_read) (never _ refl) (λ path none. none) (λ path none. none))
 
 pub returns-in-Install-clause-again : goal.returns-in-Install-clause-again
 returns-in-Install-clause-again g c = again_as (AreReady g.T.TreeDisk.disk g.P.TreeDisk.disk (disks c.install_manifest.new.root c.args.repo.now c.install_manifest.new.opened)) c.install_manifest.result c.as_bytes.result c.as_bytes.ensures c.install_manifest.ensures.again
