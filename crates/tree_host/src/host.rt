@@ -287,9 +287,7 @@ impl<'a, R: Files> Host<'a, R> {
 
     // Whether a sync has waited for a directory, or the next one will; then it is the same of all above it.
     fn is_noted(&self, path: &str) -> bool {
-        self.waiting.is_changing(path)
-            || self.known.is_synced_dir(path)
-            || self.waiting.has(path)
+        self.waiting.is_changing(path) || self.known.is_synced_dir(path) || self.waiting.has(path)
     }
 
     /// A sync waits for each directory above a path for which none has waited yet: an earlier process may have made it.
