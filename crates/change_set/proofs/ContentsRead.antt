@@ -40,7 +40,7 @@ all_above : (x y : Carried) (contents : List Carried) → content_cmp x y ≡ Le
 all_above x y [] less all = tt
 all_above x y (z ∷ contents) less all = (nat_list_cmp_total.trans x.name y.name z.name less all.0, all_above x y contents less all.1)
 
-rising_push : (contents : List Carried) (content : Carried) → IsStrictlySortedBy content_cmp contents → ComesAfter (last_name contents) content.name → IsStrictlySortedBy content_cmp (contents ++ content ∷ [])
+pub rising_push : (contents : List Carried) (content : Carried) → IsStrictlySortedBy content_cmp contents → ComesAfter (last_name contents) content.name → IsStrictlySortedBy content_cmp (contents ++ content ∷ [])
 unfolding IsStrictlySortedBy
 rising_push [] content rising after = (tt, tt)
 rising_push (x ∷ []) content rising after = ((after, tt), (tt, tt))
@@ -48,7 +48,7 @@ rising_push (x ∷ y ∷ contents) content rising after =
     let rest = rising_push (y ∷ contents) content rising.1 after in
     ((rising.0.0, all_above x y (contents ++ content ∷ []) rising.0.0 rest.0), rest)
 
-last_pushed : (contents : List Carried) (content : Carried) → last_name (contents ++ content ∷ []) ≡ Some content.name
+pub last_pushed : (contents : List Carried) (content : Carried) → last_name (contents ++ content ∷ []) ≡ Some content.name
 last_pushed [] content = refl
 last_pushed (x ∷ []) content = refl
 last_pushed (x ∷ y ∷ contents) content = last_pushed (y ∷ contents) content
@@ -85,23 +85,23 @@ read_push bytes parts contents content at from to so_far item next =
 
 -- ---- the items that were read
 
-abbrev items_to : List Part → List Carried → List StreamItem
+abbrev pub items_to : List Part → List Carried → List StreamItem
 items_to parts contents = map item_of parts ++ map content_item contents
 
-items_text : (parts : List Part) (contents : List Carried) (rest : List ℕ) → flat_map item_text (items_to parts contents) ++ rest ≡ flat_map part_bytes parts ++ (flat_map content_bytes contents ++ rest)
+pub items_text : (parts : List Part) (contents : List Carried) (rest : List ℕ) → flat_map item_text (items_to parts contents) ++ rest ≡ flat_map part_bytes parts ++ (flat_map content_bytes contents ++ rest)
 items_text parts contents rest =
     ap (λ (l : List ℕ). l ++ rest) (flat_map-append item_text (map item_of parts) (map content_item contents))
     ∙ append_assoc (flat_map item_text (map item_of parts)) (flat_map item_text (map content_item contents)) rest
     ∙ ap (λ (l : List ℕ). l ++ (flat_map item_text (map content_item contents) ++ rest)) (part_texts parts)
     ∙ ap (λ (l : List ℕ). flat_map part_bytes parts ++ (l ++ rest)) (content_texts contents)
 
-items_progress : (parts : List Part) (contents : List Carried) → All (IsContentOf parts) contents → progress_to start (items_to parts contents) ≡ with_contents parts contents
+pub items_progress : (parts : List Part) (contents : List Carried) → All (IsContentOf parts) contents → progress_to start (items_to parts contents) ≡ with_contents parts contents
 items_progress parts contents valid =
     progress_then start (map item_of parts) (map content_item contents)
     ∙ ap (λ (p : Progress). progress_to p (map content_item contents)) (parts_read parts)
     ∙ contents_read parts contents valid
 
-items_good : (bytes : List ℕ) (parts : List Part) (contents : List Carried) (first at : ℕ) → ArePartsTo bytes parts first → HasRead bytes parts contents at → AreGood start (items_to parts contents)
+pub items_good : (bytes : List ℕ) (parts : List Part) (contents : List Carried) (first at : ℕ) → ArePartsTo bytes parts first → HasRead bytes parts contents at → AreGood start (items_to parts contents)
 items_good bytes parts contents first at behind so_far =
     good_then start (map item_of parts) (map content_item contents) (parts_good parts behind.valid behind.fits behind.few)
     (subst (λ (p : Progress). AreGood p (map content_item contents)) (sym (parts_read parts)) (contents_good parts contents behind.valid so_far.read.valid so_far.rising))

@@ -17,7 +17,7 @@ use Rattle.cny_stream.proofs.Items.{head_below}
 
 -- ---- a whole item
 
-told_item : (tag : ℕ) (value more : List ℕ) → FitsItem value → stated_length (item_bytes tag value ++ more) ≡ length value
+pub told_item : (tag : ℕ) (value more : List ℕ) → FitsItem value → stated_length (item_bytes tag value ++ more) ≡ length value
 told_item tag value more fits = from_be_bytes-to_be_bytes_4 (length value) fits
 
 long_item : (tag : ℕ) (value more : List ℕ) → 5 + length value ≤ length (item_bytes tag value ++ more)
@@ -49,7 +49,7 @@ value_len_item tag value more fits =
     ∙ cond-false (nat_lt (length rest) (5 + stated_length rest)) None (Some (stated_length rest)) (le-ltb (length rest) (5 + stated_length rest) (omega (arith, long, told)))
     ∙ ap Some told
 
-fault_of_item : (tags : List ℕ) (total tag : ℕ) (value more : List ℕ) → FitsItem value → is_expected tags tag ≡ true → IsSmall tag value
+pub fault_of_item : (tags : List ℕ) (total tag : ℕ) (value more : List ℕ) → FitsItem value → is_expected tags tag ≡ true → IsSmall tag value
     → fault_of tags total (item_bytes tag value ++ more) ≡ Malformed (total - length (item_bytes tag value ++ more))
 fault_of_item tags total tag value more fits expected small =
     let rest : List ℕ = item_bytes tag value ++ more in

@@ -7,20 +7,23 @@ ghost use Rattle.change_set.specs.Reading.{IsSmall};
 use cny_stream::{Item, next_item};
 use trove_stream::cny_base::{CONTENT_ITEM_LIMIT, Refusal, What};
 
-/// The tags of the items.
-pub(crate) const TROVE: u8 = 0x10;
+/// The tag of a trove's item.
+pub const TROVE: u8 = 0x10;
 
-pub(crate) const RELATIVE: u8 = 0x11;
+/// The tag of a relative trove's item.
+pub const RELATIVE: u8 = 0x11;
 
-pub(crate) const CONTENT: u8 = 0x12;
+/// The tag of a content's item.
+pub const CONTENT: u8 = 0x12;
 
-pub(crate) const END: u8 = 0x1f;
+/// The tag of the item at the end.
+pub const END: u8 = 0x1f;
 
 /// What may follow parts, while there are fewer than the limit.
-pub(crate) const PART_TAGS: &[u8] = &[TROVE, RELATIVE, CONTENT, END];
+pub const PART_TAGS: &[u8] = &[TROVE, RELATIVE, CONTENT, END];
 
 /// What may follow the last part or a content.
-pub(crate) const CONTENT_TAGS: &[u8] = &[CONTENT, END];
+pub const CONTENT_TAGS: &[u8] = &[CONTENT, END];
 
 // The length of the content item at the front, where its head tells one over the limit.
 fn oversized(bytes: &[u8]) -> Option<u32>

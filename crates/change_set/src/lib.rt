@@ -12,8 +12,11 @@ mod recorded;
 mod writing;
 
 pub use change::{Carried, CarriedList, ChangeSet, Part, Parts};
+pub use items::{CONTENT, CONTENT_TAGS, END, PART_TAGS, RELATIVE, TROVE};
 pub use laws::{one_fault, unique_set};
+pub use parts::part_of;
 pub use reading::decode;
+pub use recorded::Index;
 pub use trove_stream;
 pub use trove_stream::{cny_base, file_stream, trove_parts};
 pub use writing::encode;

@@ -26,8 +26,9 @@ pub(crate) struct PartsTo {
     pub next: Item,
 }
 
-// The part whose item has this tag, that of a trove or of a relative trove, and this value.
-fn part_of(alloc: Global, tag: u8, value: &[u8]) -> Result<Part, TextFault>
+/// The part whose item has this tag, that of a trove or of a relative trove, and this value. `Bad` only where it is no
+/// part's; want of memory may be answered then instead.
+pub fn part_of(alloc: Global, tag: u8, value: &[u8]) -> Result<Part, TextFault>
     requires { (tag ≡ 0x10) ⊎ (tag ≡ 0x11) }
     ensures found { IfOk result (λ part. IsItemOf part (record { tag = tag; value = value.now })) }
     ensures bad { IsErrOf result TextFault.Bad → (part : Part) → IsItemOf part (record { tag = tag; value = value.now }) → ⊥ }

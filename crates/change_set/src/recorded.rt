@@ -1,5 +1,5 @@
 //! The names and sizes of contents that the file records of parts have.
-ghost use Rattle.std.specs.Prelude.{◌≡◌, ◌||◌, IfOk, OnOk, List, ℕ};
+ghost use Rattle.std.specs.Prelude.{◌≡◌, ◌||◌, ◌++◌, [], ◌∷◌, IfOk, OnOk, List, ℕ};
 ghost use Rattle.std.specs.List.{list_any};
 ghost use Rattle.trove_stream.specs.file-stream.Record.{has_name_and_size};
 ghost use Rattle.change_set.specs.declared.change.Part.{Part};
@@ -22,24 +22,40 @@ struct Key {
 
 /// The names and sizes of contents that the file records of some parts have.
 #[derive(Drop)]
-pub(crate) struct Index {
+pub struct Index {
     keys: BTreeSet<Key>,
 }
 
 impl Index {
+    /// The index of no parts.
+    pub fn new(alloc: Global) -> Self
+        ensures { IsIndexOf [] result }
+    {
+        Index {
+            keys: BTreeSet::new(alloc),
+        }
+    }
+
+    /// Adds the file records of a part. After an error it may have some of them.
+    pub fn add(&mut self, part: &Part) -> Result<(), OutOfMemory>
+        ensures { (parts : List Part) → IsIndexOf parts self.old → OnOk result (IsIndexOf (parts ++ part.now ∷ []) self.new) }
+    {
+        add_files(&mut self.keys, files_of(part))
+    }
+
     /// The index of the file records of these parts.
     pub(crate) fn of(alloc: Global, parts: &[Part]) -> Result<Self, OutOfMemory>
         ensures { IfOk result (IsIndexOf parts.now) }
     {
-        let mut keys = BTreeSet::new(alloc);
+        let mut index = Index::new(alloc);
         for part in parts {
-            add_files(&mut keys, files_of(part))?;
+            index.add(part)?;
         }
-        Ok(Index { keys })
+        Ok(index)
     }
 
     /// Whether a file record has this name and this size.
-    pub(crate) fn has(&self, name: &[u8; 20], size: usize) -> bool
+    pub fn has(&self, name: &[u8; 20], size: usize) -> bool
         ensures { (parts : List Part) → IsIndexOf parts self.now → result ≡ list_any (has_record name.now size) parts }
     {
         self.keys.contains(&Key { name: *name, size })

@@ -1,0 +1,13 @@
+pub mod Contents
+pub mod Disks
+pub mod Ends
+pub mod Growing
+pub mod LastStaged
+pub mod Paths
+pub mod Pushed
+pub mod Stops
+pub mod Taken
+pub mod Told
+pub mod Undecided
+pub mod Values
+pub mod Whole
