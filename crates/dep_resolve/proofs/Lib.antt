@@ -1,0 +1,14 @@
+pub mod Advanced
+pub mod Arranged
+pub mod Beside
+pub mod Completed
+pub mod Doubts
+pub mod Fits
+pub mod Gathering
+pub mod GrownRounds
+pub mod HeldByName
+pub mod NotedNames
+pub mod Regrown
+pub mod RoundEnds
+pub mod RoundLists
+pub mod Unerased

@@ -1,0 +1,3 @@
+pub mod Directives
+pub mod LinesRead
+pub mod MadeLists
